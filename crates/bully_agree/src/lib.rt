@@ -1,0 +1,31 @@
+//! The agreement law: what all nodes of a group agree on, whatever lawful list of events has happened.
+//!
+//! It stands on bully_world and the crates below it. The crates above rely on the law of agreement and on
+//! the law of causes.
+#![tactic(auto)]
+
+ghost use Rattle.std.specs.Prelude.{◌≡◌, ◌<◌, ◌↔◌, ℕ, List, None};
+ghost use Rattle.bully_agree.specs.Agreement.{Agreement};
+ghost use Rattle.bully_base.specs.Setup.{Setup};
+ghost use Rattle.bully_calls.specs.declared.call.Answer.{Answer};
+ghost use Rattle.bully_world.specs.Cause.{cause};
+ghost use Rattle.bully_world.specs.Lawful.{IsLawful};
+ghost use Rattle.bully_world.specs.Step.{Step};
+ghost use Rattle.bully_world.specs.World.{World};
+ghost use Rattle.bully_world.specs.declared.event.Event.{Event};
+
+/// The agreement law. Whatever lawful list of events leads to a world, its nodes agree there: all that are in
+/// Reorganization or Normal have one coordinator, and all that are Normal have one task. Halts, crashes and
+/// recoveries may stand between the start, the run and the return of any call, and orphans may run late.
+pub fn agreement()
+    ensures { (setup : Setup) (events : List Event) (answers : List Answer) (w : World) → IsLawful setup events answers w → Agreement w }
+{
+}
+
+/// The law of causes. In a world that a lawful list leads to, an event has no cause exactly where it is
+/// possible there and fewer events than the bound were applied.
+pub fn causes()
+    ensures { (setup : Setup) (events : List Event) (answers : List Answer) (w : World) (count : ℕ) (e : Event) → IsLawful setup events answers w
+        → ((cause setup w count e ≡ None) ↔ ((count < setup.events_max) × (w' : World) × (a : Answer) × Step setup w e w' a)) }
+{
+}

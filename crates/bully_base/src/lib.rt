@@ -1,0 +1,26 @@
+//! The numbers of an election group: nodes, its setup, and sets of nodes.
+//!
+//! It stands on nothing but std. The crates above see a node as its number, a setup as its three numbers
+//! and a set of nodes as its members in falling order.
+#![tactic(auto)]
+
+mod node;
+mod node_set;
+mod setup;
+
+pub use node::{Node, Status};
+pub use node_set::NodeSet;
+pub use setup::{Setup, SetupFault};
+use std::alloc::AllocError;
+
+/// A growth of memory was refused.
+pub type OutOfMemory = AllocError;
+
+/// The most nodes of a group. The profile's limit.
+pub const NODES_MAX: u16 = 64;
+
+/// The most partitions of a group's task. The profile's limit.
+pub const PARTITIONS_MAX: u16 = 256;
+
+/// The most events that a group may be bounded to. The profile's limit.
+pub const EVENTS_MAX: u32 = 1_000_000;

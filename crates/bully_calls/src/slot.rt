@@ -1,0 +1,152 @@
+ghost use Rattle.std.specs.Prelude.{◌≡◌, ◌⊎◌, length, not, IfOk, IsSome, IsTrue, Some, None, option_map, option_and_then};
+ghost use Rattle.std.specs.Option.{option_copied};
+ghost use Rattle.bully_calls.specs.Pending.{is_sent, is_failed};
+ghost use Rattle.bully_calls.specs.Slot.{phased, CarriesFor, is_posted, outcome_in, is_orphan as orphan_in};
+
+use crate::call::{Answer, Call, Outcome, Phase, Tag};
+use bully_base::{OutOfMemory, Setup};
+use bully_table::{Table, TableRoom};
+use std::alloc::Global;
+use std::marker::Model;
+
+/// A call as it was posted, but for its table.
+#[derive(Clone, Copy, Debug)]
+struct Posting {
+    tag: Tag,
+    call: Call,
+    phase: Phase,
+}
+
+/// The one call slot of a node, with room for the table of a Ready. This project's profile.
+#[derive(Drop, Debug)]
+pub struct Slot {
+    posting: Option<Posting>,
+    carried: TableRoom,
+}
+
+impl Model for Slot {
+    ghost use Rattle.std.specs.Option.{option_map};
+    ghost use Rattle.bully_calls.specs.Slot.{Slot as SlotState, Posted};
+
+    ghost Value = { SlotState };
+
+    ghost view = { λ s. record { posted = option_map (λ p. record { tag = p.tag; call = p.call; phase = p.phase; table = s.carried.table }) s.posting; room = s.carried.size } };
+}
+
+impl Slot {
+    /// An empty slot with room for a table of the setup's partitions. Refused where a growth of memory is.
+    pub fn new(alloc: Global, setup: Setup) -> Result<Slot, OutOfMemory>
+        ensures { IfOk result (λ s. s ≡ record { posted = None; room = setup.partitions }) }
+    {
+        Ok(Slot {
+            posting: None,
+            carried: TableRoom::new(alloc, setup)?,
+        })
+    }
+
+    /// Posts a call as sent. Exactly a Ready carries a table.
+    pub fn open(&mut self, tag: Tag, call: Call, table: Option<&Table>)
+        requires empty { self.old.posted ≡ None }
+        requires carries { CarriesFor call (option_copied table) self.old.room }
+        ensures { self.new ≡ record self.old { posted = Some (record { tag = tag; call = call; phase = Phase.Sent; table = option_copied table }) } }
+    {
+        match table {
+            Some(table) => self.carried.put(table),
+            None => self.carried.clear(),
+        }
+        self.posting = Some(Posting {
+            tag,
+            call,
+            phase: Phase::Sent,
+        });
+    }
+
+    /// The call ran at its callee, which answered so.
+    pub fn ran(&mut self, answer: Answer)
+        requires sent { IsTrue (is_posted is_sent self.old) }
+        requires replied { (answer ≡ Answer.Yes) ⊎ (answer ≡ Answer.No) }
+        ensures { self.new ≡ record self.old { posted = option_map (phased (Phase.Ran answer)) self.old.posted } }
+    {
+        self.set_phase(Phase::Ran(answer));
+    }
+
+    /// The call failed. It may have run before, and its reply is lost.
+    pub fn fail(&mut self)
+        requires pending { IsTrue (is_posted (λ f. not (is_failed f)) self.old) }
+        ensures { self.new ≡ record self.old { posted = option_map (phased Phase.Failed) self.old.posted } }
+    {
+        self.set_phase(Phase::Failed);
+    }
+
+    /// Takes out a call that ran or failed, and tells its outcome.
+    pub fn take(&mut self) -> Outcome
+        requires { IsSome (outcome_in self.old) }
+        ensures outcome { outcome_in self.old ≡ Some result }
+        ensures emptied { self.new ≡ record self.old { posted = None } }
+    {
+        let outcome = match self.phase() {
+            Some(Phase::Ran(Answer::Yes)) => Outcome::Yes,
+            Some(Phase::Ran(Answer::No)) => Outcome::No,
+            _ => Outcome::Failed,
+        };
+        self.clear();
+        outcome
+    }
+
+    /// Empties the slot.
+    pub fn clear(&mut self)
+        ensures { self.new ≡ record self.old { posted = None } }
+    {
+        self.posting = None;
+    }
+
+    /// Whether the slot holds a call of another generation of its caller than this one.
+    pub fn is_orphan(&self, generation: u32) -> bool
+        ensures { result ≡ orphan_in generation self.now }
+    {
+        match self.posting {
+            Some(posting) => posting.tag.generation != generation,
+            None => false,
+        }
+    }
+
+    /// How far the call has come.
+    pub fn phase(&self) -> Option<Phase>
+        ensures { result ≡ option_map (λ p. p.phase) self.now.posted }
+    {
+        self.posting.map(|posting| posting.phase)
+    }
+
+    /// The call.
+    pub fn call(&self) -> Option<Call>
+        ensures { result ≡ option_map (λ p. p.call) self.now.posted }
+    {
+        self.posting.map(|posting| posting.call)
+    }
+
+    /// Who started the call, and when.
+    pub fn tag(&self) -> Option<Tag>
+        ensures { result ≡ option_map (λ p. p.tag) self.now.posted }
+    {
+        self.posting.map(|posting| posting.tag)
+    }
+
+    /// The table that the call carries.
+    pub fn table(&self) -> Option<&Table>
+        ensures { option_copied result ≡ option_and_then (λ p. p.table) self.now.posted }
+    {
+        match self.posting {
+            Some(_) => self.carried.table(),
+            None => None,
+        }
+    }
+
+    // The call has this phase from now on.
+    fn set_phase(&mut self, phase: Phase)
+        ensures { self.new ≡ record self.old { posted = option_map (phased phase) self.old.posted } }
+    {
+        if let Some(posting) = &mut self.posting {
+            posting.phase = phase;
+        }
+    }
+}

@@ -1,0 +1,4 @@
+pub mod Balance
+pub mod Numeral
+pub mod TableText
+pub mod Room

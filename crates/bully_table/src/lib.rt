@@ -1,0 +1,13 @@
+//! Task tables: the owner of each partition, as text, and in room that was reserved for one.
+//!
+//! It stands on bully_base. The crates above see a table as the list of its owners, and rely on
+//! `is_balanced` being the definition's balance.
+#![tactic(auto)]
+
+mod numeral;
+mod room;
+mod table;
+
+pub use numeral::read_number;
+pub use room::TableRoom;
+pub use table::{Table, TableFault};

@@ -1,0 +1,73 @@
+ghost use Rattle.std.specs.Prelude.{◌≡◌, ◌↔◌, ◌<◌, ◌≤◌, ◌⊎◌, length, slice_get, All, IsTrue, IsOk, IfOk, IfErr, OnOk, Ok, Err, Some};
+ghost use Rattle.bully_base.specs.Setup.{Setup as SetupState, IsNodeNumber};
+ghost use Rattle.bully_table.specs.Balance.{IsBalanced};
+ghost use Rattle.bully_table.specs.TableText.{table_of_text};
+
+use crate::numeral::read_number;
+use bully_base::{Node, NodeSet, OutOfMemory, Setup};
+use std::alloc::Global;
+use std::marker::Model;
+
+/// The owner of each partition, from partition 0 on.
+#[derive(Drop, Debug)]
+pub struct Table {
+    owners: Vec<Node>,
+}
+
+impl Model for Table {
+    ghost use Rattle.std.specs.Prelude.{List, ℕ};
+
+    ghost Value = { List ℕ };
+
+    ghost view = { λ t. t.owners.items };
+}
+
+/// Why a text is no table, the first that holds.
+#[derive(Clone, Copy, PartialEq, Eq, Debug)]
+pub enum TableFault {
+    /// The number of pieces isn't that of the partitions.
+    Length,
+    /// A piece is a number, and of no node.
+    Owner,
+    /// A piece is no number: neither `0` nor decimal digits without a leading zero.
+    Syntax,
+    /// A growth of memory was refused.
+    OutOfMemory,
+}
+
+impl Table {
+    /// Reads the owners of the setup's partitions, parted by single spaces.
+    /// Refused, in this order, as `Length`, `Owner`, `Syntax`, `OutOfMemory`. This project's profile.
+    pub fn read(alloc: Global, setup: Setup, text: &str) -> Result<Table, TableFault>
+        ensures ok { IfOk result (λ t. table_of_text setup text.now ≡ Ok t) }
+        ensures err { IfErr result (λ fault. (table_of_text setup text.now ≡ Err fault) ⊎ ((fault ≡ TableFault.OutOfMemory) × IsOk (table_of_text setup text.now))) }
+
+    /// How many partitions the table has.
+    pub fn len(&self) -> usize
+        ensures { result ≡ length self.now }
+    {
+        self.owners.len()
+    }
+
+    /// The owner of the partition at this place, from 0.
+    pub fn owner(&self, place: usize) -> Node
+        requires { place < length self.now }
+        ensures { slice_get self.now place ≡ Some result }
+    {
+        self.owners[place]
+    }
+
+    /// A table of the same owners.
+    pub fn copy(&self) -> Result<Table, OutOfMemory>
+        ensures { IfOk result (λ t. t ≡ self.now) }
+
+    /// Takes over the owners of a table of the same length.
+    pub fn assign(&mut self, other: &Table)
+        requires { length self.old ≡ length other.now }
+        ensures { self.new ≡ other.now }
+
+    /// Whether the table is balanced over the members: each owner is one, and the counts of two members
+    /// differ by one at most. This project's profile.
+    pub fn is_balanced(&self, members: &NodeSet) -> bool
+        ensures { (setup : SetupState) → (IsTrue result ↔ IsBalanced setup self.now members.now) }
+}

@@ -1,0 +1,6 @@
+pub mod World
+pub mod Step
+pub mod Lawful
+pub mod Cause
+pub mod Shape
+pub mod State

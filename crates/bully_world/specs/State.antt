@@ -1,0 +1,74 @@
+-- What callers see of a group's world, and the world of the definitions that it stands for.
+use Rattle.std.specs.Prelude.{◌≡◌, ◌≤◌, ◌+◌, ℕ, List, [], map, length, Option, Some, None, IfSome, option_map, slice_index_or}
+use Rattle.bully_base.specs.Places.{at_node}
+use Rattle.bully_base.specs.Setup.{Setup, IsNode}
+use Rattle.bully_calls.specs.declared.call.Answer.{Answer}
+use Rattle.bully_calls.specs.declared.call.CallKind.TheVariants.{Halt}
+use Rattle.bully_calls.specs.Slot.{Slot, pending_in}
+use Rattle.bully_handlers.specs.Vector.{RoomyVector, empty_vector}
+use Rattle.bully_steps.specs.declared.point.Point.{Point}
+use Rattle.bully_steps.specs.declared.point.Point.TheVariants.{Idle}
+use Rattle.bully_world.specs.declared.event.Event.{Event}
+use Rattle.bully_world.specs.declared.event.Refused.{Refused}
+use Rattle.bully_world.specs.Cause.{cause}
+use Rattle.bully_world.specs.Lawful.{IsLawful}
+use Rattle.bully_world.specs.World.{Member, World}
+
+-- what is kept of one node: its generation tells a live call from an orphan
+pub record MemberState : Type 0 where
+  pub vector : RoomyVector
+  pub point : Point
+  pub slot : Slot
+  pub generation : ℕ
+
+pub record WorldState : Type 0 where
+  pub setup : Setup
+  pub events : ℕ
+  pub members : List MemberState
+
+abbrev pub empty_state : ℕ → MemberState
+empty_state room = record {
+  vector = record { vector = empty_vector; room = room };
+  point = Idle;
+  slot = record { posted = None; room = room };
+  generation = 0;
+}
+
+-- what is kept of node i
+abbrev pub state_at : WorldState → ℕ → MemberState
+state_at w i = at_node (empty_state w.setup.partitions) w.members i
+
+abbrev pub member_of : MemberState → Member
+member_of m = record { vector = m.vector.vector; point = m.point; pending = pending_in m.generation m.slot }
+
+abbrev pub members_of : List MemberState → World
+members_of members = record { members = map member_of members }
+
+-- the world that it stands for
+abbrev pub world_of : WorldState → World
+world_of w = members_of w.members
+
+-- why the event is refused there
+abbrev pub cause_in : WorldState → Event → Option Refused
+cause_in w e = cause w.setup (world_of w) w.events e
+
+-- a lawful list of as many events as were counted leads to the world
+pub record IsReached (w : WorldState) : Type 0 where
+  pub applied : List Event
+  pub answers : List Answer
+  pub lawful : IsLawful w.setup applied answers (world_of w)
+  pub counted : length applied ≡ w.events
+
+-- how what is kept of node i goes with the setup and with the events so far
+pub record IsKept (setup : Setup) (events i : ℕ) (m : MemberState) : Type 0 where
+  pub vector_room : m.vector.room ≡ setup.partitions
+  pub slot_room : m.slot.room ≡ setup.partitions
+  pub caller : IfSome m.slot.posted (λ p. p.tag.caller ≡ i)
+  pub tag : IfSome m.slot.posted (λ p. p.tag.generation ≤ m.generation)
+  pub generation : m.generation ≤ events
+
+-- what every world keeps
+pub record IsWorld (w : WorldState) : Type 0 where
+  pub count : length w.members ≡ w.setup.nodes
+  pub kept : (i : ℕ) → IsKept w.setup w.events i (state_at w i)
+  pub reached : IsReached w

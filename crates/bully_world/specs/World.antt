@@ -1,0 +1,46 @@
+-- The world: for each node a vector, a point, and at most one pending call.
+use Rattle.std.specs.Prelude.{ℕ, List, replicate, Option, None, option_map}
+use Rattle.bully_base.specs.Places.{at_node, put_node}
+use Rattle.bully_base.specs.Setup.{Setup}
+use Rattle.bully_calls.specs.Pending.{Pending, orphan_of}
+use Rattle.bully_handlers.specs.Vector.{Vector, empty_vector}
+use Rattle.bully_steps.specs.declared.point.Point.{Point}
+use Rattle.bully_steps.specs.declared.point.Point.TheVariants.{Idle}
+
+-- what a world has of one node
+pub record Member : Type 0 where
+  pub vector : Vector
+  pub point : Point
+  pub pending : Option Pending
+
+abbrev pub empty_member : Member
+empty_member = record { vector = empty_vector; point = Idle; pending = None }
+
+-- a member for each node, from node 1 on
+pub record World : Type 0 where
+  pub members : List Member
+
+-- node i's member; a number that is no node's reads as the empty member
+abbrev pub member : World → ℕ → Member
+member w i = at_node empty_member w.members i
+
+abbrev pub vector : World → ℕ → Vector
+vector w i = (member w i).vector
+
+abbrev pub point : World → ℕ → Point
+point w i = (member w i).point
+
+abbrev pub pending : World → ℕ → Option Pending
+pending w i = (member w i).pending
+
+-- the world where node i is m from now on, and all else is as it was
+abbrev pub with_member : World → ℕ → Member → World
+with_member w i m = record w { members = put_node w.members i m }
+
+-- stop: the procedure is given up, and the call, if any, is an orphan
+abbrev pub stopped : Member → Member
+stopped m = record m { point = Idle; pending = option_map orphan_of m.pending }
+
+-- before any event
+abbrev pub first_world : Setup → World
+first_world setup = record { members = replicate setup.nodes empty_member }

@@ -1,0 +1,44 @@
+use bully_base::Node;
+use bully_table::Table;
+
+/// One step of the group. Each names the node whose event it is, or, for `Run`, whose call runs.
+#[derive(Drop, Debug)]
+pub enum Event {
+    Recover(Node),
+    Crash(Node),
+    Check(Node),
+    Timeout(Node),
+    Start(Node),
+    Run(Node),
+    Lose(Node),
+    Return(Node),
+    Move(Node),
+    Plan(Node, Table),
+}
+
+/// Why an event is refused, in the one order of refusals. This project's profile.
+#[derive(Clone, Copy, PartialEq, Eq, Debug)]
+pub enum Refused {
+    /// As many events as the setup bounds were applied.
+    Full,
+    /// The named node is above the setup's.
+    BadNode,
+    /// The named node is Down; of every event but Recover.
+    IsDown,
+    /// Recover of a node that isn't Down.
+    IsUp,
+    /// Check or Timeout at a point other than Idle.
+    Busy,
+    /// Start, Move or Plan where the point doesn't offer it.
+    NoStep,
+    /// Start, Move or Plan at a node whose slot is full.
+    SlotBusy,
+    /// Run without a sent call, Lose without a sent call or one that ran, Return without one that ran or failed.
+    NoCall,
+    /// Run of a call whose callee is Down.
+    CalleeDown,
+    /// Lose of a call whose callee isn't Down.
+    CalleeUp,
+    /// Plan with a table of another number of partitions, or one that isn't balanced over the node and its up set.
+    BadTable,
+}

@@ -1,0 +1,9 @@
+//! The group: for each node a vector, a point and a call slot; what each event does, and why one is refused.
+//!
+//! It stands on all crates below. The crates above rely on `apply` being one step of the definitions, and on
+//! every world being reached by a lawful list of events.
+#![tactic(auto)]
+
+mod event;
+
+pub use event::{Event, Refused};
