@@ -48,7 +48,7 @@ impl Slot {
     pub fn open(&mut self, tag: Tag, call: Call, table: Option<&Table>)
         requires empty { self.old.posted ≡ None }
         requires carries { CarriesFor call (option_copied table) self.old.room }
-        ensures { self.new ≡ record self.old { posted = Some (record { tag = tag; call = call; phase = Phase.Sent; table = option_copied table }) } }
+        ensures { self.new ≡ record self.old { posted = Some (record { tag = tag; call = call; phase = Phase.Sent; table = option_copied table.entry }) } }
     {
         match table {
             Some(table) => self.carried.put(table),

@@ -28,8 +28,8 @@ impl Model for Vector {
     ghost Value = { RoomyVector };
 
     ghost view = { λ v. record {
-        vector = record { status = v.status; coordinator = v.coordinator; halter = v.halter; up = v.up; task = v.task.table };
-        room = v.task.size;
+      vector = record { status = v.status; coordinator = v.coordinator; halter = v.halter; up = v.up; task = v.task.table };
+      room = v.task.size;
     } };
 }
 

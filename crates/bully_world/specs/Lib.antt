@@ -4,3 +4,4 @@ pub mod Lawful
 pub mod Cause
 pub mod Shape
 pub mod State
+pub mod Taken

@@ -1,9 +1,11 @@
 -- What callers see of a group's world, and the world of the definitions that it stands for.
-use Rattle.std.specs.Prelude.{◌≡◌, ◌≤◌, ◌+◌, ℕ, List, [], map, length, Option, Some, None, IfSome, option_map, slice_index_or}
+use Rattle.std.specs.Prelude.{◌≡◌, ◌≤◌, ◌==◌, ◌&&◌, ℕ, Bool, true, false, List, map, length, Option, Some, None, IfSome}
 use Rattle.bully_base.specs.Places.{at_node}
 use Rattle.bully_base.specs.Setup.{Setup, IsNode}
 use Rattle.bully_calls.specs.declared.call.Answer.{Answer}
-use Rattle.bully_calls.specs.declared.call.CallKind.TheVariants.{Halt}
+use Rattle.bully_calls.specs.declared.call.CallKind.{CallKind}
+use Rattle.bully_calls.specs.declared.call.CallKind.TheVariants.{AreYouUp, AreYouNormal, Halt, NewCoordinator, Ready}
+use Rattle.bully_calls.specs.Pending.{Pending}
 use Rattle.bully_calls.specs.Slot.{Slot, pending_in}
 use Rattle.bully_handlers.specs.Vector.{RoomyVector, empty_vector}
 use Rattle.bully_steps.specs.declared.point.Point.{Point}
@@ -12,7 +14,7 @@ use Rattle.bully_world.specs.declared.event.Event.{Event}
 use Rattle.bully_world.specs.declared.event.Refused.{Refused}
 use Rattle.bully_world.specs.Cause.{cause}
 use Rattle.bully_world.specs.Lawful.{IsLawful}
-use Rattle.bully_world.specs.World.{Member, World}
+use Rattle.bully_world.specs.World.{Member, World, pending}
 
 -- what is kept of one node: its generation tells a live call from an orphan
 pub record MemberState : Type 0 where
@@ -26,6 +28,7 @@ pub record WorldState : Type 0 where
   pub events : ℕ
   pub members : List MemberState
 
+-- a new node's, with room for a table of so many partitions
 abbrev pub empty_state : ℕ → MemberState
 empty_state room = record {
   vector = record { vector = empty_vector; room = room };
@@ -36,7 +39,7 @@ empty_state room = record {
 
 -- what is kept of node i
 abbrev pub state_at : WorldState → ℕ → MemberState
-state_at w i = at_node (empty_state w.setup.partitions) w.members i
+state_at w i = at_node (empty_state 0) w.members i
 
 abbrev pub member_of : MemberState → Member
 member_of m = record { vector = m.vector.vector; point = m.point; pending = pending_in m.generation m.slot }
@@ -67,8 +70,29 @@ pub record IsKept (setup : Setup) (events i : ℕ) (m : MemberState) : Type 0 wh
   pub tag : IfSome m.slot.posted (λ p. p.tag.generation ≤ m.generation)
   pub generation : m.generation ≤ events
 
+abbrev pub AllKept : Setup → ℕ → List MemberState → Type 0
+AllKept setup events members = (i : ℕ) → IsNode setup i → IsKept setup events i (at_node (empty_state 0) members i)
+
 -- what every world keeps
 pub record IsWorld (w : WorldState) : Type 0 where
   pub count : length w.members ≡ w.setup.nodes
-  pub kept : (i : ℕ) → IsKept w.setup w.events i (state_at w i)
+  pub kept : AllKept w.setup w.events w.members
   pub reached : IsReached w
+
+abbrev pub is_halt : CallKind → Bool
+is_halt AreYouUp = false
+is_halt AreYouNormal = false
+is_halt Halt = true
+is_halt NewCoordinator = false
+is_halt Ready = false
+
+-- the pending call is a Halt of node j
+abbrev pub halts : ℕ → Option Pending → Bool
+halts j None = false
+halts j (Some c) = is_halt c.call.kind && (c.call.callee == j)
+
+-- the event raises node j's generation: it is a crash of j, or the run of a Halt at j
+abbrev pub raises : World → Event → ℕ → Bool
+raises w (Event.Crash i) j = i == j
+raises w (Event.Run i) j = halts j (pending w i)
+raises w e j = false

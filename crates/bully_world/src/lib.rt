@@ -5,5 +5,6 @@
 #![tactic(auto)]
 
 mod event;
+mod member;
 
 pub use event::{Event, Refused};

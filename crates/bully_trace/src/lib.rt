@@ -1,0 +1,14 @@
+//! Traces as text, and the checker of traces.
+//!
+//! It stands on bully_world, bully_agree and csv. The crates above rely on the verdict being that of the
+//! rows that the text means.
+#![tactic(auto)]
+
+mod trace;
+mod verdict;
+
+pub use trace::{Claim, Row, Rows, Trace, TraceCause, TraceFault};
+pub use verdict::Verdict;
+
+/// The most rows of a trace after its header. The profile's limit.
+pub const ROWS_MAX: u32 = 1_000_000;

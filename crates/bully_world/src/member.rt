@@ -1,0 +1,269 @@
+ghost use Rattle.std.specs.Prelude.{◌≡◌, ◌≢◌, ◌⊎◌, ◌↔◌, ◌+◌, ◌<◌, ◌≤◌, ◌^◌, ℕ, length, not, IfOk, IfSome, IsSome, IsTrue, None};
+ghost use Rattle.bully_base.specs.Setup.{Setup as SetupState};
+ghost use Rattle.std.specs.Option.{option_copied};
+ghost use Rattle.bully_base.specs.declared.TheConstants.{NODES_MAX};
+ghost use Rattle.bully_calls.specs.Pending.{is_sent, is_failed};
+ghost use Rattle.bully_calls.specs.Slot.{CarriesFor, is_posted, outcome_in};
+ghost use Rattle.bully_handlers.specs.Handler.{reply};
+ghost use Rattle.bully_steps.specs.NextPoint.{next_vector};
+ghost use Rattle.bully_steps.specs.Point.{offered, IsPointOf};
+ghost use Rattle.bully_world.specs.State.{empty_state};
+ghost use Rattle.bully_world.specs.Step.{carried};
+ghost use Rattle.bully_world.specs.Taken.{with_vector, halted_number, is_readied, recovered_state, crashed_state, begun_state, posted_state, phased_state, heard_state, proceeded_state, return_taken, return_answer, planned_state};
+
+use bully_base::{Node, OutOfMemory, Setup, Status};
+use bully_calls::{Answer, Call, CallKind, Outcome, Phase, Slot, Tag};
+use bully_handlers::Vector;
+use bully_steps::{Point, Want, begin_recovery};
+use bully_table::Table;
+use std::alloc::Global;
+use std::marker::Model;
+
+/// What is kept of one node.
+#[derive(Drop, Debug)]
+pub struct Member {
+    vector: Vector,
+    point: Point,
+    slot: Slot,
+    generation: u32,
+}
+
+impl Model for Member {
+    ghost use Rattle.bully_world.specs.State.{MemberState};
+
+    ghost Value = { MemberState };
+
+    ghost view = { λ m. record { vector = m.vector; point = m.point; slot = m.slot; generation = m.generation } };
+}
+
+impl Member {
+    /// A node before any event. Refused where a growth of memory is.
+    pub fn new(alloc: Global, setup: Setup) -> Result<Member, OutOfMemory>
+        ensures { IfOk result (λ m. m ≡ empty_state setup.partitions) }
+    {
+        Ok(Member {
+            vector: Vector::new(alloc, setup)?,
+            point: Point::Idle,
+            slot: Slot::new(alloc, setup)?,
+            generation: 0,
+        })
+    }
+
+    /// The node's vector.
+    pub fn vector(&self) -> &Vector
+        ensures { result.now ≡ self.now.vector }
+    {
+        &self.vector
+    }
+
+    /// Where its procedure stands.
+    pub fn point(&self) -> Point
+        ensures { result ≡ self.now.point }
+    {
+        self.point
+    }
+
+    /// Its call slot.
+    pub fn slot(&self) -> &Slot
+        ensures { result.now ≡ self.now.slot }
+    {
+        &self.slot
+    }
+
+    /// How often it was stopped or crashed.
+    pub fn generation(&self) -> u32
+        ensures { result ≡ self.now.generation }
+    {
+        self.generation
+    }
+
+    /// Whether the node is Down.
+    pub fn is_down(&self) -> bool
+        ensures { IsTrue result ↔ (self.now.vector.vector.status ≡ Status.Down) }
+    {
+        self.vector.status() == Status::Down
+    }
+
+    /// What the node's point offers.
+    pub fn offer(&self, setup: Setup, node: Node) -> Want
+        requires { IsPointOf setup node self.now.point }
+        ensures { result ≡ offered setup self.now.vector.vector.coordinator self.now.point }
+    {
+        self.point.offers(setup, node, self.vector.coordinator())
+    }
+
+    /// The node recovers.
+    pub fn recover(&mut self, setup: Setup, node: Node)
+        ensures { self.new ≡ recovered_state setup node self.old }
+    {
+        self.vector.recover();
+        self.point = begin_recovery(setup, node, self.vector.status(), self.vector.coordinator());
+    }
+
+    /// The node crashes: its vector, point and slot are emptied.
+    pub fn crash(&mut self)
+        requires { self.old.generation + 1 < 2 ^ 32 }
+        ensures { (setup : SetupState) → self.new ≡ crashed_state setup self.old }
+    {
+        self.vector.crash();
+        self.point = Point::Idle;
+        self.slot.clear();
+        self.generation += 1;
+    }
+
+    /// A procedure begins at this point.
+    pub fn begin(&mut self, point: Point)
+        ensures { self.new ≡ begun_state point self.old }
+    {
+        self.point = point;
+    }
+
+    /// The node starts this call. A Ready carries its task.
+    pub fn start(&mut self, node: Node, call: Call)
+        requires empty { self.old.slot.posted ≡ None }
+        requires carries { CarriesFor call (carried call.kind self.old.vector.vector) self.old.slot.room }
+        ensures { self.new ≡ posted_state node call self.old }
+    {
+        let tag = Tag {
+            caller: node,
+            generation: self.generation,
+        };
+        self.slot.open(tag, call, table_of(&self.vector, call.kind));
+    }
+
+    /// The node's call ran and was answered so.
+    pub fn ran(&mut self, answer: Answer)
+        requires sent { IsTrue (is_posted is_sent self.old.slot) }
+        requires replied { (answer ≡ Answer.Yes) ⊎ (answer ≡ Answer.No) }
+        ensures { self.new ≡ phased_state (Phase.Ran answer) self.old }
+    {
+        self.slot.ran(answer);
+    }
+
+    /// The node's call failed.
+    pub fn lose(&mut self)
+        requires { IsTrue (is_posted (λ f. not (is_failed f)) self.old.slot) }
+        ensures { self.new ≡ phased_state Phase.Failed self.old }
+    {
+        self.slot.fail();
+    }
+
+    /// The call in the caller's slot runs at this node, which isn't Down. A Halt stops its procedure.
+    pub fn hear(&mut self, caller: Node, slot: &Slot) -> Answer
+        requires up { self.old.vector.vector.status ≢ Status.Down }
+        requires room { self.old.generation + 1 < 2 ^ 32 }
+        requires posted { IsSome slot.now.posted }
+        requires carries { IfSome slot.now.posted (λ p. CarriesFor p.call p.table self.old.vector.room) }
+        ensures after { IfSome slot.now.posted (λ p. self.new ≡ heard_state caller p self.old) }
+        ensures answer { IfSome slot.now.posted (λ p. result ≡ reply p.call.kind self.old.vector.vector) }
+    {
+        match slot.call().map(|call| call.kind) {
+            Some(CallKind::AreYouUp) | None => self.vector.are_you_up(),
+            Some(CallKind::AreYouNormal) => self.vector.are_you_normal(),
+            Some(CallKind::Halt) => {
+                self.point = Point::Idle;
+                self.generation += 1;
+                self.vector.halt(caller)
+            }
+            Some(CallKind::NewCoordinator) => self.vector.new_coordinator(caller),
+            Some(CallKind::Ready) => match slot.table() {
+                Some(table) => self.vector.ready(caller, table),
+                None => Answer::Yes,
+            },
+        }
+    }
+
+    /// The node's call returns: an orphan's outcome is discarded, a live one's moves the point.
+    pub fn take_back(&mut self, setup: Setup, node: Node) -> Answer
+        requires at { IsPointOf setup node self.old.point }
+        requires came { IsSome (outcome_in self.old.slot) }
+        ensures after { self.new ≡ return_taken setup node self.old self.old.slot.posted }
+        ensures answer { result ≡ return_answer self.old.generation self.old.slot.posted }
+    {
+        let is_orphan = self.slot.is_orphan(self.generation);
+        let outcome = self.slot.take();
+        if is_orphan {
+            return Answer::Discarded;
+        }
+        self.proceed(setup, node, outcome);
+        match outcome {
+            Outcome::Yes => Answer::Yes,
+            Outcome::No => Answer::No,
+            Outcome::Failed => Answer::Failed,
+            _ => Answer::Done,
+        }
+    }
+
+    /// The node goes on by this outcome: its vector and its point change as the profile says.
+    pub fn proceed(&mut self, setup: Setup, node: Node, outcome: Outcome)
+        requires { IsPointOf setup node self.old.point }
+        ensures { self.new ≡ proceeded_state setup node outcome self.old }
+    {
+        let next = self.point.next(setup, node, self.vector.up(), outcome);
+        match outcome {
+            Outcome::Moved => self.move_vector(node),
+            Outcome::Yes => self.join_halted(),
+            _ => {}
+        }
+        if let Some(point) = next {
+            self.point = point;
+        }
+    }
+
+    // The node's vector, where its procedure moves without a call.
+    fn move_vector(&mut self, node: Node)
+        ensures { self.new ≡ with_vector (next_vector node self.old.point Outcome.Moved self.old.vector.vector) self.old }
+    {
+        match self.point {
+            Point::Asking(_) => self.vector.stand(node),
+            Point::Halting(0) => self.vector.lead(node),
+            Point::Readying(_) => {
+                if has_readied_all(&self.point) {
+                    self.vector.finish();
+                }
+            }
+            _ => {}
+        }
+    }
+
+    // The node's vector, where its call was answered Yes: a halted node joins its up set.
+    fn join_halted(&mut self)
+        requires small { halted_number self.old.point ≤ NODES_MAX }
+        ensures { (node : ℕ) → self.new ≡ with_vector (next_vector node self.old.point Outcome.Yes self.old.vector.vector) self.old }
+    {
+        if let Point::Halting(number) = self.point {
+            if let Some(callee) = Node::new(number) {
+                self.vector.add_up(callee);
+            }
+        }
+    }
+
+    /// The node has planned this table.
+    pub fn plan(&mut self, table: &Table)
+        requires { length table.now ≡ self.old.vector.room }
+        ensures { self.new ≡ planned_state table.now self.old }
+    {
+        self.vector.plan(table);
+        self.point = Point::Readying(*self.vector.up());
+    }
+}
+
+// The table that a call of this kind carries from a node with this vector.
+fn table_of(vector: &Vector, kind: CallKind) -> Option<&Table>
+    ensures { option_copied result ≡ carried kind vector.now.vector }
+{
+    match kind {
+        CallKind::Ready => vector.task(),
+        _ => None,
+    }
+}
+
+// Whether the point is the end of a reorganization: nobody is left to be readied.
+fn has_readied_all(point: &Point) -> bool
+    ensures { result ≡ is_readied point.now }
+{
+    match point {
+        Point::Readying(rest) => rest.is_empty(),
+        _ => false,
+    }
+}
