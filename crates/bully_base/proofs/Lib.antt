@@ -1,1 +1,2 @@
 pub mod NodeSetLemmas
+pub mod PlaceLemmas

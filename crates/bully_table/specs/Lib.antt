@@ -2,3 +2,4 @@ pub mod Balance
 pub mod Numeral
 pub mod TableText
 pub mod Room
+pub mod Pieces

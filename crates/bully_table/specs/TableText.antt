@@ -1,5 +1,5 @@
 -- Tables as text: the owners, parted by single spaces.
-use Rattle.std.specs.Prelude.{ℕ, Bool, false, List, Option, Result, Ok, Err, map, length, not, ◌==◌, is_none, unwrap_or, if◌then◌else◌}
+use Rattle.std.specs.Prelude.{ℕ, Bool, false, List, Result, Ok, Err, map, length, not, ◌==◌, is_none, unwrap_or, if◌then◌else◌}
 use Rattle.std.specs.List.{list_any, slice_split}
 use Rattle.std.specs.Option.{option_map_or}
 use Rattle.bully_base.specs.Setup.{Setup, is_node}

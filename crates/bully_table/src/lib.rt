@@ -4,7 +4,10 @@
 //! `is_balanced` being the definition's balance.
 #![tactic(auto)]
 
+mod balance;
 mod numeral;
+mod pieces;
+mod reading;
 mod room;
 mod table;
 

@@ -26,6 +26,13 @@ impl TableRoom {
     /// Empty room for a table of the setup's partitions. Refused where a growth of memory is.
     pub fn new(alloc: Global, setup: Setup) -> Result<TableRoom, OutOfMemory>
         ensures { IfOk result (λ r. r ≡ record { table = None; size = setup.partitions }) }
+    {
+        let table = Table::all_owned(alloc, setup)?;
+        Ok(TableRoom {
+            table,
+            is_full: false,
+        })
+    }
 
     /// Puts the table in, in the place of what was there.
     pub fn put(&mut self, table: &Table)
@@ -47,6 +54,10 @@ impl TableRoom {
     pub fn table(&self) -> Option<&Table>
         ensures { option_copied result ≡ self.now.table }
     {
-        if self.is_full { Some(&self.table) } else { None }
+        if self.is_full {
+            Some(&self.table)
+        } else {
+            None
+        }
     }
 }

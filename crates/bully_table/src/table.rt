@@ -3,7 +3,8 @@ ghost use Rattle.bully_base.specs.Setup.{Setup as SetupState, IsNodeNumber};
 ghost use Rattle.bully_table.specs.Balance.{IsBalanced};
 ghost use Rattle.bully_table.specs.TableText.{table_of_text};
 
-use crate::numeral::read_number;
+use crate::balance::{are_even, are_members};
+use crate::reading::{look_through, read_owners};
 use bully_base::{Node, NodeSet, OutOfMemory, Setup};
 use std::alloc::Global;
 use std::marker::Model;
@@ -41,6 +42,31 @@ impl Table {
     pub fn read(alloc: Global, setup: Setup, text: &str) -> Result<Table, TableFault>
         ensures ok { IfOk result (λ t. table_of_text setup text.now ≡ Ok t) }
         ensures err { IfErr result (λ fault. (table_of_text setup text.now ≡ Err fault) ⊎ ((fault ≡ TableFault.OutOfMemory) × IsOk (table_of_text setup text.now))) }
+    {
+        let found = look_through(setup, text.as_bytes());
+        if found.count != setup.partitions() {
+            return Err(TableFault::Length);
+        }
+        if found.names_nobody {
+            return Err(TableFault::Owner);
+        }
+        if found.has_no_number {
+            return Err(TableFault::Syntax);
+        }
+        match read_owners(alloc, setup, text.as_bytes()) {
+            Ok(owners) => Ok(Table { owners }),
+            Err(_) => Err(TableFault::OutOfMemory),
+        }
+    }
+
+    // A table of the setup's partitions, each owned by node 1.
+    pub(crate) fn all_owned(alloc: Global, setup: Setup) -> Result<Table, OutOfMemory>
+        ensures { IfOk result (λ t. length t ≡ setup.partitions) }
+    {
+        let first = Node::new(1).unwrap();
+        let owners = vec![in alloc; first; usize::from(setup.partitions())]?;
+        Ok(Table { owners })
+    }
 
     /// How many partitions the table has.
     pub fn len(&self) -> usize
@@ -60,14 +86,24 @@ impl Table {
     /// A table of the same owners.
     pub fn copy(&self) -> Result<Table, OutOfMemory>
         ensures { IfOk result (λ t. t ≡ self.now) }
+    {
+        let owners = Vec::from_slice(*self.owners.allocator(), &self.owners)?;
+        Ok(Table { owners })
+    }
 
     /// Takes over the owners of a table of the same length.
     pub fn assign(&mut self, other: &Table)
         requires { length self.old ≡ length other.now }
         ensures { self.new ≡ other.now }
+    {
+        self.owners.copy_from_slice(&other.owners);
+    }
 
     /// Whether the table is balanced over the members: each owner is one, and the counts of two members
     /// differ by one at most. This project's profile.
     pub fn is_balanced(&self, members: &NodeSet) -> bool
         ensures { (setup : SetupState) → (IsTrue result ↔ IsBalanced setup self.now members.now) }
+    {
+        are_members(&self.owners, members) && are_even(&self.owners, members)
+    }
 }

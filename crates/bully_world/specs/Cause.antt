@@ -84,9 +84,12 @@ refuses setup w count (Event.Plan i table) BadTable =
     not ((length table == setup.partitions) && is_balanced setup table (with_node i (vector w i).up))
 refuses setup w count e _ = false
 
--- the refusals in their one order
+-- the refusals in their one order; the later ones speak of a node that is up
+abbrev pub later_refusals : List Refused
+later_refusals = Busy ∷ NoStep ∷ SlotBusy ∷ NoCall ∷ CalleeDown ∷ CalleeUp ∷ BadTable ∷ []
+
 abbrev pub refusals : List Refused
-refusals = Full ∷ BadNode ∷ IsDown ∷ IsUp ∷ Busy ∷ NoStep ∷ SlotBusy ∷ NoCall ∷ CalleeDown ∷ CalleeUp ∷ BadTable ∷ []
+refusals = Full ∷ BadNode ∷ IsDown ∷ IsUp ∷ later_refusals
 
 abbrev pub first_of : (Refused → Bool) → List Refused → Option Refused
 first_of holds [] = None

@@ -28,7 +28,7 @@ SuitsPoint i v (Announcing rest) = (v.status ≡ Reorganization) × (v.coordinat
 SuitsPoint i v Planning = (v.status ≡ Reorganization) × (v.coordinator ≡ Some i)
 SuitsPoint i v (Readying rest) = (v.status ≡ Reorganization) × (v.coordinator ≡ Some i) × IsSome v.task
 SuitsPoint i v (Checking k) = Unit {0}
-SuitsPoint i v Inquiring = TakesPart v × IsSome v.coordinator
+SuitsPoint i v Inquiring = TakesPart v × IsSome v.coordinator × (v.coordinator ≢ Some i)
 
 -- a node here has asked past nobody and passed nobody
 abbrev pub IsBeginning : ℕ → Point → Type 0

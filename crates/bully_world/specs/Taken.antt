@@ -1,5 +1,5 @@
 -- What an event that nothing refuses makes of what is kept of each node, and its answer.
-use Rattle.std.specs.Prelude.{ℕ, ◌+◌, ◌==◌, Bool, true, false, List, [], Option, Some, None, option_map, unwrap_or, if◌then◌else◌}
+use Rattle.std.specs.Prelude.{◌≡◌, ℕ, ◌+◌, ◌==◌, IsTrue, IsSome, length, not, Bool, true, false, List, [], Option, Some, None, option_map, unwrap_or, if◌then◌else◌}
 use Rattle.std.specs.Option.{option_map_or}
 use Rattle.bully_base.specs.Places.{at_node, put_node}
 use Rattle.bully_base.specs.Setup.{Setup}
@@ -9,8 +9,8 @@ use Rattle.bully_calls.specs.declared.call.CallKind.{CallKind}
 use Rattle.bully_calls.specs.declared.call.CallKind.TheVariants.{AreYouUp, AreYouNormal, Halt, NewCoordinator, Ready}
 use Rattle.bully_calls.specs.declared.call.Outcome.{Outcome}
 use Rattle.bully_calls.specs.declared.call.Phase.{Phase}
-use Rattle.bully_calls.specs.Pending.{outcome_of, answer_of}
-use Rattle.bully_calls.specs.Slot.{Posted, Slot, phased}
+use Rattle.bully_calls.specs.Pending.{outcome_of, answer_of, is_failed}
+use Rattle.bully_calls.specs.Slot.{Posted, phased, CarriesFor, is_posted, outcome_in}
 use Rattle.bully_handlers.specs.Handler.{heard, reply}
 use Rattle.bully_handlers.specs.Vector.{Vector, RoomyVector, crashed, recovered}
 use Rattle.bully_steps.specs.declared.point.Point.{Point}
@@ -137,3 +137,36 @@ abbrev pub answer_taken : List MemberState → Event → Answer
 answer_taken ms (Event.Run i) = run_answer ms (at_node (empty_state 0) ms i).slot.posted
 answer_taken ms (Event.Return i) = let m = at_node (empty_state 0) ms i in return_answer m.generation m.slot.posted
 answer_taken ms e = Answer.Done
+
+-- what an event other than a Run makes of its own node
+abbrev pub taken_here : Setup → Event → MemberState → MemberState
+taken_here setup (Event.Recover i) m = recovered_state setup i m
+taken_here setup (Event.Crash i) m = crashed_state setup m
+taken_here setup (Event.Check i) m = begun_state (checked setup i m.vector.vector.status m.vector.vector.coordinator) m
+taken_here setup (Event.Timeout i) m = begun_state (timed_out i m.vector.vector.status m.vector.vector.coordinator) m
+taken_here setup (Event.Start i) m = started_state setup i m
+taken_here setup (Event.Run i) m = m
+taken_here setup (Event.Lose i) m = phased_state Phase.Failed m
+taken_here setup (Event.Return i) m = return_taken setup i m m.slot.posted
+taken_here setup (Event.Move i) m = proceeded_state setup i Outcome.Moved m
+taken_here setup (Event.Plan i table) m = planned_state table m
+
+-- what such an event is answered
+abbrev pub answer_here : Event → MemberState → Answer
+answer_here (Event.Return i) m = return_answer m.generation m.slot.posted
+answer_here e m = Answer.Done
+
+-- what the event asks of its node's slot and room, where nothing refuses it
+abbrev pub MayTake : Setup → Event → MemberState → Type 0
+MayTake setup (Event.Start i) m =
+    (m.slot.posted ≡ None)
+    × ((call : Call) → offered setup m.vector.vector.coordinator m.point ≡ Want.Start call → CarriesFor call (carried call.kind m.vector.vector) m.slot.room)
+MayTake setup (Event.Lose i) m = IsTrue (is_posted (λ f. not (is_failed f)) m.slot)
+MayTake setup (Event.Return i) m = IsSome (outcome_in m.slot)
+MayTake setup (Event.Plan i table) m = length table ≡ m.vector.room
+MayTake setup (Event.Recover i) m = Unit {0}
+MayTake setup (Event.Crash i) m = Unit {0}
+MayTake setup (Event.Check i) m = Unit {0}
+MayTake setup (Event.Timeout i) m = Unit {0}
+MayTake setup (Event.Run i) m = Unit {0}
+MayTake setup (Event.Move i) m = Unit {0}

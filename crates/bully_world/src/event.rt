@@ -42,3 +42,26 @@ pub enum Refused {
     /// Plan with a table of another number of partitions, or one that isn't balanced over the node and its up set.
     BadTable,
 }
+
+impl Event {
+    ghost use Rattle.std.specs.Prelude.{◌≡◌};
+    ghost use Rattle.bully_world.specs.Cause.{node_of};
+
+    /// The node that the event names.
+    pub fn node(&self) -> Node
+        ensures { result ≡ node_of self.now }
+    {
+        match self {
+            Event::Recover(node)
+            | Event::Crash(node)
+            | Event::Check(node)
+            | Event::Timeout(node)
+            | Event::Start(node)
+            | Event::Run(node)
+            | Event::Lose(node)
+            | Event::Return(node)
+            | Event::Move(node)
+            | Event::Plan(node, _) => *node,
+        }
+    }
+}

@@ -4,6 +4,7 @@
 //! every world being reached by a lawful list of events.
 #![tactic(auto)]
 
+mod causes;
 mod event;
 mod member;
 

@@ -7,14 +7,16 @@ ghost use Rattle.bully_calls.specs.Slot.{CarriesFor, is_posted, outcome_in};
 ghost use Rattle.bully_handlers.specs.Handler.{reply};
 ghost use Rattle.bully_steps.specs.NextPoint.{next_vector};
 ghost use Rattle.bully_steps.specs.Point.{offered, IsPointOf};
+ghost use Rattle.bully_world.specs.Cause.{node_of};
 ghost use Rattle.bully_world.specs.State.{empty_state};
 ghost use Rattle.bully_world.specs.Step.{carried};
-ghost use Rattle.bully_world.specs.Taken.{with_vector, halted_number, is_readied, recovered_state, crashed_state, begun_state, posted_state, phased_state, heard_state, proceeded_state, return_taken, return_answer, planned_state};
+ghost use Rattle.bully_world.specs.Taken.{with_vector, halted_number, is_readied, recovered_state, crashed_state, begun_state, posted_state, phased_state, heard_state, proceeded_state, return_taken, return_answer, planned_state, started_state, taken_here, answer_here, MayTake};
 
+use crate::event::Event;
 use bully_base::{Node, OutOfMemory, Setup, Status};
 use bully_calls::{Answer, Call, CallKind, Outcome, Phase, Slot, Tag};
 use bully_handlers::Vector;
-use bully_steps::{Point, Want, begin_recovery};
+use bully_steps::{Point, Want, begin_check, begin_recovery, begin_timeout};
 use bully_table::Table;
 use std::alloc::Global;
 use std::marker::Model;
@@ -235,6 +237,42 @@ impl Member {
             if let Some(callee) = Node::new(number) {
                 self.vector.add_up(callee);
             }
+        }
+    }
+
+    /// An event of this node, other than a Run, that nothing refuses.
+    pub fn take(&mut self, setup: Setup, event: &Event) -> Answer
+        requires at { IsPointOf setup (node_of event.now) self.old.point }
+        requires room { self.old.generation + 1 < 2 ^ 32 }
+        requires may { MayTake setup event.now self.old }
+        ensures after { self.new ≡ taken_here setup event.now self.old }
+        ensures answer { result ≡ answer_here event.now self.old }
+    {
+        let status = self.vector.status();
+        let coordinator = self.vector.coordinator();
+        match event {
+            Event::Recover(node) => self.recover(setup, *node),
+            Event::Crash(_) => self.crash(),
+            Event::Check(node) => self.begin(begin_check(setup, *node, status, coordinator)),
+            Event::Timeout(node) => self.begin(begin_timeout(setup, *node, status, coordinator)),
+            Event::Start(node) => self.start_offered(setup, *node),
+            Event::Run(_) => {}
+            Event::Lose(_) => self.lose(),
+            Event::Return(node) => return self.take_back(setup, *node),
+            Event::Move(node) => self.proceed(setup, *node, Outcome::Moved),
+            Event::Plan(_, table) => self.plan(table),
+        }
+        Answer::Done
+    }
+
+    // The node starts the call that its point offers.
+    fn start_offered(&mut self, setup: Setup, node: Node)
+        requires at { IsPointOf setup node self.old.point }
+        requires may { MayTake setup (Event.Start node) self.old }
+        ensures { self.new ≡ started_state setup node self.old }
+    {
+        if let Want::Start(call) = self.offer(setup, node) {
+            self.start(node, call);
         }
     }
 

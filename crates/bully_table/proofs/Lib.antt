@@ -1,0 +1,4 @@
+pub mod NumeralLemmas
+pub mod PieceLemmas
+pub mod BalanceSteps
+pub mod BalanceLemmas

@@ -1,0 +1,13 @@
+pub mod MemberLemmas
+pub mod QuietFits
+pub mod CallFits
+pub mod MoveFits
+pub mod RunFits
+pub mod ShapeLemmas
+pub mod LawfulLemmas
+pub mod CauseLemmas
+pub mod MembersOf
+pub mod TakenLemmas
+pub mod KeptLemmas
+pub mod GenerationLemmas
+pub mod CauseAt

@@ -1,0 +1,94 @@
+-- A procedure that goes on by an outcome, or by a plan, keeps what holds of its node.
+use Rattle.std.proofs.Common.{◌≡◌, ◌≢◌, ℕ, zero, suc, List, [], ◌∷◌, length, Some, None, arith, refl, inl, inr, ◌⊎◌}
+use Rattle.bully_base.specs.declared.node.Status.TheVariants.{Down}
+use Rattle.bully_base.specs.NodeSet.{with_node, IsFallingBelow}
+use Rattle.bully_base.specs.Setup.{Setup, IsNode}
+use Rattle.bully_base.proofs.NodeSetLemmas.{with_node-falling, IsFallingBelow-more}
+use Rattle.bully_calls.specs.declared.call.Outcome.{Outcome}
+use Rattle.bully_handlers.specs.Vector.{Vector}
+use Rattle.bully_steps.specs.declared.point.Point.{Point}
+use Rattle.bully_steps.specs.declared.point.Point.TheVariants.{Idle, Asking, Halting, Announcing, Planning, Readying, Checking, Inquiring}
+use Rattle.bully_steps.specs.NextPoint.{next_point, next_vector, election}
+use Rattle.bully_steps.specs.Point.{IsPointOf}
+use Rattle.bully_world.specs.Shape.{Fits, SuitsSetup, SuitsPoint}
+use Rattle.bully_world.specs.World.{Member}
+use Rattle.bully_world.proofs.MemberLemmas.{node_of_fits}
+
+rest_falls : (b k : ℕ) (rest : List ℕ) → IsFallingBelow b (k ∷ rest) → IsFallingBelow b rest
+rest_falls b k rest h = IsFallingBelow-more k b rest (omega (arith, h.1)) h.2
+
+-- the point that follows is one of node i's
+point_follows : (setup : Setup) (i : ℕ) (up : List ℕ) (p : Point) (o : Outcome) (q : Point) → IsNode setup i → IsFallingBelow i up → IsPointOf setup i p → next_point setup i up p o ≡ Some q → IsPointOf setup i q
+point_follows setup i up Idle o q node falls at next = absurd (grind (arith, next))
+point_follows setup i up (Asking k) o q node falls at next = grind (arith, next, node, at)
+point_follows setup i up (Halting zero) o q node falls at next =
+    let h : Announcing up ≡ q = grind (arith, next) in
+    rw (← h) falls
+point_follows setup i up (Halting (suc k)) o q node falls at next = grind (arith, next, node, at)
+point_follows setup i up (Announcing []) o q node falls at next = grind (arith, next)
+point_follows setup i up (Announcing (k ∷ rest)) o q node falls at next = by_case (grind (arith, next))
+  where
+    by_case : (q ≡ Announcing (k ∷ rest)) ⊎ ((q ≡ Announcing rest) ⊎ (q ≡ election i)) → IsPointOf setup i q
+    by_case (inl e) = rw e at
+    by_case (inr (inl e)) = rw e (rest_falls i k rest at)
+    by_case (inr (inr e)) = rw e (omega arith, omega (arith, node.1))
+point_follows setup i up Planning o q node falls at next =
+    let h : Readying up ≡ q = grind (arith, next) in
+    rw (← h) falls
+point_follows setup i up (Readying []) o q node falls at next = grind (arith, next)
+point_follows setup i up (Readying (k ∷ rest)) o q node falls at next = by_case (grind (arith, next))
+  where
+    by_case : (q ≡ Readying (k ∷ rest)) ⊎ ((q ≡ Readying rest) ⊎ (q ≡ election i)) → IsPointOf setup i q
+    by_case (inl e) = rw e at
+    by_case (inr (inl e)) = rw e (rest_falls i k rest at)
+    by_case (inr (inr e)) = rw e (omega arith, omega (arith, node.1))
+point_follows setup i up (Checking k) o q node falls at next = grind (arith, next, node, at)
+point_follows setup i up Inquiring o q node falls at next = grind (arith, next, node)
+
+module _ (setup : Setup) (i : ℕ) (v : Vector) (p : Point) (o : Outcome) (q : Point) (node : IsNode setup i) (up : v.status ≢ Down) (is_point : IsPointOf setup i p) (by_setup : SuitsSetup setup i v) (by_point : SuitsPoint i v p) (next : next_point setup i v.up p o ≡ Some q) where
+  next_is_point : IsPointOf setup i q
+  next_is_point = point_follows setup i v.up p o q node by_setup.up is_point next
+
+  next_up : (next_vector i p o v).status ≢ Down
+  next_up d = grind (arith, up, d)
+
+  next_falls : IsFallingBelow i (next_vector i p o v).up
+  next_falls = grind (arith, by_setup.up, is_point, with_node-falling)
+
+  next_by_setup : SuitsSetup setup i (next_vector i p o v)
+  next_by_setup = record { up = next_falls; task = λ t e. grind (arith, by_setup.task, e); coordinator = λ k e. grind (arith, by_setup.coordinator, e, node) }
+
+  next_by_point : o ≢ Outcome.Planned → SuitsPoint i (next_vector i p o v) q
+  next_by_point ne = grind (arith, by_point, next, ne)
+
+-- a procedure's node after any outcome but a plan
+pub proceed_fits : (setup : Setup) (i : ℕ) (m : Member) (o : Outcome) (q : Point) → Fits setup i m → m.vector.status ≢ Down → o ≢ Outcome.Planned → next_point setup i m.vector.up m.point o ≡ Some q → Fits setup i (record { vector = next_vector i m.point o m.vector; point = q; pending = None })
+proceed_fits setup i m o q fits up ne next =
+    let node = node_of_fits setup i m fits up in
+    record {
+      a_node = inr node;
+      down_idle = λ d. absurd (next_up setup i m.vector m.point o q node up fits.is_point fits.by_setup fits.by_point next d);
+      down_free = λ d. refl;
+      is_point = next_is_point setup i m.vector m.point o q node up fits.is_point fits.by_setup fits.by_point next;
+      by_setup = next_by_setup setup i m.vector m.point o q node up fits.is_point fits.by_setup fits.by_point next;
+      by_point = next_by_point setup i m.vector m.point o q node up fits.is_point fits.by_setup fits.by_point next ne;
+      by_call = tt;
+    }
+
+-- a planning node is up
+pub planning_up : (setup : Setup) (i : ℕ) (m : Member) → Fits setup i m → m.point ≡ Planning → m.vector.status ≢ Down
+planning_up setup i m fits planning d = grind (arith, planning, fits.down_idle d)
+
+pub plan_fits : (setup : Setup) (i : ℕ) (m : Member) (table : List ℕ) → Fits setup i m → m.point ≡ Planning → length table ≡ setup.partitions → Fits setup i (record { vector = record m.vector { task = Some table }; point = Readying m.vector.up; pending = None })
+plan_fits setup i m table fits planning size = record {
+  a_node = fits.a_node;
+  down_idle = λ d. absurd (planning_up setup i m fits planning d);
+  down_free = λ d. refl;
+  is_point = fits.by_setup.up;
+  by_setup = record { up = fits.by_setup.up; task = λ t e. grind (arith, e, size); coordinator = fits.by_setup.coordinator };
+  by_point = suits (rw planning at fits.by_point);
+  by_call = tt;
+}
+  where
+    suits : SuitsPoint i m.vector Planning → SuitsPoint i (record m.vector { task = Some table }) (Readying m.vector.up)
+    suits s = (s.0, s.1, grind arith)

@@ -1,0 +1,68 @@
+-- Recovery, crash, and the events by which an idle node begins a procedure keep what holds of a node.
+use Rattle.std.proofs.Common.{◌≡◌, ◌≢◌, ℕ, ◌<◌, Option, Some, None, arith, refl, inl, inr}
+use Rattle.bully_base.specs.declared.node.Status.TheVariants.{Down}
+use Rattle.bully_base.specs.Setup.{Setup, IsNode}
+use Rattle.bully_calls.specs.Pending.{Pending}
+use Rattle.bully_handlers.specs.Vector.{Vector, crashed, recovered}
+use Rattle.bully_steps.specs.declared.point.Point.{Point}
+use Rattle.bully_steps.specs.declared.point.Point.TheVariants.{Idle}
+use Rattle.bully_steps.specs.NextPoint.{election, checking_from, checked, timed_out}
+use Rattle.bully_steps.specs.Point.{IsPointOf}
+use Rattle.bully_world.specs.Shape.{Fits, SuitsPoint, SuitsPending, IsBeginning}
+use Rattle.bully_world.specs.World.{Member, empty_member}
+
+pub empty_fits : (setup : Setup) (i : ℕ) → Fits setup i empty_member
+empty_fits setup i = record {
+  a_node = inl refl;
+  down_idle = λ d. refl;
+  down_free = λ d. refl;
+  is_point = tt;
+  by_setup = record { up = tt; task = λ t e. absurd (grind arith); coordinator = λ k e. absurd (grind arith) };
+  by_point = tt;
+  by_call = tt;
+}
+
+pub crash_fits : (setup : Setup) (i : ℕ) (v : Vector) → Fits setup i (record { vector = crashed setup v; point = Idle; pending = None })
+crash_fits setup i v = empty_fits setup i
+
+pub recover_fits : (setup : Setup) (i : ℕ) (m : Member) → Fits setup i m → IsNode setup i → m.vector.status ≡ Down → Fits setup i (record m { vector = recovered setup m.vector; point = election i })
+recover_fits setup i m fits node down = record {
+  a_node = inr node;
+  down_idle = λ d. absurd (grind arith);
+  down_free = λ d. fits.down_free down;
+  is_point = (omega arith, omega (arith, node.1));
+  by_setup = record { up = tt; task = λ t e. absurd (grind arith); coordinator = λ k e. absurd (grind arith) };
+  by_point = tt;
+  by_call = rw (fits.down_free down) tt;
+}
+
+-- an idle node goes to a point where it has asked past nobody and passed nobody
+pub begin_fits : (setup : Setup) (i : ℕ) (m : Member) (p : Point) → Fits setup i m → m.vector.status ≢ Down → m.point ≡ Idle → IsBeginning i p → IsPointOf setup i p → SuitsPoint i m.vector p → Fits setup i (record m { point = p })
+begin_fits setup i m p fits up idle begins is_point suits_point = record {
+  a_node = fits.a_node;
+  down_idle = λ d. absurd (up d);
+  down_free = λ d. absurd (up d);
+  is_point = is_point;
+  by_setup = fits.by_setup;
+  by_point = suits_point;
+  by_call = suits m.pending fits.by_call;
+}
+  where
+    suits : (c : Option Pending) → SuitsPending setup i m.vector m.point c → SuitsPending setup i m.vector p c
+    suits None s = tt
+    suits (Some c) s = record { live = λ e. absurd (grind (arith, idle, s.live e)); orphan = λ e. begins; to_node = s.to_node; callee = s.callee; table = s.table; phase = s.phase }
+
+pub checking_is_point : (setup : Setup) (i k : ℕ) → 0 < k → IsPointOf setup i (checking_from setup i k)
+checking_is_point setup i k l = grind (arith, l)
+
+checking_begins : (setup : Setup) (i k : ℕ) → IsBeginning i (checking_from setup i k)
+checking_begins setup i k = grind arith
+
+pub checking_suits : (setup : Setup) (i k : ℕ) (v : Vector) → SuitsPoint i v (checking_from setup i k)
+checking_suits setup i k v = grind arith
+
+pub check_fits : (setup : Setup) (i : ℕ) (m : Member) → Fits setup i m → m.vector.status ≢ Down → m.point ≡ Idle → Fits setup i (record m { point = checked setup i m.vector.status m.vector.coordinator })
+check_fits setup i m fits up idle = begin_fits setup i m _ fits up idle (grind arith) (grind arith) (grind arith)
+
+pub timeout_fits : (setup : Setup) (i : ℕ) (m : Member) → Fits setup i m → m.vector.status ≢ Down → m.point ≡ Idle → Fits setup i (record m { point = timed_out i m.vector.status m.vector.coordinator })
+timeout_fits setup i m fits up idle = begin_fits setup i m _ fits up idle (grind arith) (grind (arith, fits.a_node, up)) (grind (arith, up))

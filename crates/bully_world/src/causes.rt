@@ -1,0 +1,187 @@
+ghost use Rattle.std.specs.Prelude.{◌≡◌, ◌≢◌, ◌+◌, ◌≤◌, ◌<◌, ◌==◌, ◌&&◌, ℕ, length, not, Some, None, IfSome, if◌then◌else◌};
+ghost use Rattle.bully_base.specs.NodeSet.{with_node};
+ghost use Rattle.bully_base.specs.Setup.{IsNode};
+ghost use Rattle.bully_table.specs.Balance.{is_balanced};
+ghost use Rattle.bully_calls.specs.Pending.{is_sent, is_failed};
+ghost use Rattle.bully_steps.specs.Point.{offered, IsPointOf};
+ghost use Rattle.bully_world.specs.Cause.{refuses, first_of, later_refusals, cause, is_idle, is_call, is_move, is_plan, node_of, in_phase, is_pending, callee_is_down};
+ghost use Rattle.bully_world.specs.Shape.{AllFit};
+ghost use Rattle.bully_world.specs.State.{member_of, members_of};
+
+use crate::event::{Event, Refused};
+use crate::member::Member;
+use bully_base::{Node, Setup};
+use bully_calls::Phase;
+use bully_steps::{Point, Want};
+use bully_table::Table;
+
+/// Where the node's member stands in a list of all nodes' members.
+pub fn place_of(node: Node) -> usize
+    ensures { result + 1 ≡ node }
+{
+    usize::from(node.number() - 1)
+}
+
+/// Why the event is refused with so many events applied, the first that holds; none where it isn't.
+pub fn cause_of(setup: Setup, events: u32, members: &[Member], event: &Event) -> Option<Refused>
+    requires { AllFit setup (members_of members.now) }
+    ensures { result ≡ cause setup (members_of members.now) events event.now }
+{
+    if events >= setup.events_max() {
+        return Some(Refused::Full);
+    }
+    let node = event.node();
+    if node.number() > setup.nodes() {
+        return Some(Refused::BadNode);
+    }
+    let is_down = members[place_of(node)].is_down();
+    match event {
+        Event::Recover(_) => refused_if(!is_down, Refused::IsUp),
+        _ if is_down => Some(Refused::IsDown),
+        _ => later_cause(setup, members, event),
+    }
+}
+
+// The same of a node that is up, from the refusals behind IsUp on.
+fn later_cause(setup: Setup, members: &[Member], event: &Event) -> Option<Refused>
+    requires fits { AllFit setup (members_of members.now) }
+    requires node { IsNode setup (node_of event.now) }
+    ensures { (count : ℕ) → result ≡ first_of (refuses setup (members_of members.now) count event.now) later_refusals }
+{
+    let member = &members[place_of(event.node())];
+    match event {
+        Event::Recover(_) | Event::Crash(_) => None,
+        Event::Check(_) => refused_if(!is_at_rest(member.point()), Refused::Busy),
+        Event::Timeout(_) => refused_if(!is_at_rest(member.point()), Refused::Busy),
+        Event::Start(node) => step_cause(member, offers_call(member.offer(setup, *node))),
+        Event::Move(node) => step_cause(member, offers_move(member.offer(setup, *node))),
+        Event::Plan(node, table) => plan_cause(setup, member, *node, table),
+        Event::Run(_) => run_cause(members, member),
+        Event::Lose(_) => lose_cause(members, member),
+        Event::Return(_) => {
+            refused_if(!has_come(member), Refused::NoCall)
+        }
+    }
+}
+
+fn is_at_rest(point: Point) -> bool
+    ensures { result ≡ is_idle point }
+{
+    matches!(point, Point::Idle)
+}
+
+fn offers_call(want: Want) -> bool
+    ensures { result ≡ is_call want }
+{
+    matches!(want, Want::Start(_))
+}
+
+fn offers_move(want: Want) -> bool
+    ensures { result ≡ is_move want }
+{
+    matches!(want, Want::Move)
+}
+
+fn offers_plan(want: Want) -> bool
+    ensures { result ≡ is_plan want }
+{
+    matches!(want, Want::Plan)
+}
+
+// The member's call was sent and didn't run yet.
+fn is_under_way(member: &Member) -> bool
+    ensures { result ≡ in_phase is_sent (member_of member.now).pending }
+{
+    matches!(member.slot().phase(), Some(Phase::Sent))
+}
+
+// The member's call was sent or ran.
+fn is_unfailed(member: &Member) -> bool
+    ensures { result ≡ in_phase (λ f. not (is_failed f)) (member_of member.now).pending }
+{
+    matches!(member.slot().phase(), Some(Phase::Sent | Phase::Ran(_)))
+}
+
+// The member's call ran or failed.
+fn has_come(member: &Member) -> bool
+    ensures { result ≡ in_phase (λ f. not (is_sent f)) (member_of member.now).pending }
+{
+    matches!(member.slot().phase(), Some(Phase::Ran(_) | Phase::Failed))
+}
+
+// The refusal, where it holds.
+fn refused_if(holds: bool, refused: Refused) -> Option<Refused>
+    ensures { result ≡ (if holds then Some refused else None) }
+{
+    if holds { Some(refused) } else { None }
+}
+
+// Why a Start, a Move or a Plan is refused, where the point offers it or not.
+fn step_cause(member: &Member, offered: bool) -> Option<Refused>
+    ensures { result ≡ (if not offered then Some Refused.NoStep else if is_pending (member_of member.now).pending then Some Refused.SlotBusy else None) }
+{
+    if !offered {
+        return Some(Refused::NoStep);
+    }
+    refused_if(member.slot().call().is_some(), Refused::SlotBusy)
+}
+
+// Why a Plan with this table is refused.
+fn plan_cause(setup: Setup, member: &Member, node: Node, table: &Table) -> Option<Refused>
+    requires { IsPointOf setup node member.now.point }
+    ensures { result ≡ (if not (is_plan (offered setup member.now.vector.vector.coordinator member.now.point)) then Some Refused.NoStep
+        else if is_pending (member_of member.now).pending then Some Refused.SlotBusy
+        else if not ((length table.now == setup.partitions) && is_balanced setup table.now (with_node node member.now.vector.vector.up)) then Some Refused.BadTable else None) }
+{
+    let cause = step_cause(member, offers_plan(member.offer(setup, node)));
+    if cause.is_some() {
+        return cause;
+    }
+    refused_if(!suits(setup, member, node, table), Refused::BadTable)
+}
+
+// The table has the setup's partitions, and is balanced over the node and its up set.
+fn suits(setup: Setup, member: &Member, node: Node, table: &Table) -> bool
+    ensures { result ≡ (length table.now == setup.partitions) && is_balanced setup table.now (with_node node member.now.vector.vector.up) }
+{
+    let mut planned = *member.vector().up();
+    planned.insert(node);
+    let is_balanced = table.is_balanced(&planned);
+    let is_whole = table.len() == usize::from(setup.partitions());
+    is_whole && is_balanced
+}
+
+// Whether the callee of the member's call is Down; no where there is no call.
+fn callee_down(members: &[Member], member: &Member) -> bool
+    requires { IfSome member.now.slot.posted (λ p. (0 < p.call.callee) × (p.call.callee ≤ length members.now)) }
+    ensures { result ≡ callee_is_down (members_of members.now) (member_of member.now).pending }
+{
+    match member.slot().call() {
+        Some(call) => members[place_of(call.callee)].is_down(),
+        None => false,
+    }
+}
+
+// Why a Run of the member's call is refused.
+fn run_cause(members: &[Member], member: &Member) -> Option<Refused>
+    requires { IfSome member.now.slot.posted (λ p. (0 < p.call.callee) × (p.call.callee ≤ length members.now)) }
+    ensures { result ≡ (if not (in_phase is_sent (member_of member.now).pending) then Some Refused.NoCall
+        else if callee_is_down (members_of members.now) (member_of member.now).pending then Some Refused.CalleeDown else None) }
+{
+    if !is_under_way(member) {
+        return Some(Refused::NoCall);
+    }
+    refused_if(callee_down(members, member), Refused::CalleeDown)
+}
+
+// Why a loss of the member's call is refused.
+fn lose_cause(members: &[Member], member: &Member) -> Option<Refused>
+    requires { IfSome member.now.slot.posted (λ p. (0 < p.call.callee) × (p.call.callee ≤ length members.now)) }
+    ensures { result ≡ (if not (in_phase (λ f. not (is_failed f)) (member_of member.now).pending) then Some Refused.NoCall
+        else if not (callee_is_down (members_of members.now) (member_of member.now).pending) then Some Refused.CalleeUp else None) }
+{
+    if !is_unfailed(member) {
+        return Some(Refused::NoCall);
+    }
+    refused_if(!callee_down(members, member), Refused::CalleeUp)
+}
