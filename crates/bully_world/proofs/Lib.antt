@@ -11,3 +11,7 @@ pub mod TakenLemmas
 pub mod KeptLemmas
 pub mod GenerationLemmas
 pub mod CauseAt
+pub mod SplitLemmas
+pub mod TakeLemmas
+pub mod ExchangeLemmas
+pub mod WorldLemmas

@@ -133,22 +133,22 @@ put_is ms i s x e = members_of-put_node ms i s ∙ ap (λ q. with_member (member
 
 -- what isn't refused
 
-start_facts : (setup : Setup) (w : World) (count i : ℕ) → cause setup w count (Event.Start i) ≡ None → IsUp w i × (pending w i ≡ None) × (is_call (offer setup w i) ≡ true)
+pub start_facts : (setup : Setup) (w : World) (count i : ℕ) → cause setup w count (Event.Start i) ≡ None → IsUp w i × (pending w i ≡ None) × (is_call (offer setup w i) ≡ true)
 start_facts setup w count i n = grind (arith, n)
 
-run_facts : (setup : Setup) (w : World) (count i : ℕ) → cause setup w count (Event.Run i) ≡ None → IsNode setup i × (in_phase is_sent (pending w i) ≡ true) × (callee_is_down w (pending w i) ≡ false)
+pub run_facts : (setup : Setup) (w : World) (count i : ℕ) → cause setup w count (Event.Run i) ≡ None → IsNode setup i × (in_phase is_sent (pending w i) ≡ true) × (callee_is_down w (pending w i) ≡ false)
 run_facts setup w count i n = (grind (arith, n), grind (arith, n), grind (arith, n))
 
-lose_facts : (setup : Setup) (w : World) (count i : ℕ) → cause setup w count (Event.Lose i) ≡ None → (in_phase (λ f. not (is_failed f)) (pending w i) ≡ true) × (callee_is_down w (pending w i) ≡ true)
+pub lose_facts : (setup : Setup) (w : World) (count i : ℕ) → cause setup w count (Event.Lose i) ≡ None → (in_phase (λ f. not (is_failed f)) (pending w i) ≡ true) × (callee_is_down w (pending w i) ≡ true)
 lose_facts setup w count i n = grind (arith, n)
 
-return_facts : (setup : Setup) (w : World) (count i : ℕ) → cause setup w count (Event.Return i) ≡ None → in_phase (λ f. not (is_sent f)) (pending w i) ≡ true
+pub return_facts : (setup : Setup) (w : World) (count i : ℕ) → cause setup w count (Event.Return i) ≡ None → in_phase (λ f. not (is_sent f)) (pending w i) ≡ true
 return_facts setup w count i n = grind (arith, n)
 
-move_facts : (setup : Setup) (w : World) (count i : ℕ) → cause setup w count (Event.Move i) ≡ None → IsUp w i × (pending w i ≡ None) × (offer setup w i ≡ Want.Move)
+pub move_facts : (setup : Setup) (w : World) (count i : ℕ) → cause setup w count (Event.Move i) ≡ None → IsUp w i × (pending w i ≡ None) × (offer setup w i ≡ Want.Move)
 move_facts setup w count i n = grind (arith, n)
 
-plan_facts : (setup : Setup) (w : World) (count i : ℕ) (table : List ℕ) → cause setup w count (Event.Plan i table) ≡ None
+pub plan_facts : (setup : Setup) (w : World) (count i : ℕ) (table : List ℕ) → cause setup w count (Event.Plan i table) ≡ None
     → (point w i ≡ Planning) × (pending w i ≡ None) × (length table ≡ setup.partitions) × (is_balanced setup table (with_node i (vector w i).up) ≡ true)
 plan_facts setup w count i table n = (grind (arith, n), grind (arith, n), grind (arith, n, nat_tests), grind (arith, n))
 

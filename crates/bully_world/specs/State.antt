@@ -1,5 +1,5 @@
 -- What callers see of a group's world, and the world of the definitions that it stands for.
-use Rattle.std.specs.Prelude.{◌≡◌, ◌≤◌, ◌==◌, ◌&&◌, ℕ, Bool, true, false, List, map, length, Option, Some, None, IfSome}
+use Rattle.std.specs.Prelude.{◌≡◌, ◌≤◌, ◌==◌, ◌&&◌, ℕ, Bool, true, false, List, map, length, Option, Some, None, IfSome, replicate}
 use Rattle.bully_base.specs.Places.{at_node}
 use Rattle.bully_base.specs.Setup.{Setup, IsNode}
 use Rattle.bully_calls.specs.declared.call.Answer.{Answer}
@@ -96,3 +96,10 @@ abbrev pub raises : World → Event → ℕ → Bool
 raises w (Event.Crash i) j = i == j
 raises w (Event.Run i) j = halts j (pending w i)
 raises w e j = false
+
+-- what a new world keeps
+abbrev pub new_members : Setup → List MemberState
+new_members setup = replicate setup.nodes (empty_state setup.partitions)
+
+abbrev pub first_state : Setup → WorldState
+first_state setup = record { setup = setup; events = 0; members = new_members setup }

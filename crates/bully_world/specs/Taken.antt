@@ -1,6 +1,7 @@
 -- What an event that nothing refuses makes of what is kept of each node, and its answer.
-use Rattle.std.specs.Prelude.{◌≡◌, ℕ, ◌+◌, ◌==◌, IsTrue, IsSome, length, not, Bool, true, false, List, [], Option, Some, None, option_map, unwrap_or, if◌then◌else◌}
+use Rattle.std.specs.Prelude.{◌≡◌, ◌≢◌, ℕ, ◌+◌, ◌<◌, ◌^◌, ◌==◌, IsTrue, IsSome, IfSome, length, not, Bool, true, false, List, [], Option, Some, None, option_map, unwrap_or, if◌then◌else◌}
 use Rattle.std.specs.Option.{option_map_or}
+use Rattle.bully_base.specs.declared.node.Status.TheVariants.{Down}
 use Rattle.bully_base.specs.Places.{at_node, put_node}
 use Rattle.bully_base.specs.Setup.{Setup}
 use Rattle.bully_calls.specs.declared.call.Answer.{Answer}
@@ -9,7 +10,7 @@ use Rattle.bully_calls.specs.declared.call.CallKind.{CallKind}
 use Rattle.bully_calls.specs.declared.call.CallKind.TheVariants.{AreYouUp, AreYouNormal, Halt, NewCoordinator, Ready}
 use Rattle.bully_calls.specs.declared.call.Outcome.{Outcome}
 use Rattle.bully_calls.specs.declared.call.Phase.{Phase}
-use Rattle.bully_calls.specs.Pending.{outcome_of, answer_of, is_failed}
+use Rattle.bully_calls.specs.Pending.{outcome_of, answer_of, is_sent, is_failed}
 use Rattle.bully_calls.specs.Slot.{Posted, phased, CarriesFor, is_posted, outcome_in}
 use Rattle.bully_handlers.specs.Handler.{heard, reply}
 use Rattle.bully_handlers.specs.Vector.{Vector, RoomyVector, crashed, recovered}
@@ -170,3 +171,10 @@ MayTake setup (Event.Check i) m = Unit {0}
 MayTake setup (Event.Timeout i) m = Unit {0}
 MayTake setup (Event.Run i) m = Unit {0}
 MayTake setup (Event.Move i) m = Unit {0}
+
+-- the call of `calling` was sent and may run at `called`
+pub record CanExchange (calling called : MemberState) : Type 0 where
+  pub sent : IsTrue (is_posted is_sent calling.slot)
+  pub up : called.vector.vector.status ≢ Down
+  pub room : called.generation + 1 < 2 ^ 32
+  pub carries : IfSome calling.slot.posted (λ p. CarriesFor p.call p.table called.vector.room)

@@ -7,5 +7,8 @@
 mod causes;
 mod event;
 mod member;
+mod steps;
+mod world;
 
 pub use event::{Event, Refused};
+pub use world::World;

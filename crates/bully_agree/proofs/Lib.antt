@@ -1,0 +1,13 @@
+pub mod Traits
+pub mod Changes
+pub mod Fitting
+pub mod Recovering
+pub mod Crashing
+pub mod Checking
+pub mod Starting
+pub mod Losing
+pub mod Returning
+pub mod Moving
+pub mod Planning
+pub mod Running
+pub mod Law

@@ -1,0 +1,4 @@
+pub mod BalanceLemmas
+pub mod Trial
+pub mod Claims
+pub mod Scripts

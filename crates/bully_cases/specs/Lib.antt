@@ -1,0 +1,3 @@
+pub mod Trial
+pub mod Scripts
+pub mod Claims

@@ -1,4 +1,0 @@
-pub mod Rows
-pub mod Verdict
-pub mod VerdictText
-pub mod TraceText

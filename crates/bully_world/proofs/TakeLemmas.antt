@@ -1,0 +1,170 @@
+-- What nothing refuses may be taken by the members that it changes.
+use Rattle.std.proofs.Common.{◌≡◌, ◌≢◌, ℕ, ◌+◌, ◌<◌, ◌≤◌, ◌^◌, Bool, true, false, List, length, Option, Some, None, refl, sym, ◌∙◌, ap, subst, arith}
+use Rattle.std.specs.Prelude.{not, option_map, option_and_then, IfSome, IsSome, IsTrue, ◌==◌, slice_index_or}
+use Rattle.std.specs.Option.{option_map_or}
+use Rattle.std.proofs.lemmas.Bool.Decides.{nat_tests}
+use Rattle.bully_base.specs.declared.node.Status.TheVariants.{Down}
+use Rattle.bully_base.specs.Places.{at_node, put_node}
+use Rattle.bully_base.specs.Setup.{Setup, IsNode}
+use Rattle.bully_calls.specs.declared.call.Answer.{Answer}
+use Rattle.bully_calls.specs.declared.call.Call.{Call}
+use Rattle.bully_calls.specs.declared.call.CallKind.{CallKind}
+use Rattle.bully_calls.specs.declared.call.CallKind.TheVariants.{AreYouUp, AreYouNormal, Halt, NewCoordinator, Ready}
+use Rattle.bully_calls.specs.declared.call.Phase.{Phase}
+use Rattle.bully_calls.specs.Pending.{outcome_of, is_sent, is_failed}
+use Rattle.bully_calls.specs.Slot.{Posted, pending_of, CarriesFor, is_posted, outcome_in}
+use Rattle.bully_handlers.specs.Vector.{Vector}
+use Rattle.bully_steps.specs.declared.point.Point.{Point}
+use Rattle.bully_steps.specs.declared.point.Point.TheVariants.{Idle, Asking, Halting, Announcing, Planning, Readying, Checking, Inquiring}
+use Rattle.bully_steps.specs.declared.point.Want.{Want}
+use Rattle.bully_steps.specs.Point.{offered, IsPointOf}
+use Rattle.bully_world.specs.declared.event.Event.{Event}
+use Rattle.bully_world.specs.Cause.{cause, node_of, is_call, in_phase, callee_is_down}
+use Rattle.bully_world.specs.Shape.{AllFit, Fits, SuitsCall, SuitsPhase, SuitsPoint, SuitsTable, SuitsPending}
+use Rattle.bully_world.specs.State.{MemberState, empty_state, member_of, members_of, AllKept, IsKept}
+use Rattle.bully_world.specs.Step.{carried, offer}
+use Rattle.bully_world.specs.Taken.{taken, taken_here, answer_taken, answer_here, MayTake, CanExchange}
+use Rattle.bully_world.specs.World.{World, Member, member, pending}
+use Rattle.bully_base.proofs.PlaceLemmas.{at_node-place}
+use Rattle.bully_world.proofs.MembersOf.{kept_at, member-members_of, members_of-length}
+use Rattle.bully_world.proofs.TakenLemmas.{start_facts, run_facts, lose_facts, return_facts, move_facts, plan_facts}
+
+-- there is room for the event, and its node is one of the setup's
+pub room_of : (setup : Setup) (w : World) (count : ℕ) (e : Event) → cause setup w count e ≡ None → count < setup.events_max
+room_of setup w count (Event.Recover i) n = grind (arith, n, nat_tests)
+room_of setup w count (Event.Crash i) n = grind (arith, n, nat_tests)
+room_of setup w count (Event.Check i) n = grind (arith, n, nat_tests)
+room_of setup w count (Event.Timeout i) n = grind (arith, n, nat_tests)
+room_of setup w count (Event.Start i) n = grind (arith, n, nat_tests)
+room_of setup w count (Event.Run i) n = grind (arith, n, nat_tests)
+room_of setup w count (Event.Lose i) n = grind (arith, n, nat_tests)
+room_of setup w count (Event.Return i) n = grind (arith, n, nat_tests)
+room_of setup w count (Event.Move i) n = grind (arith, n, nat_tests)
+room_of setup w count (Event.Plan i table) n = grind (arith, n, nat_tests)
+
+pub node_in_setup : (setup : Setup) (w : World) (count : ℕ) (e : Event) → cause setup w count e ≡ None → IsNode setup (node_of e)
+node_in_setup setup w count (Event.Recover i) n = grind (arith, n, nat_tests)
+node_in_setup setup w count (Event.Crash i) n = grind (arith, n, nat_tests)
+node_in_setup setup w count (Event.Check i) n = grind (arith, n, nat_tests)
+node_in_setup setup w count (Event.Timeout i) n = grind (arith, n, nat_tests)
+node_in_setup setup w count (Event.Start i) n = grind (arith, n, nat_tests)
+node_in_setup setup w count (Event.Run i) n = grind (arith, n, nat_tests)
+node_in_setup setup w count (Event.Lose i) n = grind (arith, n, nat_tests)
+node_in_setup setup w count (Event.Return i) n = grind (arith, n, nat_tests)
+node_in_setup setup w count (Event.Move i) n = grind (arith, n, nat_tests)
+node_in_setup setup w count (Event.Plan i table) n = grind (arith, n, nat_tests)
+
+-- a node whose point offers a Ready has a task
+has_task : (setup : Setup) (i : ℕ) (v : Vector) (p : Point) (call : Call) → offered setup v.coordinator p ≡ Want.Start call → call.kind ≡ Ready → SuitsPoint i v p → IsSome v.task
+has_task setup i v Idle call e k s = grind (arith, e, k)
+has_task setup i v (Asking j) call e k s = grind (arith, e, k)
+has_task setup i v (Halting j) call e k s = grind (arith, e, k)
+has_task setup i v (Announcing rest) call e k s = grind (arith, e, k)
+has_task setup i v Planning call e k s = grind (arith, e, k)
+has_task setup i v (Readying rest) call e k s = s.2
+has_task setup i v (Checking j) call e k s = grind (arith, e, k)
+has_task setup i v Inquiring call e k s = grind (arith, e, k)
+
+carries_task : (call : Call) (q : Option (List ℕ)) (room : ℕ) → call.kind ≡ Ready → IsSome q → ((table : List ℕ) → q ≡ Some table → length table ≡ room) → CarriesFor call q room
+carries_task call None room k s l = absurd (cc s)
+carries_task call (Some table) room k s l = (k, l table refl)
+
+-- exactly a Ready carries a table, which fits in the slot
+pub carries : (setup : Setup) (i : ℕ) (m : MemberState) (call : Call) → Fits setup i (member_of m) → m.slot.room ≡ setup.partitions
+    → offered setup m.vector.vector.coordinator m.point ≡ Want.Start call → CarriesFor call (carried call.kind m.vector.vector) m.slot.room
+carries setup i m call fits room offers = by_kind call.kind refl
+  where
+    by_kind : (k : CallKind) → call.kind ≡ k → CarriesFor call (carried k m.vector.vector) m.slot.room
+    by_kind AreYouUp e = λ r. cc (e, r)
+    by_kind AreYouNormal e = λ r. cc (e, r)
+    by_kind Halt e = λ r. cc (e, r)
+    by_kind NewCoordinator e = λ r. cc (e, r)
+    by_kind Ready e = carries_task call m.vector.vector.task m.slot.room e (has_task setup i m.vector.vector m.point call offers e fits.by_point) (λ table is. fits.by_setup.task table is ∙ sym room)
+
+none_posted : (g : ℕ) (q : Option Posted) → option_map (pending_of g) q ≡ None → q ≡ None
+none_posted g None e = refl
+none_posted g (Some p) e = absurd (cc e)
+
+-- a test of the phase, of the call that is posted
+pub posted_test : (test : Phase → Bool) (g : ℕ) (q : Option Posted) → in_phase test (option_map (pending_of g) q) ≡ true → option_map_or (λ p. test p.phase) q false ≡ true
+posted_test test g None t = absurd (cc t)
+posted_test test g (Some p) t = t
+
+some_outcome : (setup : Setup) (i : ℕ) (v : Vector) (at : Point) (g : ℕ) (q : Option Posted) → SuitsPending setup i v at (option_map (pending_of g) q) → in_phase (λ f. not (is_sent f)) (option_map (pending_of g) q) ≡ true
+    → IsSome (option_and_then (λ p. outcome_of p.phase) q)
+some_outcome setup i v at g None s t = absurd (cc t)
+some_outcome setup i v at g (Some p) s t = by_phase p.phase s.phase t
+  where
+    by_phase : (f : Phase) → SuitsPhase p.call.kind f → not (is_sent f) ≡ true → IsSome (outcome_of f)
+    by_phase Phase.Sent s t = absurd (cc t)
+    by_phase (Phase.Ran Answer.Yes) s t = refl
+    by_phase (Phase.Ran Answer.No) s t = refl
+    by_phase (Phase.Ran Answer.Done) s t = elim s [ ]
+    by_phase (Phase.Ran Answer.Failed) s t = elim s [ ]
+    by_phase (Phase.Ran Answer.Discarded) s t = elim s [ ]
+    by_phase Phase.Failed s t = refl
+
+module _ (setup : Setup) (w : World) (count : ℕ) (m : MemberState) where
+  pub may_take : (e : Event) → member w (node_of e) ≡ member_of m → Fits setup (node_of e) (member_of m) → IsKept setup count (node_of e) m → cause setup w count e ≡ None → MayTake setup e m
+  may_take (Event.Recover i) here fits kept n = tt
+  may_take (Event.Crash i) here fits kept n = tt
+  may_take (Event.Check i) here fits kept n = tt
+  may_take (Event.Timeout i) here fits kept n = tt
+  may_take (Event.Start i) here fits kept n =
+      let free = ap (λ (x : Member). x.pending) (sym here) ∙ (start_facts setup w count i n).1 in
+      (none_posted m.generation m.slot.posted free, λ call offers. carries setup i m call fits kept.slot_room offers)
+  may_take (Event.Run i) here fits kept n = tt
+  may_take (Event.Lose i) here fits kept n =
+      posted_test (λ f. not (is_failed f)) m.generation m.slot.posted (ap (λ (x : Member). in_phase (λ f. not (is_failed f)) x.pending) (sym here) ∙ (lose_facts setup w count i n).0)
+  may_take (Event.Return i) here fits kept n =
+      some_outcome setup i m.vector.vector m.point m.generation m.slot.posted fits.by_call (ap (λ (x : Member). in_phase (λ f. not (is_sent f)) x.pending) (sym here) ∙ return_facts setup w count i n)
+  may_take (Event.Move i) here fits kept n = tt
+  may_take (Event.Plan i table) here fits kept n = (plan_facts setup w count i table n).2 ∙ sym kept.vector_room
+
+-- what is taken of an event other than a Run is its node's own part
+pub taken-here : (setup : Setup) (ms : List MemberState) (e : Event) → ((i : ℕ) → e ≡ Event.Run i → ⊥) → taken setup ms e ≡ put_node ms (node_of e) (taken_here setup e (kept_at ms (node_of e)))
+taken-here setup ms (Event.Recover i) n = refl
+taken-here setup ms (Event.Crash i) n = refl
+taken-here setup ms (Event.Check i) n = refl
+taken-here setup ms (Event.Timeout i) n = refl
+taken-here setup ms (Event.Start i) n = refl
+taken-here setup ms (Event.Run i) n = absurd (n i refl)
+taken-here setup ms (Event.Lose i) n = refl
+taken-here setup ms (Event.Return i) n = refl
+taken-here setup ms (Event.Move i) n = refl
+taken-here setup ms (Event.Plan i table) n = refl
+
+pub answer-here : (ms : List MemberState) (e : Event) → ((i : ℕ) → e ≡ Event.Run i → ⊥) → answer_taken ms e ≡ answer_here e (kept_at ms (node_of e))
+answer-here ms (Event.Recover i) n = refl
+answer-here ms (Event.Crash i) n = refl
+answer-here ms (Event.Check i) n = refl
+answer-here ms (Event.Timeout i) n = refl
+answer-here ms (Event.Start i) n = refl
+answer-here ms (Event.Run i) n = absurd (n i refl)
+answer-here ms (Event.Lose i) n = refl
+answer-here ms (Event.Return i) n = refl
+answer-here ms (Event.Move i) n = refl
+answer-here ms (Event.Plan i table) n = refl
+
+-- what an event that nothing refuses asks of its node's member
+pub record Takes (setup : Setup) (e : Event) (m : MemberState) : Type 0 where
+  pub at : IsPointOf setup (node_of e) m.point
+  pub room : m.generation + 1 < 2 ^ 32
+  pub may : MayTake setup e m
+
+pub takes : (setup : Setup) (count : ℕ) (ms : List MemberState) → AllFit setup (members_of ms) → AllKept setup count ms → count + 1 < 2 ^ 32 → (e : Event) → cause setup (members_of ms) count e ≡ None → Takes setup e (kept_at ms (node_of e))
+takes setup count ms fit kept room e free = record { at = fits.is_point; room = omega (arith, here.generation, room); may = may_take setup (members_of ms) count (kept_at ms (node_of e)) e is fits here free }
+  where
+    is : member (members_of ms) (node_of e) ≡ member_of (kept_at ms (node_of e))
+    is = member-members_of ms (node_of e)
+
+    fits : Fits setup (node_of e) (member_of (kept_at ms (node_of e)))
+    fits = subst (Fits setup (node_of e)) is (fit.fits (node_of e))
+
+    here : IsKept setup count (node_of e) (kept_at ms (node_of e))
+    here = kept (node_of e) (node_in_setup setup (members_of ms) count e free)
+
+-- the place of the event's node, by its index
+pub place_of_node : (setup : Setup) (count : ℕ) (ms : List MemberState) → AllFit setup (members_of ms) → (e : Event) → cause setup (members_of ms) count e ≡ None → (k : ℕ) (m : MemberState) → k + 1 ≡ node_of e → kept_at ms (node_of e) ≡ slice_index_or ms k m
+place_of_node setup count ms fit e free k m is =
+    at_node-place (empty_state 0) m ms k (node_of e) is (omega (arith, members_of-length ms, fit.count, (node_in_setup setup (members_of ms) count e free).1, is))

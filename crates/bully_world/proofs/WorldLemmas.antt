@@ -1,0 +1,69 @@
+-- What every world keeps, from the first one on.
+use Rattle.std.proofs.Common.{◌≡◌, ℕ, zero, suc, ◌+◌, List, [], ◌∷◌, ◌++◌, Option, Some, None, refl, sym, ◌∙◌, ap, subst, arith, length, take, drop, length-append}
+use Rattle.std.proofs.lemmas.Grind.{common_steps}
+use Rattle.std.specs.Prelude.{replicate}
+use Rattle.bully_base.specs.Setup.{Setup}
+use Rattle.bully_calls.specs.declared.call.Answer.{Answer}
+use Rattle.bully_world.specs.declared.event.Event.{Event}
+use Rattle.bully_world.specs.Cause.{cause}
+use Rattle.bully_world.specs.Lawful.{IsLawful}
+use Rattle.bully_world.specs.Shape.{AllFit}
+use Rattle.bully_world.specs.State.{MemberState, WorldState, IsWorld, IsReached, members_of, world_of, first_state, new_members}
+use Rattle.bully_world.specs.Step.{Step}
+use Rattle.bully_world.specs.Taken.{taken, answer_taken}
+use Rattle.bully_world.specs.World.{World, first_world}
+use Rattle.bully_world.proofs.KeptLemmas.{taken_kept, taken_length, new_kept}
+use Rattle.bully_world.proofs.LawfulLemmas.{lawful_more}
+use Rattle.bully_world.proofs.MembersOf.{members_of-new}
+use Rattle.bully_world.proofs.ShapeLemmas.{lawful_fits}
+use Rattle.bully_world.proofs.TakeLemmas.{room_of}
+use Rattle.bully_world.proofs.TakenLemmas.{taken_steps}
+
+abbrev state : Setup → ℕ → List MemberState → WorldState
+state setup events ms = record { setup = setup; events = events; members = ms }
+
+pub world_fits : (setup : Setup) (events : ℕ) (ms : List MemberState) → IsWorld (state setup events ms) → AllFit setup (members_of ms)
+world_fits setup events ms is = lawful_fits setup is.reached.applied is.reached.answers (members_of ms) is.reached.lawful
+
+pub world_steps : (setup : Setup) (events : ℕ) (ms : List MemberState) (e : Event) → IsWorld (state setup events ms) → cause setup (members_of ms) events e ≡ None → Step setup (members_of ms) e (members_of (taken setup ms e)) (answer_taken ms e)
+world_steps setup events ms e is free = taken_steps setup events ms e (world_fits setup events ms is) is.kept free
+
+reached_next : (setup : Setup) (events : ℕ) (ms : List MemberState) (e : Event) → IsWorld (state setup events ms) → cause setup (members_of ms) events e ≡ None → IsReached (state setup (events + 1) (taken setup ms e))
+reached_next setup events ms e is free = record {
+  applied = is.reached.applied ++ e ∷ [];
+  answers = is.reached.answers ++ answer_taken ms e ∷ [];
+  lawful = lawful_more setup is.reached.applied is.reached.answers (members_of ms) e (answer_taken ms e) (members_of (taken setup ms e)) is.reached.lawful
+      (omega (arith, is.reached.counted, room_of setup (members_of ms) events e free)) (world_steps setup events ms e is free);
+  counted = omega (arith, is.reached.counted, length-append is.reached.applied (e ∷ []));
+}
+
+-- an event that nothing refuses leads from a world to a world
+pub next_world : (setup : Setup) (events : ℕ) (ms : List MemberState) (e : Event) → IsWorld (state setup events ms) → cause setup (members_of ms) events e ≡ None → IsWorld (state setup (events + 1) (taken setup ms e))
+next_world setup events ms e is free = record {
+  count = taken_length setup ms e ∙ is.count;
+  kept = taken_kept setup events ms e is.count (world_fits setup events ms is) is.kept free;
+  reached = reached_next setup events ms e is free;
+}
+
+length-replicate : (n : ℕ) (m : MemberState) → length (replicate n m) ≡ n
+length-replicate zero m = refl
+length-replicate (suc n) m = ap suc (length-replicate n m)
+
+-- the first world is one, and is that of the definitions
+pub first_is : (setup : Setup) → members_of (new_members setup) ≡ first_world setup
+first_is setup = members_of-new setup.nodes setup.partitions
+
+pub first_keeps : (setup : Setup) → IsWorld (first_state setup)
+first_keeps setup = record {
+  count = length-replicate setup.nodes _;
+  kept = new_kept setup;
+  reached = record { applied = []; answers = []; lawful = record { leads = first_is setup; bounded = omega arith }; counted = refl };
+}
+
+-- a whole list, put back into the memory that it was lent from
+pub put_back : (len : ℕ) (xs ys : List MemberState) → length xs ≡ len → length ys ≡ len → take len (xs ++ drop (length xs) ys) ≡ xs
+put_back len xs ys e f = grind (arith, common_steps, e, f)
+
+pub none_from : {A : Type 0} (q : Option A) → ((x : A) → q ≡ Some x → ⊥) → q ≡ None
+none_from None n = refl
+none_from (Some x) n = absurd (n x refl)

@@ -1,0 +1,7 @@
+use Rattle.std.proofs.Common.{◌≡◌}
+use Rattle.std.specs.Prelude.{replicate}
+use Rattle.bully_world.specs.State.{empty_state}
+use Rattle.bully_world.proofs.world.reserve.Given as goal
+
+abbrev pub invariant-loop : goal.invariant-loop
+invariant-loop l = l.members.items ≡ replicate l.counter (empty_state l.setup.partitions)

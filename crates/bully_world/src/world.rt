@@ -1,0 +1,139 @@
+ghost use Rattle.std.specs.Prelude.{◌≡◌, ◌↔◌, ◌+◌, ◌≤◌, ℕ, IfOk, OnOk, IfErr, IfSome, IsOk, None, Some, if◌then◌else◌};
+ghost use Rattle.bully_world.specs.State.{state_at, world_of, cause_in, raises, first_state, new_members, IsReached};
+ghost use Rattle.bully_world.specs.Step.{Step};
+ghost use Rattle.bully_world.specs.World.{first_world};
+
+use crate::causes::{cause_of, place_of};
+use crate::event::{Event, Refused};
+use crate::member::Member;
+use crate::steps::take_event;
+use bully_base::{Node, OutOfMemory, Setup};
+use bully_calls::{Answer, Slot};
+use bully_handlers::Vector;
+use bully_steps::Point;
+use std::alloc::Global;
+use std::marker::Model;
+
+/// The group under events. Its type keeps that a lawful list of events leads to it.
+#[derive(Drop, Debug)]
+pub struct World {
+    setup: Setup,
+    events: u32,
+    members: Vec<Member>,
+}
+
+impl Model for World {
+    ghost use Rattle.bully_world.specs.State.{WorldState, IsWorld};
+
+    ghost Value = { WorldState };
+
+    ghost view = { λ w. record { setup = w.setup; events = w.events; members = w.members.items } };
+
+    ghost invariant = { λ w. IsWorld (record { setup = w.setup; events = w.events; members = w.members.items }) };
+}
+
+impl World {
+    /// The world before any event. It reserves all memory that it will need. Refused where a growth of memory is.
+    pub fn new(alloc: Global, setup: Setup) -> Result<World, OutOfMemory>
+        ensures state { IfOk result (λ w. w ≡ first_state setup) }
+        ensures first { IfOk result (λ w. world_of w ≡ first_world setup) }
+    {
+        Ok(World {
+            setup,
+            events: 0,
+            members: reserve(alloc, setup)?,
+        })
+    }
+
+    /// What the group was set up with.
+    pub fn setup(&self) -> Setup
+        ensures { result ≡ self.now.setup }
+    {
+        self.setup
+    }
+
+    /// How many events were applied.
+    pub fn events(&self) -> u32
+        ensures events { result ≡ self.now.events }
+        ensures reached { IsReached self.now }
+    {
+        self.events
+    }
+
+    /// Why `apply` would refuse the event, the first refusal that holds; none where it wouldn't.
+    pub fn cause(&self, event: &Event) -> Option<Refused>
+        ensures { result ≡ cause_in self.now event.now }
+    {
+        cause_of(self.setup, self.events, self.members.as_slice(), event)
+    }
+
+    /// Applies the event and answers it. Refused with its cause, and then nothing changes.
+    /// The refusals come in the one order of [`Refused`]. Takes no memory.
+    pub fn apply(&mut self, event: &Event) -> Result<Answer, Refused>
+        ensures step { IfOk result (λ answer. Step self.old.setup (world_of self.old) event.now (world_of self.new) answer) }
+        ensures exact { IsOk result ↔ (cause_in self.old event.now ≡ None) }
+        ensures counted { OnOk result (self.new.events ≡ self.old.events + 1) }
+        ensures generations { OnOk result ((i : ℕ) → (state_at self.new i).generation ≡ (state_at self.old i).generation + (if raises (world_of self.old) event.now i then 1 else 0)) }
+        ensures setup { self.new.setup ≡ self.old.setup }
+        ensures why { IfErr result (λ why. cause_in self.old event.now ≡ Some why) }
+        ensures unchanged { IfErr result (λ _. self.new ≡ self.old) }
+    {
+        if let Some(why) = self.cause(event) {
+            return Err(why);
+        }
+        let answer = take_event(self.setup, self.events, self.members.as_mut_slice(), event);
+        self.events += 1;
+        Ok(answer)
+    }
+
+    /// The node's vector. The node is at most the setup's last.
+    pub fn vector(&self, node: Node) -> &Vector
+        requires { node ≤ self.now.setup.nodes }
+        ensures { result.now ≡ (state_at self.now node).vector }
+    {
+        self.member(node).vector()
+    }
+
+    /// Where the node's procedure stands. The node is at most the setup's last.
+    pub fn point(&self, node: Node) -> Point
+        requires { node ≤ self.now.setup.nodes }
+        ensures { result ≡ (state_at self.now node).point }
+    {
+        self.member(node).point()
+    }
+
+    /// The node's call slot. The node is at most the setup's last.
+    pub fn slot(&self, node: Node) -> &Slot
+        requires { node ≤ self.now.setup.nodes }
+        ensures { result.now ≡ (state_at self.now node).slot }
+    {
+        self.member(node).slot()
+    }
+
+    /// How often the node was stopped or crashed. The node is at most the setup's last.
+    pub fn generation(&self, node: Node) -> u32
+        requires { node ≤ self.now.setup.nodes }
+        ensures { result ≡ (state_at self.now node).generation }
+    {
+        self.member(node).generation()
+    }
+
+    // What is kept of the node.
+    fn member(&self, node: Node) -> &Member
+        requires { node ≤ self.now.setup.nodes }
+        ensures { result.now ≡ state_at self.now node }
+    {
+        &self.members[place_of(node)]
+    }
+}
+
+// The members of a new group.
+fn reserve(alloc: Global, setup: Setup) -> Result<Vec<Member>, OutOfMemory>
+    ensures { IfOk result (λ members. members.items ≡ new_members setup) }
+{
+    let mut members = Vec::with_capacity(alloc, usize::from(setup.nodes()))?;
+    for _ in 0..setup.nodes() {
+        members.push(Member::new(alloc, setup)?)?;
+    }
+    Ok(members)
+}
