@@ -114,7 +114,12 @@ pub fn begin_timeout(setup: Setup, node: Node, status: Status, coordinator: Opti
 }
 
 /// Where a recovery leads the node: to an election.
-pub fn begin_recovery(_setup: Setup, node: Node, _status: Status, _coordinator: Option<Node>) -> Point
+pub fn begin_recovery(
+    _setup: Setup,
+    node: Node,
+    _status: Status,
+    _coordinator: Option<Node>,
+) -> Point
     ensures { result ≡ election node }
 {
     election_of(node)

@@ -43,7 +43,15 @@ impl Table {
         ensures ok { IfOk result (λ t. table_of_text setup text.now ≡ Ok t) }
         ensures err { IfErr result (λ fault. (table_of_text setup text.now ≡ Err fault) ⊎ ((fault ≡ TableFault.OutOfMemory) × IsOk (table_of_text setup text.now))) }
     {
-        let found = look_through(setup, text.as_bytes());
+        Table::read_bytes(alloc, setup, text.as_bytes())
+    }
+
+    /// Reads the owners from bytes, as [`Table::read`] does. Bytes that aren't UTF-8 spell no owners.
+    pub fn read_bytes(alloc: Global, setup: Setup, text: &[u8]) -> Result<Table, TableFault>
+        ensures ok { IfOk result (λ t. table_of_text setup text.now ≡ Ok t) }
+        ensures err { IfErr result (λ fault. (table_of_text setup text.now ≡ Err fault) ⊎ ((fault ≡ TableFault.OutOfMemory) × IsOk (table_of_text setup text.now))) }
+    {
+        let found = look_through(setup, text);
         if found.count != setup.partitions() {
             return Err(TableFault::Length);
         }
@@ -53,7 +61,7 @@ impl Table {
         if found.has_no_number {
             return Err(TableFault::Syntax);
         }
-        match read_owners(alloc, setup, text.as_bytes()) {
+        match read_owners(alloc, setup, text) {
             Ok(owners) => Ok(Table { owners }),
             Err(_) => Err(TableFault::OutOfMemory),
         }

@@ -45,8 +45,8 @@ module _ (setup : Setup) (w : World) (count i : ℕ) (m : Member) (here : member
 
   pub plan-cause : (table : List ℕ) → first_of (refuses setup w count (Event.Plan i table)) later_refusals
       ≡ (if not (is_plan (offered setup m.vector.coordinator m.point)) then Some Refused.NoStep
-        else if is_pending m.pending then Some Refused.SlotBusy
-        else if not ((length table == setup.partitions) && is_balanced setup table (with_node i m.vector.up)) then Some Refused.BadTable else None)
+      else if is_pending m.pending then Some Refused.SlotBusy
+      else if not ((length table == setup.partitions) && is_balanced setup table (with_node i m.vector.up)) then Some Refused.BadTable else None)
   plan-cause table = grind (arith, here)
 
   pub run-cause : first_of (refuses setup w count (Event.Run i)) later_refusals

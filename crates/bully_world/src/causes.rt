@@ -58,9 +58,7 @@ fn later_cause(setup: Setup, members: &[Member], event: &Event) -> Option<Refuse
         Event::Plan(node, table) => plan_cause(setup, member, *node, table),
         Event::Run(_) => run_cause(members, member),
         Event::Lose(_) => lose_cause(members, member),
-        Event::Return(_) => {
-            refused_if(!has_come(member), Refused::NoCall)
-        }
+        Event::Return(_) => { refused_if(!has_come(member), Refused::NoCall) }
     }
 }
 

@@ -71,4 +71,3 @@ pub returns-in-Timeout : goal.returns-in-Timeout
 returns-in-Timeout c =
     let here = member-place c.args.members.now c.place_of.result c.in-Timeout.field-0 c.index-members-place_of.result (c.place_of.ensures ∙ c.node.ensures ∙ ap node_of c.in-Timeout.is) (place-within c.args.setup c.args.members.now c.place_of.result (node_of c.args.event.now) c.requires.fits (c.place_of.ensures ∙ c.node.ensures) c.requires.node.1) c.index-members-place_of.is in
     λ count. at_event c.args.setup (members_of c.args.members.now) count c.args.event.now (Event.Timeout c.in-Timeout.field-0) _ c.in-Timeout.is (grind (arith, timeout-cause c.args.setup (members_of c.args.members.now) count c.in-Timeout.field-0 (member_of c.index-members-place_of.result) here, c.refused_if-in-Timeout.ensures, c.is_at_rest-in-Timeout.ensures, c.point-in-Timeout.ensures))
-

@@ -1,0 +1,58 @@
+-- What a verdict says of the events of the rows.
+use Rattle.std.proofs.Common.{◌≡◌, ℕ, ◌+◌, ◌<◌, ◌≤◌, Bool, true, false, List, [], ◌∷◌, Option, Some, None, MatchOption, length, refl, sym, ◌∙◌, ap, subst, arith}
+use Rattle.std.specs.Bool.{MatchBool}
+use Rattle.std.proofs.lemmas.Bool.Decides.{nat_tests}
+use Rattle.bully_base.specs.Setup.{Setup}
+use Rattle.bully_calls.specs.declared.call.Answer.{Answer}
+use Rattle.bully_world.specs.declared.event.Event.{Event}
+use Rattle.bully_world.specs.declared.event.Refused.{Refused}
+use Rattle.bully_world.specs.Cause.{cause}
+use Rattle.bully_world.specs.Lawful.{LeadTo, IsLawful}
+use Rattle.bully_world.specs.Step.{Step}
+use Rattle.bully_world.specs.World.{World, first_world}
+use Rattle.bully_world.proofs.TakeLemmas.{room_of}
+use Rattle.bully_trace.specs.declared.trace.Row.{Row}
+use Rattle.bully_trace.specs.declared.trace.Trace.{Trace}
+use Rattle.bully_trace.specs.declared.verdict.Verdict.{Verdict}
+use Rattle.bully_trace.specs.Verdict.{IsJudged, IsVerdict, IsLawfulCount, events_of, is_true}
+
+-- rows that are judged lawful mean events that lead from the world to the last one
+pub record Leads (setup : Setup) (w : World) (before : ℕ) (rows : List Row) (after : ℕ) (w' : World) : Type 0 where
+  pub answers : List Answer
+  pub leads : LeadTo setup w (events_of rows) answers w'
+  pub counted : before + length (events_of rows) ≡ after
+  pub bounded : before ≤ setup.events_max → after ≤ setup.events_max
+
+pub judged_leads : (setup : Setup) (w : World) (before number : ℕ) (rows : List Row) (after : ℕ) (w' : World) → IsJudged setup w before number rows (Verdict.Lawful after) w' → Leads setup w before rows after w'
+judged_leads setup w before number [] after w' j = record { answers = []; leads = j.1; counted = grind (arith, j.0); bounded = λ b. grind (arith, j.0, b) }
+judged_leads setup w before number (Row.Event e ∷ rows) after w' j = by_cause (λ w before number after w' j. judged_leads setup w before number rows after w' j) (cause setup w before e) refl j
+  where
+    by_cause : ((w : World) (before number after : ℕ) (w' : World) → IsJudged setup w before number rows (Verdict.Lawful after) w' → Leads setup w before rows after w')
+        → (q : Option Refused) → cause setup w before e ≡ q
+        → MatchOption q ((mid : World) × (a : Answer) × Step setup w e mid a × IsJudged setup mid (before + 1) (number + 1) rows (Verdict.Lawful after) w') (λ why. (Verdict.Lawful after ≡ Verdict.Refused number why) × (w' ≡ w))
+        → Leads setup w before (Row.Event e ∷ rows) after w'
+    by_cause more None none (mid, a, step, j) =
+        let rest = more mid (before + 1) (number + 1) after w' j in
+        record {
+          answers = a ∷ rest.answers;
+          leads = (mid, step, rest.leads);
+          counted = omega (arith, rest.counted);
+          bounded = λ b. rest.bounded (omega (arith, room_of setup w before e none));
+        }
+    by_cause more (Some why) is j = absurd (cc j.0)
+judged_leads setup w before number (Row.Claim claim ∷ rows) after w' j = by_claim (λ w before number after w' j. judged_leads setup w before number rows after w' j) (is_true setup w claim) j
+  where
+    by_claim : ((w : World) (before number after : ℕ) (w' : World) → IsJudged setup w before number rows (Verdict.Lawful after) w' → Leads setup w before rows after w')
+        → (b : Bool) → MatchBool b (IsJudged setup w before (number + 1) rows (Verdict.Lawful after) w') ((Verdict.Lawful after ≡ Verdict.Differs number) × (w' ≡ w)) → Leads setup w before (Row.Claim claim ∷ rows) after w'
+    by_claim more true j =
+        let rest = more w before (number + 1) after w' j in
+        record { answers = rest.answers; leads = rest.leads; counted = rest.counted; bounded = rest.bounded }
+    by_claim more false j = absurd (cc j.0)
+
+-- a lawful verdict counts the events of a lawful list
+pub lawful_count : (trace : Trace) (verdict : Verdict) (w : World) → IsVerdict trace verdict w → IsLawfulCount trace verdict
+lawful_count trace (Verdict.Lawful count) w v =
+    let l = judged_leads trace.setup (first_world trace.setup) 0 2 trace.rows count w v in
+    (l.answers, w, record { leads = l.leads; bounded = omega (arith, l.counted, l.bounded (omega arith)) }, omega (arith, l.counted))
+lawful_count trace (Verdict.Refused number why) w v = tt
+lawful_count trace (Verdict.Differs number) w v = tt

@@ -1,0 +1,6 @@
+pub mod FieldLemmas
+pub mod RecordsLemmas
+pub mod RowsLemmas
+pub mod TraceLemmas
+pub mod TextLemmas
+pub mod JudgeLemmas

@@ -1,0 +1,5 @@
+pub mod Rows
+pub mod RecordsLeft
+pub mod Verdict
+pub mod VerdictText
+pub mod TraceText

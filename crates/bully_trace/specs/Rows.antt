@@ -1,0 +1,129 @@
+-- The rows of a trace: what the records of its text mean, or the first faulty row.
+use Rattle.std.specs.Prelude.{ℕ, ◌+◌, Bool, true, false, List, [], ◌∷◌, Option, Some, None, Result, Ok, Err, ◌&&◌, nat_lt, nat_le, codes, option_map, option_and_then, if◌then◌else◌}
+use Rattle.std.specs.Result.{result_ok}
+use Rattle.std.specs.Str.{bytes_eq}
+use Rattle.csv.specs.Reading.{records, default_config, strip_bom}
+use Rattle.bully_base.specs.declared.node.Status.{Status}
+use Rattle.bully_base.specs.declared.node.Status.TheVariants.{Down, Election, Reorganization, Normal}
+use Rattle.bully_base.specs.declared.TheConstants.{NODES_MAX, PARTITIONS_MAX, EVENTS_MAX}
+use Rattle.bully_base.specs.Setup.{Setup}
+use Rattle.bully_table.specs.Numeral.{number_of}
+use Rattle.bully_table.specs.TableText.{table_of_text}
+use Rattle.bully_world.specs.declared.event.Event.{Event}
+use Rattle.bully_trace.specs.declared.TheConstants.{ROWS_MAX}
+use Rattle.bully_trace.specs.declared.trace.Row.{Row}
+use Rattle.bully_trace.specs.declared.trace.Trace.{Trace}
+use Rattle.bully_trace.specs.declared.trace.TraceCause.{TraceCause}
+use Rattle.bully_trace.specs.declared.trace.TraceFault.{TraceFault}
+
+-- a record: its fields, each a list of bytes
+abbrev pub Record : Type 0
+Record = List (List ℕ)
+
+-- the number, where it is from 1 to the limit
+abbrev pub within : ℕ → ℕ → Option ℕ
+within limit n = if nat_lt 0 n && nat_le n limit then Some n else None
+
+abbrev pub node_in : List ℕ → Option ℕ
+node_in text = option_and_then (within NODES_MAX) (number_of text)
+
+abbrev pub partitions_in : List ℕ → Option ℕ
+partitions_in text = option_and_then (within PARTITIONS_MAX) (number_of text)
+
+abbrev pub setup_in : List ℕ → List ℕ → Option Setup
+setup_in nodes partitions =
+    option_and_then (λ n. option_map (λ p. record { nodes = n; partitions = p; events_max = EVENTS_MAX }) (partitions_in partitions)) (node_in nodes)
+
+-- what the first record means
+abbrev pub header_of : Record → Option Setup
+header_of [] = None
+header_of (a ∷ []) = None
+header_of (a ∷ b ∷ []) = None
+header_of (a ∷ b ∷ c ∷ []) = None
+header_of (word ∷ version ∷ nodes ∷ partitions ∷ []) =
+    if bytes_eq word (codes "bully") && bytes_eq version (codes "1") then setup_in nodes partitions else None
+header_of (a ∷ b ∷ c ∷ d ∷ e ∷ rest) = None
+
+-- the event of this word at node i
+abbrev pub event_named : List ℕ → ℕ → Option Event
+event_named word i =
+    if bytes_eq word (codes "recover") then Some (Event.Recover i)
+    else if bytes_eq word (codes "crash") then Some (Event.Crash i)
+    else if bytes_eq word (codes "check") then Some (Event.Check i)
+    else if bytes_eq word (codes "timeout") then Some (Event.Timeout i)
+    else if bytes_eq word (codes "start") then Some (Event.Start i)
+    else if bytes_eq word (codes "run") then Some (Event.Run i)
+    else if bytes_eq word (codes "lose") then Some (Event.Lose i)
+    else if bytes_eq word (codes "return") then Some (Event.Return i)
+    else if bytes_eq word (codes "move") then Some (Event.Move i)
+    else None
+
+abbrev pub status_named : List ℕ → Option Status
+status_named word =
+    if bytes_eq word (codes "down") then Some Down
+    else if bytes_eq word (codes "election") then Some Election
+    else if bytes_eq word (codes "reorganization") then Some Reorganization
+    else if bytes_eq word (codes "normal") then Some Normal
+    else None
+
+-- a node, or none
+abbrev pub coordinator_in : List ℕ → Option (Option ℕ)
+coordinator_in text = if bytes_eq text (codes "-") then Some None else option_map Some (node_in text)
+
+abbrev pub plan_in : Setup → List ℕ → List ℕ → Option Row
+plan_in setup node owners =
+    option_and_then (λ i. option_map (λ table. Row.Event (Event.Plan i table)) (result_ok (table_of_text setup owners))) (node_in node)
+
+abbrev pub claim_in : List ℕ → List ℕ → List ℕ → Option Row
+claim_in node status coordinator =
+    option_and_then (λ i. option_and_then (λ s. option_map (λ c. Row.Claim (record { node = i; status = s; coordinator = c })) (coordinator_in coordinator)) (status_named status)) (node_in node)
+
+-- what a later record means
+abbrev pub row_of : Setup → Record → Option Row
+row_of setup [] = None
+row_of setup (a ∷ []) = None
+row_of setup (word ∷ node ∷ []) = option_and_then (λ i. option_map Row.Event (event_named word i)) (node_in node)
+row_of setup (word ∷ node ∷ owners ∷ []) = if bytes_eq word (codes "plan") then plan_in setup node owners else None
+row_of setup (word ∷ node ∷ status ∷ coordinator ∷ []) =
+    if bytes_eq word (codes "saw") then claim_in node status coordinator else None
+row_of setup (a ∷ b ∷ c ∷ d ∷ e ∷ rest) = None
+
+abbrev pub fault_at : ℕ → TraceCause → TraceFault
+fault_at row cause = record { row = row; cause = cause }
+
+-- the value that is read, changed by a function
+abbrev pub read_as : {A B : Type 0} → (A → B) → Result A TraceFault → Result B TraceFault
+read_as f (Ok x) = Ok (f x)
+read_as f (Err fault) = Err fault
+
+-- the rows from this number on
+abbrev pub rows_from : Setup → ℕ → List Record → Result (List Row) TraceFault
+rows_from setup number [] = Ok []
+rows_from setup number (fields ∷ rest) =
+    if nat_lt (ROWS_MAX + 1) number then Err (fault_at number TraceCause.TooManyRows)
+    else elim (row_of setup fields) [
+      | None ↦ Err (fault_at number TraceCause.BadRow)
+      | Some row ↦ read_as (λ rows. row ∷ rows) (rows_from setup (number + 1) rest)
+    ]
+
+-- the trace that the records mean, or the fault of the first faulty row
+abbrev pub trace_of : List Record → Result Trace TraceFault
+trace_of [] = Err (fault_at 1 TraceCause.BadHeader)
+trace_of (first ∷ rest) =
+    elim (header_of first) [
+      | None ↦ Err (fault_at 1 TraceCause.BadHeader)
+      | Some setup ↦ read_as (λ rows. record { setup = setup; rows = rows }) (rows_from setup 2 rest)
+    ]
+
+-- the records of a text, as `csv` gives them
+abbrev pub records_of : List ℕ → List Record
+records_of text = records default_config (strip_bom text)
+
+-- a fault of form, which the rows have; the others come from reading, writing and memory
+abbrev pub is_of_form : TraceCause → Bool
+is_of_form TraceCause.BadHeader = true
+is_of_form TraceCause.BadRow = true
+is_of_form TraceCause.TooManyRows = true
+is_of_form TraceCause.Read = false
+is_of_form TraceCause.Write = false
+is_of_form TraceCause.OutOfMemory = false

@@ -1,0 +1,42 @@
+-- The text of a trace: its header and its rows, a line each.
+use Rattle.std.specs.Prelude.{ℕ, List, [], ◌∷◌, ◌++◌, codes, map}
+use Rattle.std.specs.List.{join_with_byte}
+use Rattle.std.specs.Fmt.{decimal}
+use Rattle.bully_base.specs.Setup.{Setup}
+use Rattle.bully_world.specs.declared.event.Event.{Event}
+use Rattle.bully_trace.specs.declared.trace.Row.{Row}
+use Rattle.bully_trace.specs.declared.trace.Trace.{Trace}
+use Rattle.bully_trace.specs.VerdictText.{status_text, node_text}
+
+abbrev pub line_of : List (List ℕ) → List ℕ
+line_of fields = join_with_byte 44 fields ++ codes "\n"
+
+-- the owners, parted by single spaces
+abbrev pub owners_text : List ℕ → List ℕ
+owners_text owners = join_with_byte 32 (map decimal owners)
+
+abbrev pub event_fields : Event → List (List ℕ)
+event_fields (Event.Recover i) = codes "recover" ∷ decimal i ∷ []
+event_fields (Event.Crash i) = codes "crash" ∷ decimal i ∷ []
+event_fields (Event.Check i) = codes "check" ∷ decimal i ∷ []
+event_fields (Event.Timeout i) = codes "timeout" ∷ decimal i ∷ []
+event_fields (Event.Start i) = codes "start" ∷ decimal i ∷ []
+event_fields (Event.Run i) = codes "run" ∷ decimal i ∷ []
+event_fields (Event.Lose i) = codes "lose" ∷ decimal i ∷ []
+event_fields (Event.Return i) = codes "return" ∷ decimal i ∷ []
+event_fields (Event.Move i) = codes "move" ∷ decimal i ∷ []
+event_fields (Event.Plan i table) = codes "plan" ∷ decimal i ∷ owners_text table ∷ []
+
+abbrev pub row_fields : Row → List (List ℕ)
+row_fields (Row.Event e) = event_fields e
+row_fields (Row.Claim claim) = codes "saw" ∷ decimal claim.node ∷ status_text claim.status ∷ node_text claim.coordinator ∷ []
+
+abbrev pub rows_text : List Row → List ℕ
+rows_text [] = []
+rows_text (row ∷ rows) = line_of (row_fields row) ++ rows_text rows
+
+abbrev pub header_fields : Setup → List (List ℕ)
+header_fields setup = codes "bully" ∷ codes "1" ∷ decimal setup.nodes ∷ decimal setup.partitions ∷ []
+
+abbrev pub trace_text : Trace → List ℕ
+trace_text trace = line_of (header_fields trace.setup) ++ rows_text trace.rows

@@ -1,0 +1,66 @@
+-- The verdict on the rows of a trace.
+use Rattle.std.specs.Prelude.{◌≡◌, ℕ, ◌+◌, Bool, true, false, List, [], ◌∷◌, length, Option, Some, None, MatchOption, ◌&&◌, ◌==◌}
+use Rattle.std.specs.Bool.{MatchBool}
+use Rattle.bully_base.specs.declared.node.Status.{Status}
+use Rattle.bully_base.specs.declared.node.Status.TheVariants.{Down, Election, Reorganization, Normal}
+use Rattle.bully_base.specs.Setup.{Setup, is_node}
+use Rattle.bully_calls.specs.declared.call.Answer.{Answer}
+use Rattle.bully_handlers.specs.Vector.{is_down, is_election, is_reorganization, is_normal}
+use Rattle.bully_world.specs.declared.event.Event.{Event}
+use Rattle.bully_world.specs.Cause.{cause}
+use Rattle.bully_world.specs.Lawful.{IsLawful}
+use Rattle.bully_world.specs.Step.{Step}
+use Rattle.bully_world.specs.World.{World, vector, first_world}
+use Rattle.bully_trace.specs.declared.trace.Claim.{Claim}
+use Rattle.bully_trace.specs.declared.trace.Row.{Row}
+use Rattle.bully_trace.specs.declared.trace.Trace.{Trace}
+use Rattle.bully_trace.specs.declared.verdict.Verdict.{Verdict}
+
+abbrev pub same_status : Status → Status → Bool
+same_status Down s = is_down s
+same_status Election s = is_election s
+same_status Reorganization s = is_reorganization s
+same_status Normal s = is_normal s
+
+abbrev pub same_node : Option ℕ → Option ℕ → Bool
+same_node None None = true
+same_node None (Some j) = false
+same_node (Some i) None = false
+same_node (Some i) (Some j) = i == j
+
+-- the claim is true of the world
+abbrev pub is_true : Setup → World → Claim → Bool
+is_true setup w claim =
+    is_node setup claim.node
+    && same_status claim.status (vector w claim.node).status
+    && same_node claim.coordinator (vector w claim.node).coordinator
+
+-- from a world in which so many events were applied, the rows from this number on come to this verdict,
+-- and to this last world
+abbrev pub IsJudged : Setup → World → ℕ → ℕ → List Row → Verdict → World → Type 0
+IsJudged setup w count number [] verdict w' = (verdict ≡ Verdict.Lawful count) × (w' ≡ w)
+IsJudged setup w count number (Row.Event e ∷ rows) verdict w' =
+    MatchOption (cause setup w count e)
+    ((mid : World) × (a : Answer) × Step setup w e mid a × IsJudged setup mid (count + 1) (number + 1) rows verdict w')
+    (λ why. (verdict ≡ Verdict.Refused number why) × (w' ≡ w))
+IsJudged setup w count number (Row.Claim claim ∷ rows) verdict w' =
+    MatchBool (is_true setup w claim)
+    (IsJudged setup w count (number + 1) rows verdict w')
+    ((verdict ≡ Verdict.Differs number) × (w' ≡ w))
+
+-- the verdict on a trace, and the world that its rows were taken to
+abbrev pub IsVerdict : Trace → Verdict → World → Type 0
+IsVerdict trace verdict w = IsJudged trace.setup (first_world trace.setup) 0 2 trace.rows verdict w
+
+-- the events of the rows
+abbrev pub events_of : List Row → List Event
+events_of [] = []
+events_of (Row.Event e ∷ rows) = e ∷ events_of rows
+events_of (Row.Claim claim ∷ rows) = events_of rows
+
+-- where the verdict is lawful with a count, the rows mean a lawful list of so many events
+abbrev pub IsLawfulCount : Trace → Verdict → Type 0
+IsLawfulCount trace (Verdict.Lawful count) =
+    (answers : List Answer) × (w : World) × IsLawful trace.setup (events_of trace.rows) answers w × (length (events_of trace.rows) ≡ count)
+IsLawfulCount trace (Verdict.Refused number why) = Unit {0}
+IsLawfulCount trace (Verdict.Differs number) = Unit {0}

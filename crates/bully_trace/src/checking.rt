@@ -1,0 +1,66 @@
+ghost use Rattle.std.specs.Prelude.{◌≡◌, ◌≢◌, ◌⊎◌, ◌++◌, Ok, Err, IfOk, IfErr, IfSome, IsTrue, OnOk};
+ghost use Rattle.std.specs.Io.KnownBytes.{Appends};
+ghost use Rattle.std.specs.String.{string_bytes};
+ghost use Rattle.bully_trace.specs.Rows.{records_of, trace_of, is_of_form};
+ghost use Rattle.bully_trace.specs.Verdict.{IsVerdict, IsLawfulCount};
+ghost use Rattle.bully_trace.specs.VerdictText.{verdict_text, node_lines};
+ghost use Rattle.bully_trace.specs.declared.trace.Trace.{Trace};
+ghost use Rattle.bully_world.specs.State.{world_of};
+ghost use Rattle.bully_world.specs.World.{World as WorldState};
+
+use crate::judging::judge;
+use crate::reading::read_trace;
+use crate::text::{push_node_line, push_verdict_head};
+use crate::writing::{no_memory, not_written};
+use crate::{TraceCause, TraceFault, Verdict};
+use bully_base::{Node, OutOfMemory};
+use bully_world::World;
+use std::alloc::Global;
+use std::io::{Read, Write};
+
+/// Judges a trace and writes the verdict, and where it is lawful a line for each node. All rows are read before
+/// anything is written. Refused as [`read_trace`] refuses the trace, and then nothing was written, whatever the
+/// verdict on the rows before the faulty one; then as `OutOfMemory`, with nothing written; then as `Write`, and
+/// then a prefix of the text may have been written. The last two are at row 0.
+pub fn check<R: Read + Drop, W: Write>(
+    alloc: Global,
+    reader: R,
+    writer: &mut W,
+) -> Result<Verdict, TraceFault>
+    ensures verdict { IfOk result (λ verdict. IfSome (R.remaining reader) (λ bytes. (trace : Trace) × (w : WorldState) × (trace_of (records_of bytes) ≡ Ok trace)
+        × IsVerdict trace verdict w × Appends (W.contents writer.old) (W.contents writer.new) (verdict_text trace.setup verdict w))) }
+    ensures lawful { IfOk result (λ verdict. IfSome (R.remaining reader) (λ bytes. (trace : Trace) × (trace_of (records_of bytes) ≡ Ok trace) × IsLawfulCount trace verdict)) }
+    ensures fault { IfErr result (λ fault. IsTrue (is_of_form fault.cause) → IfSome (R.remaining reader) (λ bytes. trace_of (records_of bytes) ≡ Err fault)) }
+    ensures silent { IfErr result (λ fault. fault.cause ≢ TraceCause.Write → writer.new ≡ writer.old) }
+    ensures row { IfErr result (λ fault. (fault.cause ≡ TraceCause.Write) ⊎ (fault.cause ≡ TraceCause.OutOfMemory) → fault.row ≡ 0) }
+{
+    let trace = read_trace(alloc, reader)?;
+    let mut world = World::new(alloc, trace.setup).map_err(no_memory)?;
+    let verdict = judge(&mut world, trace.rows.as_slice());
+    let text = text_of(alloc, verdict, &world).map_err(no_memory)?;
+    writer.write_all(text.as_bytes()).map_err(not_written)?;
+    Ok(verdict)
+}
+
+// The text of the verdict, after which the world is so.
+fn text_of(alloc: Global, verdict: Verdict, world: &World) -> Result<String, OutOfMemory>
+    ensures { IfOk result (λ text. string_bytes text ≡ verdict_text world.now.setup verdict (world_of world.now)) }
+{
+    let mut text = String::new(alloc);
+    push_verdict_head(&mut text, verdict)?;
+    if let Verdict::Lawful(_) = verdict {
+        push_nodes(&mut text, world)?;
+    }
+    Ok(text)
+}
+
+// The lines of all nodes.
+fn push_nodes(text: &mut String, world: &World) -> Result<(), OutOfMemory>
+    ensures { OnOk result (string_bytes text.new ≡ string_bytes text.old ++ node_lines (world_of world.now) world.now.setup.nodes) }
+{
+    for before in 0..world.setup().nodes() {
+        let node = Node::new(before + 1).unwrap();
+        push_node_line(text, node, world.vector(node))?;
+    }
+    Ok(())
+}

@@ -1,0 +1,23 @@
+//! Traces as text, and the checker of traces.
+//!
+//! It stands on bully_world, bully_agree and csv. The crates above rely on the verdict being that of the
+//! rows that the text means.
+#![tactic(auto)]
+
+mod checking;
+mod judging;
+mod reading;
+mod row;
+mod text;
+mod trace;
+mod verdict;
+mod writing;
+
+pub use checking::check;
+pub use reading::read_trace;
+pub use trace::{Claim, Row, Rows, Trace, TraceCause, TraceFault};
+pub use verdict::Verdict;
+pub use writing::write_trace;
+
+/// The most rows of a trace after its header. The profile's limit.
+pub const ROWS_MAX: u32 = 1_000_000;

@@ -1,0 +1,180 @@
+ghost use Rattle.std.specs.Prelude.{◌≡◌, ◌<◌, ◌∷◌, [], length, IfOk, Some};
+ghost use Rattle.std.specs.Option.{option_and_then, option_map};
+ghost use Rattle.csv.specs.Records.{fields_of, field_at};
+ghost use Rattle.bully_base.specs.Setup.{Setup as SetupState};
+ghost use Rattle.bully_table.specs.Numeral.{number_of};
+ghost use Rattle.bully_trace.specs.Rows.{header_of, row_of, within, node_in, event_named, status_named, coordinator_in, plan_in, claim_in};
+
+use crate::trace::{Claim, Row};
+use bully_base::{EVENTS_MAX, NODES_MAX, Node, OutOfMemory, PARTITIONS_MAX, Setup, Status};
+use bully_table::{Table, TableFault, read_number};
+use bully_world::Event;
+use csv::ByteRecord;
+use std::alloc::{AllocError, Global};
+
+/// The setup that the first record of a trace tells; none where it is no header of version 1.
+pub fn read_header(row: &ByteRecord) -> Option<Setup>
+    ensures { result ≡ header_of (fields_of row.now) }
+{
+    if row.len() != 4 {
+        return None;
+    }
+    let word = field(row, 0);
+    let version = field(row, 1);
+    setup_in(word, version, field(row, 2), field(row, 3))
+}
+
+/// The row that a later record of a trace tells; none where it has no form that the profile lists.
+/// Refused where a growth of memory is.
+pub fn read_row(alloc: Global, setup: Setup, row: &ByteRecord) -> Result<Option<Row>, OutOfMemory>
+    ensures { IfOk result (λ r. r ≡ row_of setup (fields_of row.now)) }
+{
+    match row.len() {
+        2 => Ok(event_row(field(row, 0), field(row, 1))),
+        3 => plan_row(alloc, setup, field(row, 0), field(row, 1), field(row, 2)),
+        4 => Ok(claim_row(field(row, 0), field(row, 1), field(row, 2), field(row, 3))),
+        _ => Ok(None),
+    }
+}
+
+// The field at a place that the record has.
+fn field(row: &ByteRecord, place: usize) -> &[u8]
+    requires { place < length (fields_of row.now) }
+    ensures { field_at (fields_of row.now) place ≡ Some result.now }
+{
+    row.get(place).unwrap()
+}
+
+// What the four fields of the first record mean.
+fn setup_in(word: &[u8], version: &[u8], nodes: &[u8], partitions: &[u8]) -> Option<Setup>
+    ensures { result ≡ header_of (word.now ∷ version.now ∷ nodes.now ∷ partitions.now ∷ []) }
+{
+    if word != b"bully".as_slice() || version != b"1".as_slice() {
+        return None;
+    }
+    let nodes = number_within(nodes, NODES_MAX)?;
+    let partitions = number_within(partitions, PARTITIONS_MAX)?;
+    Setup::new(nodes, partitions, EVENTS_MAX).ok()
+}
+
+// What two fields mean.
+fn event_row(word: &[u8], node: &[u8]) -> Option<Row>
+    ensures { (setup : SetupState) → result ≡ row_of setup (word.now ∷ node.now ∷ []) }
+{
+    let node = read_node(node)?;
+    Some(Row::Event(event_of(word, node)?))
+}
+
+// What three fields mean.
+fn plan_row(
+    alloc: Global,
+    setup: Setup,
+    word: &[u8],
+    node: &[u8],
+    owners: &[u8],
+) -> Result<Option<Row>, OutOfMemory>
+    ensures { IfOk result (λ r. r ≡ row_of setup (word.now ∷ node.now ∷ owners.now ∷ [])) }
+{
+    if word != b"plan".as_slice() {
+        return Ok(None);
+    }
+    let Some(node) = read_node(node) else {
+        return Ok(None);
+    };
+    match Table::read_bytes(alloc, setup, owners) {
+        Ok(table) => Ok(Some(Row::Event(Event::Plan(node, table)))),
+        Err(TableFault::OutOfMemory) => Err(AllocError),
+        Err(_) => Ok(None),
+    }
+}
+
+// What four fields mean.
+fn claim_row(word: &[u8], node: &[u8], status: &[u8], coordinator: &[u8]) -> Option<Row>
+    ensures { (setup : SetupState) → result ≡ row_of setup (word.now ∷ node.now ∷ status.now ∷ coordinator.now ∷ []) }
+{
+    if word != b"saw".as_slice() {
+        return None;
+    }
+    let node = read_node(node)?;
+    let status = status_of(status)?;
+    let coordinator = read_coordinator(coordinator)?;
+    Some(Row::Claim(Claim {
+        node,
+        status,
+        coordinator,
+    }))
+}
+
+// The event of this word at the node.
+fn event_of(word: &[u8], node: Node) -> Option<Event>
+    ensures { result ≡ event_named word.now node }
+{
+    if word == b"recover".as_slice() {
+        Some(Event::Recover(node))
+    } else if word == b"crash".as_slice() {
+        Some(Event::Crash(node))
+    } else if word == b"check".as_slice() {
+        Some(Event::Check(node))
+    } else if word == b"timeout".as_slice() {
+        Some(Event::Timeout(node))
+    } else if word == b"start".as_slice() {
+        Some(Event::Start(node))
+    } else if word == b"run".as_slice() {
+        Some(Event::Run(node))
+    } else if word == b"lose".as_slice() {
+        Some(Event::Lose(node))
+    } else if word == b"return".as_slice() {
+        Some(Event::Return(node))
+    } else if word == b"move".as_slice() {
+        Some(Event::Move(node))
+    } else {
+        None
+    }
+}
+
+// The status of this word.
+fn status_of(word: &[u8]) -> Option<Status>
+    ensures { result ≡ status_named word.now }
+{
+    if word == b"down".as_slice() {
+        Some(Status::Down)
+    } else if word == b"election".as_slice() {
+        Some(Status::Election)
+    } else if word == b"reorganization".as_slice() {
+        Some(Status::Reorganization)
+    } else if word == b"normal".as_slice() {
+        Some(Status::Normal)
+    } else {
+        None
+    }
+}
+
+// A node, or none where the text is a dash.
+fn read_coordinator(text: &[u8]) -> Option<Option<Node>>
+    ensures { result ≡ coordinator_in text.now }
+{
+    if text == b"-".as_slice() {
+        return Some(None);
+    }
+    Some(Some(read_node(text)?))
+}
+
+// The node of this number.
+fn read_node(text: &[u8]) -> Option<Node>
+    ensures { result ≡ node_in text.now }
+{
+    Node::new(number_within(text, NODES_MAX)?)
+}
+
+// The number, where it is from 1 to the limit.
+fn number_within(text: &[u8], limit: u16) -> Option<u16>
+    requires { limit < 65535 }
+    ensures { result ≡ option_and_then (within limit) (number_of text.now) }
+{
+    let number = read_number(text)?;
+    if 0 < number && number <= limit {
+        Some(number)
+    } else {
+        None
+    }
+}

@@ -1,0 +1,96 @@
+use bully_base::{Node, Setup, Status};
+use bully_world::Event;
+use std::marker::Model;
+
+/// A claim: at this place of the trace the node's vector shows this status and this coordinator.
+#[derive(Clone, Copy, PartialEq, Eq, Debug)]
+pub struct Claim {
+    pub node: Node,
+    pub status: Status,
+    pub coordinator: Option<Node>,
+}
+
+/// A row of a trace after its header.
+#[derive(Drop, Debug)]
+pub enum Row {
+    Event(Event),
+    Claim(Claim),
+}
+
+/// The rows of a trace after its header, in order: at most [`ROWS_MAX`].
+#[derive(Drop, Debug)]
+pub struct Rows {
+    rows: Vec<Row>,
+}
+
+impl Model for Rows {
+    ghost use Rattle.std.specs.Prelude.{◌≤◌, List, length};
+    ghost use Rattle.bully_trace.specs.declared.TheConstants.{ROWS_MAX};
+    ghost use Rattle.bully_trace.specs.declared.trace.Row.{Row};
+
+    ghost Value = { List Row };
+
+    ghost view = { λ r. r.rows.items };
+
+    ghost invariant = { λ r. length r.rows.items ≤ ROWS_MAX };
+}
+
+impl Rows {
+    ghost use Rattle.std.specs.Prelude.{◌≡◌, ◌≤◌, length};
+    ghost use Rattle.bully_trace.specs.declared.TheConstants.{ROWS_MAX};
+
+    /// These rows. They are at most [`ROWS_MAX`].
+    pub fn from_vec(rows: Vec<Row>) -> Rows
+        requires { length rows.items ≤ ROWS_MAX }
+        ensures { result ≡ rows.items }
+    {
+        Rows { rows }
+    }
+
+    /// The rows, in order.
+    pub fn into_vec(self) -> Vec<Row>
+        ensures { result.items ≡ self }
+    {
+        self.rows
+    }
+
+    /// The rows, in order.
+    pub fn as_slice(&self) -> &[Row]
+        ensures rows { result.now ≡ self.now }
+        ensures within { length result.now ≤ ROWS_MAX }
+    {
+        &self.rows
+    }
+}
+
+/// A trace: the setup of its header, and its rows.
+#[derive(Drop, Debug)]
+pub struct Trace {
+    pub setup: Setup,
+    pub rows: Rows,
+}
+
+/// Why a trace isn't read or written. The first three are faults of its form.
+#[derive(Clone, Copy, PartialEq, Eq, Debug)]
+pub enum TraceCause {
+    /// The first row is no header of version 1.
+    BadHeader,
+    /// The row has no form that the profile lists.
+    BadRow,
+    /// It is a row behind the most that a trace has, whatever it holds.
+    TooManyRows,
+    /// The reader failed.
+    Read,
+    /// The writer failed.
+    Write,
+    /// A growth of memory was refused.
+    OutOfMemory,
+}
+
+/// The row at which a trace is at fault, counted from 1, and why. A failed read has the row behind those that
+/// were read; a failed write and want of memory have row 0.
+#[derive(Clone, Copy, PartialEq, Eq, Debug)]
+pub struct TraceFault {
+    pub row: u32,
+    pub cause: TraceCause,
+}
