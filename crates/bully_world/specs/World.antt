@@ -1,8 +1,8 @@
 -- The world: for each node a vector, a point, and at most one pending call.
-use Rattle.std.specs.Prelude.{ℕ, List, replicate, Option, None, option_map}
+use Rattle.std.specs.Prelude.{ℕ, ◌==◌, ◌&&◌, Bool, false, List, replicate, Option, Some, None, option_map}
 use Rattle.bully_base.specs.Places.{at_node, put_node}
 use Rattle.bully_base.specs.Setup.{Setup}
-use Rattle.bully_calls.specs.Pending.{Pending, orphan_of}
+use Rattle.bully_calls.specs.Pending.{Pending, orphan_of, is_sent}
 use Rattle.bully_handlers.specs.Vector.{Vector, empty_vector}
 use Rattle.bully_steps.specs.declared.point.Point.{Point}
 use Rattle.bully_steps.specs.declared.point.Point.TheVariants.{Idle}
@@ -44,3 +44,8 @@ stopped m = record m { point = Idle; pending = option_map orphan_of m.pending }
 -- before any event
 abbrev pub first_world : Setup → World
 first_world setup = record { members = replicate setup.nodes empty_member }
+
+-- the pending call was sent to node j
+abbrev pub is_sent_to : ℕ → Option Pending → Bool
+is_sent_to j None = false
+is_sent_to j (Some c) = is_sent c.phase && (c.call.callee == j)

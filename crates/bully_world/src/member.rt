@@ -8,8 +8,9 @@ ghost use Rattle.bully_handlers.specs.Handler.{reply};
 ghost use Rattle.bully_steps.specs.NextPoint.{next_vector};
 ghost use Rattle.bully_steps.specs.Point.{offered, IsPointOf};
 ghost use Rattle.bully_world.specs.Cause.{node_of};
-ghost use Rattle.bully_world.specs.State.{empty_state};
+ghost use Rattle.bully_world.specs.State.{empty_state, member_of};
 ghost use Rattle.bully_world.specs.Step.{carried};
+ghost use Rattle.bully_world.specs.World.{is_sent_to};
 ghost use Rattle.bully_world.specs.Taken.{with_vector, halted_number, is_readied, recovered_state, crashed_state, begun_state, posted_state, phased_state, heard_state, proceeded_state, return_taken, return_answer, planned_state, started_state, taken_here, answer_here, MayTake};
 
 use crate::event::Event;
@@ -84,6 +85,16 @@ impl Member {
         ensures { IsTrue result ↔ (self.now.vector.vector.status ≡ Status.Down) }
     {
         self.vector.status() == Status::Down
+    }
+
+    /// Whether a call to this node was sent and didn't run yet.
+    pub fn has_sent_to(&self, callee: Node) -> bool
+        ensures { result ≡ is_sent_to callee (member_of self.now).pending }
+    {
+        match (self.slot.call(), self.slot.phase()) {
+            (Some(call), Some(Phase::Sent)) => call.callee == callee,
+            _ => false,
+        }
     }
 
     /// What the node's point offers.

@@ -1,7 +1,7 @@
-ghost use Rattle.std.specs.Prelude.{◌≡◌, ◌↔◌, ◌+◌, ◌≤◌, ℕ, IfOk, OnOk, IfErr, IfSome, IsOk, None, Some, if◌then◌else◌};
+ghost use Rattle.std.specs.Prelude.{◌≡◌, ◌↔◌, ◌+◌, ◌<◌, ◌≤◌, ℕ, IfOk, OnOk, IfErr, IfSome, IfNone, IsOk, true, false, None, Some, if◌then◌else◌};
 ghost use Rattle.bully_world.specs.State.{state_at, world_of, cause_in, raises, first_state, new_members, IsReached};
 ghost use Rattle.bully_world.specs.Step.{Step};
-ghost use Rattle.bully_world.specs.World.{first_world};
+ghost use Rattle.bully_world.specs.World.{first_world, pending, is_sent_to};
 
 use crate::causes::{cause_of, place_of};
 use crate::event::{Event, Refused};
@@ -116,6 +116,21 @@ impl World {
         ensures { result ≡ (state_at self.now node).generation }
     {
         self.member(node).generation()
+    }
+
+    /// The lowest caller with a sent call to this node; none where no call waits for it.
+    pub fn waiting_for(&self, callee: Node) -> Option<Node>
+        ensures waits { IfSome result (λ caller. is_sent_to callee (pending (world_of self.now) caller) ≡ true) }
+        ensures lowest { IfSome result (λ caller. (i : ℕ) → i < caller → is_sent_to callee (pending (world_of self.now) i) ≡ false) }
+        ensures none { IfNone result ((i : ℕ) → is_sent_to callee (pending (world_of self.now) i) ≡ false) }
+    {
+        for before in 0..self.setup.nodes() {
+            let caller = Node::new(before + 1).unwrap();
+            if self.member(caller).has_sent_to(callee) {
+                return Some(caller);
+            }
+        }
+        None
     }
 
     // What is kept of the node.
