@@ -50,3 +50,6 @@ pub fn worked_scripts()
     ensures announced_too_late_goes { Goes (trace_setup 3 2) announced_too_late (λ w. shown_at w 1) announced_too_late_node }
     ensures announced_too_late_saw { After (trace_setup 3 2) announced_too_late 20 (λ w. Saw (trace_setup 3 2) w 1 Status.Election None) }
 {}
+
+#[cfg(test)]
+mod tests;

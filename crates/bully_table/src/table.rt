@@ -1,5 +1,7 @@
-ghost use Rattle.std.specs.Prelude.{◌≡◌, ◌↔◌, ◌<◌, ◌≤◌, ◌⊎◌, length, slice_get, All, IsTrue, IsOk, IfOk, IfErr, OnOk, Ok, Err, Some};
-ghost use Rattle.bully_base.specs.Setup.{Setup as SetupState, IsNodeNumber};
+ghost use Rattle.std.specs.Prelude.{◌≡◌, ◌↔◌, ◌<◌, ◌⊎◌, length, slice_get, bytes_eq, IsTrue, IsOk, IfOk, IfErr, Ok, Err, Some};
+ghost use Rattle.std.specs.Cmp.{partial_equiv_from_equiv};
+ghost use Rattle.std.specs.Cmp.Lexicographic.{nat_list_eq_equiv};
+ghost use Rattle.bully_base.specs.Setup.{Setup as SetupState};
 ghost use Rattle.bully_table.specs.Balance.{IsBalanced};
 ghost use Rattle.bully_table.specs.TableText.{table_of_text};
 
@@ -21,6 +23,21 @@ impl Model for Table {
     ghost Value = { List ℕ };
 
     ghost view = { λ t. t.owners.items };
+}
+
+/// Two tables are equal where their owners are.
+impl PartialEq for Table {
+    ghost eq = { bytes_eq };
+
+    ghost laws = { partial_equiv_from_equiv nat_list_eq_equiv };
+
+    fn eq(&self, other: &Table) -> bool {
+        self.owners == other.owners
+    }
+}
+
+impl Eq for Table {
+    ghost laws = { nat_list_eq_equiv };
 }
 
 /// Why a text is no table, the first that holds.

@@ -1,0 +1,46 @@
+//! The scripts as traces.
+
+/// One node elects itself.
+pub const ALONE: &str = "\
+bully,1,1,2\nrecover,1\nmove,1\nmove,1\nmove,1\nplan,1,1 1\nmove,1\n";
+
+/// Node 3 elects itself while 1 and 2 are down.
+pub const OTHERS_DOWN: &str = "\
+bully,1,3,3\nrecover,3\nmove,3\nstart,3\nlose,3\nreturn,3\nstart,3\nlose,3\nreturn,3\n\
+move,3\nmove,3\nplan,3,3 3 3\nmove,3\n";
+
+/// Node 3 halts the others, announces itself and readies them.
+pub const ALL_UP: &str = "\
+bully,1,3,3\nrecover,1\nrecover,2\nrecover,3\nmove,3\nstart,3\nrun,3\nreturn,3\nstart,3\n\
+run,3\nreturn,3\nmove,3\nstart,3\nrun,3\nreturn,3\nstart,3\nrun,3\nreturn,3\nmove,3\n\
+plan,3,1 2 3\nstart,3\nrun,3\nreturn,3\nstart,3\nrun,3\nreturn,3\nmove,3\n";
+
+/// A callee crashes after the Halt ran there.
+pub const REPLY_LOST: &str = "\
+bully,1,3,3\nrecover,2\nrecover,3\nmove,3\nstart,3\nrun,3\ncrash,2\nlose,3\nreturn,3\n\
+start,3\nlose,3\nreturn,3\nmove,3\nmove,3\nplan,3,3 3 3\nmove,3\n";
+
+/// A halted node's own Halt runs late.
+pub const ORPHAN_HALT: &str = "\
+bully,1,3,3\nrecover,1\nrecover,2\nstart,2\nlose,2\nreturn,2\nmove,2\nstart,2\nrecover,3\n\
+move,3\nstart,3\nrun,3\nreturn,3\nstart,3\nrun,3\nreturn,3\nrun,2\nreturn,2\nmove,3\n\
+start,3\nrun,3\nreturn,3\nstart,3\nrun,3\nreturn,3\nmove,3\nplan,3,1 2 3\nstart,3\nrun,3\n\
+return,3\nstart,3\nrun,3\nreturn,3\nmove,3\nsaw,1,election,-\ncheck,3\nstart,3\nrun,3\n\
+return,3\nmove,3\n";
+
+/// A halted node's Ready is under way when it elects anew.
+pub const ORPHAN_READY: &str = "\
+bully,1,3,2\nrecover,1\nrecover,2\nstart,2\nlose,2\nreturn,2\nmove,2\nstart,2\nrun,2\n\
+return,2\nmove,2\nstart,2\nrun,2\nreturn,2\nmove,2\nplan,2,1 2\nstart,2\nrecover,3\nmove,3\n\
+start,3\nrun,3\ncrash,3\ntimeout,2\nstart,2\n";
+
+/// An orphan's failure comes back late.
+pub const LATE_FAILURE: &str = "\
+bully,1,3,1\nrecover,2\nstart,2\nlose,2\nrecover,3\nmove,3\nstart,3\nrun,3\nreturn,3\n\
+timeout,2\nreturn,2\nmove,2\n";
+
+/// A NewCoordinator runs after a newer Halt.
+pub const ANNOUNCED_TOO_LATE: &str = "\
+bully,1,3,2\nrecover,1\nrecover,2\nstart,2\nlose,2\nreturn,2\nmove,2\nstart,2\nrun,2\n\
+return,2\nmove,2\nstart,2\nrecover,3\nmove,3\nstart,3\nrun,3\nreturn,3\nstart,3\nrun,3\n\
+return,3\nrun,2\nsaw,1,election,-\nreturn,2\n";
