@@ -1,0 +1,247 @@
+//! Makes lawful traces: it keeps a world and takes, again and again, an event that is possible there.
+
+use crate::checking::{or_dash, status_word};
+use crate::world::{bit, Action, CallKind, Node, Offer, Phase, Point, Setup, World};
+use std::fmt;
+use std::io::{self, Write};
+
+/// Pseudo-random numbers: Marsaglia's xorshift with 64 bits.
+struct Random(u64);
+
+impl Random {
+    fn next(&mut self) -> u64 {
+        self.0 ^= self.0 << 13;
+        self.0 ^= self.0 >> 7;
+        self.0 ^= self.0 << 17;
+        self.0
+    }
+
+    fn below(&mut self, limit: u32) -> u32 {
+        ((self.next() >> 32) % limit as u64) as u32
+    }
+
+    /// True once in so many times.
+    fn once_in(&mut self, times: u32) -> bool {
+        self.below(times) == 0
+    }
+}
+
+/// What a trace has in it.
+#[derive(Default)]
+pub struct Tally {
+    pub nodes_stood: u32,
+    pub elections_won: u32,
+    pub crashes: u32,
+    pub calls_lost: u32,
+    pub calls_orphaned: u32,
+    pub orphans_run: u32,
+    pub plans: u32,
+    pub claims: u32,
+}
+
+impl fmt::Display for Tally {
+    fn fmt(&self, text: &mut fmt::Formatter) -> fmt::Result {
+        write!(text, "{} times a node stood for election, ", self.nodes_stood)?;
+        write!(text, "{} elections won, ", self.elections_won)?;
+        write!(text, "{} plans, {} crashes, ", self.plans, self.crashes)?;
+        write!(text, "{} calls lost, ", self.calls_lost)?;
+        write!(text, "{} orphaned by a halt, ", self.calls_orphaned)?;
+        write!(text, "{} orphans run, {} claims", self.orphans_run, self.claims)
+    }
+}
+
+struct Generator<W> {
+    world: World,
+    random: Random,
+    owners: Vec<u8>,
+    output: W,
+    tally: Tally,
+}
+
+/// Writes a header and so many rows, and tells what is in them.
+pub fn generate<W: Write>(setup: Setup, rows: u32, seed: u64, output: W) -> io::Result<Tally> {
+    let mut generator = Generator {
+        world: World::new(setup),
+        random: Random(seed | 1 << 63),
+        owners: vec![0; setup.partitions],
+        output,
+        tally: Tally::default(),
+    };
+    writeln!(generator.output, "bully,1,{},{}", setup.nodes, setup.partitions)?;
+    for _ in 0..rows {
+        generator.write_row()?;
+    }
+    generator.output.flush()?;
+    Ok(generator.tally)
+}
+
+impl<W: Write> Generator<W> {
+    fn write_row(&mut self) -> io::Result<()> {
+        if self.random.once_in(40) {
+            return self.write_claim();
+        }
+        let (action, node) = self.choose();
+        if let Action::Plan = action {
+            self.plan_owners(node);
+        }
+        self.count(action, node);
+        self.world
+            .apply(action, node, &self.owners)
+            .expect("the event is possible");
+        self.write_event(action, node)
+    }
+
+    /// A claim that is true.
+    fn write_claim(&mut self) -> io::Result<()> {
+        let number = self.any_node();
+        let node = self.world.node(number);
+        let coordinator = or_dash(node.coordinator);
+        self.tally.claims += 1;
+        writeln!(self.output, "saw,{number},{},{coordinator}", status_word(node.status))
+    }
+
+    fn write_event(&mut self, action: Action, node: u8) -> io::Result<()> {
+        write!(self.output, "{},{node}", action_word(action))?;
+        if let Action::Plan = action {
+            for (place, owner) in self.owners.iter().enumerate() {
+                let before = if place == 0 { ',' } else { ' ' };
+                write!(self.output, "{before}{owner}")?;
+            }
+        }
+        writeln!(self.output)
+    }
+
+    fn any_node(&mut self) -> u8 {
+        1 + self.random.below(self.world.setup.nodes as u32) as u8
+    }
+
+    /// An event that is possible. Mostly the highest node that has something to do takes a step, so that elections
+    /// get on; else any node does, so that lower nodes have calls under way when they are halted.
+    fn choose(&mut self) -> (Action, u8) {
+        let nodes = self.world.setup.nodes;
+        if self.random.once_in(4 * nodes as u32) {
+            if let Some(event) = self.fail_or_recover() {
+                return event;
+            }
+        }
+        let replies_fail = self.random.once_in(2);
+        if !self.random.once_in(4) {
+            let mut steps = (1..=nodes).rev().map(|node| (self.step_of(node, replies_fail), node));
+            if let Some((Some(action), node)) = steps.find(|(step, _)| step.is_some()) {
+                return (action, node);
+            }
+        }
+        self.act_anywhere(replies_fail)
+    }
+
+    /// A node that is down recovers; one that is up crashes now and then.
+    fn fail_or_recover(&mut self) -> Option<(Action, u8)> {
+        let node = self.any_node();
+        if self.world.node(node).is_down() {
+            Some((Action::Recover, node))
+        } else if self.random.once_in(4) {
+            Some((Action::Crash, node))
+        } else {
+            None
+        }
+    }
+
+    /// A step of any node that is up, a check or a timeout where it has none; a node recovers where all are down.
+    fn act_anywhere(&mut self, replies_fail: bool) -> (Action, u8) {
+        let start = self.any_node();
+        let nodes = self.world.setup.nodes;
+        let from_start = (start..=nodes).chain(1..start);
+        for node in from_start {
+            if !self.world.node(node).is_down() {
+                return (self.step_of(node, replies_fail).unwrap_or_else(|| self.begin()), node);
+            }
+        }
+        (Action::Recover, start)
+    }
+
+    fn begin(&mut self) -> Action {
+        if self.random.once_in(2) {
+            Action::Check
+        } else {
+            Action::Timeout
+        }
+    }
+
+    /// The step that brings a node on, if it has one. The reply of a callee that is down by now may fail.
+    fn step_of(&self, number: u8, replies_fail: bool) -> Option<Action> {
+        let node = self.world.node(number);
+        if node.is_down() {
+            return None;
+        }
+        if node.slot.phase == Phase::Empty {
+            return offered_step(node.offer(self.world.setup.nodes));
+        }
+        let callee_down = self.world.node(node.slot.callee).is_down();
+        match node.slot.phase {
+            Phase::Sent if callee_down => Some(Action::Lose),
+            Phase::Ran(_) if callee_down && replies_fail => Some(Action::Lose),
+            Phase::Sent => Some(Action::Run),
+            _ => Some(Action::Return),
+        }
+    }
+
+    /// A balanced table over the node and its up set: the members in turn, from any of them on.
+    fn plan_owners(&mut self, number: u8) {
+        let set = self.world.node(number).up | bit(number);
+        let members: Vec<u8> = (1..=self.world.setup.nodes)
+            .filter(|&node| set & bit(node) != 0)
+            .collect();
+        let first = self.random.below(members.len() as u32) as usize;
+        for (place, owner) in self.owners.iter_mut().enumerate() {
+            *owner = members[(first + place) % members.len()];
+        }
+    }
+
+    /// Counts an event before it is applied.
+    fn count(&mut self, action: Action, number: u8) {
+        let node = self.world.node(number);
+        let tally = &mut self.tally;
+        match action {
+            Action::Move if matches!(node.point, Point::Asking(_)) => tally.nodes_stood += 1,
+            Action::Move if matches!(node.point, Point::Readying(_)) => tally.elections_won += 1,
+            Action::Crash => tally.crashes += 1,
+            Action::Lose => tally.calls_lost += 1,
+            Action::Plan => tally.plans += 1,
+            Action::Run => {
+                let called = self.world.node(node.slot.callee);
+                let halts = matches!(node.slot.kind, CallKind::Halt);
+                tally.orphans_run += node.has_orphan() as u32;
+                tally.calls_orphaned += (halts && has_live_call(called)) as u32;
+            }
+            _ => {}
+        }
+    }
+}
+
+fn offered_step(offer: Offer) -> Option<Action> {
+    match offer {
+        Offer::Nothing => None,
+        Offer::Call(..) => Some(Action::Start),
+        Offer::Move => Some(Action::Move),
+        Offer::Plan => Some(Action::Plan),
+    }
+}
+
+fn has_live_call(node: &Node) -> bool {
+    node.slot.phase != Phase::Empty && !node.has_orphan()
+}
+
+fn action_word(action: Action) -> &'static str {
+    match action {
+        Action::Recover => "recover",
+        Action::Crash => "crash",
+        Action::Check => "check",
+        Action::Timeout => "timeout",
+        Action::Start => "start",
+        Action::Run => "run",
+        Action::Lose => "lose",
+        Action::Return => "return",
+        Action::Move => "move",
+        Action::Plan => "plan",
+    }
+}

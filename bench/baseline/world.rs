@@ -1,0 +1,454 @@
+//! The world under events, as plain structs. It is written for speed and for reading, and nothing of it is proved.
+
+pub const NODES_MAX: u16 = 64;
+pub const PARTITIONS_MAX: u16 = 256;
+
+#[derive(Clone, Copy)]
+pub struct Setup {
+    pub nodes: u8,
+    pub partitions: usize,
+}
+
+#[derive(Clone, Copy, PartialEq, Eq)]
+pub enum Status {
+    Down,
+    Election,
+    Reorganization,
+    Normal,
+}
+
+#[derive(Clone, Copy)]
+pub enum CallKind {
+    AreYouUp,
+    AreYouNormal,
+    Halt,
+    NewCoordinator,
+    Ready,
+}
+
+/// Sets of nodes are words: the bit of node 1 is the lowest.
+#[derive(Clone, Copy, PartialEq, Eq)]
+pub enum Point {
+    Idle,
+    Asking(u8),
+    Halting(u8),
+    Announcing(u64),
+    Planning,
+    Readying(u64),
+    Checking(u8),
+    Inquiring,
+}
+
+#[derive(Clone, Copy)]
+pub enum Offer {
+    Nothing,
+    Call(u8, CallKind),
+    Move,
+    Plan,
+}
+
+#[derive(Clone, Copy, PartialEq, Eq)]
+pub enum Outcome {
+    Yes,
+    No,
+    Failed,
+}
+
+#[derive(Clone, Copy, PartialEq, Eq)]
+pub enum Phase {
+    Empty,
+    Sent,
+    Ran(Outcome),
+    Failed,
+}
+
+#[derive(Clone, Copy)]
+pub enum Action {
+    Recover,
+    Crash,
+    Check,
+    Timeout,
+    Start,
+    Run,
+    Lose,
+    Return,
+    Move,
+    Plan,
+}
+
+#[derive(Debug, Clone, Copy)]
+pub enum Refusal {
+    BadNode,
+    IsDown,
+    IsUp,
+    Busy,
+    NoStep,
+    SlotBusy,
+    NoCall,
+    CalleeDown,
+    CalleeUp,
+    BadTable,
+}
+
+pub struct Slot {
+    pub phase: Phase,
+    pub callee: u8,
+    pub kind: CallKind,
+    pub generation: u32,
+    table: Vec<u8>,
+}
+
+pub struct Node {
+    pub status: Status,
+    pub coordinator: Option<u8>,
+    pub halter: Option<u8>,
+    pub up: u64,
+    pub has_task: bool,
+    pub task: Vec<u8>,
+    pub point: Point,
+    pub slot: Slot,
+    pub generation: u32,
+}
+
+pub struct World {
+    pub setup: Setup,
+    pub events: u32,
+    nodes: Vec<Node>,
+}
+
+pub fn bit(node: u8) -> u64 {
+    1 << (node - 1)
+}
+
+/// The highest node of a set that isn't empty.
+pub fn highest(set: u64) -> u8 {
+    64 - set.leading_zeros() as u8
+}
+
+impl Node {
+    fn new(partitions: usize) -> Node {
+        let slot = Slot {
+            phase: Phase::Empty,
+            callee: 0,
+            kind: CallKind::AreYouUp,
+            generation: 0,
+            table: vec![0; partitions],
+        };
+        Node {
+            status: Status::Down,
+            coordinator: None,
+            halter: None,
+            up: 0,
+            has_task: false,
+            task: vec![0; partitions],
+            point: Point::Idle,
+            slot,
+            generation: 0,
+        }
+    }
+
+    pub fn is_down(&self) -> bool {
+        self.status == Status::Down
+    }
+
+    /// Whether the call in the slot was started before the node was last stopped.
+    pub fn has_orphan(&self) -> bool {
+        self.slot.phase != Phase::Empty && self.slot.generation != self.generation
+    }
+
+    fn empty_vector(&mut self, status: Status) {
+        self.status = status;
+        self.coordinator = None;
+        self.halter = None;
+        self.up = 0;
+        self.has_task = false;
+    }
+
+    fn recover(&mut self, me: u8) {
+        self.empty_vector(Status::Election);
+        self.point = Point::Asking(me + 1);
+    }
+
+    fn crash(&mut self) {
+        self.empty_vector(Status::Down);
+        self.point = Point::Idle;
+        self.slot.phase = Phase::Empty;
+        self.generation += 1;
+    }
+
+    fn check(&mut self, me: u8, nodes: u8) {
+        if self.status == Status::Normal && self.coordinator == Some(me) && nodes > 1 {
+            self.point = Point::Checking(if me == 1 { 2 } else { 1 });
+        }
+    }
+
+    fn time_out(&mut self, me: u8) {
+        match self.status {
+            Status::Down => {}
+            Status::Election => self.point = Point::Asking(me + 1),
+            Status::Normal | Status::Reorganization => {
+                if self.coordinator != Some(me) {
+                    self.point = Point::Inquiring;
+                }
+            }
+        }
+    }
+
+    /// What the node's point offers.
+    pub fn offer(&self, nodes: u8) -> Offer {
+        match self.point {
+            Point::Idle => Offer::Nothing,
+            Point::Asking(callee) if callee <= nodes => Offer::Call(callee, CallKind::AreYouUp),
+            Point::Asking(_) | Point::Halting(0) | Point::Announcing(0) | Point::Readying(0) => Offer::Move,
+            Point::Halting(callee) => Offer::Call(callee, CallKind::Halt),
+            Point::Announcing(rest) => Offer::Call(highest(rest), CallKind::NewCoordinator),
+            Point::Planning => Offer::Plan,
+            Point::Readying(rest) => Offer::Call(highest(rest), CallKind::Ready),
+            Point::Checking(callee) => Offer::Call(callee, CallKind::AreYouNormal),
+            Point::Inquiring => match self.coordinator {
+                Some(callee) => Offer::Call(callee, CallKind::AreYouUp),
+                None => Offer::Nothing,
+            },
+        }
+    }
+
+    fn start(&mut self, nodes: u8) -> Result<(), Refusal> {
+        let (callee, kind) = match self.offer(nodes) {
+            Offer::Call(callee, kind) => (callee, kind),
+            _ => return Err(Refusal::NoStep),
+        };
+        if self.slot.phase != Phase::Empty {
+            return Err(Refusal::SlotBusy);
+        }
+        self.slot.phase = Phase::Sent;
+        self.slot.callee = callee;
+        self.slot.kind = kind;
+        self.slot.generation = self.generation;
+        if let CallKind::Ready = kind {
+            self.slot.table.copy_from_slice(&self.task);
+        }
+        Ok(())
+    }
+
+    fn take_back(&mut self, me: u8, nodes: u8) -> Result<(), Refusal> {
+        let outcome = match self.slot.phase {
+            Phase::Empty | Phase::Sent => return Err(Refusal::NoCall),
+            Phase::Ran(outcome) => outcome,
+            Phase::Failed => Outcome::Failed,
+        };
+        let is_orphan = self.has_orphan();
+        self.slot.phase = Phase::Empty;
+        if !is_orphan {
+            self.proceed(me, nodes, outcome);
+        }
+        Ok(())
+    }
+
+    /// The point moves by the outcome of its call.
+    fn proceed(&mut self, me: u8, nodes: u8, outcome: Outcome) {
+        let answered = outcome == Outcome::Yes;
+        self.point = match self.point {
+            Point::Asking(_) | Point::Inquiring if answered => Point::Idle,
+            Point::Asking(callee) => Point::Asking(callee + 1),
+            Point::Halting(callee) => {
+                if answered {
+                    self.up |= bit(callee);
+                }
+                Point::Halting(callee - 1)
+            }
+            Point::Announcing(rest) if answered => Point::Announcing(rest & !bit(highest(rest))),
+            Point::Readying(rest) if answered => Point::Readying(rest & !bit(highest(rest))),
+            Point::Checking(callee) if outcome != Outcome::No => next_checked(me, nodes, callee),
+            _ => Point::Asking(me + 1),
+        };
+    }
+
+    fn move_on(&mut self, me: u8, nodes: u8) -> Result<(), Refusal> {
+        if !matches!(self.offer(nodes), Offer::Move) {
+            return Err(Refusal::NoStep);
+        }
+        if self.slot.phase != Phase::Empty {
+            return Err(Refusal::SlotBusy);
+        }
+        match self.point {
+            Point::Asking(_) => self.stand(me),
+            Point::Halting(_) => self.lead(me),
+            Point::Announcing(_) => self.point = Point::Planning,
+            _ => {
+                self.status = Status::Normal;
+                self.point = Point::Idle;
+            }
+        }
+        Ok(())
+    }
+
+    fn stand(&mut self, me: u8) {
+        self.status = Status::Election;
+        self.halter = Some(me);
+        self.up = 0;
+        self.point = Point::Halting(me - 1);
+    }
+
+    fn lead(&mut self, me: u8) {
+        self.coordinator = Some(me);
+        self.status = Status::Reorganization;
+        self.point = Point::Announcing(self.up);
+    }
+
+    fn plan(&mut self, me: u8, owners: &[u8]) -> Result<(), Refusal> {
+        if self.point != Point::Planning {
+            return Err(Refusal::NoStep);
+        }
+        if self.slot.phase != Phase::Empty {
+            return Err(Refusal::SlotBusy);
+        }
+        if !is_balanced(owners, self.up | bit(me)) {
+            return Err(Refusal::BadTable);
+        }
+        self.task.copy_from_slice(owners);
+        self.has_task = true;
+        self.point = Point::Readying(self.up);
+        Ok(())
+    }
+
+    fn halt(&mut self, caller: u8) {
+        self.point = Point::Idle;
+        self.generation += 1;
+        self.status = Status::Election;
+        self.halter = Some(caller);
+    }
+
+    fn hear_coordinator(&mut self, caller: u8) {
+        if self.status == Status::Election && self.halter == Some(caller) {
+            self.coordinator = Some(caller);
+            self.status = Status::Reorganization;
+        }
+    }
+
+    fn hear_ready(&mut self, caller: u8, table: &[u8]) {
+        if self.status == Status::Reorganization && self.coordinator == Some(caller) {
+            self.task.copy_from_slice(table);
+            self.has_task = true;
+            self.status = Status::Normal;
+        }
+    }
+
+    /// The call of the caller runs at this node.
+    fn hear(&mut self, caller: u8, slot: &Slot) -> Outcome {
+        match slot.kind {
+            CallKind::AreYouUp => {}
+            CallKind::AreYouNormal if self.status == Status::Normal => {}
+            CallKind::AreYouNormal => return Outcome::No,
+            CallKind::Halt => self.halt(caller),
+            CallKind::NewCoordinator => self.hear_coordinator(caller),
+            CallKind::Ready => self.hear_ready(caller, &slot.table),
+        }
+        Outcome::Yes
+    }
+}
+
+/// Where a check stands after this node: at the next node that isn't the checker itself.
+fn next_checked(me: u8, nodes: u8, callee: u8) -> Point {
+    let next = if callee + 1 == me { callee + 2 } else { callee + 1 };
+    if next > nodes {
+        Point::Idle
+    } else {
+        Point::Checking(next)
+    }
+}
+
+/// Whether each owner is a member and the counts of any two members differ by at most one.
+fn is_balanced(owners: &[u8], members: u64) -> bool {
+    let mut counts = [0u16; NODES_MAX as usize + 1];
+    for &owner in owners {
+        counts[owner as usize] += 1;
+    }
+    let size = members.count_ones() as usize;
+    let least = owners.len() / size;
+    let most = (owners.len() + size - 1) / size;
+    (1..=NODES_MAX as u8).all(|node| {
+        let count = counts[node as usize] as usize;
+        if members & bit(node) == 0 {
+            count == 0
+        } else {
+            least <= count && count <= most
+        }
+    })
+}
+
+impl World {
+    pub fn new(setup: Setup) -> World {
+        World {
+            setup,
+            events: 0,
+            nodes: (0..setup.nodes).map(|_| Node::new(setup.partitions)).collect(),
+        }
+    }
+
+    pub fn node(&self, number: u8) -> &Node {
+        &self.nodes[number as usize - 1]
+    }
+
+    /// Applies an event, or tells the first refusal and changes nothing. The owners are those of a Plan.
+    pub fn apply(&mut self, action: Action, me: u8, owners: &[u8]) -> Result<(), Refusal> {
+        let nodes = self.setup.nodes;
+        if me > nodes {
+            return Err(Refusal::BadNode);
+        }
+        let node = &mut self.nodes[me as usize - 1];
+        match (action, node.is_down()) {
+            (Action::Recover, true) => node.recover(me),
+            (Action::Recover, false) => return Err(Refusal::IsUp),
+            (_, true) => return Err(Refusal::IsDown),
+            (Action::Crash, _) => node.crash(),
+            (Action::Check | Action::Timeout, _) if node.point != Point::Idle => return Err(Refusal::Busy),
+            (Action::Check, _) => node.check(me, nodes),
+            (Action::Timeout, _) => node.time_out(me),
+            (Action::Start, _) => node.start(nodes)?,
+            (Action::Run, _) => self.run(me)?,
+            (Action::Lose, _) => self.lose(me)?,
+            (Action::Return, _) => node.take_back(me, nodes)?,
+            (Action::Move, _) => node.move_on(me, nodes)?,
+            (Action::Plan, _) => node.plan(me, owners)?,
+        }
+        self.events += 1;
+        Ok(())
+    }
+
+    fn run(&mut self, caller: u8) -> Result<(), Refusal> {
+        if self.node(caller).slot.phase != Phase::Sent {
+            return Err(Refusal::NoCall);
+        }
+        let callee = self.node(caller).slot.callee;
+        let (calling, called) = self.pair(caller, callee);
+        if called.is_down() {
+            return Err(Refusal::CalleeDown);
+        }
+        calling.slot.phase = Phase::Ran(called.hear(caller, &calling.slot));
+        Ok(())
+    }
+
+    fn lose(&mut self, caller: u8) -> Result<(), Refusal> {
+        let slot = &self.node(caller).slot;
+        if !matches!(slot.phase, Phase::Sent | Phase::Ran(_)) {
+            return Err(Refusal::NoCall);
+        }
+        if !self.node(slot.callee).is_down() {
+            return Err(Refusal::CalleeUp);
+        }
+        self.nodes[caller as usize - 1].slot.phase = Phase::Failed;
+        Ok(())
+    }
+
+    /// Two nodes at once. They are never the same, since no node calls itself.
+    fn pair(&mut self, one: u8, other: u8) -> (&mut Node, &mut Node) {
+        let (one, other) = (one as usize - 1, other as usize - 1);
+        if one < other {
+            let (low, high) = self.nodes.split_at_mut(other);
+            (&mut low[one], &mut high[0])
+        } else {
+            let (low, high) = self.nodes.split_at_mut(one);
+            (&mut high[0], &mut low[other])
+        }
+    }
+}

@@ -1,0 +1,136 @@
+//! Compares two checkers on one trace: first their answers, then their times and their peaks of memory.
+//!
+//!     measure PROVED PLAIN TRACE
+//!
+//! Each run is `PROGRAM check < TRACE` in a process of its own. This program is small, since Linux counts what a
+//! parent takes at the time of a fork into the peak of its child.
+
+use std::fs::File;
+use std::io::{self, Error, Read};
+use std::os::raw::{c_int, c_long};
+use std::process::{Command, ExitCode, Stdio};
+use std::time::Instant;
+
+const RUNS: usize = 5;
+
+/// What `wait4` tells of a process, as the C library lays it out on 64-bit Linux.
+#[repr(C)]
+struct Usage {
+    times: [c_long; 4],
+    peak_kilobytes: c_long,
+    others: [c_long; 13],
+}
+
+extern "C" {
+    fn wait4(process: c_int, status: *mut c_int, options: c_int, usage: *mut Usage) -> c_int;
+}
+
+struct Run {
+    seconds: f64,
+    kilobytes: i64,
+}
+
+/// What a checker answers.
+#[derive(PartialEq)]
+struct Answer {
+    text: Vec<u8>,
+    status: Option<i32>,
+}
+
+fn check_of(program: &str, trace: &str) -> io::Result<Command> {
+    let mut command = Command::new(program);
+    command.arg("check").stdin(File::open(trace)?);
+    Ok(command)
+}
+
+fn answer(program: &str, trace: &str) -> io::Result<Answer> {
+    let output = check_of(program, trace)?.stderr(Stdio::inherit()).output()?;
+    Ok(Answer {
+        text: output.stdout,
+        status: output.status.code(),
+    })
+}
+
+/// Waits for the end of a process; its peak of memory in kilobytes.
+fn wait_for(process: u32) -> io::Result<i64> {
+    let mut status = 0;
+    let mut usage = Usage {
+        times: [0; 4],
+        peak_kilobytes: 0,
+        others: [0; 13],
+    };
+    // Sound, since both places are there for as long as the call lasts and are laid out as it asks.
+    if unsafe { wait4(process as c_int, &mut status, 0, &mut usage) } < 0 {
+        return Err(Error::last_os_error());
+    }
+    if status != 0 {
+        return Err(Error::other("a run didn't end with status 0"));
+    }
+    Ok(usage.peak_kilobytes as i64)
+}
+
+/// One run, from the start of the process to its end.
+fn run(program: &str, trace: &str) -> io::Result<Run> {
+    let mut command = check_of(program, trace)?;
+    command.stdout(Stdio::piped());
+    let start = Instant::now();
+    let mut process = command.spawn()?;
+    let mut text = Vec::new();
+    if let Some(output) = process.stdout.as_mut() {
+        output.read_to_end(&mut text)?;
+    }
+    let kilobytes = wait_for(process.id())?;
+    Ok(Run {
+        seconds: start.elapsed().as_secs_f64(),
+        kilobytes,
+    })
+}
+
+/// Prints the runs of a program; gives their median time.
+fn report(name: &str, runs: &[Run]) -> f64 {
+    let mut seconds: Vec<f64> = runs.iter().map(|run| run.seconds).collect();
+    seconds.sort_by(f64::total_cmp);
+    let median = seconds[RUNS / 2];
+    let (least, most) = (seconds[0], seconds[RUNS - 1]);
+    let peak = runs.iter().map(|run| run.kilobytes).max().unwrap_or(0) as f64 / 1024.0;
+    println!("  {name:<9} median {median:.3} s (from {least:.3} to {most:.3}), peak {peak:.1} MiB");
+    median
+}
+
+fn compare(proved: &str, plain: &str, trace: &str) -> io::Result<()> {
+    let expected = answer(plain, trace)?;
+    if answer(proved, trace)? != expected {
+        return Err(Error::other("the two checkers answer differently"));
+    }
+    if expected.status != Some(0) {
+        return Err(Error::other("the trace isn't lawful"));
+    }
+    let mut proved_runs = Vec::new();
+    let mut plain_runs = Vec::new();
+    for _ in 0..RUNS {
+        proved_runs.push(run(proved, trace)?);
+        plain_runs.push(run(plain, trace)?);
+    }
+    let proved_median = report("bully", &proved_runs);
+    let plain_median = report("baseline", &plain_runs);
+    println!(
+        "  ratio     {:.2} (median of bully by median of baseline)",
+        proved_median / plain_median
+    );
+    Ok(())
+}
+
+fn main() -> ExitCode {
+    let words: Vec<String> = std::env::args().skip(1).collect();
+    let result = match words.as_slice() {
+        [proved, plain, trace] => compare(proved, plain, trace),
+        _ => Err(Error::other("usage: measure PROVED PLAIN TRACE")),
+    };
+    match result {
+        Ok(()) => ExitCode::SUCCESS,
+        Err(error) => {
+            eprintln!("measure: {error}");
+            ExitCode::FAILURE
+        }
+    }
+}

@@ -1,0 +1,3 @@
+pub mod HeldLemmas
+pub mod AnswerLemmas
+pub mod WordsLemmas

@@ -1,0 +1,39 @@
+-- What the words after the program's name ask for, as clap reads them.
+use Rattle.std.specs.Prelude.{◌≡◌, Bool, true, false, not, ◌&&◌, List, [], ◌∷◌, Option, Some, option_map, codes}
+use Rattle.std.specs.List.{list_all}
+use Rattle.clap.specs.Words.{App, Text, Kinds, fault_of, new_app, subcommand_of, takes, with_subcommand}
+use Rattle.clap.specs.declared.error.kind.ErrorKind.{ErrorKind}
+use Rattle.clap.specs.declared.error.kind.ErrorKind.TheVariants as kind
+
+-- the program before its commands, of which one is required; its words come without its name
+abbrev pub bare : App
+bare = record (new_app (codes "bully")) { top = record (new_app (codes "bully")).top { no_binary_name = true; subcommand_required = true } }
+
+-- the program with its commands
+abbrev pub program : App
+program = with_subcommand bare (new_app (codes "check")).top
+
+-- the command that the words name
+abbrev pub command_named : List Text → Option Text
+command_named words = option_map (λ p. p.0) (subcommand_of program words)
+
+-- the words are good, and they are those of `check`
+abbrev pub ParsesAsCheck : List Text → Type 0
+ParsesAsCheck words = (takes program words ≡ true) × (command_named words ≡ Some (codes "check"))
+
+abbrev pub is_help : ErrorKind → Bool
+is_help kind.DisplayHelp = true
+is_help kind.DisplayVersion = true
+is_help _ = false
+
+abbrev pub is_filled : Kinds → Bool
+is_filled [] = false
+is_filled (k ∷ ks) = true
+
+-- clap finds a mistake in the words
+abbrev pub is_mistake : List Text → Bool
+is_mistake words = is_filled (fault_of program words) && list_all (λ k. not (is_help k)) (fault_of program words)
+
+-- the words ask for help
+abbrev pub asks_for_help : List Text → Bool
+asks_for_help words = is_filled (fault_of program words) && list_all is_help (fault_of program words)

@@ -1,0 +1,66 @@
+ghost use Rattle.std.specs.Prelude.{◌≡◌, ◌≤◌, ◌⊎◌, ◌∷◌, [], true, false, codes, map, IfSome};
+ghost use Rattle.clap.specs.Words.{kind_of};
+ghost use Rattle.bully.specs.Words.{ParsesAsCheck, is_help, is_mistake, asks_for_help};
+ghost use Rattle.bully.specs.Answer.{IsAnswer, Tells, stop_line};
+
+use crate::checking::answer_check;
+use crate::telling::{Stop, answer_stop, finish};
+use crate::words::{Action, action_of};
+use clap::Error;
+use clap::error::ErrorKind;
+use std::convert::AsStr;
+use std::io::{Read, Write};
+
+/// Does what the words ask for, those after the program's name, and tells the status.
+///
+/// 0: done, the trace is lawful, or help was asked for and stands on the output. 1: an event of the trace is
+/// refused or a claim of it differs. 2: bad words; the message stands on `errors` and nothing on the output.
+/// 3: a fault of form in the trace; its line stands on `errors` and nothing on the output. 4: Read, Write or
+/// OutOfMemory, which a line on `errors` tells. A line on `errors` that can't be written changes no status.
+/// The words are read first, then the trace. This project's profile.
+pub fn answer<H: AllocGlobal, S: AsStr, R: Read + Drop, W: Write, E: Write>(
+    rt: &H,
+    words: &[S],
+    input: R,
+    output: &mut W,
+    errors: &mut E,
+) -> u8
+    ensures check { map S.text words.now ≡ codes "check" ∷ [] → IfSome (R.remaining input) (λ bytes. IsAnswer bytes (W.contents output.old) (W.contents output.new) (E.contents errors.old) (E.contents errors.new) result) }
+    ensures parsed { ParsesAsCheck (map S.text words.now) → IfSome (R.remaining input) (λ bytes. IsAnswer bytes (W.contents output.old) (W.contents output.new) (E.contents errors.old) (E.contents errors.new) result) }
+    ensures mistake { is_mistake (map S.text words.now) ≡ true → ((result ≡ 2) ⊎ (result ≡ 4)) × (output.new ≡ output.old) }
+    ensures help { asks_for_help (map S.text words.now) ≡ true → ((result ≡ 0) × (errors.new ≡ errors.old)) ⊎ (result ≡ 4) }
+    ensures status { result ≤ 4 }
+{
+    match action_of(rt.alloc(), words) {
+        Ok(Action::Check) => answer_check(rt.alloc(), input, output, errors),
+        Err(error) => answer_words(&error, output, errors),
+    }
+}
+
+// The status of words that clap doesn't parse to an action, with its help on the output or its message on
+// the errors.
+fn answer_words<W: Write, E: Write>(error: &Error, output: &mut W, errors: &mut E) -> u8
+    ensures memory { kind_of error.now ≡ ErrorKind.OutOfMemory → (result ≡ 4) × (output.new ≡ output.old) × Tells (E.contents errors.old) (E.contents errors.new) (stop_line Stop.OutOfMemory) }
+    ensures help { is_help (kind_of error.now) ≡ true → ((result ≡ 0) × (errors.new ≡ errors.old)) ⊎ (result ≡ 4) }
+    ensures mistake { is_help (kind_of error.now) ≡ false → ((result ≡ 2) ⊎ (result ≡ 4)) × (output.new ≡ output.old) }
+    ensures status { result ≤ 4 }
+{
+    match error.kind() {
+        ErrorKind::OutOfMemory => answer_stop(Stop::OutOfMemory, errors),
+        ErrorKind::DisplayHelp | ErrorKind::DisplayVersion => answer_help(error, output, errors),
+        _ => {
+            let _ = write!(errors, "{error}");
+            2
+        }
+    }
+}
+
+// The status of a request for help, whose text stands on the output.
+fn answer_help<W: Write, E: Write>(error: &Error, output: &mut W, errors: &mut E) -> u8
+    ensures { ((result ≡ 0) × (errors.new ≡ errors.old)) ⊎ (result ≡ 4) }
+{
+    if write!(output, "{error}").is_err() {
+        return answer_stop(Stop::Write, errors);
+    }
+    finish(0, output, errors)
+}

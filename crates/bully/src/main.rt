@@ -1,0 +1,50 @@
+//! The program `bully`: it judges recorded traces.
+//!
+//! It stands on bully_trace and clap. It tells the statuses: 0 done, lawful or help asked for; 1 refused or
+//! differs; 2 bad words; 3 a fault of form in a trace; 4 what stops it from outside, as Read, Write or
+//! OutOfMemory.
+#![tactic(auto)]
+
+mod answering;
+mod checking;
+mod telling;
+#[cfg(test)]
+mod tests;
+mod words;
+
+use crate::answering::answer;
+use crate::telling::{Stop, answer_stop, tell};
+use std::io::{BufWriter, ErrorKind};
+use std::process::ExitCode;
+use std::{env, io};
+
+fn main(rt: HostRuntime) -> ExitCode {
+    ExitCode::from(status_of(&rt))
+}
+
+// The status of the run, with the process's own words and streams.
+fn status_of(rt: &HostRuntime) -> u8 {
+    let mut errors = rt.stderr();
+    let words = match words_after_name(rt) {
+        Ok(words) => words,
+        Err(error) => return answer_unread(&error, &mut errors),
+    };
+    let Ok(mut output) = BufWriter::new(rt.alloc(), rt.stdout()) else {
+        return answer_stop(Stop::OutOfMemory, &mut errors);
+    };
+    answer(rt, words.as_slice(), rt.stdin(), &mut output, &mut errors)
+}
+
+// The words after the program's name.
+fn words_after_name(rt: &HostRuntime) -> io::Result<Vec<String>> {
+    Ok(env::args(rt)?.skip(1).collect(rt.alloc())?)
+}
+
+// The status where the words can't be read: a word isn't text, or memory was refused.
+fn answer_unread(error: &io::Error, errors: &mut io::Stderr) -> u8 {
+    if error.kind() == ErrorKind::OutOfMemory {
+        return answer_stop(Stop::OutOfMemory, errors);
+    }
+    tell(errors, "error: a word isn't UTF-8\n");
+    2
+}
