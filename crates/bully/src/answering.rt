@@ -29,6 +29,7 @@ pub fn answer<H: AllocGlobal, S: AsStr, R: Read + Drop, W: Write, E: Write>(
     ensures parsed { ParsesAsCheck (map S.text words.now) → IfSome (R.remaining input) (λ bytes. IsAnswer bytes (W.contents output.old) (W.contents output.new) (E.contents errors.old) (E.contents errors.new) result) }
     ensures mistake { is_mistake (map S.text words.now) ≡ true → ((result ≡ 2) ⊎ (result ≡ 4)) × (output.new ≡ output.old) }
     ensures help { asks_for_help (map S.text words.now) ≡ true → ((result ≡ 0) × (errors.new ≡ errors.old)) ⊎ (result ≡ 4) }
+    ensures silent { (result ≡ 2) ⊎ (result ≡ 3) → output.new ≡ output.old }
     ensures status { result ≤ 4 }
 {
     match action_of(rt.alloc(), words) {
@@ -43,6 +44,7 @@ fn answer_words<W: Write, E: Write>(error: &Error, output: &mut W, errors: &mut 
     ensures memory { kind_of error.now ≡ ErrorKind.OutOfMemory → (result ≡ 4) × (output.new ≡ output.old) × Tells (E.contents errors.old) (E.contents errors.new) (stop_line Stop.OutOfMemory) }
     ensures help { is_help (kind_of error.now) ≡ true → ((result ≡ 0) × (errors.new ≡ errors.old)) ⊎ (result ≡ 4) }
     ensures mistake { is_help (kind_of error.now) ≡ false → ((result ≡ 2) ⊎ (result ≡ 4)) × (output.new ≡ output.old) }
+    ensures silent { (result ≡ 2) ⊎ (result ≡ 3) → output.new ≡ output.old }
     ensures status { result ≤ 4 }
 {
     match error.kind() {

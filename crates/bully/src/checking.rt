@@ -1,4 +1,4 @@
-ghost use Rattle.std.specs.Prelude.{◌≡◌, ◌≤◌, IfSome};
+ghost use Rattle.std.specs.Prelude.{◌≡◌, ◌≤◌, ◌⊎◌, IfSome};
 ghost use Rattle.bully.specs.Answer.{IsAnswer, verdict_status};
 
 use crate::telling::{answer_fault, finish};
@@ -14,6 +14,7 @@ pub fn answer_check<R: Read + Drop, W: Write, E: Write>(
     errors: &mut E,
 ) -> u8
     ensures answer { IfSome (R.remaining input) (λ bytes. IsAnswer bytes (W.contents output.old) (W.contents output.new) (E.contents errors.old) (E.contents errors.new) result) }
+    ensures silent { (result ≡ 2) ⊎ (result ≡ 3) → output.new ≡ output.old }
     ensures status { result ≤ 4 }
 {
     match check(alloc, input, output) {
@@ -24,7 +25,8 @@ pub fn answer_check<R: Read + Drop, W: Write, E: Write>(
 
 // The status of a verdict.
 fn verdict_status(verdict: Verdict) -> u8
-    ensures { result ≡ verdict_status verdict }
+    ensures status { result ≡ verdict_status verdict }
+    ensures range { result ≤ 1 }
 {
     match verdict {
         Verdict::Lawful(_) => 0,

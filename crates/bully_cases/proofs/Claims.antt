@@ -13,7 +13,7 @@ use Rattle.bully_world.specs.Lawful.{LeadTo}
 use Rattle.bully_world.specs.World.{World, first_world}
 use Rattle.bully_cases.specs.Claims.{Shown, ShowsAs, After, NoneIsRefused, EndsAs, IsRefusedAt, IsAnsweredAt, Goes}
 use Rattle.bully_cases.specs.Trial.{Tried, tried, tried_all, is_lawful, last_world, all_answers, passes_from, passes}
-use Rattle.bully_cases.proofs.BalanceLemmas.{both}
+use Rattle.bully_cases.proofs.BothLemmas.{both}
 use Rattle.bully_cases.proofs.Trial.{tried_steps, lawful_by}
 
 -- behind the first k, the next event isn't refused

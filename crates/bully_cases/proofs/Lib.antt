@@ -1,4 +1,4 @@
-pub mod BalanceLemmas
+pub mod BothLemmas
 pub mod Trial
 pub mod Claims
 pub mod Scripts

@@ -11,12 +11,13 @@ use Rattle.bully_world.specs.Lawful.{LeadTo, IsLawful}
 use Rattle.bully_world.specs.Step.{Step}
 use Rattle.bully_world.specs.World.{World, vector, first_world}
 use Rattle.bully_cases.specs.Trial.{Tried, TriedAll, tried, tried_from, tried_all, is_lawful, end_of, answers_of, answered_first, last_world, all_answers, is_plannable}
-use Rattle.bully_cases.proofs.BalanceLemmas.{both, balanced_by}
+use Rattle.bully_table.proofs.BalanceLemmas.{is_balanced_decides}
+use Rattle.bully_cases.proofs.BothLemmas.{both}
 
 plannable_by : (setup : Setup) (table : List ℕ) (i : ℕ) (up : List ℕ) → is_plannable setup table i up ≡ true → (length table ≡ setup.partitions) × IsBalanced setup table (with_node i up)
 plannable_by setup table i up e =
     let parts = both (length table == setup.partitions) (is_balanced setup table (with_node i up)) e in
-    (same (length table) setup.partitions parts.0, balanced_by setup table (with_node i up) parts.1)
+    (same (length table) setup.partitions parts.0, (is_balanced_decides setup table (with_node i up)).0 parts.1)
   where
     same : (m n : ℕ) → m == n ≡ true → m ≡ n
     same m n e = grind (arith, nat_tests)

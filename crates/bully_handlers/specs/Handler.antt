@@ -1,5 +1,5 @@
 -- What a call does at its callee, and what it is answered: the five calls of the 1982 paper.
-use Rattle.std.specs.Prelude.{ℕ, Bool, List, Option, Some, ◌&&◌, if◌then◌else◌}
+use Rattle.std.specs.Prelude.{ℕ, List, Option, Some, ◌&&◌, if◌then◌else◌}
 use Rattle.bully_base.specs.declared.node.Status.TheVariants.{Election, Reorganization, Normal}
 use Rattle.bully_calls.specs.declared.call.Answer.{Answer}
 use Rattle.bully_calls.specs.declared.call.Answer.TheVariants.{Yes, No}

@@ -7,7 +7,7 @@ use crate::{Claim, Row, Verdict};
 use bully_world::World;
 
 /// Takes the rows in order: the first event that the world refuses, or the first claim that is false of it,
-/// decides; else the verdict is the number of the events. The first row here is row 2 of its trace.
+/// decides; else the verdict is the number of the events. The rows are those after the header: they count from 2.
 pub fn judge(world: &mut World, rows: &[Row]) -> Verdict
     requires { length rows.now ≤ ROWS_MAX }
     ensures verdict { IsJudged world.old.setup (world_of world.old) world.old.events 2 rows.now result (world_of world.new) }

@@ -1,5 +1,5 @@
 -- Why an event is refused, read off what is kept of its node.
-use Rattle.std.proofs.Common.{◌≡◌, ℕ, ◌+◌, ◌<◌, ◌≤◌, Bool, true, false, List, [], ◌∷◌, Option, Some, None, arith, refl, sym, ◌∙◌, ap, subst, length}
+use Rattle.std.proofs.Common.{◌≡◌, ℕ, ◌+◌, ◌<◌, ◌≤◌, Bool, true, false, List, Option, Some, None, arith, refl, sym, ◌∙◌, ap, subst, length}
 use Rattle.std.specs.Prelude.{◌==◌, ◌&&◌, not, IfSome, option_map, slice_index_or, if◌then◌else◌}
 use Rattle.std.proofs.lemmas.Bool.Decides.{nat_tests}
 use Rattle.bully_base.proofs.PlaceLemmas.{at_node-place}
@@ -7,9 +7,9 @@ use Rattle.bully_base.specs.NodeSet.{with_node}
 use Rattle.bully_base.specs.Setup.{Setup, IsNode}
 use Rattle.bully_table.proofs.BalanceLemmas.{is_balanced_decides}
 use Rattle.bully_table.specs.Balance.{IsBalanced, is_balanced}
-use Rattle.bully_calls.specs.Pending.{Pending, is_sent, is_failed}
+use Rattle.bully_calls.specs.Pending.{is_sent, is_failed}
 use Rattle.bully_calls.specs.Slot.{Posted, pending_of}
-use Rattle.bully_steps.specs.Point.{offered, IsPointOf}
+use Rattle.bully_steps.specs.Point.{offered}
 use Rattle.bully_base.specs.declared.node.Status.{Status}
 use Rattle.bully_base.specs.declared.node.Status.TheVariants.{Down, Election, Reorganization, Normal}
 use Rattle.bully_handlers.specs.Vector.{is_down}

@@ -1,5 +1,5 @@
 -- A call that nothing refuses to run may run: its caller's and its callee's members.
-use Rattle.std.proofs.Common.{◌≡◌, ◌≢◌, ℕ, ◌+◌, ◌<◌, ◌≤◌, ◌^◌, Bool, true, false, List, length, Option, Some, None, refl, sym, ◌∙◌, ap, subst, arith}
+use Rattle.std.proofs.Common.{◌≡◌, ◌≢◌, ℕ, ◌+◌, ◌<◌, ◌^◌, List, length, Option, Some, None, refl, sym, ◌∙◌, ap, subst, arith}
 use Rattle.std.specs.Prelude.{option_map, IfSome, IsTrue, slice_index_or, slice_set}
 use Rattle.bully_base.specs.declared.node.Status.TheVariants.{Down}
 use Rattle.bully_base.specs.Places.{at_node, put_node}
@@ -14,7 +14,7 @@ use Rattle.bully_calls.specs.Pending.{is_sent}
 use Rattle.bully_calls.specs.Slot.{Posted, pending_of, CarriesFor}
 use Rattle.bully_handlers.specs.Handler.{reply}
 use Rattle.bully_world.specs.declared.event.Event.{Event}
-use Rattle.bully_world.specs.Cause.{cause, in_phase, callee_is_down}
+use Rattle.bully_world.specs.Cause.{cause, in_phase}
 use Rattle.bully_world.specs.Shape.{AllFit, SuitsCall, SuitsCallee, SuitsTable, SuitsPending}
 use Rattle.bully_world.specs.State.{MemberState, empty_state, member_of, members_of, AllKept}
 use Rattle.bully_world.specs.Taken.{run_taken, replied, heard_state, phased_state, CanExchange}

@@ -1,7 +1,7 @@
 -- A procedure that goes on by an outcome, or by a plan, keeps what holds of its node.
 use Rattle.std.proofs.Common.{◌≡◌, ◌≢◌, ℕ, zero, suc, List, [], ◌∷◌, length, Some, None, arith, refl, inl, inr, ◌⊎◌}
 use Rattle.bully_base.specs.declared.node.Status.TheVariants.{Down}
-use Rattle.bully_base.specs.NodeSet.{with_node, IsFallingBelow}
+use Rattle.bully_base.specs.NodeSet.{IsFallingBelow}
 use Rattle.bully_base.specs.Setup.{Setup, IsNode}
 use Rattle.bully_base.proofs.NodeSetLemmas.{with_node-falling, IsFallingBelow-more}
 use Rattle.bully_calls.specs.declared.call.Outcome.{Outcome}

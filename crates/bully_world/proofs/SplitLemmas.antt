@@ -1,5 +1,5 @@
 -- Writes to the two parts of a list are writes to the list.
-use Rattle.std.proofs.Common.{◌≡◌, ◌≢◌, ℕ, zero, suc, ◌+◌, ◌<◌, ◌≤◌, List, [], ◌∷◌, ◌++◌, Option, Some, None, arith, refl, ap, sym, take, drop, length}
+use Rattle.std.proofs.Common.{◌≡◌, ◌≢◌, ℕ, zero, suc, ◌<◌, List, [], ◌∷◌, ◌++◌, Option, Some, None, arith, refl, ap, take, drop, length}
 use Rattle.std.specs.Prelude.{slice_set, IfSome}
 
 -- the earlier place in the front, the later one at the head of the rest

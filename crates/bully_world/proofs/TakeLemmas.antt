@@ -1,10 +1,9 @@
 -- What nothing refuses may be taken by the members that it changes.
-use Rattle.std.proofs.Common.{◌≡◌, ◌≢◌, ℕ, ◌+◌, ◌<◌, ◌≤◌, ◌^◌, Bool, true, false, List, length, Option, Some, None, refl, sym, ◌∙◌, ap, subst, arith}
-use Rattle.std.specs.Prelude.{not, option_map, option_and_then, IfSome, IsSome, IsTrue, ◌==◌, slice_index_or}
+use Rattle.std.proofs.Common.{◌≡◌, ℕ, ◌+◌, ◌<◌, ◌^◌, Bool, true, false, List, length, Option, Some, None, refl, sym, ◌∙◌, ap, subst, arith}
+use Rattle.std.specs.Prelude.{not, option_map, option_and_then, IsSome, slice_index_or}
 use Rattle.std.specs.Option.{option_map_or}
 use Rattle.std.proofs.lemmas.Bool.Decides.{nat_tests}
-use Rattle.bully_base.specs.declared.node.Status.TheVariants.{Down}
-use Rattle.bully_base.specs.Places.{at_node, put_node}
+use Rattle.bully_base.specs.Places.{put_node}
 use Rattle.bully_base.specs.Setup.{Setup, IsNode}
 use Rattle.bully_calls.specs.declared.call.Answer.{Answer}
 use Rattle.bully_calls.specs.declared.call.Call.{Call}
@@ -12,22 +11,22 @@ use Rattle.bully_calls.specs.declared.call.CallKind.{CallKind}
 use Rattle.bully_calls.specs.declared.call.CallKind.TheVariants.{AreYouUp, AreYouNormal, Halt, NewCoordinator, Ready}
 use Rattle.bully_calls.specs.declared.call.Phase.{Phase}
 use Rattle.bully_calls.specs.Pending.{outcome_of, is_sent, is_failed}
-use Rattle.bully_calls.specs.Slot.{Posted, pending_of, CarriesFor, is_posted, outcome_in}
+use Rattle.bully_calls.specs.Slot.{Posted, pending_of, CarriesFor}
 use Rattle.bully_handlers.specs.Vector.{Vector}
 use Rattle.bully_steps.specs.declared.point.Point.{Point}
 use Rattle.bully_steps.specs.declared.point.Point.TheVariants.{Idle, Asking, Halting, Announcing, Planning, Readying, Checking, Inquiring}
 use Rattle.bully_steps.specs.declared.point.Want.{Want}
 use Rattle.bully_steps.specs.Point.{offered, IsPointOf}
 use Rattle.bully_world.specs.declared.event.Event.{Event}
-use Rattle.bully_world.specs.Cause.{cause, node_of, is_call, in_phase, callee_is_down}
-use Rattle.bully_world.specs.Shape.{AllFit, Fits, SuitsCall, SuitsPhase, SuitsPoint, SuitsTable, SuitsPending}
+use Rattle.bully_world.specs.Cause.{cause, node_of, in_phase}
+use Rattle.bully_world.specs.Shape.{AllFit, Fits, SuitsPhase, SuitsPoint, SuitsPending}
 use Rattle.bully_world.specs.State.{MemberState, empty_state, member_of, members_of, AllKept, IsKept}
-use Rattle.bully_world.specs.Step.{carried, offer}
-use Rattle.bully_world.specs.Taken.{taken, taken_here, answer_taken, answer_here, MayTake, CanExchange}
-use Rattle.bully_world.specs.World.{World, Member, member, pending}
+use Rattle.bully_world.specs.Step.{carried}
+use Rattle.bully_world.specs.Taken.{taken, taken_here, answer_taken, answer_here, MayTake}
+use Rattle.bully_world.specs.World.{World, Member, member}
 use Rattle.bully_base.proofs.PlaceLemmas.{at_node-place}
 use Rattle.bully_world.proofs.MembersOf.{kept_at, member-members_of, members_of-length}
-use Rattle.bully_world.proofs.TakenLemmas.{start_facts, run_facts, lose_facts, return_facts, move_facts, plan_facts}
+use Rattle.bully_world.proofs.TakenLemmas.{start_facts, lose_facts, return_facts, plan_facts}
 
 -- there is room for the event, and its node is one of the setup's
 pub room_of : (setup : Setup) (w : World) (count : ℕ) (e : Event) → cause setup w count e ≡ None → count < setup.events_max

@@ -1,19 +1,17 @@
 -- What every world keeps, from the first one on.
-use Rattle.std.proofs.Common.{◌≡◌, ℕ, zero, suc, ◌+◌, ◌<◌, ◌≤◌, ◌⊎◌, inl, inr, false, List, [], ◌∷◌, ◌++◌, Option, Some, None, refl, sym, ◌∙◌, ap, subst, arith, length, take, drop, length-append}
+use Rattle.std.proofs.Common.{◌≡◌, ℕ, zero, suc, ◌+◌, ◌<◌, ◌≤◌, ◌⊎◌, inl, inr, false, List, [], ◌∷◌, ◌++◌, Option, Some, None, refl, ◌∙◌, ap, arith, length, take, drop, length-append}
 use Rattle.std.proofs.lemmas.Grind.{common_steps}
 use Rattle.std.specs.Prelude.{replicate}
 use Rattle.bully_base.proofs.PlaceLemmas.{at_node_past}
 use Rattle.bully_base.specs.Places.{at_node}
 use Rattle.bully_base.specs.Setup.{Setup}
-use Rattle.bully_calls.specs.declared.call.Answer.{Answer}
 use Rattle.bully_world.specs.declared.event.Event.{Event}
 use Rattle.bully_world.specs.Cause.{cause}
-use Rattle.bully_world.specs.Lawful.{IsLawful}
 use Rattle.bully_world.specs.Shape.{AllFit}
-use Rattle.bully_world.specs.State.{MemberState, WorldState, empty_state, member_of, IsWorld, IsReached, members_of, world_of, first_state, new_members}
+use Rattle.bully_world.specs.State.{MemberState, WorldState, empty_state, member_of, IsWorld, IsReached, members_of, first_state, new_members}
 use Rattle.bully_world.specs.Step.{Step}
 use Rattle.bully_world.specs.Taken.{taken, answer_taken}
-use Rattle.bully_world.specs.World.{World, Member, empty_member, first_world, pending, is_sent_to}
+use Rattle.bully_world.specs.World.{Member, empty_member, first_world, pending, is_sent_to}
 use Rattle.bully_world.proofs.KeptLemmas.{taken_kept, taken_length, new_kept}
 use Rattle.bully_world.proofs.LawfulLemmas.{lawful_more}
 use Rattle.bully_world.proofs.MembersOf.{member-members_of, members_of-length, members_of-new}

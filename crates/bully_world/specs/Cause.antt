@@ -1,6 +1,5 @@
 -- Why an event is refused: the first of eleven refusals that holds.
 use Rattle.std.specs.Prelude.{ℕ, Bool, true, false, List, [], ◌∷◌, length, Option, Some, None, ◌&&◌, not, nat_le, ◌==◌, if◌then◌else◌}
-use Rattle.std.specs.Option.{option_map_or}
 use Rattle.bully_base.specs.NodeSet.{with_node}
 use Rattle.bully_base.specs.Setup.{Setup, is_node}
 use Rattle.bully_table.specs.Balance.{is_balanced}

@@ -13,7 +13,7 @@ use Rattle.bully_calls.specs.declared.call.Phase.{Phase}
 use Rattle.bully_calls.specs.Pending.{outcome_of, answer_of, is_sent, is_failed}
 use Rattle.bully_calls.specs.Slot.{Posted, phased, CarriesFor, is_posted, outcome_in}
 use Rattle.bully_handlers.specs.Handler.{heard, reply}
-use Rattle.bully_handlers.specs.Vector.{Vector, RoomyVector, crashed, recovered}
+use Rattle.bully_handlers.specs.Vector.{Vector, crashed, recovered}
 use Rattle.bully_steps.specs.declared.point.Point.{Point}
 use Rattle.bully_steps.specs.declared.point.Point.TheVariants.{Idle, Halting, Readying}
 use Rattle.bully_steps.specs.declared.point.Want.{Want}

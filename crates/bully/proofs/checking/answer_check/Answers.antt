@@ -5,7 +5,7 @@ use Rattle.bully.proofs.checking.answer_check.Goals as goal
 
 pub returns-in-Ok-clause-answer : goal.returns-in-Ok-clause-answer
 returns-in-Ok-clause-answer g c =
-    judged-answer g.E.Write.contents (g.R.Read.remaining c.args.input) c.in-Ok.verdict _ _ _ _ _ c.finish.result c.in-Ok.ensures.verdict (rw (← c.verdict_status.ensures) c.finish.ensures)
+    judged-answer g.E.Write.contents (g.R.Read.remaining c.args.input) c.in-Ok.verdict _ _ _ _ _ c.finish.result c.in-Ok.ensures.verdict (rw (← c.verdict_status.ensures.status) c.finish.ensures)
 
 pub returns-in-Err-clause-answer : goal.returns-in-Err-clause-answer
 returns-in-Err-clause-answer g c =

@@ -1,5 +1,5 @@
 -- A set falls, so that its rest is what stands behind the highest member.
-use Rattle.std.proofs.Common.{◌≡◌, ℕ, ◌+◌, List, [], ◌∷◌, Option, Some, None, arith, sym}
+use Rattle.std.proofs.Common.{◌≡◌, ℕ, ◌+◌, List, [], ◌∷◌, Some, arith, sym}
 use Rattle.bully_base.proofs.NodeSetLemmas.{without_node-highest}
 use Rattle.bully_base.specs.NodeSet.{IsFallingBelow, highest_of, without_node}
 use Rattle.bully_base.specs.declared.TheConstants.{NODES_MAX}

@@ -1,10 +1,8 @@
 -- What the rows were judged is the verdict on the trace that was read.
-use Rattle.std.proofs.Common.{◌≡◌, Option, Some, None, rules}
-use Rattle.std.specs.Prelude.{IfSome, ◌≡◌}
-use Rattle.bully_world.specs.State.{WorldState, world_of, first_state}
-use Rattle.bully_world.specs.World.{World, first_world}
-use Rattle.bully_trace.specs.declared.verdict.Verdict.{Verdict}
-use Rattle.bully_trace.specs.Verdict.{IsVerdict, IsJudged, IsLawfulCount}
+use Rattle.std.proofs.Common.{Option, Some, None, rules}
+use Rattle.std.specs.Prelude.{IfSome}
+use Rattle.bully_world.specs.State.{world_of}
+use Rattle.bully_trace.specs.Verdict.{IsVerdict}
 use Rattle.bully_trace.proofs.JudgeLemmas.{lawful_count}
 use Rattle.bully_trace.proofs.checking.check.Goals as goal
 

@@ -1,4 +1,4 @@
-use Rattle.std.proofs.Common.{◌≡◌, ◌+◌, sym, ◌∙◌, ap, arith}
+use Rattle.std.proofs.Common.{◌≡◌, ◌+◌, ap, arith}
 use Rattle.std.specs.String.{string_bytes}
 use Rattle.bully_handlers.specs.Vector.{RoomyVector}
 use Rattle.bully_trace.specs.VerdictText.{node_line}

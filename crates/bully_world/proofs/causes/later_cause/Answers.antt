@@ -1,9 +1,8 @@
 -- Each arm's tests are those of the definitions at the member that stands at the event's node.
-use Rattle.std.proofs.Common.{◌≡◌, ℕ, arith, ap, sym, ◌∙◌}
+use Rattle.std.proofs.Common.{arith, ap, ◌∙◌}
 use Rattle.bully_world.specs.declared.event.Event.{Event}
 use Rattle.bully_world.specs.Cause.{node_of}
 use Rattle.bully_world.specs.State.{member_of, members_of}
-use Rattle.bully_world.specs.World.{member}
 use Rattle.bully_world.proofs.CauseAt.{member-place, place-within, at_event, callee-within, check-cause, timeout-cause, start-cause, move-cause, plan-cause, run-cause, lose-cause, return-cause}
 use Rattle.bully_world.proofs.causes.later_cause.Goals as goal
 

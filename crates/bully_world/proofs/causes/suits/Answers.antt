@@ -1,8 +1,8 @@
 -- The set that the table is tested over is the node with its up set.
-use Rattle.std.proofs.Common.{◌≡◌, arith, subst, List, ℕ}
+use Rattle.std.proofs.Common.{◌≡◌, arith}
 use Rattle.std.proofs.lemmas.Bool.Decides.{nat_tests}
 use Rattle.bully_base.specs.NodeSet.{with_node}
-use Rattle.bully_table.specs.Balance.{IsBalanced, is_balanced}
+use Rattle.bully_table.specs.Balance.{is_balanced}
 use Rattle.bully_world.proofs.CauseAt.{balanced-test}
 use Rattle.bully_world.proofs.causes.suits.Goals as goal
 

@@ -1,10 +1,7 @@
 -- The two members stand in the two parts of the list.
-use Rattle.std.proofs.Common.{◌≡◌, ◌<◌, List, arith, ◌∙◌, sym, take, drop, length}
+use Rattle.std.proofs.Common.{arith}
 use Rattle.std.proofs.lemmas.Grind.{common_steps}
-use Rattle.std.specs.Prelude.{slice_index_or, slice_set}
-use Rattle.bully_world.specs.State.{MemberState, empty_state}
-use Rattle.bully_world.specs.Taken.{heard_state, phased_state}
-use Rattle.bully_world.proofs.SplitLemmas.{set-split, set-set, if_some-from}
+use Rattle.bully_world.proofs.SplitLemmas.{set-split, set-set}
 use Rattle.bully_world.proofs.steps.run_between.Goals as goal
 
 pub returns-then-there-here-clause-after : goal.returns-then-there-here-clause-after

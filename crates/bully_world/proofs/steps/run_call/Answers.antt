@@ -1,10 +1,7 @@
 -- The call in the caller's slot goes to another node of the setup, at which it may run.
-use Rattle.std.proofs.Common.{◌≡◌, ◌+◌, Some, arith, sym, ◌∙◌, ap}
-use Rattle.std.specs.Prelude.{option_map}
-use Rattle.bully_calls.specs.Slot.{Posted}
-use Rattle.bully_world.specs.State.{MemberState}
+use Rattle.std.proofs.Common.{◌+◌, arith, sym, ◌∙◌, ap}
 use Rattle.bully_world.specs.Taken.{run_taken, run_answer}
-use Rattle.bully_world.proofs.ExchangeLemmas.{RunsBetween, runs_between, run-answer, run-after}
+use Rattle.bully_world.proofs.ExchangeLemmas.{runs_between, run-answer, run-after}
 use Rattle.bully_world.proofs.steps.run_call.Goals as goal
 
 pub run_between-requires-clause-there : goal.run_between-requires-clause-there

@@ -1,8 +1,7 @@
 -- An event other than a Run is taken by its node's own member.
-use Rattle.std.proofs.Common.{◌≡◌, sym, ◌∙◌, ap, subst}
+use Rattle.std.proofs.Common.{sym, ◌∙◌, ap, subst}
 use Rattle.bully_base.proofs.PlaceLemmas.{put_node-place}
 use Rattle.bully_world.specs.Cause.{node_of}
-use Rattle.bully_world.specs.State.{MemberState}
 use Rattle.bully_world.specs.Taken.{taken_here, answer_here}
 use Rattle.bully_base.specs.Places.{put_node}
 use Rattle.bully_world.proofs.TakeLemmas.{Takes, takes, place_of_node, taken-here, answer-here}

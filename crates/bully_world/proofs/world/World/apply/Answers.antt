@@ -1,5 +1,5 @@
 -- What is kept after the event is what the definitions' step makes of it.
-use Rattle.std.proofs.Common.{◌≡◌, ◌+◌, None, sym, ◌∙◌, ap, subst, length, arith, take, drop, ◌++◌}
+use Rattle.std.proofs.Common.{◌≡◌, ◌+◌, None, sym, ◌∙◌, ap, subst, length, take, drop, ◌++◌}
 use Rattle.std.specs.Prelude.{if◌then◌else◌}
 use Rattle.bully_base.specs.Places.{at_node}
 use Rattle.bully_world.specs.Cause.{cause}

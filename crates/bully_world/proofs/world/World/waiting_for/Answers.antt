@@ -1,6 +1,6 @@
-use Rattle.std.proofs.Common.{◌≡◌, ◌+◌, ◌<◌, length, false, arith, ◌∙◌, ap, sym, subst}
-use Rattle.bully_world.specs.State.{MemberState, WorldState, member_of, world_of}
-use Rattle.bully_world.specs.World.{pending, is_sent_to}
+use Rattle.std.proofs.Common.{◌≡◌, ◌+◌, length, arith, ◌∙◌, ap, sym, subst}
+use Rattle.bully_world.specs.State.{MemberState, WorldState, member_of}
+use Rattle.bully_world.specs.World.{is_sent_to}
 use Rattle.bully_world.proofs.WorldLemmas.{nobody_waits, nobody_more}
 use Rattle.bully_world.proofs.world.World.waiting_for.Goals as goal
 
