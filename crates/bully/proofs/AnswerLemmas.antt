@@ -1,6 +1,6 @@
 -- From what `check` of bully_trace ensures to what the program answers.
 use Rattle.std.proofs.Common.{◌≡◌, ◌≢◌, ◌⊎◌, inl, inr, ℕ, Some, None, Ok, Err, refl, ap, arith}
-use Rattle.std.specs.Prelude.{IfSome, IsTrue}
+use Rattle.std.specs.Prelude.{IfSome, IsOk, IsTrue}
 use Rattle.std.specs.Io.KnownBytes.{Appends, Keeps}
 use Rattle.bully_world.specs.World.{World}
 use Rattle.bully_trace.specs.declared.trace.Trace.{Trace}
@@ -22,8 +22,8 @@ pub judged-answer : {E : Type 0} (contents : E → Held) (remaining : Held) (ver
 judged-answer contents None verdict output written output' errors errors' status checked finished = tt
 judged-answer contents (Some bytes) verdict output written output' errors errors' status (trace, w, is, judged, text) (inl (done, kept, same)) =
     inl (trace, verdict, w, is, judged, appends-keeps output written output' _ text kept, keeps-same _ _ (ap contents same), done)
-judged-answer contents (Some bytes) verdict output written output' errors errors' status checked (inr (stopped, told)) =
-    inr (inr (Stop.Write, (λ other. absurd (other refl)), told, stopped))
+judged-answer contents (Some bytes) verdict output written output' errors errors' status (trace, w, is, judged, text) (inr (stopped, told)) =
+    inr (inr (Stop.Write, (λ other. absurd (other refl)), (λ _. rw is refl), told, stopped))
 
 -- the first faulty row was told, or there was no memory for its line
 form-case : (remaining : Held) (fault : TraceFault) (output output' errors errors' : Held) (status : ℕ)
@@ -33,31 +33,33 @@ form-case : (remaining : Held) (fault : TraceFault) (output output' errors error
     → IfSome remaining (λ bytes. IsAnswer bytes output output' errors errors' status)
 form-case None fault output output' errors errors' status read kept told = tt
 form-case (Some bytes) fault output output' errors errors' status read kept (inl (done, told)) = inr (inl (fault, read, kept, told, done))
-form-case (Some bytes) fault output output' errors errors' status read kept (inr (done, told)) = inr (inr (Stop.OutOfMemory, (λ _. kept), told, done))
+form-case (Some bytes) fault output output' errors errors' status read kept (inr (done, told)) = inr (inr (Stop.OutOfMemory, (λ _. kept), (λ e. absurd (grind (arith, e))), told, done))
 
 pub stop-case : (remaining : Held) (stop : Stop) (output output' errors errors' : Held) (status : ℕ)
     → (stop ≢ Stop.Write → Keeps output output')
+    → (stop ≡ Stop.Write → IfSome remaining (λ bytes. IsOk (trace_of (records_of bytes))))
     → (status ≡ 4) × Tells errors errors' (stop_line stop)
     → IfSome remaining (λ bytes. IsAnswer bytes output output' errors errors' status)
-stop-case None stop output output' errors errors' status kept told = tt
-stop-case (Some bytes) stop output output' errors errors' status kept (done, told) = inr (inr (stop, kept, told, done))
+stop-case None stop output output' errors errors' status kept read told = tt
+stop-case (Some bytes) stop output output' errors errors' status kept read (done, told) = inr (inr (stop, kept, read, told, done))
 
 -- the trace is at fault, or something failed
 pub fault-answer : (cause : TraceCause) (remaining : Held) (fault : TraceFault) (output output' errors errors' : Held) (status : ℕ)
     → (IsTrue (is_of_form cause) → IfSome remaining (λ bytes. trace_of (records_of bytes) ≡ Err fault))
     → (cause ≢ TraceCause.Write → Keeps output output')
+    → (cause ≡ TraceCause.Write → IfSome remaining (λ bytes. IsOk (trace_of (records_of bytes))))
     → (stop_of cause ≡ None → ((status ≡ 3) × Tells errors errors' (row_line fault)) ⊎ ((status ≡ 4) × Tells errors errors' (stop_line Stop.OutOfMemory)))
     → ((stop : Stop) → stop_of cause ≡ Some stop → (status ≡ 4) × Tells errors errors' (stop_line stop))
     → IfSome remaining (λ bytes. IsAnswer bytes output output' errors errors' status)
-fault-answer TraceCause.BadHeader remaining fault output output' errors errors' status read kept form other =
+fault-answer TraceCause.BadHeader remaining fault output output' errors errors' status read kept whole form other =
     form-case remaining fault output output' errors errors' status (read refl) (kept (λ e. grind (arith, e))) (form refl)
-fault-answer TraceCause.BadRow remaining fault output output' errors errors' status read kept form other =
+fault-answer TraceCause.BadRow remaining fault output output' errors errors' status read kept whole form other =
     form-case remaining fault output output' errors errors' status (read refl) (kept (λ e. grind (arith, e))) (form refl)
-fault-answer TraceCause.TooManyRows remaining fault output output' errors errors' status read kept form other =
+fault-answer TraceCause.TooManyRows remaining fault output output' errors errors' status read kept whole form other =
     form-case remaining fault output output' errors errors' status (read refl) (kept (λ e. grind (arith, e))) (form refl)
-fault-answer TraceCause.Read remaining fault output output' errors errors' status read kept form other =
-    stop-case remaining Stop.Read output output' errors errors' status (λ _. kept (λ e. grind (arith, e))) (other Stop.Read refl)
-fault-answer TraceCause.Write remaining fault output output' errors errors' status read kept form other =
-    stop-case remaining Stop.Write output output' errors errors' status (λ write. absurd (write refl)) (other Stop.Write refl)
-fault-answer TraceCause.OutOfMemory remaining fault output output' errors errors' status read kept form other =
-    stop-case remaining Stop.OutOfMemory output output' errors errors' status (λ _. kept (λ e. grind (arith, e))) (other Stop.OutOfMemory refl)
+fault-answer TraceCause.Read remaining fault output output' errors errors' status read kept whole form other =
+    stop-case remaining Stop.Read output output' errors errors' status (λ _. kept (λ e. grind (arith, e))) (λ e. absurd (grind (arith, e))) (other Stop.Read refl)
+fault-answer TraceCause.Write remaining fault output output' errors errors' status read kept whole form other =
+    stop-case remaining Stop.Write output output' errors errors' status (λ write. absurd (write refl)) (λ _. whole refl) (other Stop.Write refl)
+fault-answer TraceCause.OutOfMemory remaining fault output output' errors errors' status read kept whole form other =
+    stop-case remaining Stop.OutOfMemory output output' errors errors' status (λ _. kept (λ e. grind (arith, e))) (λ e. absurd (grind (arith, e))) (other Stop.OutOfMemory refl)

@@ -1,5 +1,5 @@
 -- What the program answers to `check`: the status, and what then stands on the output and on the errors.
-use Rattle.std.specs.Prelude.{◌≡◌, ◌≢◌, ◌⊎◌, ℕ, List, ◌++◌, Option, Some, None, Ok, Err, codes, take}
+use Rattle.std.specs.Prelude.{◌≡◌, ◌≢◌, ◌⊎◌, ℕ, List, ◌++◌, Option, Some, None, Ok, Err, IsOk, codes, take}
 use Rattle.std.specs.Fmt.{decimal}
 use Rattle.std.specs.Io.KnownBytes.{Appends, Keeps}
 use Rattle.bully_world.specs.World.{World}
@@ -63,14 +63,15 @@ abbrev pub IsFaultAnswer : List ℕ → Held → Held → Held → Held → ℕ 
 IsFaultAnswer bytes output output' errors errors' status =
     (fault : TraceFault) × (trace_of (records_of bytes) ≡ Err fault) × Keeps output output' × Tells errors errors' (row_line fault) × (status ≡ 3)
 
--- reading, writing or memory failed: that is told on the errors
-abbrev pub IsStopAnswer : Held → Held → Held → Held → ℕ → Type 0
-IsStopAnswer output output' errors errors' status =
-    (stop : Stop) × (stop ≢ Stop.Write → Keeps output output') × Tells errors errors' (stop_line stop) × (status ≡ 4)
+-- reading, writing or memory failed: that is told on the errors; nothing is written before all rows were read
+abbrev pub IsStopAnswer : List ℕ → Held → Held → Held → Held → ℕ → Type 0
+IsStopAnswer bytes output output' errors errors' status =
+    (stop : Stop) × (stop ≢ Stop.Write → Keeps output output') × (stop ≡ Stop.Write → IsOk (trace_of (records_of bytes)))
+    × Tells errors errors' (stop_line stop) × (status ≡ 4)
 
 -- the answer to `check` with these bytes on the input
 abbrev pub IsAnswer : List ℕ → Held → Held → Held → Held → ℕ → Type 0
 IsAnswer bytes output output' errors errors' status =
     IsJudgedAnswer bytes output output' errors errors' status
     ⊎ IsFaultAnswer bytes output output' errors errors' status
-    ⊎ IsStopAnswer output output' errors errors' status
+    ⊎ IsStopAnswer bytes output output' errors errors' status

@@ -27,8 +27,8 @@ pub fn answer<H: AllocGlobal, S: AsStr, R: Read + Drop, W: Write, E: Write>(
 ) -> u8
     ensures check { map S.text words.now ≡ codes "check" ∷ [] → IfSome (R.remaining input) (λ bytes. IsAnswer bytes (W.contents output.old) (W.contents output.new) (E.contents errors.old) (E.contents errors.new) result) }
     ensures parsed { ParsesAsCheck (map S.text words.now) → IfSome (R.remaining input) (λ bytes. IsAnswer bytes (W.contents output.old) (W.contents output.new) (E.contents errors.old) (E.contents errors.new) result) }
-    ensures mistake { is_mistake (map S.text words.now) ≡ true → ((result ≡ 2) ⊎ (result ≡ 4)) × (output.new ≡ output.old) }
-    ensures help { asks_for_help (map S.text words.now) ≡ true → ((result ≡ 0) × (errors.new ≡ errors.old)) ⊎ (result ≡ 4) }
+    ensures mistake { is_mistake (map S.text words.now) ≡ true → ((result ≡ 2) ⊎ ((result ≡ 4) × Tells (E.contents errors.old) (E.contents errors.new) (stop_line Stop.OutOfMemory))) × (output.new ≡ output.old) }
+    ensures help { asks_for_help (map S.text words.now) ≡ true → ((result ≡ 0) × (errors.new ≡ errors.old)) ⊎ ((result ≡ 4) × (stop : Stop) × Tells (E.contents errors.old) (E.contents errors.new) (stop_line stop)) }
     ensures silent { (result ≡ 2) ⊎ (result ≡ 3) → output.new ≡ output.old }
     ensures status { result ≤ 4 }
 {
@@ -42,8 +42,8 @@ pub fn answer<H: AllocGlobal, S: AsStr, R: Read + Drop, W: Write, E: Write>(
 // the errors.
 fn answer_words<W: Write, E: Write>(error: &Error, output: &mut W, errors: &mut E) -> u8
     ensures memory { kind_of error.now ≡ ErrorKind.OutOfMemory → (result ≡ 4) × (output.new ≡ output.old) × Tells (E.contents errors.old) (E.contents errors.new) (stop_line Stop.OutOfMemory) }
-    ensures help { is_help (kind_of error.now) ≡ true → ((result ≡ 0) × (errors.new ≡ errors.old)) ⊎ (result ≡ 4) }
-    ensures mistake { is_help (kind_of error.now) ≡ false → ((result ≡ 2) ⊎ (result ≡ 4)) × (output.new ≡ output.old) }
+    ensures help { is_help (kind_of error.now) ≡ true → ((result ≡ 0) × (errors.new ≡ errors.old)) ⊎ ((result ≡ 4) × Tells (E.contents errors.old) (E.contents errors.new) (stop_line Stop.Write)) }
+    ensures mistake { is_help (kind_of error.now) ≡ false → ((result ≡ 2) ⊎ ((result ≡ 4) × Tells (E.contents errors.old) (E.contents errors.new) (stop_line Stop.OutOfMemory))) × (output.new ≡ output.old) }
     ensures silent { (result ≡ 2) ⊎ (result ≡ 3) → output.new ≡ output.old }
     ensures status { result ≤ 4 }
 {
@@ -59,7 +59,7 @@ fn answer_words<W: Write, E: Write>(error: &Error, output: &mut W, errors: &mut 
 
 // The status of a request for help, whose text stands on the output.
 fn answer_help<W: Write, E: Write>(error: &Error, output: &mut W, errors: &mut E) -> u8
-    ensures { ((result ≡ 0) × (errors.new ≡ errors.old)) ⊎ (result ≡ 4) }
+    ensures { ((result ≡ 0) × (errors.new ≡ errors.old)) ⊎ ((result ≡ 4) × Tells (E.contents errors.old) (E.contents errors.new) (stop_line Stop.Write)) }
 {
     if write!(output, "{error}").is_err() {
         return answer_stop(Stop::Write, errors);

@@ -1,4 +1,4 @@
-ghost use Rattle.std.specs.Prelude.{◌≡◌, ◌≢◌, ◌⊎◌, ◌++◌, Ok, Err, IfOk, IfErr, IfSome, IsTrue, OnOk};
+ghost use Rattle.std.specs.Prelude.{◌≡◌, ◌≢◌, ◌⊎◌, ◌++◌, Ok, Err, IfOk, IfErr, IfSome, IsOk, IsTrue, OnOk};
 ghost use Rattle.std.specs.Io.KnownBytes.{Appends};
 ghost use Rattle.std.specs.String.{string_bytes};
 ghost use Rattle.bully_trace.specs.Rows.{records_of, trace_of, is_of_form};
@@ -32,6 +32,7 @@ pub fn check<R: Read + Drop, W: Write>(
     ensures lawful { IfOk result (λ verdict. IfSome (R.remaining reader) (λ bytes. (trace : Trace) × (trace_of (records_of bytes) ≡ Ok trace) × IsLawfulCount trace verdict)) }
     ensures fault { IfErr result (λ fault. IsTrue (is_of_form fault.cause) → IfSome (R.remaining reader) (λ bytes. trace_of (records_of bytes) ≡ Err fault)) }
     ensures silent { IfErr result (λ fault. fault.cause ≢ TraceCause.Write → writer.new ≡ writer.old) }
+    ensures read { IfErr result (λ fault. fault.cause ≡ TraceCause.Write → IfSome (R.remaining reader) (λ bytes. IsOk (trace_of (records_of bytes)))) }
     ensures row { IfErr result (λ fault. (fault.cause ≡ TraceCause.Write) ⊎ (fault.cause ≡ TraceCause.OutOfMemory) → fault.row ≡ 0) }
 {
     let trace = read_trace(alloc, reader)?;

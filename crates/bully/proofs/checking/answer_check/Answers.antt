@@ -10,4 +10,4 @@ returns-in-Ok-clause-answer g c =
 pub returns-in-Err-clause-answer : goal.returns-in-Err-clause-answer
 returns-in-Err-clause-answer g c =
     fault-answer c.in-Err.fault.cause (g.R.Read.remaining c.args.input) c.in-Err.fault _ _ _ _ _ c.in-Err.ensures.fault
-    (λ silent. keeps-same _ _ (ap g.W.Write.contents (c.in-Err.ensures.silent silent))) c.answer_fault.ensures.form c.answer_fault.ensures.other
+    (λ silent. keeps-same _ _ (ap g.W.Write.contents (c.in-Err.ensures.silent silent))) c.in-Err.ensures.read c.answer_fault.ensures.form c.answer_fault.ensures.other
