@@ -11,3 +11,6 @@ pub mod Moving
 pub mod Planning
 pub mod Running
 pub mod Law
+pub mod ViewLemmas
+pub mod RunLemmas
+pub mod WholeLemmas

@@ -1,2 +1,5 @@
 pub mod Agreement
+pub mod Runs
+pub mod Stages
+pub mod View
 pub mod WholeCalls

@@ -1,41 +1,40 @@
 -- Lists of events in which each call is whole: its start, its run or loss, and its return stand together.
-use Rattle.std.specs.Prelude.{ℕ, Bool, true, false, List, [], ◌∷◌, ◌&&◌, ◌==◌}
+use Rattle.std.specs.Prelude.{◌≡◌, ◌<◌, ◌⊎◌, ◌+◌, ◌++◌, ℕ, Bool, true, false, List, [], ◌∷◌, ◌&&◌, ◌==◌, length, take}
 use Rattle.bully_world.specs.declared.event.Event.{Event}
 
--- how far the call at hand has come: there is none, node i's was started, or node i's ran or was lost
-pub data Stage : Type 0 where
-  Between : Stage
-  Started : ℕ → Stage
-  Over : ℕ → Stage
+-- the event is no part of a call
+abbrev pub stands_alone : Event → Bool
+stands_alone (Event.Start i) = false
+stands_alone (Event.Run i) = false
+stands_alone (Event.Lose i) = false
+stands_alone (Event.Return i) = false
+stands_alone e = true
 
--- whether the event may stand here
-abbrev pub may_stand : Stage → Event → Bool
-may_stand Between (Event.Run i) = false
-may_stand Between (Event.Lose i) = false
-may_stand Between (Event.Return i) = false
-may_stand Between e = true
-may_stand (Started i) (Event.Run j) = j == i
-may_stand (Started i) (Event.Lose j) = j == i
-may_stand (Started i) e = false
-may_stand (Over i) (Event.Return j) = j == i
-may_stand (Over i) e = false
+-- node i's call runs or is lost
+abbrev pub settles : ℕ → Event → Bool
+settles i (Event.Run j) = j == i
+settles i (Event.Lose j) = j == i
+settles i e = false
 
--- the stage behind it
-abbrev pub stage_after : Stage → Event → Stage
-stage_after Between (Event.Start i) = Started i
-stage_after Between e = Between
-stage_after (Started i) e = Over i
-stage_after (Over i) e = Between
+-- node i's call returns
+abbrev pub gives_back : ℕ → Event → Bool
+gives_back i (Event.Return j) = j == i
+gives_back i e = false
 
-abbrev pub is_between : Stage → Bool
-is_between Between = true
-is_between (Started i) = false
-is_between (Over i) = false
-
-abbrev pub is_whole_from : Stage → List Event → Bool
-is_whole_from stage [] = is_between stage
-is_whole_from stage (e ∷ events) = may_stand stage e && is_whole_from (stage_after stage e) events
-
--- a whole-call list
+-- a whole-call list: each Start is followed at once by that call's Run or Lose, and that at once by its Return,
+-- and no other Run, Lose or Return stands in the list
 abbrev pub is_whole : List Event → Bool
-is_whole events = is_whole_from Between events
+is_whole [] = true
+is_whole (Event.Start i ∷ settled ∷ returned ∷ events) = settles i settled && (gives_back i returned && is_whole events)
+is_whole (e ∷ events) = stands_alone e && is_whole events
+
+-- the events are the beginning of a whole-call list
+abbrev pub MayGoOn : List Event → Type 0
+MayGoOn events = (rest : List Event) × (is_whole (events ++ rest) ≡ true)
+
+-- the first place where the list breaks the rule. What stands before may go on. With the event at this place it
+-- may not, or it is the list's end, in the middle of a call
+abbrev pub BreaksAt : List Event → ℕ → Type 0
+BreaksAt events index =
+    MayGoOn (take index events)
+    × (((index < length events) × ¬ MayGoOn (take (index + 1) events)) ⊎ ((index ≡ length events) × (is_whole events ≡ false)))

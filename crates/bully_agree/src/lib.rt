@@ -1,7 +1,7 @@
-//! The agreement law: what all nodes of a group agree on, whatever lawful list of events has happened.
+//! What all nodes of a group agree on, whatever lawful list of events has happened; views of a group, and runs.
 //!
-//! It stands on bully_world and the crates below it. The crates above rely on the law of agreement and on
-//! the law of causes.
+//! It stands on bully_world and the crates below it. The crates above rely on the law of agreement, on the law
+//! of causes, on every `View` agreeing and being of a world that a lawful list leads to, and on what runs give.
 #![tactic(auto)]
 
 ghost use Rattle.std.specs.Prelude.{◌≡◌, ◌<◌, ◌↔◌, ℕ, List, None};
@@ -13,6 +13,15 @@ ghost use Rattle.bully_world.specs.Lawful.{IsLawful};
 ghost use Rattle.bully_world.specs.Step.{Step};
 ghost use Rattle.bully_world.specs.World.{World};
 ghost use Rattle.bully_world.specs.declared.event.Event.{Event};
+
+mod runs;
+mod views;
+mod whole_calls;
+
+pub use runs::{RunFault, run};
+pub use views::View;
+pub use views::making::view;
+pub use whole_calls::{WholeFault, run_whole};
 
 /// The agreement law. Whatever lawful list of events leads to a world, its nodes agree there: all that are in
 /// Reorganization or Normal have one coordinator, and all that are Normal have one task. Halts, crashes and

@@ -1,0 +1,60 @@
+-- The view of a world shows what the world has, so it agrees.
+use Rattle.std.proofs.Common.{◌≡◌, ◌<◌, ◌+◌, ◌++◌, ℕ, zero, suc, List, [], ◌∷◌, map, take, length, add-one, arith, refl, sym, ap, subst, ◌∙◌}
+use Rattle.std.specs.Prelude.{slice_index_or}
+use Rattle.std.proofs.lemmas.List.{length-map}
+use Rattle.bully_base.specs.Places.{at_node}
+use Rattle.bully_base.specs.Setup.{Setup}
+use Rattle.bully_world.proofs.ShapeLemmas.{lawful_fits}
+use Rattle.bully_world.specs.State.{MemberState, WorldState, IsReached, empty_state, member_of, members_of, world_of}
+use Rattle.bully_world.specs.World.{Member, World, empty_member, member}
+use Rattle.bully_agree.specs.Agreement.{Agreement}
+use Rattle.bully_agree.specs.View.{Shown, View, IsView, ViewAgrees, nothing_shown, shown, shown_of, view_of}
+use Rattle.bully_agree.proofs.Law.{agreement_lem}
+
+index-shown : (ms : List Member) (k : ℕ) → slice_index_or (map shown_of ms) k nothing_shown ≡ shown_of (slice_index_or ms k empty_member)
+index-shown [] k = refl
+index-shown (m ∷ ms) zero = refl
+index-shown (m ∷ ms) (suc k) = index-shown ms k
+
+-- of each number a view shows what the world has
+pub shown_there : (setup : Setup) (count : ℕ) (w : World) (i : ℕ) → shown (view_of setup count w) i ≡ shown_of (member w i)
+shown_there setup count w zero = refl
+shown_there setup count w (suc k) = index-shown w.members k
+
+pub agrees_of : (setup : Setup) (count : ℕ) (w : World) → Agreement w → ViewAgrees (view_of setup count w)
+agrees_of setup count w agreed = record {
+  has_coordinator = λ i t. grind (arith, there i, t, agreed.has_coordinator i);
+  same_coordinator = λ i j t u. grind (arith, there i, there j, t, u, agreed.same_coordinator i j);
+  has_task = λ i t. grind (arith, there i, t, agreed.has_task i);
+  same_task = λ i j t u. grind (arith, there i, there j, t, u, agreed.same_task i j);
+}
+  where
+    there : (i : ℕ) → shown (view_of setup count w) i ≡ shown_of (member w i)
+    there = shown_there setup count w
+
+-- as many nodes are shown as the setup has
+pub count_of_reached : (w : WorldState) → IsReached w → length w.members ≡ w.setup.nodes
+count_of_reached w reached = sym (length-map w.members member_of) ∙ (lawful_fits w.setup reached.applied reached.answers (world_of w) reached.lawful).count
+
+pub agreed_of : (w : WorldState) → IsReached w → Agreement (world_of w)
+agreed_of w reached = agreement_lem w.setup reached.applied reached.answers (world_of w) reached.lawful
+
+pub view_keeps : (w : WorldState) → IsReached w → IsView (view_of w.setup w.events (world_of w))
+view_keeps w reached = record {
+  count = length-map (world_of w).members shown_of ∙ length-map w.members member_of ∙ count_of_reached w reached;
+  agrees = agrees_of w.setup w.events (world_of w) (agreed_of w reached);
+  viewed = record { world = w; reached = reached; view = refl };
+}
+
+shown-place : (ms : List MemberState) (k : ℕ) → k < length ms → map shown_of (take (suc k) (map member_of ms)) ≡ map shown_of (take k (map member_of ms)) ++ shown_of (member_of (slice_index_or ms k (empty_state 0))) ∷ []
+shown-place [] k l = absurd (omega arith)
+shown-place (m ∷ ms) zero l = refl
+shown-place (m ∷ ms) (suc k) l = ap (λ xs. shown_of (member_of m) ∷ xs) (shown-place ms k (omega arith))
+
+-- one node more is shown
+pub shown-more : (ms : List MemberState) (xs : List Shown) (s : Shown) (k i : ℕ) → k + 1 ≡ i → k < length ms → xs ≡ map shown_of (take k (map member_of ms)) → s ≡ shown_of (member_of (at_node (empty_state 0) ms i))
+    → xs ++ s ∷ [] ≡ map shown_of (take (k + 1) (map member_of ms))
+shown-more ms xs s k zero e l so now = absurd (omega arith)
+shown-more ms xs s k (suc j) e l so now =
+    let same : j ≡ k = omega arith in
+    rw so (rw now (rw same (rw (add-one k) (sym (shown-place ms k l)))))

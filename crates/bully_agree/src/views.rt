@@ -1,0 +1,101 @@
+ghost use Rattle.std.specs.Prelude.{◌≡◌, ◌≤◌};
+ghost use Rattle.std.specs.Option.{option_copied};
+ghost use Rattle.bully_agree.specs.View.{ViewAgrees, IsViewed, shown};
+
+pub mod making;
+
+use bully_base::{Node, Setup, Status};
+use bully_table::Table;
+use std::marker::Model;
+
+/// What is shown of one node.
+#[derive(Drop, Debug)]
+struct Shown {
+    status: Status,
+    coordinator: Option<Node>,
+    task: Option<Table>,
+}
+
+impl Model for Shown {
+    ghost use Rattle.bully_agree.specs.View.{Shown as ShownState};
+
+    ghost Value = { ShownState };
+
+    ghost view = { λ s. record { status = s.status; coordinator = s.coordinator; task = s.task } };
+}
+
+/// What a world shows: how many events were applied, and each node's status, coordinator and task.
+/// Its type keeps that the nodes agree, and that a lawful list of so many events leads to such a world.
+#[derive(Drop, Debug)]
+pub struct View {
+    setup: Setup,
+    events: u32,
+    nodes: Vec<Shown>,
+}
+
+impl Model for View {
+    ghost use Rattle.bully_agree.specs.View.{View as ViewState, IsView};
+
+    ghost Value = { ViewState };
+
+    ghost view = { λ v. record { setup = v.setup; events = v.events; nodes = v.nodes.items } };
+
+    ghost invariant = { λ v. IsView (record { setup = v.setup; events = v.events; nodes = v.nodes.items }) };
+}
+
+impl View {
+    /// What the group was set up with.
+    pub fn setup(&self) -> Setup
+        ensures { result ≡ self.now.setup }
+    {
+        self.setup
+    }
+
+    /// How many events were applied.
+    pub fn events(&self) -> u32
+        ensures events { result ≡ self.now.events }
+        ensures agrees { ViewAgrees self.now }
+        ensures viewed { IsViewed self.now }
+    {
+        self.events
+    }
+
+    /// How many nodes the group has.
+    pub fn nodes(&self) -> u16
+        ensures { result ≡ self.now.setup.nodes }
+    {
+        self.setup.nodes()
+    }
+
+    /// The node's status. The node is at most the setup's last.
+    pub fn status(&self, node: Node) -> Status
+        requires { node ≤ self.now.setup.nodes }
+        ensures { result ≡ (shown self.now node).status }
+    {
+        self.shown(node).status
+    }
+
+    /// The node that it obeys. The node is at most the setup's last.
+    pub fn coordinator(&self, node: Node) -> Option<Node>
+        requires { node ≤ self.now.setup.nodes }
+        ensures { result ≡ (shown self.now node).coordinator }
+    {
+        self.shown(node).coordinator
+    }
+
+    /// Its part of the group's task, as the table of all owners. The node is at most the setup's last.
+    pub fn task(&self, node: Node) -> Option<&Table>
+        requires { node ≤ self.now.setup.nodes }
+        ensures { option_copied result ≡ (shown self.now node).task }
+    {
+        self.shown(node).task.as_ref()
+    }
+
+    // What is shown of the node.
+    fn shown(&self, node: Node) -> &Shown
+        requires { node ≤ self.now.setup.nodes }
+        ensures { result.now ≡ shown self.now node }
+    {
+        &self.nodes[usize::from(node.number() - 1)]
+    }
+}

@@ -1,0 +1,60 @@
+ghost use Rattle.std.specs.Prelude.{◌≡◌, map, IfOk};
+ghost use Rattle.std.specs.Option.{option_copied};
+ghost use Rattle.bully_agree.specs.View.{ViewAgrees, shown_of, view_of};
+ghost use Rattle.bully_world.specs.State.{IsReached, world_of};
+
+use super::{Shown, View};
+use bully_base::{Node, OutOfMemory};
+use bully_handlers::Vector;
+use bully_table::Table;
+use bully_world::World;
+use std::alloc::Global;
+
+/// The view of the world as it is now. Refused where a growth of memory is.
+/// Every `World` is reached by a lawful list, so there is no other condition.
+pub fn view(alloc: Global, world: &World) -> Result<View, OutOfMemory>
+    ensures view { IfOk result (λ v. v ≡ view_of world.now.setup world.now.events (world_of world.now)) }
+    ensures agrees { IfOk result ViewAgrees }
+    ensures reached { IsReached world.now }
+{
+    let events = world.events();
+    Ok(View {
+        setup: world.setup(),
+        events,
+        nodes: shown_nodes(alloc, world)?,
+    })
+}
+
+// What is shown of all nodes.
+fn shown_nodes(alloc: Global, world: &World) -> Result<Vec<Shown>, OutOfMemory>
+    requires { IsReached world.now }
+    ensures { IfOk result (λ nodes. nodes.items ≡ map shown_of (world_of world.now).members) }
+{
+    let mut nodes = Vec::with_capacity(alloc, usize::from(world.setup().nodes()))?;
+    for before in 0..world.setup().nodes() {
+        let node = Node::new(before + 1).unwrap();
+        nodes.push(shown_by(world.vector(node))?)?;
+    }
+    Ok(nodes)
+}
+
+// What is shown of a node with this vector.
+fn shown_by(vector: &Vector) -> Result<Shown, OutOfMemory>
+    ensures { IfOk result (λ s. s ≡ record { status = vector.now.vector.status; coordinator = vector.now.vector.coordinator; task = vector.now.vector.task }) }
+{
+    Ok(Shown {
+        status: vector.status(),
+        coordinator: vector.coordinator(),
+        task: copied(vector.task())?,
+    })
+}
+
+// A copy of the table, where there is one.
+fn copied(table: Option<&Table>) -> Result<Option<Table>, OutOfMemory>
+    ensures { IfOk result (λ copy. copy ≡ option_copied table.entry) }
+{
+    match table {
+        Some(table) => Ok(Some(table.copy()?)),
+        None => Ok(None),
+    }
+}

@@ -1,0 +1,127 @@
+ghost use Rattle.std.specs.Prelude.{◌≡◌, List, Some, None, length, true, false, IfErr, IfOk, IfNone, IfSome, OnOk, if◌then◌else◌};
+ghost use Rattle.bully_agree.specs.Runs.{IsWholeFault, whole_fault};
+ghost use Rattle.bully_agree.specs.Stages.{may_stand, stage_after};
+ghost use Rattle.bully_agree.specs.View.{ViewAgrees, view_of};
+ghost use Rattle.bully_agree.specs.WholeCalls.{BreaksAt, is_whole, settles, gives_back};
+ghost use Rattle.bully_calls.specs.declared.call.Answer.{Answer};
+ghost use Rattle.bully_world.specs.Lawful.{IsLawful};
+ghost use Rattle.bully_world.specs.State.{world_of};
+ghost use Rattle.bully_world.specs.World.{World as WorldState};
+
+use crate::runs::{RunFault, run};
+use crate::views::View;
+use bully_base::{Node, Setup};
+use bully_world::{Event, Refused, World};
+use std::alloc::Global;
+
+/// Why a list of whole calls isn't run to its end, in this order.
+#[derive(Clone, Copy, PartialEq, Eq, Debug)]
+pub enum WholeFault {
+    /// The event at this index, from 0, is the first that breaks the rule of whole calls; where the list ends in
+    /// the middle of a call, it is the list's length.
+    NotWhole { index: usize },
+    /// The event at this index, from 0, is the first that is refused, and this is why.
+    Stop { index: usize, cause: Refused },
+    /// A growth of memory was refused.
+    OutOfMemory,
+}
+
+/// How far the call at hand has come: there is none, the node's was started, or the node's ran or was lost.
+#[derive(Clone, Copy, Debug)]
+enum Stage {
+    Between,
+    Started(Node),
+    Over(Node),
+}
+
+/// Runs the events, as [`run`] does, where each call is whole: its Start is followed at once by its Run or Lose,
+/// and that at once by its Return, and no other Run, Lose or Return stands in the list.
+/// Refused, in this order, as `NotWhole`, `Stop`, `OutOfMemory`. This project's profile.
+pub fn run_whole(alloc: Global, setup: Setup, events: &[Event]) -> Result<(World, View), WholeFault>
+    ensures whole { OnOk result (is_whole events.now ≡ true) }
+    ensures lawful { IfOk result (λ done. (answers : List Answer) × IsLawful setup events.now answers (world_of done.0)) }
+    ensures setup { IfOk result (λ done. done.0.setup ≡ setup) }
+    ensures counted { IfOk result (λ done. done.0.events ≡ length events.now) }
+    ensures view { IfOk result (λ done. done.1 ≡ view_of setup (length events.now) (world_of done.0)) }
+    ensures agrees { IfOk result (λ done. ViewAgrees done.1) }
+    ensures fault { IfErr result (IsWholeFault setup events.now) }
+    ensures lawful_runs { IfErr result (λ fault. is_whole events.now ≡ true → (answers : List Answer) (w : WorldState) → IsLawful setup events.now answers w → fault ≡ WholeFault.OutOfMemory) }
+{
+    if let Some(index) = first_break(events) {
+        return Err(WholeFault::NotWhole { index });
+    }
+    run(alloc, setup, events).map_err(as_whole)
+}
+
+// The fault of a run, where each call is whole.
+fn as_whole(fault: RunFault) -> WholeFault
+    ensures { result ≡ whole_fault fault }
+{
+    match fault {
+        RunFault::Stop { index, cause } => WholeFault::Stop { index, cause },
+        RunFault::OutOfMemory => WholeFault::OutOfMemory,
+    }
+}
+
+// The index of the first event that breaks the rule of whole calls, or the length of a list that ends in the
+// middle of a call; none where each call is whole.
+fn first_break(events: &[Event]) -> Option<usize>
+    ensures breaks { IfSome result (λ index. BreaksAt events.now index × (is_whole events.now ≡ false)) }
+    ensures whole { IfNone result (is_whole events.now ≡ true) }
+{
+    let mut stage = Stage::Between;
+    for (index, event) in events.iter().enumerate() {
+        match stage.after(event) {
+            Some(next) => stage = next,
+            None => return Some(index),
+        }
+    }
+    match stage {
+        Stage::Between => None,
+        _ => Some(events.len()),
+    }
+}
+
+impl Stage {
+    // The stage behind the event; none where it may not stand here.
+    fn after(self, event: &Event) -> Option<Stage>
+        ensures { result ≡ (if may_stand self event.now then Some (stage_after self event.now) else None) }
+    {
+        match self {
+            Stage::Between => after_no_call(event),
+            Stage::Started(caller) => is_settled(event, caller).then_some(Stage::Over(caller)),
+            Stage::Over(caller) => is_returned(event, caller).then_some(Stage::Between),
+        }
+    }
+}
+
+// The stage behind an event while no call is at hand.
+fn after_no_call(event: &Event) -> Option<Stage>
+    ensures { result ≡ (if may_stand Stage.Between event.now then Some (stage_after Stage.Between event.now) else None) }
+{
+    match event {
+        Event::Start(caller) => Some(Stage::Started(*caller)),
+        Event::Run(_) | Event::Lose(_) | Event::Return(_) => None,
+        _ => Some(Stage::Between),
+    }
+}
+
+// Whether the caller's call runs or is lost.
+fn is_settled(event: &Event, caller: Node) -> bool
+    ensures { result ≡ settles caller event.now }
+{
+    match event {
+        Event::Run(node) | Event::Lose(node) => *node == caller,
+        _ => false,
+    }
+}
+
+// Whether the caller's call returns.
+fn is_returned(event: &Event, caller: Node) -> bool
+    ensures { result ≡ gives_back caller event.now }
+{
+    match event {
+        Event::Return(node) => *node == caller,
+        _ => false,
+    }
+}
