@@ -1,18 +1,23 @@
 -- What a verdict says of the events of the rows.
-use Rattle.std.proofs.Common.{◌≡◌, ℕ, ◌+◌, ◌≤◌, Bool, true, false, List, [], ◌∷◌, Option, Some, None, MatchOption, length, refl, arith}
+use Rattle.std.proofs.Common.{◌≡◌, ℕ, zero, suc, ◌+◌, ◌≤◌, ◌++◌, take, drop, Bool, true, false, List, [], ◌∷◌, Option, Some, None, MatchOption, length, refl, ap, subst, arith}
 use Rattle.std.specs.Bool.{MatchBool}
+use Rattle.std.proofs.lemmas.List.{length-append}
 use Rattle.bully_base.specs.Setup.{Setup}
 use Rattle.bully_calls.specs.declared.call.Answer.{Answer}
+use Rattle.bully_world.specs.declared.event.Event.{Event}
 use Rattle.bully_world.specs.declared.event.Refused.{Refused}
 use Rattle.bully_world.specs.Cause.{cause}
-use Rattle.bully_world.specs.Lawful.{LeadTo}
+use Rattle.bully_world.specs.Lawful.{IsLawful, LeadTo}
 use Rattle.bully_world.specs.Step.{Step}
 use Rattle.bully_world.specs.World.{World, first_world}
+use Rattle.bully_world.proofs.LawfulLemmas.{lead_split}
 use Rattle.bully_world.proofs.TakeLemmas.{room_of}
+use Rattle.bully_agree.proofs.Law.{agreement_lem}
+use Rattle.bully_agree.specs.Agreement.{Agreement}
 use Rattle.bully_trace.specs.declared.trace.Row.{Row}
 use Rattle.bully_trace.specs.declared.trace.Trace.{Trace}
 use Rattle.bully_trace.specs.declared.verdict.Verdict.{Verdict}
-use Rattle.bully_trace.specs.Verdict.{IsJudged, IsVerdict, IsLawfulCount, events_of, is_true}
+use Rattle.bully_trace.specs.Verdict.{AgreesAfterEachRow, IsJudged, IsVerdict, IsLawfulCount, events_of, is_true}
 
 -- rows that are judged lawful mean events that lead from the world to the last one
 pub record Leads (setup : Setup) (w : World) (before : ℕ) (rows : List Row) (after : ℕ) (w' : World) : Type 0 where
@@ -54,3 +59,27 @@ lawful_count trace (Verdict.Lawful count) w v =
     (l.answers, w, record { leads = l.leads; bounded = omega (arith, l.counted, l.bounded (omega arith)) }, omega (arith, l.counted))
 lawful_count trace (Verdict.Refused number why) w v = tt
 lawful_count trace (Verdict.Differs number) w v = tt
+
+events-parted : (rows : List Row) (k : ℕ) → events_of rows ≡ events_of (take k rows) ++ events_of (drop k rows)
+events-parted [] zero = refl
+events-parted [] (suc k) = refl
+events-parted (Row.Event e ∷ rows) zero = refl
+events-parted (Row.Event e ∷ rows) (suc k) = ap (λ events. e ∷ events) (events-parted rows k)
+events-parted (Row.Claim claim ∷ rows) zero = refl
+events-parted (Row.Claim claim ∷ rows) (suc k) = events-parted rows k
+
+-- the first events of a lawful list are lawful, and the nodes agree in the world that they lead to
+agreed_between : (setup : Setup) (events more : List Event) (answers : List Answer) (w : World) → IsLawful setup (events ++ more) answers w → (answers : List Answer) × (w : World) × IsLawful setup events answers w × Agreement w
+agreed_between setup events more answers w lawful =
+    let parts = lead_split setup (first_world setup) events more answers w lawful.leads in
+    let size : length (events ++ more) ≡ length events + length more = length-append events more in
+    let here : IsLawful setup events parts.0 parts.2 = record { leads = parts.4; bounded = omega (arith, size, lawful.bounded) } in
+    (parts.0, parts.2, here, agreement_lem setup events parts.0 parts.2 here)
+
+-- behind each row of a lawful trace the nodes agree
+pub agrees_after : (trace : Trace) (verdict : Verdict) (w : World) → IsVerdict trace verdict w → AgreesAfterEachRow trace verdict
+agrees_after trace (Verdict.Lawful count) w v = λ k.
+    let l = lawful_count trace (Verdict.Lawful count) w v in
+    agreed_between trace.setup (events_of (take k trace.rows)) (events_of (drop k trace.rows)) l.0 l.1 (subst (λ events. IsLawful trace.setup events l.0 l.1) (events-parted trace.rows k) l.2)
+agrees_after trace (Verdict.Refused number why) w v = tt
+agrees_after trace (Verdict.Differs number) w v = tt

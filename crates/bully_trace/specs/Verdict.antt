@@ -1,5 +1,5 @@
 -- The verdict on the rows of a trace.
-use Rattle.std.specs.Prelude.{◌≡◌, ℕ, ◌+◌, Bool, true, false, List, [], ◌∷◌, length, Option, Some, None, MatchOption, ◌&&◌, ◌==◌}
+use Rattle.std.specs.Prelude.{◌≡◌, ℕ, ◌+◌, Bool, true, false, List, [], ◌∷◌, length, take, Option, Some, None, MatchOption, ◌&&◌, ◌==◌}
 use Rattle.std.specs.Bool.{MatchBool}
 use Rattle.bully_base.specs.declared.node.Status.{Status}
 use Rattle.bully_base.specs.declared.node.Status.TheVariants.{Down, Election, Reorganization, Normal}
@@ -11,6 +11,7 @@ use Rattle.bully_world.specs.Cause.{cause}
 use Rattle.bully_world.specs.Lawful.{IsLawful}
 use Rattle.bully_world.specs.Step.{Step}
 use Rattle.bully_world.specs.World.{World, vector, first_world}
+use Rattle.bully_agree.specs.Agreement.{Agreement}
 use Rattle.bully_trace.specs.declared.trace.Claim.{Claim}
 use Rattle.bully_trace.specs.declared.trace.Row.{Row}
 use Rattle.bully_trace.specs.declared.trace.Trace.{Trace}
@@ -64,3 +65,11 @@ IsLawfulCount trace (Verdict.Lawful count) =
     (answers : List Answer) × (w : World) × IsLawful trace.setup (events_of trace.rows) answers w × (length (events_of trace.rows) ≡ count)
 IsLawfulCount trace (Verdict.Refused number why) = Unit {0}
 IsLawfulCount trace (Verdict.Differs number) = Unit {0}
+
+-- where the verdict is lawful, the events up to each row are lawful too, and in the world that they lead to the
+-- nodes agree
+abbrev pub AgreesAfterEachRow : Trace → Verdict → Type 0
+AgreesAfterEachRow trace (Verdict.Lawful count) =
+    (k : ℕ) → (answers : List Answer) × (w : World) × IsLawful trace.setup (events_of (take k trace.rows)) answers w × Agreement w
+AgreesAfterEachRow trace (Verdict.Refused number why) = Unit {0}
+AgreesAfterEachRow trace (Verdict.Differs number) = Unit {0}

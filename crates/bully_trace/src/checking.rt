@@ -2,7 +2,7 @@ ghost use Rattle.std.specs.Prelude.{◌≡◌, ◌≢◌, ◌⊎◌, ◌++◌, O
 ghost use Rattle.std.specs.Io.KnownBytes.{Appends};
 ghost use Rattle.std.specs.String.{string_bytes};
 ghost use Rattle.bully_trace.specs.Rows.{records_of, trace_of, is_of_form};
-ghost use Rattle.bully_trace.specs.Verdict.{IsVerdict, IsLawfulCount};
+ghost use Rattle.bully_trace.specs.Verdict.{IsVerdict, IsLawfulCount, AgreesAfterEachRow};
 ghost use Rattle.bully_trace.specs.VerdictText.{verdict_text, node_lines};
 ghost use Rattle.bully_trace.specs.declared.trace.Trace.{Trace};
 ghost use Rattle.bully_world.specs.State.{world_of};
@@ -30,6 +30,7 @@ pub fn check<R: Read + Drop, W: Write>(
     ensures verdict { IfOk result (λ verdict. IfSome (R.remaining reader) (λ bytes. (trace : Trace) × (w : WorldState) × (trace_of (records_of bytes) ≡ Ok trace)
         × IsVerdict trace verdict w × Appends (W.contents writer.old) (W.contents writer.new) (verdict_text trace.setup verdict w))) }
     ensures lawful { IfOk result (λ verdict. IfSome (R.remaining reader) (λ bytes. (trace : Trace) × (trace_of (records_of bytes) ≡ Ok trace) × IsLawfulCount trace verdict)) }
+    ensures agreement { IfOk result (λ verdict. IfSome (R.remaining reader) (λ bytes. (trace : Trace) × (trace_of (records_of bytes) ≡ Ok trace) × AgreesAfterEachRow trace verdict)) }
     ensures fault { IfErr result (λ fault. IsTrue (is_of_form fault.cause) → IfSome (R.remaining reader) (λ bytes. trace_of (records_of bytes) ≡ Err fault)) }
     ensures silent { IfErr result (λ fault. fault.cause ≢ TraceCause.Write → writer.new ≡ writer.old) }
     ensures read { IfErr result (λ fault. fault.cause ≡ TraceCause.Write → IfSome (R.remaining reader) (λ bytes. IsOk (trace_of (records_of bytes)))) }
