@@ -1,5 +1,6 @@
 //! The worked cases, with the values that this project's profile gives.
 
+mod runs;
 mod scripts;
 
 use bully_base::{Node, NodeSet, Setup, SetupFault, Status};
