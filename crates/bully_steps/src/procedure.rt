@@ -1,7 +1,8 @@
-ghost use Rattle.std.specs.Prelude.{◌≡◌, ◌≤◌, [], None, true, false};
+ghost use Rattle.std.specs.Prelude.{◌≡◌, ◌≤◌, [], None, Some, true, false, unwrap_or};
 ghost use Rattle.std.specs.Option.{option_copied};
 ghost use Rattle.bully_base.specs.NodeSet.{IsFallingBelow};
-ghost use Rattle.bully_steps.specs.Held.{IsHeld, IsCall, SuitsInquiry, held_at, want_of};
+ghost use Rattle.bully_steps.specs.Held.{IsHeld, IsCall, SuitsInquiry, CanResume, held_at, want_of, resumed};
+ghost use Rattle.bully_steps.specs.NextPoint.{next_point};
 ghost use Rattle.bully_steps.specs.Point.{offered, IsPointOf};
 ghost use Rattle.bully_steps.specs.Procedure.{held};
 
@@ -10,6 +11,7 @@ use crate::states::{
 };
 use crate::{Point, Want};
 use bully_base::{Node, NodeSet, Setup};
+use bully_calls::Outcome;
 use bully_table::Table;
 
 /// The procedure of a node, as a value that its owner resumes: a state of the 1982 paper's procedures in this
@@ -204,6 +206,26 @@ impl Procedure {
         } else {
             self.point()
                 .offers(self.setup(), self.node(), self.coordinator())
+        }
+    }
+
+    /// The procedure that goes on by the outcome, one that its want can have: a call is started, moves and plans
+    /// are done, and a call under way is answered or fails; No comes at Checking alone.
+    pub fn resume(self, outcome: Outcome) -> Procedure
+        requires { CanResume (held self) outcome }
+        ensures held { held result ≡ resumed (held self) outcome }
+        ensures point { next_point (held self).setup (held self).node (unwrap_or (held self).up []) (held self).point outcome ≡ Some (held result).point }
+    {
+        match self {
+            Procedure::Idle(_) => unreachable!(),
+            Procedure::Asking(asking) => asking.resume(outcome),
+            Procedure::Halting(halting) => halting.resume(outcome),
+            Procedure::Announcing(announcing) => announcing.resume(outcome),
+            Procedure::Planning(planning) => planning.resume(outcome),
+            Procedure::Planned(planned) => planned.resume(outcome),
+            Procedure::Readying(readying) => readying.resume(outcome),
+            Procedure::Checking(checking) => checking.resume(outcome),
+            Procedure::Inquiring(inquiring) => inquiring.resume(outcome),
         }
     }
 
