@@ -1,9 +1,18 @@
-//! The procedures of a node: the points where one may stand, what each offers, and where it goes on.
+//! The procedures of a node: the points where one may stand, what each offers, and where it goes on; and a
+//! procedure as a value that its owner resumes, outcome by outcome.
 //!
-//! It stands on bully_base, bully_table, bully_calls and bully_handlers. The crates above rely on `next` and
-//! the three first points being those of the definitions.
+//! It stands on bully_base, bully_table, bully_calls and bully_handlers. The crates above rely on `next`, the
+//! three first points, and what a procedure wants and where it is resumed being those of the definitions.
 #![tactic(auto)]
 
+mod driver;
 mod point;
+mod procedure;
+mod states;
 
+pub use driver::{Choice, Driver};
 pub use point::{Point, Want, begin_check, begin_recovery, begin_timeout};
+pub use procedure::Procedure;
+pub use states::{
+    Announcing, Asking, Checking, Halting, Idle, Inquiring, Planned, Planning, Readying,
+};

@@ -1,5 +1,5 @@
-ghost use Rattle.std.specs.Prelude.{◌≡◌, ◌<◌, ◌≤◌, ◌+◌, ℕ, List, [], Some, None, nat_le, unwrap_or, option_map, if◌then◌else◌};
-ghost use Rattle.bully_base.specs.Setup.{Setup as SetupState};
+ghost use Rattle.std.specs.Prelude.{◌≡◌, ◌≢◌, IfSome, ◌<◌, ◌≤◌, ◌+◌, ℕ, List, [], Some, None, nat_le, unwrap_or, option_map, if◌then◌else◌};
+ghost use Rattle.bully_base.specs.Setup.{Setup as SetupState, IsNode};
 ghost use Rattle.bully_base.specs.declared.TheConstants.{NODES_MAX};
 ghost use Rattle.bully_steps.specs.NextPoint.{next_point, election, checked, timed_out, checking_from, rest_of};
 ghost use Rattle.bully_steps.specs.Point.{offered, start, IsPointOf};
@@ -160,15 +160,25 @@ fn checking_at(setup: Setup, node: Node, number: u16) -> Point
     requires small { number ≤ NODES_MAX + 1 }
     ensures { result ≡ checking_from setup node number }
 {
+    match next_checked(setup, node, number) {
+        Some(callee) => Point::Checking(callee),
+        None => Point::Idle,
+    }
+}
+
+/// The node whom a check asks at this number, or behind it where it is the node's own; none above the last.
+pub(crate) fn next_checked(setup: Setup, node: Node, number: u16) -> Option<Node>
+    requires positive { 0 < number }
+    requires small { number ≤ NODES_MAX + 1 }
+    ensures point { unwrap_or (option_map Point.Checking result) Point.Idle ≡ checking_from setup node number }
+    ensures other { IfSome result (λ k. IsNode setup k × (k ≢ node)) }
+{
     let other = if number == node.number() {
         number + 1
     } else {
         number
     };
-    match next_asked(setup, other) {
-        Some(callee) => Point::Checking(callee),
-        None => Point::Idle,
-    }
+    next_asked(setup, other)
 }
 
 fn after_asking(setup: Setup, node: Node, number: u16, outcome: Outcome) -> Option<Point>
@@ -233,8 +243,8 @@ fn after_checking(setup: Setup, node: Node, callee: Node, outcome: Outcome) -> O
     }
 }
 
-// The set without its highest member, where it has one.
-fn without_highest(rest: &NodeSet) -> Option<NodeSet>
+/// The set without its highest member, where it has one.
+pub(crate) fn without_highest(rest: &NodeSet) -> Option<NodeSet>
     ensures { result ≡ rest_of rest.now }
 {
     match rest.highest() {

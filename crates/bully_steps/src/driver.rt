@@ -1,0 +1,37 @@
+ghost use Rattle.std.specs.Prelude.{◌≡◌};
+ghost use Rattle.bully_steps.specs.Driver.{chosen};
+ghost use Rattle.bully_steps.specs.Procedure.{held};
+
+use crate::{Point, Procedure};
+
+/// How often an idle node checks: once in so many turns.
+const PERIOD: u32 = 16;
+
+/// What a node does on its own in a turn.
+#[derive(Clone, Copy, PartialEq, Eq, Debug)]
+pub enum Choice {
+    /// Its procedure goes on, if it can.
+    Proceed,
+    /// It begins a check.
+    Check,
+    /// It has a timeout.
+    Timeout,
+}
+
+/// Chooses what a node does on its own.
+#[derive(Clone, Copy, Debug)]
+pub struct Driver;
+
+impl Driver {
+    /// At an idle procedure a check in each 16th turn, and a timeout 8 turns later; else its procedure goes on.
+    /// This project's profile.
+    pub fn choose(turn: u32, procedure: &Procedure) -> Choice
+        ensures { result ≡ chosen turn (held procedure.now).point }
+    {
+        match procedure.point() {
+            Point::Idle if turn % PERIOD == 0 => Choice::Check,
+            Point::Idle if turn % PERIOD == PERIOD / 2 => Choice::Timeout,
+            _ => Choice::Proceed,
+        }
+    }
+}

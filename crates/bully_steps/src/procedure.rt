@@ -1,0 +1,251 @@
+ghost use Rattle.std.specs.Prelude.{◌≡◌, ◌≤◌, [], None, Some, true, false, unwrap_or};
+ghost use Rattle.std.specs.Option.{option_copied};
+ghost use Rattle.bully_base.specs.NodeSet.{IsFallingBelow};
+ghost use Rattle.bully_steps.specs.Held.{IsHeld, IsCall, SuitsInquiry, CanResume, held_at, want_of, resumed};
+ghost use Rattle.bully_steps.specs.NextPoint.{next_point};
+ghost use Rattle.bully_steps.specs.Point.{offered, IsPointOf};
+ghost use Rattle.bully_steps.specs.Procedure.{held};
+
+use crate::states::{
+    Announcing, Asking, Checking, Halting, Idle, Inquiring, Owner, Planned, Planning, Readying,
+};
+use crate::{Point, Want};
+use bully_base::{Node, NodeSet, Setup};
+use bully_calls::Outcome;
+use bully_table::Table;
+
+/// The procedure of a node, as a value that its owner resumes: a state of the 1982 paper's procedures in this
+/// project's profile, with what it holds there and no more.
+#[derive(Drop, Debug)]
+pub enum Procedure {
+    Idle(Idle),
+    Asking(Asking),
+    Halting(Halting),
+    Announcing(Announcing),
+    Planning(Planning),
+    Planned(Planned),
+    Readying(Readying),
+    Checking(Checking),
+    Inquiring(Inquiring),
+}
+
+impl Procedure {
+    /// No procedure runs at the node, which is at most the setup's last, in this of its generations.
+    pub fn idle(setup: Setup, node: Node, generation: u32) -> Procedure
+        requires { node ≤ setup.nodes }
+        ensures { held result ≡ held_at setup node generation Point.Idle [] None false }
+    {
+        // Shows the proof that the setup is within the limits.
+        let _ = (setup.nodes(), node.number());
+        Procedure::Idle(Idle {
+            owner: Owner {
+                setup,
+                node,
+                generation,
+            },
+        })
+    }
+
+    /// The procedure of the node, which is at most the setup's last, at this point; at Planning without a table.
+    /// `up` has only lower nodes. It awaits a call only where the point offers one, and at Inquiring the
+    /// coordinator is another node of the setup. What the point doesn't hold is passed over.
+    pub fn at(
+        setup: Setup,
+        node: Node,
+        generation: u32,
+        point: Point,
+        up: &NodeSet,
+        coordinator: Option<Node>,
+        awaits: bool,
+    ) -> Procedure
+        requires node { node ≤ setup.nodes }
+        requires up { IsFallingBelow node up.now }
+        requires point { IsPointOf setup node point }
+        requires inquiry { SuitsInquiry setup node coordinator point }
+        requires call { awaits ≡ true → IsCall (offered setup coordinator point) }
+        ensures { held result ≡ held_at setup node generation point up.now coordinator awaits }
+    {
+        // Shows the proof that the setup is within the limits.
+        let _ = (setup.nodes(), node.number());
+        let up = *up;
+        let owner = Owner {
+            setup,
+            node,
+            generation,
+        };
+        match point {
+            Point::Idle => Procedure::Idle(Idle { owner }),
+            Point::Asking(next) => Procedure::Asking(Asking {
+                owner,
+                next,
+                awaits,
+            }),
+            Point::Halting(next) => Procedure::Halting(Halting {
+                owner,
+                next,
+                up,
+                awaits,
+            }),
+            Point::Announcing(rest) => Procedure::Announcing(Announcing {
+                owner,
+                rest,
+                up,
+                awaits,
+            }),
+            Point::Planning => Procedure::Planning(Planning { owner, up }),
+            Point::Readying(rest) => Procedure::Readying(Readying {
+                owner,
+                rest,
+                awaits,
+            }),
+            Point::Checking(callee) => Procedure::Checking(Checking {
+                owner,
+                callee,
+                awaits,
+            }),
+            Point::Inquiring => Procedure::Inquiring(Inquiring {
+                owner,
+                coordinator: coordinator.unwrap(),
+                awaits,
+            }),
+        }
+    }
+
+    /// The setup of the node's group.
+    pub fn setup(&self) -> Setup
+        ensures setup { result ≡ (held self.now).setup }
+        ensures held { IsHeld (held self.now) }
+    {
+        self.owner().setup
+    }
+
+    /// The node.
+    pub fn node(&self) -> Node
+        ensures { result ≡ (held self.now).node }
+    {
+        self.owner().node
+    }
+
+    /// The generation of the node at which the procedure began.
+    pub fn generation(&self) -> u32
+        ensures { result ≡ (held self.now).generation }
+    {
+        self.owner().generation
+    }
+
+    /// Where it stands.
+    pub fn point(&self) -> Point
+        ensures { result ≡ (held self.now).point }
+    {
+        match self {
+            Procedure::Idle(_) => Point::Idle,
+            Procedure::Asking(asking) => Point::Asking(asking.next),
+            Procedure::Halting(halting) => Point::Halting(halting.next),
+            Procedure::Announcing(announcing) => Point::Announcing(announcing.rest),
+            Procedure::Planning(_) | Procedure::Planned(_) => Point::Planning,
+            Procedure::Readying(readying) => Point::Readying(readying.rest),
+            Procedure::Checking(checking) => Point::Checking(checking.callee),
+            Procedure::Inquiring(_) => Point::Inquiring,
+        }
+    }
+
+    /// The lower nodes that are up, at Halting, Announcing and Planning.
+    pub fn up(&self) -> Option<NodeSet>
+        ensures { result ≡ (held self.now).up }
+    {
+        match self {
+            Procedure::Halting(halting) => Some(halting.up),
+            Procedure::Announcing(announcing) => Some(announcing.up),
+            Procedure::Planning(planning) => Some(planning.up),
+            Procedure::Planned(planned) => Some(planned.up),
+            _ => None,
+        }
+    }
+
+    /// Whom the node inquires of, at Inquiring.
+    pub fn coordinator(&self) -> Option<Node>
+        ensures { result ≡ (held self.now).coordinator }
+    {
+        match self {
+            Procedure::Inquiring(inquiring) => Some(inquiring.coordinator),
+            _ => None,
+        }
+    }
+
+    /// The planned table, at Planning once it is prepared.
+    pub fn table(&self) -> Option<&Table>
+        ensures { option_copied result ≡ (held self.now).table }
+    {
+        match self {
+            Procedure::Planned(planned) => Some(&planned.table),
+            _ => None,
+        }
+    }
+
+    /// Whether its call is under way.
+    pub fn awaits(&self) -> bool
+        ensures { result ≡ (held self.now).awaits }
+    {
+        match self {
+            Procedure::Asking(asking) => asking.awaits,
+            Procedure::Halting(halting) => halting.awaits,
+            Procedure::Announcing(announcing) => announcing.awaits,
+            Procedure::Readying(readying) => readying.awaits,
+            Procedure::Checking(checking) => checking.awaits,
+            Procedure::Inquiring(inquiring) => inquiring.awaits,
+            Procedure::Idle(_) | Procedure::Planning(_) | Procedure::Planned(_) => false,
+        }
+    }
+
+    /// What the procedure wants: to await its call where one is under way, else what its point offers.
+    pub fn want(&self) -> Want
+        ensures { result ≡ want_of (held self.now) }
+    {
+        if self.awaits() {
+            Want::Await
+        } else {
+            self.point()
+                .offers(self.setup(), self.node(), self.coordinator())
+        }
+    }
+
+    /// The procedure that goes on by the outcome, one that its want can have: a call is started, moves and plans
+    /// are done, and a call under way is answered or fails; No comes at Checking alone.
+    pub fn resume(self, outcome: Outcome) -> Procedure
+        requires { CanResume (held self) outcome }
+        ensures held { held result ≡ resumed (held self) outcome }
+        ensures point { next_point (held self).setup (held self).node (unwrap_or (held self).up []) (held self).point outcome ≡ Some (held result).point }
+    {
+        match self {
+            Procedure::Idle(_) => unreachable!(),
+            Procedure::Asking(asking) => asking.resume(outcome),
+            Procedure::Halting(halting) => halting.resume(outcome),
+            Procedure::Announcing(announcing) => announcing.resume(outcome),
+            Procedure::Planning(planning) => planning.resume(outcome),
+            Procedure::Planned(planned) => planned.resume(outcome),
+            Procedure::Readying(readying) => readying.resume(outcome),
+            Procedure::Checking(checking) => checking.resume(outcome),
+            Procedure::Inquiring(inquiring) => inquiring.resume(outcome),
+        }
+    }
+
+    // Whose procedure it is.
+    fn owner(&self) -> Owner
+        ensures setup { result.setup ≡ (held self.now).setup }
+        ensures node { result.node ≡ (held self.now).node }
+        ensures generation { result.generation ≡ (held self.now).generation }
+        ensures held { IsHeld (held self.now) }
+    {
+        match self {
+            Procedure::Idle(idle) => idle.owner,
+            Procedure::Asking(asking) => asking.owner,
+            Procedure::Halting(halting) => halting.owner,
+            Procedure::Announcing(announcing) => announcing.owner,
+            Procedure::Planning(planning) => planning.owner,
+            Procedure::Planned(planned) => planned.owner,
+            Procedure::Readying(readying) => readying.owner,
+            Procedure::Checking(checking) => checking.owner,
+            Procedure::Inquiring(inquiring) => inquiring.owner,
+        }
+    }
+}

@@ -1,0 +1,43 @@
+ghost use Rattle.std.specs.Prelude.{◌≡◌};
+ghost use Rattle.bully_base.specs.Setup.{IsSetup, IsNode};
+ghost use Rattle.bully_steps.specs.Held.{held_at};
+ghost use Rattle.bully_steps.specs.NextPoint.{election};
+ghost use Rattle.bully_steps.specs.States.{asking};
+ghost use Rattle.std.specs.Prelude.{[], None, false};
+
+use crate::states::Asking;
+use bully_base::{Node, Setup};
+use std::marker::Model;
+
+/// Whose procedure it is, and of which of its generations.
+#[derive(Clone, Copy, Debug)]
+pub struct Owner {
+    pub setup: Setup,
+    pub node: Node,
+    pub generation: u32,
+}
+
+impl Model for Owner {
+    ghost use Rattle.bully_steps.specs.States.{Owner as OwnerState};
+
+    ghost Value = { OwnerState };
+
+    ghost view = { λ o. record { setup = o.setup; node = o.node; generation = o.generation } };
+
+    ghost inverse = { λ v. record { setup = v.setup; node = v.node; generation = v.generation } };
+}
+
+impl Owner {
+    /// An election of the node, which is one of the setup's, begins.
+    pub(crate) fn election(self) -> Asking
+        requires setup { IsSetup self.setup }
+        requires node { IsNode self.setup self.node }
+        ensures { asking result ≡ held_at self.setup self.node self.generation (election self.node) [] None false }
+    {
+        Asking {
+            owner: self,
+            next: self.node.number() + 1,
+            awaits: false,
+        }
+    }
+}
