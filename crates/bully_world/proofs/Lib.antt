@@ -10,6 +10,7 @@ pub mod MembersOf
 pub mod TakenLemmas
 pub mod KeptLemmas
 pub mod GenerationLemmas
+pub mod TagLemmas
 pub mod CauseAt
 pub mod SplitLemmas
 pub mod TakeLemmas

@@ -1,12 +1,13 @@
 -- What callers see of a group's world, and the world of the definitions that it stands for.
-use Rattle.std.specs.Prelude.{◌≡◌, ◌≤◌, ◌==◌, ◌&&◌, ℕ, Bool, true, false, List, map, length, Option, Some, None, IfSome, replicate}
+use Rattle.std.specs.Prelude.{◌≡◌, ◌≤◌, ◌==◌, ◌&&◌, ℕ, Bool, true, false, List, map, length, Option, Some, None, IfSome, option_map, replicate}
 use Rattle.bully_base.specs.Places.{at_node}
 use Rattle.bully_base.specs.Setup.{Setup, IsNode}
 use Rattle.bully_calls.specs.declared.call.Answer.{Answer}
 use Rattle.bully_calls.specs.declared.call.CallKind.{CallKind}
+use Rattle.bully_calls.specs.declared.call.Tag.{Tag}
 use Rattle.bully_calls.specs.declared.call.CallKind.TheVariants.{AreYouUp, AreYouNormal, Halt, NewCoordinator, Ready}
 use Rattle.bully_calls.specs.Pending.{Pending}
-use Rattle.bully_calls.specs.Slot.{Slot, pending_in}
+use Rattle.bully_calls.specs.Slot.{Posted, Slot, pending_in}
 use Rattle.bully_handlers.specs.Vector.{RoomyVector, empty_vector}
 use Rattle.bully_steps.specs.declared.point.Point.{Point}
 use Rattle.bully_steps.specs.declared.point.Point.TheVariants.{Idle}
@@ -96,6 +97,20 @@ abbrev pub raises : World → Event → ℕ → Bool
 raises w (Event.Crash i) j = i == j
 raises w (Event.Run i) j = halts j (pending w i)
 raises w e j = false
+
+-- the tag of the call in the slot
+abbrev pub tag_of_posted : Posted → Tag
+tag_of_posted p = p.tag
+
+abbrev pub tag_in : MemberState → Option Tag
+tag_in m = option_map tag_of_posted m.slot.posted
+
+-- the event fills or empties node j's slot: it is j's own Start, Return or Crash
+abbrev pub changes_slot : Event → ℕ → Bool
+changes_slot (Event.Start i) j = i == j
+changes_slot (Event.Return i) j = i == j
+changes_slot (Event.Crash i) j = i == j
+changes_slot e j = false
 
 -- what a new world keeps
 abbrev pub new_members : Setup → List MemberState

@@ -1,5 +1,5 @@
 ghost use Rattle.std.specs.Prelude.{◌≡◌, ◌↔◌, ◌+◌, ◌<◌, ◌≤◌, ℕ, IfOk, OnOk, IfErr, IfSome, IfNone, IsOk, true, false, None, Some, if◌then◌else◌};
-ghost use Rattle.bully_world.specs.State.{state_at, world_of, cause_in, raises, first_state, new_members, IsReached};
+ghost use Rattle.bully_world.specs.State.{state_at, world_of, cause_in, raises, changes_slot, tag_in, first_state, new_members, IsReached};
 ghost use Rattle.bully_world.specs.Step.{Step};
 ghost use Rattle.bully_world.specs.World.{first_world, pending, is_sent_to};
 
@@ -74,6 +74,7 @@ impl World {
         ensures exact { IsOk result ↔ (cause_in self.old event.now ≡ None) }
         ensures counted { OnOk result (self.new.events ≡ self.old.events + 1) }
         ensures generations { OnOk result ((i : ℕ) → (state_at self.new i).generation ≡ (state_at self.old i).generation + (if raises (world_of self.old) event.now i then 1 else 0)) }
+        ensures tags { OnOk result ((i : ℕ) → changes_slot event.now i ≡ false → tag_in (state_at self.new i) ≡ tag_in (state_at self.old i)) }
         ensures setup { self.new.setup ≡ self.old.setup }
         ensures why { IfErr result (λ why. cause_in self.old event.now ≡ Some why) }
         ensures unchanged { IfErr result (λ _. self.new ≡ self.old) }

@@ -4,11 +4,12 @@ use Rattle.std.specs.Prelude.{if◌then◌else◌}
 use Rattle.bully_base.specs.Places.{at_node}
 use Rattle.bully_world.specs.Cause.{cause}
 use Rattle.bully_world.specs.Shape.{AllFit}
-use Rattle.bully_world.specs.State.{IsWorld, members_of, state_at, world_of, cause_in, empty_state, raises}
+use Rattle.bully_world.specs.State.{IsWorld, members_of, state_at, world_of, cause_in, empty_state, raises, tag_in}
 use Rattle.bully_world.specs.Step.{Step}
 use Rattle.bully_world.specs.Taken.{taken, answer_taken}
 use Rattle.bully_world.proofs.GenerationLemmas.{taken_generations}
 use Rattle.bully_world.proofs.KeptLemmas.{taken_length}
+use Rattle.bully_world.proofs.TagLemmas.{taken_tags}
 use Rattle.bully_world.proofs.WorldLemmas.{world_fits, world_steps, next_world, put_back, none_from}
 use Rattle.bully_world.proofs.world.World.apply.Goals as goal
 
@@ -45,3 +46,11 @@ returns-clause-generations c =
     let raised = taken_generations c.self.inside.setup c.self.inside.events ms c.args.event.now c.self.invariant.count (world_fits c.self.inside.setup c.self.inside.events ms c.self.invariant) free in
     λ i. subst (λ s. (at_node (empty_state 0) (take c.self.inside.members.len (c.take_event-answer.new.members ++ drop (length c.take_event-answer.new.members) ms)) i).generation ≡ (state_at s i).generation + (if raises (world_of s) c.args.event.now i then 1 else 0)) c.self.view_is
     (subst (λ xs. (at_node (empty_state 0) xs i).generation ≡ (at_node (empty_state 0) ms i).generation + (if raises (members_of ms) c.args.event.now i then 1 else 0)) (sym back) (raised i))
+
+pub returns-clause-tags : goal.returns-clause-tags
+returns-clause-tags c =
+    let ms = c.self.inside.members.items in
+    let next : c.take_event-answer.new.members ≡ taken c.self.inside.setup ms c.args.event.now = c.take_event-answer.ensures.after ∙ ap (λ xs. taken c.self.inside.setup xs c.args.event.now) c.as_mut_slice.ensures.value in
+    let back = put_back c.self.inside.members.len c.take_event-answer.new.members ms (ap length next ∙ taken_length c.self.inside.setup ms c.args.event.now ∙ sym c.self.inside.members.ok.0) (sym c.self.inside.members.ok.0) ∙ next in
+    λ i other. subst (λ s. tag_in (at_node (empty_state 0) (take c.self.inside.members.len (c.take_event-answer.new.members ++ drop (length c.take_event-answer.new.members) ms)) i) ≡ tag_in (state_at s i)) c.self.view_is
+    (subst (λ xs. tag_in (at_node (empty_state 0) xs i) ≡ tag_in (at_node (empty_state 0) ms i)) (sym back) (taken_tags c.self.inside.setup ms c.args.event.now i other))
