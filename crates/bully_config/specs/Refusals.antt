@@ -3,7 +3,7 @@ use Rattle.std.specs.Prelude.{ℕ, Bool, true, false, not, ◌||◌, ◌&&◌, �
 use Rattle.std.specs.Option.{option_or, unwrap_or}
 use Rattle.std.specs.List.{list_any}
 use Rattle.std.specs.Str.{bytes_eq}
-use Rattle.toml.specs.Data.{Data, array, Members, no_members, member, as_str, as_integer, as_table}
+use Rattle.toml.specs.Data.{Data, Members, no_members, member, as_str, as_integer, as_array, as_table}
 use Rattle.bully_config.specs.declared.TheConstants.{FAULTS_MAX}
 use Rattle.bully_config.specs.declared.fault.Key.{Key}
 use Rattle.bully_config.specs.Configuration.{has_double, is_empty}
@@ -41,8 +41,10 @@ missing_in ms = option_or (first_absent required_keys ms)
 -- ---- a value has another kind
 
 abbrev pub is_array_of : (Data → Bool) → Data → Bool
-is_array_of test (array ds) = are_all test (list_of ds)
-is_array_of test d = false
+is_array_of test d = elim (as_array d) [
+  | None ↦ false
+  | Some items ↦ are_all test (list_of items)
+]
 
 -- the value is of the key's kind
 abbrev pub has_kind : Key → Data → Bool

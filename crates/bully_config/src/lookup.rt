@@ -19,16 +19,21 @@ pub fn value_at(table: &Table, key: Key) -> Option<&Value>
 }
 
 /// The items of the array at a key; nothing where there is no array.
+#[tactic(auto, unfolding(crate::specs::Document::items_at), using(crate::proofs::ItemLemmas::list_of_view))]
 pub fn items_at(table: &Table, key: Key) -> &[Value]
     ensures { map view result.now ≡ items_at key (table_view table.now) }
 {
-    match value_at(table, key) {
-        Some(Value::Array(items)) => items,
-        _ => &[],
+    let Some(value) = value_at(table, key) else {
+        return &[];
+    };
+    match value.as_array() {
+        Some(items) => items,
+        None => &[],
     }
 }
 
 /// The number at a key, where it is from 1 to the limit.
+#[tactic(auto, unfolding(crate::specs::Values::number_at))]
 pub fn number_at(table: &Table, key: Key, limit: u32) -> Option<u32>
     ensures { result ≡ number_at key limit (table_view table.now) }
 {
@@ -58,6 +63,7 @@ pub fn text_of(value: &Value) -> &str
 }
 
 // The integer at a key.
+#[tactic(auto, unfolding(crate::specs::Document::integer_at))]
 fn integer_at(table: &Table, key: Key) -> Option<i64>
     ensures { result ≡ integer_at key (table_view table.now) }
 {
@@ -65,6 +71,7 @@ fn integer_at(table: &Table, key: Key) -> Option<i64>
 }
 
 // The string at a key.
+#[tactic(auto, unfolding(crate::specs::Document::string_at))]
 fn string_at(table: &Table, key: Key) -> Option<&str>
     ensures { option_map (λ s. s.now) result ≡ string_at key (table_view table.now) }
 {

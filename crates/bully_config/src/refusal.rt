@@ -145,18 +145,19 @@ fn misfit_key_of_faults(faults: &[Value]) -> Option<Key>
 }
 
 // Whether the value is of the key's kind.
+#[tactic(auto, using(crate::proofs::ItemLemmas::list_of_view))]
 fn has_kind(key: Key, value: &Value) -> bool
     ensures { result ≡ has_kind key (view value.now) }
 {
     match key {
         Key::Nodes | Key::Partitions | Key::Events | Key::Turns | Key::At => value.is_integer(),
-        Key::Names => match value {
-            Value::Array(items) => are_strings(items),
-            _ => false,
+        Key::Names => match value.as_array() {
+            Some(items) => are_strings(items),
+            None => false,
         },
-        Key::Fault => match value {
-            Value::Array(items) => are_tables(items),
-            _ => false,
+        Key::Fault => match value.as_array() {
+            Some(items) => are_tables(items),
+            None => false,
         },
         Key::Node | Key::Kind => value.is_str(),
     }
@@ -189,6 +190,7 @@ fn are_tables(items: &[Value]) -> bool
 }
 
 // The first key whose value is out of its range.
+#[tactic(auto, using(crate::proofs::FactLemmas::names_short))]
 fn key_out_of_range(document: &Table) -> Option<Key>
     ensures { result ≡ out_of_range_in (table_view document.now) }
 {
