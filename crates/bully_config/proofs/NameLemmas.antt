@@ -1,6 +1,6 @@
 -- Names: the set that keeps them, and the places that they have.
-use Rattle.std.proofs.Common.{◌≡◌, ◌≢◌, ℕ, zero, suc, ◌+◌, ◌<◌, ◌≤◌, Bool, true, false, ◌||◌, List, [], ◌∷◌, ◌++◌, length, take, get_or, map, refl, sym, ap, arith, ◌∙◌, String, Global, string_bytes, Option, Some, None, option_map, cond}
-use Rattle.std.specs.Prelude.{slice_index_or, slice_get, position, ◌-◌}
+use Rattle.std.proofs.Common.{◌≡◌, ℕ, zero, suc, ◌+◌, ◌<◌, Bool, true, false, ◌||◌, List, [], ◌∷◌, ◌++◌, length, take, get_or, map, refl, sym, ap, arith, ◌∙◌, String, Global, string_bytes, Option, Some, None, option_map, cond}
+use Rattle.std.specs.Prelude.{slice_index_or, slice_get, position}
 use Rattle.std.specs.List.{list_any, position_from}
 use Rattle.std.specs.Str.{bytes_eq}
 use Rattle.std.specs.String.{string_eq}
@@ -14,7 +14,6 @@ use Rattle.toml.specs.View.{view}
 use Rattle.bully_config.specs.Document.{text_of}
 use Rattle.bully_config.specs.Values.{names_of}
 use Rattle.std.proofs.lemmas.Grind.{common_steps}
-use Rattle.std.proofs.lemmas.Slice.Eq.{bytes_eq-Decides}
 use Rattle.std.proofs.lemmas.Cmp.{nat_list_eq_equiv}
 use Rattle.indexmap.specs.IndexSet.{insert_key}
 use Rattle.bully_config.specs.Configuration.{has_double, node_named}

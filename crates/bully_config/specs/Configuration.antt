@@ -1,5 +1,5 @@
 -- A configuration, and its limits.
-use Rattle.std.specs.Prelude.{◌≡◌, ℕ, ◌<◌, ◌≤◌, ◌+◌, Bool, true, false, ◌||◌, List, [], ◌∷◌, length, Option}
+use Rattle.std.specs.Prelude.{◌≡◌, ℕ, ◌<◌, ◌≤◌, Bool, true, false, ◌||◌, List, [], ◌∷◌, length, Option}
 use Rattle.std.specs.List.{list_any, AllByRecursion, position_from}
 use Rattle.std.specs.Str.{bytes_eq}
 use Rattle.bully_base.specs.Setup.{Setup, IsSetup, IsNode}

@@ -1,7 +1,7 @@
 -- What a document has at the keys of a configuration.
-use Rattle.std.specs.Prelude.{ℕ, ℤ, Bool, true, false, ◌&&◌, List, [], ◌∷◌, Option, Some, None, option_map, option_and_then}
+use Rattle.std.specs.Prelude.{ℕ, ℤ, List, [], ◌∷◌, Option, option_map, option_and_then}
 use Rattle.std.specs.Option.{unwrap_or}
-use Rattle.toml.specs.Data.{Data, array, Items, no_items, item, Members, get_member, as_str, as_integer, as_array}
+use Rattle.toml.specs.Data.{Data, Items, no_items, item, Members, get_member, as_str, as_integer, as_array}
 use Rattle.bully_config.specs.declared.fault.Key.{Key}
 use Rattle.bully_config.specs.Keys.{word_of}
 

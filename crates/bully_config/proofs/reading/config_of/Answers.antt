@@ -1,4 +1,4 @@
-use Rattle.std.proofs.Common.{◌≡◌, ◌∙◌, sym, ap, arith, rules, map}
+use Rattle.std.proofs.Common.{◌∙◌, sym, map}
 use Rattle.toml.specs.View.{view, table_view}
 use Rattle.bully_config.proofs.FactLemmas.{configured_as, same_parts}
 use Rattle.bully_config.proofs.reading.config_of.Goals as goal

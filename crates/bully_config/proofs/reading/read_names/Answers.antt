@@ -1,4 +1,4 @@
-use Rattle.std.proofs.Common.{◌≡◌, ◌∙◌, sym, ap, arith, rules, map, get_or, [], String, string_bytes}
+use Rattle.std.proofs.Common.{◌≡◌, ◌∙◌, sym, arith, map, get_or, [], string_bytes}
 use Rattle.toml.specs.View.{view}
 use Rattle.bully_config.specs.Values.{names_of}
 use Rattle.bully_config.proofs.NameLemmas.{names_step, name_told, names_long}

@@ -1,4 +1,4 @@
-use Rattle.std.proofs.Common.{◌≡◌, ◌∙◌, sym, ap, arith, rules, ◌<◌}
+use Rattle.std.proofs.Common.{arith, rules}
 use Rattle.toml.specs.View.{table_view}
 use Rattle.bully_base.specs.declared.TheConstants.{NODES_MAX, PARTITIONS_MAX, EVENTS_MAX}
 use Rattle.bully_config.specs.declared.fault.Key.{Key}
