@@ -1,0 +1,141 @@
+-- What is known of a document that nothing refuses.
+use Rattle.std.proofs.Common.{◌≡◌, subst, ℕ, ◌<◌, ◌≤◌, Bool, true, false, List, length, refl, sym, ap, arith, ◌∙◌, Option, Some, None, option_map, if◌then◌else◌}
+use Rattle.std.specs.Option.{option_or, is_some}
+use Rattle.std.specs.List.{list_any}
+use Rattle.std.proofs.lemmas.Grind.{common_steps}
+use Rattle.toml.specs.Data.{Data, Members, no_members}
+use Rattle.toml.specs.Errors.{IsBlank}
+use Rattle.toml.specs.Parse.{parse_document, lines}
+use Rattle.std.proofs.lemmas.Option.{same_Some}
+use Rattle.bully_config.specs.declared.config.Fault.{Fault}
+use Rattle.bully_config.specs.declared.fault.Key.{Key}
+use Rattle.bully_config.specs.declared.fault.ConfigFault.{ConfigFault}
+use Rattle.bully_config.specs.declared.TheConstants.{TURNS_MAX, FAULTS_MAX}
+use Rattle.bully_config.specs.Answers.{refusal_of}
+use Rattle.bully_config.specs.Configuration.{Configuration, has_double, is_empty, IsConfiguration}
+use Rattle.bully_config.specs.Document.{value_at, items_at}
+use Rattle.bully_config.specs.Refusals.{are_names, out_of_range_in, missing_in, misfit_in, has_double_in, has_unlisted_in}
+use Rattle.std.specs.Prelude.{map, Result, Ok, Err, ◌↔◌}
+use Rattle.std.specs.Result.{IsOk}
+use Rattle.std.proofs.lemmas.List.{length-map}
+use Rattle.toml.specs.declared.value.Value.{Value}
+use Rattle.toml.specs.View.{view}
+use Rattle.bully_base.specs.Setup.{Setup, IsNodeNumber, IsPartitionCount, IsEventsBound}
+use Rattle.bully_base.specs.declared.setup.SetupFault.{SetupFault}
+use Rattle.bully_config.specs.Document.{text_of}
+use Rattle.std.proofs.lemmas.Bool.{false≢true}
+use Rattle.bully_base.specs.declared.TheConstants.{NODES_MAX, PARTITIONS_MAX, EVENTS_MAX}
+use Rattle.bully_config.proofs.FaultLemmas.{number_within, faults_within, faults_few}
+use Rattle.bully_config.specs.Values.{number_at, nodes_in, partitions_in, events_in, turns_in, or_zero, names_of, faults_in, values_of}
+
+-- the parts of it that the values rest on
+pub record Facts (ms : Members) : Type 0 where
+  pub nodes : is_some (nodes_in ms) ≡ true
+  pub partitions : is_some (partitions_in ms) ≡ true
+  pub events : is_some (events_in ms) ≡ true
+  pub turns : is_some (turns_in ms) ≡ true
+  pub names : length (names_of (items_at Key.Names ms)) ≡ or_zero (nodes_in ms)
+  pub full : list_any is_empty (names_of (items_at Key.Names ms)) ≡ false
+  pub few : length (items_at Key.Fault ms) ≤ FAULTS_MAX
+  pub distinct : has_double (names_of (items_at Key.Names ms)) ≡ false
+
+ranged : (ms : Members) → out_of_range_in ms ≡ None → has_double_in ms ≡ false → Facts ms
+ranged ms e d = record {
+  nodes = grind (arith, common_steps, e);
+  partitions = grind (arith, common_steps, e);
+  events = grind (arith, common_steps, e);
+  turns = grind (arith, common_steps, e);
+  names = grind (arith, common_steps, e);
+  full = grind (arith, common_steps, e);
+  few = grind (arith, common_steps, e);
+  distinct = d;
+}
+
+chain : (a b c : Option Key) (x y : ConfigFault) (d u : Bool)
+    → option_or (option_map ConfigFault.Missing a) (option_or (option_map ConfigFault.Kind b) (option_or (option_map ConfigFault.Range c)
+    (if d then Some x else if u then Some y else None))) ≡ None
+    → (c ≡ None) × (d ≡ false)
+chain None None None x y false u e = (refl, refl)
+chain None None None x y true u e = grind (arith, e)
+chain None None (Some c) x y d u e = grind (arith, e)
+chain None (Some b) c x y d u e = grind (arith, e)
+chain (Some a) b c x y d u e = grind (arith, e)
+
+pub facts : (ms : Members) → refusal_of ms ≡ None → Facts ms
+facts ms e =
+    let (ranges, double) = chain (missing_in ms) (misfit_in ms) (out_of_range_in ms) _ _ (has_double_in ms) (has_unlisted_in ms) e in
+    ranged ms ranges double
+
+-- the number that a test finds there is the one that stands there
+there : (o : Option ℕ) → is_some o ≡ true → o ≡ Some (or_zero o)
+there None e = absurd (false≢true e)
+there (Some n) e = refl
+
+pub number_there : (key : Key) (limit : ℕ) (ms : Members) → is_some (number_at key limit ms) ≡ true
+    → (0 < or_zero (number_at key limit ms)) × (or_zero (number_at key limit ms) ≤ limit)
+number_there key limit ms e = number_within key limit (or_zero (number_at key limit ms)) ms (there (number_at key limit ms) e)
+
+pub configured : (ms : Members) → refusal_of ms ≡ None → IsConfiguration (values_of ms)
+configured ms e =
+    let f = facts ms e in
+    record {
+      setup = record {
+        nodes = number_there Key.Nodes NODES_MAX ms f.nodes;
+        partitions = number_there Key.Partitions PARTITIONS_MAX ms f.partitions;
+        events = number_there Key.Events EVENTS_MAX ms f.events;
+      };
+      turns = number_there Key.Turns TURNS_MAX ms f.turns;
+      names = f.names;
+      distinct = f.distinct;
+      full = f.full;
+      few = omega (arith, f.few, faults_few (or_zero (turns_in ms)) (names_of (items_at Key.Names ms)) (items_at Key.Fault ms));
+      faults = faults_within (values_of ms).setup (or_zero (turns_in ms)) (names_of (items_at Key.Names ms)) (items_at Key.Fault ms) f.names;
+    }
+
+pub configured_as : (ms : Members) (c : Configuration) → refusal_of ms ≡ None → c ≡ values_of ms → IsConfiguration c
+configured_as ms c e same = rw same (configured ms e)
+
+-- names that are as many as the nodes are few
+pub names_short : (nodes : ℕ) (ms : Members) (vs : List Value) → number_at Key.Nodes NODES_MAX ms ≡ Some nodes → are_names nodes (names_of (map view vs)) ≡ true
+    → length vs ≤ NODES_MAX
+names_short nodes ms vs told names =
+    let (low, high) = number_within Key.Nodes NODES_MAX nodes ms told in
+    let same : length (names_of (map view vs)) ≡ nodes = grind (arith, common_steps, names) in
+    let long : length (names_of (map view vs)) ≡ length vs = length-map (map view vs) text_of ∙ length-map vs view in
+    omega (arith, high, same, long)
+
+-- numbers in their ranges make a setup
+pub setup_made : (r : Result Setup SetupFault) (n p e : ℕ) → (r ≡ Err SetupFault.BadNodes) ↔ ¬ IsNodeNumber n
+    → (r ≡ Err SetupFault.BadPartitions) ↔ (IsNodeNumber n × ¬ IsPartitionCount p)
+    → (r ≡ Err SetupFault.BadLimit) ↔ (IsNodeNumber n × IsPartitionCount p × ¬ IsEventsBound e)
+    → IsNodeNumber n → IsPartitionCount p → IsEventsBound e → IsOk r
+setup_made (Ok s) n p e a b c x y z = refl
+setup_made (Err SetupFault.BadNodes) n p e a b c x y z = absurd (a.0 refl x)
+setup_made (Err SetupFault.BadPartitions) n p e a b c x y z = absurd ((b.0 refl).1 y)
+setup_made (Err SetupFault.BadLimit) n p e a b c x y z = absurd ((c.0 refl).2 z)
+
+-- the parts that were read are the values
+pub same_parts : (ms : Members) (s : Setup) (t : ℕ) (names : List (List ℕ)) (faults : List Fault) (vs items : List Data)
+    → s ≡ (values_of ms).setup → number_at Key.Turns TURNS_MAX ms ≡ Some t → vs ≡ items_at Key.Names ms → items ≡ items_at Key.Fault ms
+    → names ≡ names_of vs → faults ≡ faults_in t (names_of vs) items
+    → record { setup = s; turns = t; names = names; faults = faults } ≡ values_of ms
+same_parts ms s t names faults vs items setup turns names_there faults_there named told =
+    let turn : t ≡ or_zero (turns_in ms) = sym (ap or_zero turns) in
+    let name : names ≡ names_of (items_at Key.Names ms) = named ∙ ap names_of names_there in
+    let fault : faults ≡ faults_in (or_zero (turns_in ms)) (names_of (items_at Key.Names ms)) (items_at Key.Fault ms) =
+    told ∙ (λ j. faults_in (turn j) (names_of (names_there j)) (faults_there j)) in
+    λ j. record { setup = setup j; turns = turn j; names = name j; faults = fault j }
+
+-- a text without any key is refused
+no_keys : refusal_of no_members ≡ None → ⊥
+unfolding value_at
+no_keys e = grind (arith, e)
+
+blank_document : (text : List ℕ) → IsBlank text → parse_document text ≡ Some no_members
+unfolding parse_document lines
+blank_document text blank = rw blank refl
+
+pub not_blank : (text : List ℕ) (ms : Members) → parse_document text ≡ Some ms → refusal_of ms ≡ None → ¬ IsBlank text
+not_blank text ms told none blank =
+    let same : no_members ≡ ms = same_Some no_members ms (sym (blank_document text blank) ∙ told) in
+    no_keys (subst (λ (m : Members). refusal_of m ≡ None) (sym same) none)

@@ -1,0 +1,4 @@
+pub mod FactLemmas
+pub mod FaultLemmas
+pub mod ItemLemmas
+pub mod NameLemmas

@@ -1,0 +1,83 @@
+-- The values of a document: what the configuration has where nothing refuses the document.
+use Rattle.std.specs.Prelude.{ℕ, ℤ, pos, negsuc, ◌&&◌, nat_lt, nat_le, codes, List, [], ◌∷◌, map, Option, Some, None, option_map, option_and_then, if◌then◌else◌}
+use Rattle.std.specs.Option.{unwrap_or}
+use Rattle.std.specs.Str.{bytes_eq}
+use Rattle.toml.specs.Data.{Data, Members, as_table}
+use Rattle.bully_base.specs.declared.TheConstants.{NODES_MAX, PARTITIONS_MAX, EVENTS_MAX}
+use Rattle.bully_config.specs.declared.TheConstants.{TURNS_MAX}
+use Rattle.bully_config.specs.declared.config.Fault.{Fault}
+use Rattle.bully_config.specs.declared.config.FaultKind.{FaultKind}
+use Rattle.bully_config.specs.declared.fault.Key.{Key}
+use Rattle.bully_config.specs.Configuration.{Configuration, node_named}
+use Rattle.bully_config.specs.Document.{integer_at, string_at, items_at, text_of}
+
+-- the number, where it is from 1 to the limit
+abbrev pub within : ℕ → ℤ → Option ℕ
+within limit (pos n) = if nat_lt 0 n && nat_le n limit then Some n else None
+within limit (negsuc n) = None
+
+unfoldable pub number_at : Key → ℕ → Members → Option ℕ
+number_at key limit ms = option_and_then (within limit) (integer_at key ms)
+
+-- the four numbers at the top, where they are in their ranges
+abbrev pub nodes_in : Members → Option ℕ
+nodes_in ms = number_at Key.Nodes NODES_MAX ms
+
+abbrev pub partitions_in : Members → Option ℕ
+partitions_in ms = number_at Key.Partitions PARTITIONS_MAX ms
+
+abbrev pub events_in : Members → Option ℕ
+events_in ms = number_at Key.Events EVENTS_MAX ms
+
+abbrev pub turns_in : Members → Option ℕ
+turns_in ms = number_at Key.Turns TURNS_MAX ms
+
+abbrev pub or_zero : Option ℕ → ℕ
+or_zero n = unwrap_or n 0
+
+-- the names, in the order of the array
+abbrev pub names_of : List Data → List (List ℕ)
+names_of items = map text_of items
+
+-- what a fault's word says that happens
+abbrev pub kind_named : List ℕ → Option FaultKind
+kind_named word =
+    if bytes_eq word (codes "crash") then Some FaultKind.Crash
+    else if bytes_eq word (codes "recover") then Some FaultKind.Recover
+    else None
+
+module _ (turns : ℕ) (names : List (List ℕ)) where
+  -- the turn, the node and the kind of a fault, where they are in their ranges
+  abbrev pub turn_in : Members → Option ℕ
+  turn_in ms = number_at Key.At turns ms
+
+  abbrev pub node_in : Members → Option ℕ
+  node_in ms = option_and_then (node_named names) (string_at Key.Node ms)
+
+  abbrev pub kind_in : Members → Option FaultKind
+  kind_in ms = option_and_then kind_named (string_at Key.Kind ms)
+
+  -- the fault that a table tells
+  abbrev pub fault_in : Members → Option Fault
+  fault_in ms =
+      option_and_then (λ t. option_and_then (λ n. option_map (λ k. record { at = t; node = n; kind = k }) (kind_in ms)) (node_in ms)) (turn_in ms)
+
+  -- the faults that the items tell, in their order
+  abbrev pub faults_in : List Data → List Fault
+  faults_in [] = []
+  faults_in (d ∷ ds) = elim (option_and_then fault_in (as_table d)) [
+    | None ↦ faults_in ds
+    | Some fault ↦ fault ∷ faults_in ds
+  ]
+
+-- the values of a document
+abbrev pub values_of : Members → Configuration
+values_of ms =
+    let turns = or_zero (turns_in ms) in
+    let names = names_of (items_at Key.Names ms) in
+    record {
+      setup = record { nodes = or_zero (nodes_in ms); partitions = or_zero (partitions_in ms); events_max = or_zero (events_in ms) };
+      turns = turns;
+      names = names;
+      faults = faults_in turns names (items_at Key.Fault ms);
+    }

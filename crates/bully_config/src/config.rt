@@ -1,0 +1,104 @@
+use bully_base::{Node, Setup};
+use indexmap::IndexSet;
+use std::marker::Model;
+
+/// What a fault does to its node.
+#[derive(Clone, Copy, PartialEq, Eq, Debug)]
+pub enum FaultKind {
+    Crash,
+    Recover,
+}
+
+/// A fault that the operator brings about: in this turn, from 1 on, at this node.
+#[derive(Clone, Copy, PartialEq, Eq, Debug)]
+pub struct Fault {
+    pub at: u32,
+    pub node: Node,
+    pub kind: FaultKind,
+}
+
+/// A configuration: its setup, its turns (1 to [`crate::TURNS_MAX`]), a name for each node, and at most
+/// [`crate::FAULTS_MAX`] faults in the order of the document.
+#[derive(Drop, Debug)]
+pub struct Config {
+    setup: Setup,
+    turns: u32,
+    names: IndexSet<String>,
+    faults: Vec<Fault>,
+}
+
+impl Model for Config {
+    ghost use Rattle.std.specs.Prelude.{map, string_bytes};
+    ghost use Rattle.bully_config.specs.Configuration.{Configuration, IsConfiguration};
+
+    ghost Value = { Configuration };
+
+    ghost view = { λ c. record { setup = c.setup; turns = c.turns; names = map (λ s. string_bytes s) c.names.keys; faults = c.faults.items } };
+
+    ghost invariant = { λ c. IsConfiguration (record { setup = c.setup; turns = c.turns; names = map (λ s. string_bytes s) c.names.keys; faults = c.faults.items }) };
+}
+
+impl Config {
+    ghost use Rattle.std.specs.Prelude.{◌≡◌, ◌≤◌, [], map, string_bytes};
+    ghost use Rattle.bully_base.specs.Places.{at_node};
+    ghost use Rattle.bully_config.specs.Configuration.{IsConfiguration, node_named};
+
+    /// The configuration of these parts, which are within the limits.
+    pub(crate) fn from_parts(
+        setup: Setup,
+        turns: u32,
+        names: IndexSet<String>,
+        faults: Vec<Fault>,
+    ) -> Config
+        requires { IsConfiguration (record { setup = setup; turns = turns; names = map (λ s. string_bytes s) names.keys; faults = faults.items }) }
+        ensures { result ≡ record { setup = setup; turns = turns; names = map (λ s. string_bytes s) names.keys; faults = faults.items } }
+    {
+        Config {
+            setup,
+            turns,
+            names,
+            faults,
+        }
+    }
+
+    /// The setup: its nodes are as many as the names.
+    pub fn setup(&self) -> Setup
+        ensures setup { result ≡ self.now.setup }
+        ensures within { IsConfiguration self.now }
+    {
+        self.setup
+    }
+
+    /// How many turns each thread has, from 1 to [`crate::TURNS_MAX`].
+    pub fn turns(&self) -> u32
+        ensures turns { result ≡ self.now.turns }
+        ensures within { IsConfiguration self.now }
+    {
+        self.turns
+    }
+
+    /// The name of a node of the setup.
+    pub fn name(&self, node: Node) -> &str
+        requires { node ≤ self.now.setup.nodes }
+        ensures { result.now ≡ at_node [] self.now.names node }
+    {
+        let index = usize::from(node.number() - 1);
+        self.names[index].as_str()
+    }
+
+    /// The node of this name; none where no node has it.
+    pub fn node(&self, name: &str) -> Option<Node>
+        ensures { result ≡ node_named self.now.names name.now }
+    {
+        let index = self.names.get_index_of(name)?;
+        Node::new(index as u16 + 1)
+    }
+
+    /// The faults, in the order of the document.
+    pub fn faults(&self) -> &[Fault]
+        ensures faults { result.now ≡ self.now.faults }
+        ensures within { IsConfiguration self.now }
+    {
+        &self.faults
+    }
+}

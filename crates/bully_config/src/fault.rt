@@ -1,0 +1,114 @@
+ghost use Rattle.std.specs.Prelude.{◌≡◌};
+ghost use Rattle.bully_config.specs.Keys.{word_of, name_of, key_of};
+
+use std::fmt;
+
+/// A key of a configuration. The first six stand at the top, the last three in a fault.
+#[derive(Clone, Copy, PartialEq, Eq, Debug)]
+pub enum Key {
+    /// How many nodes the group has: an integer from 1 to 64.
+    Nodes,
+    /// How many partitions its task has: an integer from 1 to 256.
+    Partitions,
+    /// The most events: an integer from 1 to 1,000,000.
+    Events,
+    /// The turns of each thread: an integer from 1 to 1,000,000.
+    Turns,
+    /// The names of the nodes, in the order of their numbers: an array of strings.
+    Names,
+    /// The faults: an array of at most 10,000 tables. It may be left out.
+    Fault,
+    /// The turn of a fault: an integer from 1 to the turns.
+    At,
+    /// The name of a fault's node: a string.
+    Node,
+    /// What the fault is: the string `crash` or `recover`.
+    Kind,
+}
+
+impl Key {
+    /// The key's text in a document.
+    pub fn word(self) -> &'static str
+        ensures { result.now ≡ word_of self }
+    {
+        match self {
+            Key::Nodes => "nodes",
+            Key::Partitions => "partitions",
+            Key::Events => "events",
+            Key::Turns => "turns",
+            Key::Names => "names",
+            Key::Fault => "fault",
+            Key::At => "at",
+            Key::Node => "node",
+            Key::Kind => "kind",
+        }
+    }
+}
+
+impl fmt::Display for Key {
+    fn fmt<W: fmt::Write>(&self, f: &mut fmt::Formatter<W>) -> fmt::Result {
+        f.write_str(self.word())
+    }
+}
+
+/// Why a text isn't read as a configuration: the first refusal that holds, in this order. Each is looked for in
+/// the whole document before the next one, and within each the keys come in the order of [`Key`], those at the
+/// top first, and then fault by fault. This project's profile.
+#[derive(Clone, Copy, PartialEq, Eq, Debug)]
+pub enum ConfigFault {
+    /// The text is no TOML document.
+    Toml,
+    /// A required key isn't there.
+    Missing(Key),
+    /// A value, or a member of `names` or `fault`, has another kind than the profile's.
+    Kind(Key),
+    /// A value is out of its range.
+    Range(Key),
+    /// Two names are equal.
+    DoubleName,
+    /// There is a key that the profile doesn't list, at the top or in a fault.
+    UnknownKey,
+    /// A growth of memory was refused. It is answered at once, so it says nothing of the text.
+    OutOfMemory,
+}
+
+impl ConfigFault {
+    /// The fault's name, as the program tells it, without its key.
+    pub fn name(self) -> &'static str
+        ensures { result.now ≡ name_of self }
+    {
+        match self {
+            ConfigFault::Toml => "Toml",
+            ConfigFault::Missing(_) => "Missing",
+            ConfigFault::Kind(_) => "Kind",
+            ConfigFault::Range(_) => "Range",
+            ConfigFault::DoubleName => "DoubleName",
+            ConfigFault::UnknownKey => "UnknownKey",
+            ConfigFault::OutOfMemory => "OutOfMemory",
+        }
+    }
+
+    /// The key at fault; none where the fault tells no key.
+    pub fn key(self) -> Option<Key>
+        ensures { result ≡ key_of self }
+    {
+        match self {
+            ConfigFault::Missing(key) | ConfigFault::Kind(key) | ConfigFault::Range(key) => Some(
+                key,
+            ),
+            _ => None,
+        }
+    }
+}
+
+impl fmt::Display for ConfigFault {
+    fn fmt<W: fmt::Write>(&self, f: &mut fmt::Formatter<W>) -> fmt::Result {
+        f.write_str(self.name())?;
+        match self.key() {
+            Some(key) => write!(f, " {key}"),
+            None => Ok(()),
+        }
+    }
+}
+
+impl std::error::Error for ConfigFault {}

@@ -1,0 +1,22 @@
+//! Configurations of a group: what a TOML document says of its setup, its turns, its names and its faults.
+//!
+//! It stands on bully_base, toml and indexmap. The crates above rely on a configuration being within its limits
+//! and on the answer to a document being its first refusal in the written order, else its values.
+#![tactic(auto)]
+
+mod config;
+mod fault;
+mod lookup;
+mod reading;
+mod refusal;
+#[cfg(test)]
+mod tests;
+
+pub use config::{Config, Fault, FaultKind};
+pub use fault::{ConfigFault, Key};
+
+/// The most turns of a configuration. The profile's limit.
+pub const TURNS_MAX: u32 = 1_000_000;
+
+/// The most faults of a configuration. The profile's limit.
+pub const FAULTS_MAX: usize = 10_000;

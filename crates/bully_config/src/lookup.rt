@@ -1,0 +1,117 @@
+//! What a document has at the keys of a configuration.
+ghost use Rattle.std.specs.Prelude.{◌≡◌, ◌≤◌, [], map, length, option_map};
+ghost use Rattle.toml.specs.View.{view, table_view};
+ghost use Rattle.bully_base.specs.declared.TheConstants.{NODES_MAX};
+ghost use Rattle.bully_config.specs.Configuration.{node_named};
+ghost use Rattle.bully_config.specs.Document.{value_at, integer_at, string_at, items_at, text_of};
+ghost use Rattle.bully_config.specs.Values.{number_at, within, names_of, kind_named, node_in, kind_in};
+
+use crate::config::FaultKind;
+use crate::fault::Key;
+use bully_base::Node;
+use toml::{Table, Value};
+
+/// The value at a key.
+pub fn value_at(table: &Table, key: Key) -> Option<&Value>
+    ensures { option_map (λ v. view v.now) result ≡ value_at key (table_view table.now) }
+{
+    table.get(key.word())
+}
+
+/// The items of the array at a key; nothing where there is no array.
+#[tactic(auto, unfolding(crate::specs::Document::items_at), using(crate::proofs::ItemLemmas::list_of_view))]
+pub fn items_at(table: &Table, key: Key) -> &[Value]
+    ensures { map view result.now ≡ items_at key (table_view table.now) }
+{
+    let Some(value) = value_at(table, key) else {
+        return &[];
+    };
+    match value.as_array() {
+        Some(items) => items,
+        None => &[],
+    }
+}
+
+/// The number at a key, where it is from 1 to the limit.
+#[tactic(auto, unfolding(crate::specs::Values::number_at))]
+pub fn number_at(table: &Table, key: Key, limit: u32) -> Option<u32>
+    ensures { result ≡ number_at key limit (table_view table.now) }
+{
+    number_within(integer_at(table, key)?, limit)
+}
+
+/// The node that a fault names, among the names of a document.
+pub fn node_at(fault: &Table, names: &[Value]) -> Option<Node>
+    requires { length names.now ≤ NODES_MAX }
+    ensures { result ≡ node_in 0 (names_of (map view names.now)) (table_view fault.now) }
+{
+    node_named(names, string_at(fault, Key::Node)?)
+}
+
+/// What a fault does.
+pub fn kind_at(fault: &Table) -> Option<FaultKind>
+    ensures { result ≡ kind_in 0 [] (table_view fault.now) }
+{
+    kind_named(string_at(fault, Key::Kind)?)
+}
+
+/// The text of a string; an empty one of another value.
+pub fn text_of(value: &Value) -> &str
+    ensures { result.now ≡ text_of (view value.now) }
+{
+    value.as_str().unwrap_or("")
+}
+
+// The integer at a key.
+#[tactic(auto, unfolding(crate::specs::Document::integer_at))]
+fn integer_at(table: &Table, key: Key) -> Option<i64>
+    ensures { result ≡ integer_at key (table_view table.now) }
+{
+    value_at(table, key)?.as_integer()
+}
+
+// The string at a key.
+#[tactic(auto, unfolding(crate::specs::Document::string_at))]
+fn string_at(table: &Table, key: Key) -> Option<&str>
+    ensures { option_map (λ s. s.now) result ≡ string_at key (table_view table.now) }
+{
+    value_at(table, key)?.as_str()
+}
+
+// The number, where it is from 1 to the limit.
+fn number_within(value: i64, limit: u32) -> Option<u32>
+    ensures { result ≡ within limit value }
+{
+    if 0 < value && value <= i64::from(limit) {
+        Some(value as u32)
+    } else {
+        None
+    }
+}
+
+// The first node of this name.
+#[tactic(auto, using(crate::proofs::ItemLemmas::items_next, crate::proofs::ItemLemmas::items_end))]
+fn node_named(names: &[Value], name: &str) -> Option<Node>
+    requires { length names.now ≤ NODES_MAX }
+    ensures { result ≡ node_named (names_of (map view names.now)) name.now }
+{
+    let mut number = 0;
+    for item in names {
+        number += 1;
+        if text_of(item) == name {
+            return Node::new(number);
+        }
+    }
+    None
+}
+
+// What the word of a fault says that happens.
+fn kind_named(word: &str) -> Option<FaultKind>
+    ensures { result ≡ kind_named word.now }
+{
+    match word {
+        "crash" => Some(FaultKind::Crash),
+        "recover" => Some(FaultKind::Recover),
+        _ => None,
+    }
+}

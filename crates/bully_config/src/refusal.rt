@@ -1,0 +1,345 @@
+//! The refusals of a document. None of them takes memory.
+ghost use Rattle.std.specs.Prelude.{◌≡◌, ◌≤◌, map, length};
+ghost use Rattle.std.specs.List.{list_any};
+ghost use Rattle.toml.specs.View.{view, table_view, members_view};
+ghost use Rattle.bully_base.specs.declared.TheConstants.{NODES_MAX};
+ghost use Rattle.bully_config.specs.Answers.{refusal_of};
+ghost use Rattle.std.specs.Str.{bytes_eq};
+ghost use Rattle.bully_config.specs.Configuration.{has_double, is_empty};
+ghost use Rattle.bully_config.specs.Document.{text_of};
+ghost use Rattle.bully_config.specs.Keys.{fault_keys};
+ghost use Rattle.bully_config.specs.Refusals.{first_in, first_absent, missing_in, is_table, is_string, are_all, has_kind, is_array_of, first_misfit, misfit_in, are_names, fault_out_of_range, out_of_range_in, is_listed, has_unlisted, fault_has_unlisted, has_unlisted_in};
+ghost use Rattle.bully_config.specs.Values.{names_of};
+
+use crate::fault::{ConfigFault, Key};
+use crate::lookup::{items_at, kind_at, node_at, number_at, text_of, value_at};
+use crate::{FAULTS_MAX, TURNS_MAX};
+use bully_base::{EVENTS_MAX, NODES_MAX, PARTITIONS_MAX};
+use toml::{Table, Value};
+
+/// The keys that a document must have.
+const REQUIRED_KEYS: [Key; 5] = [
+    Key::Nodes,
+    Key::Partitions,
+    Key::Events,
+    Key::Turns,
+    Key::Names,
+];
+
+/// The keys that a document may have.
+const TOP_KEYS: [Key; 6] = [
+    Key::Nodes,
+    Key::Partitions,
+    Key::Events,
+    Key::Turns,
+    Key::Names,
+    Key::Fault,
+];
+
+/// The keys that a fault must have.
+const FAULT_KEYS: [Key; 3] = [Key::At, Key::Node, Key::Kind];
+
+/// The first refusal of a document, in the order of [`ConfigFault`].
+pub fn first_refusal(document: &Table) -> Option<ConfigFault>
+    ensures { result ≡ refusal_of (table_view document.now) }
+{
+    if let Some(key) = missing_key(document) {
+        return Some(ConfigFault::Missing(key));
+    }
+    if let Some(key) = misfit_key(document) {
+        return Some(ConfigFault::Kind(key));
+    }
+    if let Some(key) = key_out_of_range(document) {
+        return Some(ConfigFault::Range(key));
+    }
+    if has_double(items_at(document, Key::Names)) {
+        return Some(ConfigFault::DoubleName);
+    }
+    if has_unknown_key(document) {
+        return Some(ConfigFault::UnknownKey);
+    }
+    None
+}
+
+// The first required key that isn't there.
+fn missing_key(document: &Table) -> Option<Key>
+    ensures { result ≡ missing_in (table_view document.now) }
+{
+    if let Some(key) = first_absent(document, &REQUIRED_KEYS) {
+        return Some(key);
+    }
+    let faults = items_at(document, Key::Fault);
+    if are_tables(faults) {
+        missing_key_of_faults(faults)
+    } else {
+        None
+    }
+}
+
+// The first of the keys that isn't there.
+fn first_absent(table: &Table, keys: &[Key]) -> Option<Key>
+    ensures { result ≡ first_absent keys.now (table_view table.now) }
+{
+    for key in keys {
+        if value_at(table, *key).is_none() {
+            return Some(*key);
+        }
+    }
+    None
+}
+
+// The key that isn't there in the first fault that lacks one.
+#[tactic(auto, using(crate::proofs::ItemLemmas::items_next, crate::proofs::ItemLemmas::items_end))]
+fn missing_key_of_faults(faults: &[Value]) -> Option<Key>
+    ensures { result ≡ first_in (first_absent fault_keys) (map view faults.now) }
+{
+    for item in faults {
+        if let Some(fault) = item.as_table() {
+            let missing = first_absent(fault, &FAULT_KEYS);
+            if missing.is_some() {
+                return missing;
+            }
+        }
+    }
+    None
+}
+
+// The first key whose value has another kind.
+fn misfit_key(document: &Table) -> Option<Key>
+    ensures { result ≡ misfit_in (table_view document.now) }
+{
+    if let Some(key) = first_misfit(document, &TOP_KEYS) {
+        return Some(key);
+    }
+    misfit_key_of_faults(items_at(document, Key::Fault))
+}
+
+// The first of the keys whose value has another kind.
+fn first_misfit(table: &Table, keys: &[Key]) -> Option<Key>
+    ensures { result ≡ first_misfit keys.now (table_view table.now) }
+{
+    for key in keys {
+        if let Some(value) = value_at(table, *key) {
+            if !has_kind(*key, value) {
+                return Some(*key);
+            }
+        }
+    }
+    None
+}
+
+// The key whose value has another kind, in the first fault that has one.
+#[tactic(auto, using(crate::proofs::ItemLemmas::items_next, crate::proofs::ItemLemmas::items_end))]
+fn misfit_key_of_faults(faults: &[Value]) -> Option<Key>
+    ensures { result ≡ first_in (first_misfit fault_keys) (map view faults.now) }
+{
+    for item in faults {
+        if let Some(fault) = item.as_table() {
+            let misfit = first_misfit(fault, &FAULT_KEYS);
+            if misfit.is_some() {
+                return misfit;
+            }
+        }
+    }
+    None
+}
+
+// Whether the value is of the key's kind.
+#[tactic(auto, using(crate::proofs::ItemLemmas::list_of_view))]
+fn has_kind(key: Key, value: &Value) -> bool
+    ensures { result ≡ has_kind key (view value.now) }
+{
+    match key {
+        Key::Nodes | Key::Partitions | Key::Events | Key::Turns | Key::At => value.is_integer(),
+        Key::Names => match value.as_array() {
+            Some(items) => are_strings(items),
+            None => false,
+        },
+        Key::Fault => match value.as_array() {
+            Some(items) => are_tables(items),
+            None => false,
+        },
+        Key::Node | Key::Kind => value.is_str(),
+    }
+}
+
+// Whether each item is a string.
+#[tactic(auto, using(crate::proofs::ItemLemmas::items_next, crate::proofs::ItemLemmas::items_end))]
+fn are_strings(items: &[Value]) -> bool
+    ensures { result ≡ are_all is_string (map view items.now) }
+{
+    for item in items {
+        if !item.is_str() {
+            return false;
+        }
+    }
+    true
+}
+
+// Whether each item is a table.
+#[tactic(auto, using(crate::proofs::ItemLemmas::items_next, crate::proofs::ItemLemmas::items_end))]
+fn are_tables(items: &[Value]) -> bool
+    ensures { result ≡ are_all is_table (map view items.now) }
+{
+    for item in items {
+        if !item.is_table() {
+            return false;
+        }
+    }
+    true
+}
+
+// The first key whose value is out of its range.
+#[tactic(auto, using(crate::proofs::FactLemmas::names_short))]
+fn key_out_of_range(document: &Table) -> Option<Key>
+    ensures { result ≡ out_of_range_in (table_view document.now) }
+{
+    let Some(nodes) = number_at(document, Key::Nodes, u32::from(NODES_MAX)) else {
+        return Some(Key::Nodes);
+    };
+    if number_at(document, Key::Partitions, u32::from(PARTITIONS_MAX)).is_none() {
+        return Some(Key::Partitions);
+    }
+    if number_at(document, Key::Events, EVENTS_MAX).is_none() {
+        return Some(Key::Events);
+    }
+    let Some(turns) = number_at(document, Key::Turns, TURNS_MAX) else {
+        return Some(Key::Turns);
+    };
+    let names = items_at(document, Key::Names);
+    if !are_names(names, nodes) {
+        return Some(Key::Names);
+    }
+    let faults = items_at(document, Key::Fault);
+    if faults.len() > FAULTS_MAX {
+        return Some(Key::Fault);
+    }
+    key_of_faults_out_of_range(faults, turns, names)
+}
+
+// Whether the names are as many as the nodes, and none is empty.
+fn are_names(names: &[Value], nodes: u32) -> bool
+    ensures { result ≡ are_names nodes (names_of (map view names.now)) }
+{
+    names.len() == nodes as usize && !has_empty(names)
+}
+
+// Whether a name is empty.
+#[tactic(auto, using(crate::proofs::ItemLemmas::items_next, crate::proofs::ItemLemmas::items_end))]
+fn has_empty(names: &[Value]) -> bool
+    ensures { result ≡ list_any is_empty (names_of (map view names.now)) }
+{
+    for item in names {
+        if text_of(item).is_empty() {
+            return true;
+        }
+    }
+    false
+}
+
+// The key whose value is out of its range, in the first fault that has one.
+#[tactic(auto, using(crate::proofs::ItemLemmas::items_next, crate::proofs::ItemLemmas::items_end))]
+fn key_of_faults_out_of_range(faults: &[Value], turns: u32, names: &[Value]) -> Option<Key>
+    requires { length names.now ≤ NODES_MAX }
+    ensures { result ≡ first_in (fault_out_of_range turns (names_of (map view names.now))) (map view faults.now) }
+{
+    for item in faults {
+        if let Some(fault) = item.as_table() {
+            let outside = key_of_fault_out_of_range(fault, turns, names);
+            if outside.is_some() {
+                return outside;
+            }
+        }
+    }
+    None
+}
+
+// The first key of a fault whose value is out of its range.
+fn key_of_fault_out_of_range(fault: &Table, turns: u32, names: &[Value]) -> Option<Key>
+    requires { length names.now ≤ NODES_MAX }
+    ensures { result ≡ fault_out_of_range turns (names_of (map view names.now)) (table_view fault.now) }
+{
+    if number_at(fault, Key::At, turns).is_none() {
+        return Some(Key::At);
+    }
+    if node_at(fault, names).is_none() {
+        return Some(Key::Node);
+    }
+    if kind_at(fault).is_none() {
+        return Some(Key::Kind);
+    }
+    None
+}
+
+// Whether two names are equal.
+fn has_double(names: &[Value]) -> bool
+    ensures { result ≡ has_double (names_of (map view names.now)) }
+{
+    let mut others = names;
+    while let Some((first, rest)) = others.split_first() {
+        if has_name(rest, text_of(first)) {
+            return true;
+        }
+        others = rest;
+    }
+    false
+}
+
+// Whether one of the names is this one.
+#[tactic(auto, using(crate::proofs::ItemLemmas::items_next, crate::proofs::ItemLemmas::items_end))]
+fn has_name(names: &[Value], name: &str) -> bool
+    ensures { result ≡ list_any (bytes_eq name.now) (names_of (map view names.now)) }
+{
+    for item in names {
+        if name == text_of(item) {
+            return true;
+        }
+    }
+    false
+}
+
+// Whether there is a key that isn't listed, at the top or in a fault.
+fn has_unknown_key(document: &Table) -> bool
+    ensures { result ≡ has_unlisted_in (table_view document.now) }
+{
+    has_unlisted(document, &TOP_KEYS) || has_unknown_key_in_faults(items_at(document, Key::Fault))
+}
+
+// Whether a fault has a key that isn't listed.
+#[tactic(auto, using(crate::proofs::ItemLemmas::items_next, crate::proofs::ItemLemmas::items_end))]
+fn has_unknown_key_in_faults(faults: &[Value]) -> bool
+    ensures { result ≡ list_any fault_has_unlisted (map view faults.now) }
+{
+    for item in faults {
+        if let Some(fault) = item.as_table() {
+            if has_unlisted(fault, &FAULT_KEYS) {
+                return true;
+            }
+        }
+    }
+    false
+}
+
+// Whether the table has a key that isn't one of these.
+fn has_unlisted(table: &Table, keys: &[Key]) -> bool
+    ensures { result ≡ has_unlisted keys.now (table_view table.now) }
+{
+    for (word, _value) in table.iter() {
+        if !is_listed(word.as_str(), keys) {
+            return true;
+        }
+    }
+    false
+}
+
+// Whether the text is that of one of the keys.
+fn is_listed(word: &str, keys: &[Key]) -> bool
+    ensures { result ≡ is_listed keys.now word.now }
+{
+    for key in keys {
+        if word == key.word() {
+            return true;
+        }
+    }
+    false
+}
