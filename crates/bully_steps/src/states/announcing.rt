@@ -11,8 +11,8 @@ use bully_base::NodeSet;
 use bully_calls::Outcome;
 use std::marker::Model;
 
-/// All lower nodes that are up were halted, and the node announces itself to them as their coordinator. `rest`
-/// are those that are left.
+/// The lower nodes that are up were halted, and the node announces itself to them as their coordinator, as in
+/// the 1982 paper. `rest` are those that are left of `up`.
 #[derive(Drop, Debug)]
 pub struct Announcing {
     pub(crate) owner: Owner,

@@ -10,8 +10,8 @@ use bully_base::NodeSet;
 use bully_calls::Outcome;
 use std::marker::Model;
 
-/// An election of the node, in which it asks each higher node in rising order whether it is up. `next` is the
-/// one that comes next, and one above the last where none is left.
+/// An election has begun, as in the 1982 paper: the node asks each higher node in rising order whether it is up.
+/// `next` is the one that comes next, and one above the last where none is left.
 #[derive(Drop, Debug)]
 pub struct Asking {
     pub(crate) owner: Owner,

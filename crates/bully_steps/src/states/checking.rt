@@ -11,7 +11,8 @@ use bully_base::Node;
 use bully_calls::Outcome;
 use std::marker::Model;
 
-/// The coordinator asks each other node in rising order whether it is normal. `callee` is the one that comes next.
+/// The coordinator asks each other node in rising order whether it is normal, as in the 1982 paper's check.
+/// `callee` is the one that comes next.
 #[derive(Drop, Debug)]
 pub struct Checking {
     pub(crate) owner: Owner,

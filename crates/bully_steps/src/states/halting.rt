@@ -10,8 +10,8 @@ use bully_base::{Node, NodeSet};
 use bully_calls::Outcome;
 use std::marker::Model;
 
-/// No higher node is up, so the node halts each lower one in falling order. `next` is the one that comes next,
-/// and 0 where none is left; `up` are those that answered.
+/// No higher node is up, so the node halts each lower one in falling order, as in the 1982 paper. `next` is the
+/// one that comes next, and 0 where none is left; `up` are those that answered.
 #[derive(Drop, Debug)]
 pub struct Halting {
     pub(crate) owner: Owner,

@@ -1,7 +1,7 @@
 use crate::states::Owner;
 use std::marker::Model;
 
-/// No procedure runs.
+/// No procedure runs at the node. This project's profile.
 #[derive(Drop, Debug)]
 pub struct Idle {
     pub(crate) owner: Owner,

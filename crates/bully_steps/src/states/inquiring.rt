@@ -10,7 +10,7 @@ use bully_base::Node;
 use bully_calls::Outcome;
 use std::marker::Model;
 
-/// After a timeout the node asks its coordinator, which is another node, whether it is up.
+/// After a timeout the node asks its coordinator, which is another node, whether it is up, as in the 1982 paper.
 #[derive(Drop, Debug)]
 pub struct Inquiring {
     pub(crate) owner: Owner,

@@ -11,7 +11,8 @@ use bully_calls::Outcome;
 use bully_table::Table;
 use std::marker::Model;
 
-/// The node knows who takes part, itself and `up`, and has no table for them yet.
+/// The coordinator knows who takes part, itself and `up`, and has no table for them yet. What a table is, and how
+/// it is planned, is this project's profile.
 #[derive(Drop, Debug)]
 pub struct Planning {
     pub(crate) owner: Owner,
@@ -29,7 +30,8 @@ impl Model for Planning {
     ghost invariant = { λ s. IsHeld (planning (record { owner = s.owner; up = s.up })) };
 }
 
-/// The node has a table over itself and `up`, which it hasn't taken as its task yet. This project's profile.
+/// The coordinator has a table that is balanced over itself and `up`, which it hasn't taken as its task yet.
+/// This project's profile.
 #[derive(Drop, Debug)]
 pub struct Planned {
     pub(crate) owner: Owner,

@@ -11,7 +11,8 @@ use bully_base::NodeSet;
 use bully_calls::Outcome;
 use std::marker::Model;
 
-/// The table is planned and taken, and the node hands it out. `rest` are those that are left.
+/// The node has taken a new table as its task, and hands it to the nodes that are up, as in the 1982 paper.
+/// `rest` are those that are left.
 #[derive(Drop, Debug)]
 pub struct Readying {
     pub(crate) owner: Owner,
