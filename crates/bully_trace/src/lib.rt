@@ -1,7 +1,7 @@
 //! Traces as text, and the checker of traces.
 //!
-//! It stands on bully_world, bully_agree and csv. The crates above rely on the verdict being that of the
-//! rows that the text means.
+//! It stands on bully_world, bully_agree, the crates below them and csv. The crates above rely on the verdict
+//! being that of the rows that the text means, and on the nodes agreeing after each row of a lawful trace.
 #![tactic(auto)]
 
 mod checking;
