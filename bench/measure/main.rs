@@ -1,8 +1,8 @@
-//! Compares two checkers on one trace: first their answers, then their times and their peaks of memory.
+//! Compares two programs on one input: first their answers, then their times and their peaks of memory.
 //!
-//!     measure PROVED PLAIN TRACE
+//!     measure INPUT PROVED PLAIN WORD..
 //!
-//! Each run is `PROGRAM check < TRACE` in a process of its own. This program is small, since Linux counts what a
+//! Each run is `PROGRAM WORD.. < INPUT` in a process of its own. This program is small, since Linux counts what a
 //! parent takes at the time of a fork into the peak of its child.
 
 use std::fs::File;
@@ -30,21 +30,27 @@ struct Run {
     kilobytes: i64,
 }
 
-/// What a checker answers.
+/// What a program is run with.
+struct Input<'a> {
+    file: &'a str,
+    words: &'a [String],
+}
+
+/// What a program answers.
 #[derive(PartialEq)]
 struct Answer {
     text: Vec<u8>,
     status: Option<i32>,
 }
 
-fn check_of(program: &str, trace: &str) -> io::Result<Command> {
+fn command_of(program: &str, input: &Input) -> io::Result<Command> {
     let mut command = Command::new(program);
-    command.arg("check").stdin(File::open(trace)?);
+    command.args(input.words).stdin(File::open(input.file)?);
     Ok(command)
 }
 
-fn answer(program: &str, trace: &str) -> io::Result<Answer> {
-    let output = check_of(program, trace)?.stderr(Stdio::inherit()).output()?;
+fn answer(program: &str, input: &Input) -> io::Result<Answer> {
+    let output = command_of(program, input)?.stderr(Stdio::inherit()).output()?;
     Ok(Answer {
         text: output.stdout,
         status: output.status.code(),
@@ -70,8 +76,8 @@ fn wait_for(process: u32) -> io::Result<i64> {
 }
 
 /// One run, from the start of the process to its end.
-fn run(program: &str, trace: &str) -> io::Result<Run> {
-    let mut command = check_of(program, trace)?;
+fn run(program: &str, input: &Input) -> io::Result<Run> {
+    let mut command = command_of(program, input)?;
     command.stdout(Stdio::piped());
     let start = Instant::now();
     let mut process = command.spawn()?;
@@ -97,24 +103,24 @@ fn report(name: &str, runs: &[Run]) -> f64 {
     median
 }
 
-fn compare(proved: &str, plain: &str, trace: &str) -> io::Result<()> {
-    let expected = answer(plain, trace)?;
-    if answer(proved, trace)? != expected {
-        return Err(Error::other("the two checkers answer differently"));
+fn compare(proved: &str, plain: &str, input: &Input) -> io::Result<()> {
+    let expected = answer(plain, input)?;
+    if answer(proved, input)? != expected {
+        return Err(Error::other("the two programs answer differently"));
     }
     if expected.status != Some(0) {
-        return Err(Error::other("the trace isn't lawful"));
+        return Err(Error::other("the answer isn't that of status 0"));
     }
     let mut proved_runs = Vec::new();
     let mut plain_runs = Vec::new();
     for _ in 0..RUNS {
-        proved_runs.push(run(proved, trace)?);
-        plain_runs.push(run(plain, trace)?);
+        proved_runs.push(run(proved, input)?);
+        plain_runs.push(run(plain, input)?);
     }
-    let proved_median = report("bully", &proved_runs);
-    let plain_median = report("baseline", &plain_runs);
+    let proved_median = report("proved", &proved_runs);
+    let plain_median = report("plain", &plain_runs);
     println!(
-        "  ratio     {:.2} (median of bully by median of baseline)",
+        "  ratio     {:.2} (median of proved by median of plain)",
         proved_median / plain_median
     );
     Ok(())
@@ -123,8 +129,8 @@ fn compare(proved: &str, plain: &str, trace: &str) -> io::Result<()> {
 fn main() -> ExitCode {
     let words: Vec<String> = std::env::args().skip(1).collect();
     let result = match words.as_slice() {
-        [proved, plain, trace] => compare(proved, plain, trace),
-        _ => Err(Error::other("usage: measure PROVED PLAIN TRACE")),
+        [file, proved, plain, words @ ..] => compare(proved, plain, &Input { file, words }),
+        _ => Err(Error::other("usage: measure INPUT PROVED PLAIN WORD..")),
     };
     match result {
         Ok(()) => ExitCode::SUCCESS,

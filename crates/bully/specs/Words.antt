@@ -1,7 +1,8 @@
 -- What the words after the program's name ask for, as clap reads them.
 use Rattle.std.specs.Prelude.{◌≡◌, Bool, true, false, not, ◌&&◌, List, [], ◌∷◌, Option, Some, option_map, codes}
 use Rattle.std.specs.List.{list_all}
-use Rattle.clap.specs.Words.{App, Text, Kinds, fault_of, new_app, subcommand_of, takes, with_subcommand}
+use Rattle.clap.specs.Words.{App, Rule, Text, Kinds, fault_of, new_app, new_rule, subcommand_of, takes, with_rule, with_subcommand}
+use Rattle.clap.specs.declared.builder.action.ArgAction.TheVariants.{Append, Set}
 use Rattle.clap.specs.declared.error.kind.ErrorKind.{ErrorKind}
 use Rattle.clap.specs.declared.error.kind.ErrorKind.TheVariants as kind
 
@@ -9,9 +10,27 @@ use Rattle.clap.specs.declared.error.kind.ErrorKind.TheVariants as kind
 abbrev pub bare : App
 bare = record (new_app (codes "bully")) { top = record (new_app (codes "bully")).top { no_binary_name = true; subcommand_required = true } }
 
+-- the path of a configuration
+abbrev pub config_rule : Rule
+config_rule = record (new_rule (codes "CONFIG")) { required = true }
+
+-- the names of the members, one at least
+abbrev pub member_rule : Rule
+member_rule = record (new_rule (codes "MEMBER")) { required = true; action = Some Append }
+
+-- the owners of the old table, where there is one
+abbrev pub old_rule : Rule
+old_rule = record (new_rule (codes "old")) { long = Some (codes "old"); value_names = 1; action = Some Set }
+
+abbrev pub check_app : App
+check_app = new_app (codes "check")
+
+abbrev pub table_app : App
+table_app = with_rule (with_rule (with_rule (new_app (codes "table")) config_rule) member_rule) old_rule
+
 -- the program with its commands
 abbrev pub program : App
-program = with_subcommand bare (new_app (codes "check")).top
+program = with_subcommand (with_subcommand bare check_app.top) table_app.top
 
 -- the command that the words name
 abbrev pub command_named : List Text → Option Text

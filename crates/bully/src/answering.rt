@@ -4,12 +4,14 @@ ghost use Rattle.bully.specs.Words.{ParsesAsCheck, is_help, is_mistake, asks_for
 ghost use Rattle.bully.specs.Answer.{IsAnswer, Tells, stop_line};
 
 use crate::checking::answer_check;
+use crate::tables::answer_table;
 use crate::telling::{Stop, answer_stop, finish};
 use crate::words::{Action, action_of};
 use clap::Error;
 use clap::error::ErrorKind;
 use std::convert::AsStr;
 use std::io::{Read, Write};
+use std::rt::Files;
 
 /// Does what the words ask for, those after the program's name, and tells the status.
 ///
@@ -18,7 +20,7 @@ use std::io::{Read, Write};
 /// 3: a fault of form in the trace; its line stands on `errors` and nothing on the output. 4: Read, Write or
 /// OutOfMemory, which a line on `errors` tells. A line on `errors` that can't be written changes no status.
 /// The words are read first, then the trace. This project's profile.
-pub fn answer<H: AllocGlobal, S: AsStr, R: Read + Drop, W: Write, E: Write>(
+pub fn answer<H: Files + AllocGlobal, S: AsStr, R: Read + Drop, W: Write, E: Write>(
     rt: &H,
     words: &[S],
     input: R,
@@ -34,6 +36,7 @@ pub fn answer<H: AllocGlobal, S: AsStr, R: Read + Drop, W: Write, E: Write>(
 {
     match action_of(rt.alloc(), words) {
         Ok(Action::Check) => answer_check(rt.alloc(), input, output, errors),
+        Ok(Action::Table(words)) => answer_table(rt, &words, output, errors),
         Err(error) => answer_words(&error, output, errors),
     }
 }

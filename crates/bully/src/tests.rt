@@ -1,6 +1,8 @@
 use crate::answering::answer;
+use std::fs;
 use std::io;
 use std::io::{ErrorKind, Read, Write};
+use std::rt::Files;
 use std::test::Fail;
 
 // A reader and a writer that fail at each call.
@@ -24,7 +26,7 @@ impl Write for Broken {
 }
 
 // `check` of this text answers this status, and writes exactly this.
-fn checks<H: AllocGlobal>(rt: &H, text: &str, status: u8, output: &str, errors: &str) -> bool {
+fn checks<H: Files + AllocGlobal>(rt: &H, text: &str, status: u8, output: &str, errors: &str) -> bool {
     let mut told = Vec::new(rt.alloc());
     let mut faults = Vec::new(rt.alloc());
     let answered = answer(rt, &["check"], text.as_bytes(), &mut told, &mut faults);
@@ -34,7 +36,7 @@ fn checks<H: AllocGlobal>(rt: &H, text: &str, status: u8, output: &str, errors: 
 }
 
 // The header of two nodes and two partitions with these rows behind it: the output or the errors, by the status.
-fn follows<H: AllocGlobal>(rt: &H, rows: &str, status: u8, line: &str) -> Result<bool, Fail> {
+fn follows<H: Files + AllocGlobal>(rt: &H, rows: &str, status: u8, line: &str) -> Result<bool, Fail> {
     let text = format!(in rt.alloc(); "bully,1,2,2\n{rows}\n")?;
     if status == 3 {
         return Ok(checks(rt, text.as_str(), 3, "", line));
@@ -97,7 +99,7 @@ fn refuses_headers(rt: HostRuntime) {
 }
 
 // The status of these words, whether something stands on the output, and whether something stands on the errors.
-fn told<H: AllocGlobal>(rt: &H, words: &[&str]) -> (u8, bool, bool) {
+fn told<H: Files + AllocGlobal>(rt: &H, words: &[&str]) -> (u8, bool, bool) {
     let mut output = Vec::new(rt.alloc());
     let mut errors = Vec::new(rt.alloc());
     let status = answer(rt, words, io::empty(), &mut output, &mut errors);
@@ -130,4 +132,62 @@ fn tells_failures(rt: HostRuntime) {
     assert!(rt; errors.as_slice() == "bully: Write\n".as_bytes());
     assert!(rt; answer(&rt, &["check"], io::empty(), &mut output, &mut Broken) == 3);
     assert!(rt; output.is_empty());
+}
+
+// The configuration of three nodes, a, b and c, with five partitions.
+const THREE: &str =
+    "nodes = 3\npartitions = 5\nevents = 100\nturns = 6\nnames = [\"a\", \"b\", \"c\"]\n";
+
+// `table` with these words behind a file that holds these bytes: the status, and exactly what is written.
+fn tables<H: Files + AllocGlobal>(
+    rt: &H,
+    file: (&str, &[u8]),
+    words: &[&str],
+    status: u8,
+    told: (&str, &str),
+) -> Result<bool, Fail> {
+    fs::write(rt, file.0, file.1)?;
+    let mut all = vec![in rt.alloc(); "table", file.0]?;
+    all.extend_from_slice(words)?;
+    let mut output = Vec::new(rt.alloc());
+    let mut errors = Vec::new(rt.alloc());
+    let answered = answer(rt, all.as_slice(), io::empty(), &mut output, &mut errors);
+    fs::remove_file(rt, file.0)?;
+    Ok(answered == status
+        && output.as_slice() == told.0.as_bytes()
+        && errors.as_slice() == told.1.as_bytes())
+}
+
+#[test]
+fn plans_tables(rt: HostRuntime) -> Result<(), Fail> {
+    let three = ("plans_tables.toml", THREE.as_bytes());
+    let kept = ("1 2 2 2 1\nmoves 1\nbound 4\n", "");
+    assert!(rt; tables(&rt, three, &["a", "b", "--old", "1 2 2 2 3"], 0, kept)?);
+    assert!(rt; tables(&rt, three, &["--old", "1 2 2 2 3", "b", "a"], 0, kept)?);
+    assert!(rt; tables(&rt, three, &["a", "b", "a", "a", "--old=1 2 2 2 3"], 0, kept)?);
+    assert!(rt; tables(&rt, three, &["c"], 0, ("3 3 3 3 3\nmoves 5\nbound 0\n", ""))?);
+    Ok(())
+}
+
+#[test]
+fn refuses_tables(rt: HostRuntime) -> Result<(), Fail> {
+    let three = ("refuses_tables.toml", THREE.as_bytes());
+    let member = ("", "bully: words: Member\n");
+    assert!(rt; tables(&rt, three, &["d"], 2, member)?);
+    assert!(rt; tables(&rt, three, &["a", "d", "--old", "1"], 2, member)?);
+    assert!(rt; tables(&rt, three, &["a", "--old", "1"], 2, ("", "bully: words: Length\n"))?);
+    assert!(rt; tables(&rt, three, &["a", "--old", "1 2 2 2 4"], 2, ("", "bully: words: Owner\n"))?);
+    assert!(rt; tables(&rt, three, &["a", "--old", "1 2 2 2 03"], 2, ("", "bully: words: Syntax\n"))?);
+    let bad = ("refuses_tables.toml", "nodes = [".as_bytes());
+    assert!(rt; tables(&rt, bad, &["d", "--old", "1"], 3, ("", "bully: config: Toml\n"))?);
+    let no_text = ("refuses_tables.toml", [0xff].as_slice());
+    assert!(rt; tables(&rt, no_text, &["a"], 3, ("", "bully: config: Toml\n"))?);
+    let empty = ("refuses_tables.toml", "".as_bytes());
+    assert!(rt; tables(&rt, empty, &["d"], 3, ("", "bully: config: Missing nodes\n"))?);
+    assert!(rt; told(&rt, &["table", "no_such_file.toml", "d"]) == (4, false, true));
+    assert!(rt; told(&rt, &["table"]) == (2, false, true));
+    assert!(rt; told(&rt, &["table", "no_such_file.toml"]) == (2, false, true));
+    assert!(rt; told(&rt, &["table", "no_such_file.toml", "a", "--old"]) == (2, false, true));
+    assert!(rt; told(&rt, &["table", "--help"]) == (0, true, false));
+    Ok(())
 }

@@ -29,8 +29,8 @@ returns-in_err-matches-clause-fault g c = λ faulty.
     let of_program = subst (λ a. HasKind (fault_of a (map g.S.AsStr.text c.args.words.now)) c.in_err-matches.field-0.0) command_is kinds in
     err-and c.from_residual-in_err-matches.result _ _ c.from_residual-in_err-matches.ensures.1 (λ e same. subst (HasKind (fault_of program (map g.S.AsStr.text c.args.words.now))) (sym same) of_program)
 
-pub returns-in-Some-check-clause-fault : goal.returns-in-Some-check-clause-fault
-returns-in-Some-check-clause-fault g c = λ faulty.
+pub returns-in-Some-clause-fault : goal.returns-in-Some-clause-fault
+returns-in-Some-clause-fault g c = λ faulty.
     let command_is : app_of c.in_ok-command.command ≡ program = c.in_ok-command.ensures in
     let none = c.in_ok-matches.ensures.kinds (ap is_simple_and_free command_is ∙ is_free) in
     faulty (ap (λ a. fault_of a (map g.S.AsStr.text c.args.words.now)) (sym command_is) ∙ none)

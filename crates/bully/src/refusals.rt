@@ -1,0 +1,97 @@
+ghost use Rattle.std.specs.Prelude.{◌≡◌, ◌≤◌, ◌⊎◌};
+
+use crate::telling::{Stop, answer_stop, tell};
+use bully_base::OutOfMemory;
+use bully_config::ConfigFault;
+use bully_table::{PlanFault, TableFault};
+use std::alloc::Global;
+use std::io::Write;
+
+/// Why a command that reads a configuration does nothing.
+#[derive(Clone, Copy)]
+pub enum Refusal {
+    /// The configuration has a fault of form.
+    Config(ConfigFault),
+    /// A word names no node of the configuration.
+    Member,
+    /// The owners of the old table are none.
+    Old(TableFault),
+    /// Something failed from outside.
+    Stop(Stop),
+}
+
+impl From<ConfigFault> for Refusal {
+    fn from(fault: ConfigFault) -> Refusal {
+        match fault {
+            ConfigFault::OutOfMemory => Refusal::Stop(Stop::OutOfMemory),
+            _ => Refusal::Config(fault),
+        }
+    }
+}
+
+impl From<TableFault> for Refusal {
+    fn from(fault: TableFault) -> Refusal {
+        match fault {
+            TableFault::OutOfMemory => Refusal::Stop(Stop::OutOfMemory),
+            _ => Refusal::Old(fault),
+        }
+    }
+}
+
+impl From<PlanFault> for Refusal {
+    fn from(fault: PlanFault) -> Refusal {
+        match fault {
+            PlanFault::NoMember => Refusal::Member,
+            PlanFault::OutOfMemory => Refusal::Stop(Stop::OutOfMemory),
+        }
+    }
+}
+
+/// Tells a refusal on the errors, and its status: 2 for words, 3 for a configuration's form, and 4 for what
+/// failed from outside and where there is no memory for the line.
+pub fn answer_refusal<E: Write>(alloc: Global, refusal: Refusal, errors: &mut E) -> u8
+    ensures { result ≤ 4 }
+{
+    match refusal {
+        Refusal::Config(fault) => answer_line(config_line(alloc, fault), 3, errors),
+        Refusal::Member => {
+            tell(errors, "bully: words: Member\n");
+            2
+        }
+        Refusal::Old(fault) => answer_line(table_line(alloc, fault), 2, errors),
+        Refusal::Stop(stop) => answer_stop(stop, errors),
+    }
+}
+
+// Tells a line on the errors, with its status, or that there is no memory for it.
+fn answer_line<E: Write>(line: Result<String, OutOfMemory>, status: u8, errors: &mut E) -> u8
+    ensures { (result ≡ status) ⊎ (result ≡ 4) }
+{
+    match line {
+        Ok(line) => {
+            tell(errors, line.as_str());
+            status
+        }
+        Err(_) => answer_stop(Stop::OutOfMemory, errors),
+    }
+}
+
+// The line of a configuration's fault.
+fn config_line(alloc: Global, fault: ConfigFault) -> Result<String, OutOfMemory> {
+    let mut line = String::new(alloc);
+    writeln!(line, "bully: config: {fault}")?;
+    Ok(line)
+}
+
+// The line of a fault of the old table.
+fn table_line(alloc: Global, fault: TableFault) -> Result<String, OutOfMemory> {
+    let mut line = String::new(alloc);
+    let name = match fault {
+        TableFault::Length => "Length",
+        TableFault::Owner => "Owner",
+        TableFault::Syntax => "Syntax",
+        TableFault::OutOfMemory => "OutOfMemory",
+    };
+    writeln!(line, "bully: words: {name}")?;
+    Ok(line)
+}
