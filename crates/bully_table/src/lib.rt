@@ -7,10 +7,12 @@
 mod balance;
 mod numeral;
 mod pieces;
+mod planning;
 mod reading;
 mod room;
 mod table;
 
 pub use numeral::read_number;
+pub use planning::{PlanFault, TablePlan, plan};
 pub use room::TableRoom;
 pub use table::{Table, TableFault};
