@@ -5,9 +5,11 @@
 #![tactic(auto)]
 
 mod balance;
+mod moving;
 mod numeral;
 mod pieces;
 mod planning;
+mod quotas;
 mod reading;
 mod room;
 mod table;
@@ -16,3 +18,6 @@ pub use numeral::read_number;
 pub use planning::{PlanFault, TablePlan, plan};
 pub use room::TableRoom;
 pub use table::{Table, TableFault};
+
+#[cfg(test)]
+mod tests;
