@@ -2,3 +2,8 @@ pub mod NumeralLemmas
 pub mod PieceLemmas
 pub mod BalanceSteps
 pub mod BalanceLemmas
+pub mod TotalLemmas
+pub mod PlaceCounts
+pub mod ShareLemmas
+pub mod StayLemmas
+pub mod PlannedLemmas
