@@ -7,3 +7,4 @@ pub mod PlaceCounts
 pub mod ShareLemmas
 pub mod StayLemmas
 pub mod PlannedLemmas
+pub mod PlanSteps

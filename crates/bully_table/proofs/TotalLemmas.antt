@@ -81,6 +81,10 @@ total-below-other f k (m ∷ ms) h = grind (arith, nat_tests, apart, total-below
     apart : m ≢ k
     apart e = h (0, omega arith, e)
 
+pub total-below-same : (f g : ℕ → ℕ) (k : ℕ) (ms : List ℕ) → ((m : ℕ) → Contains ms m → f m ≡ g m) → total f (below_node k ms) ≡ total g (below_node k ms)
+total-below-same f g k [] h = refl
+total-below-same f g k (m ∷ ms) h = grind (arith, nat_tests, h m (Contains-first m ms), total-below-same f g k ms (λ j x. h j (later m j ms x)))
+
 pub total-below-le : (f : ℕ → ℕ) (j k : ℕ) (ms : List ℕ) → j ≤ k → total f (below_node j ms) ≤ total f (below_node k ms)
 total-below-le f j k [] l = omega arith
 total-below-le f j k (m ∷ ms) l = grind (arith, nat_tests, total-below-le f j k ms l)

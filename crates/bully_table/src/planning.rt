@@ -1,6 +1,8 @@
 ghost use Rattle.std.specs.Prelude.{◌≡◌, ◌≢◌, ◌↔◌, ◌+◌, ◌-◌, ◌<◌, ◌≤◌, ℕ, List, [], Some, None, map, take, length, slice_index_or, Contains, IfOk, IfErr, if◌then◌else◌};
 ghost use Rattle.std.specs.List.{range_with_len, sum_by};
 ghost use Rattle.std.specs.Option.{IfSome, option_copied};
+ghost use Rattle.bully_base.specs.NodeSet.{IsFallingBelow};
+ghost use Rattle.bully_base.specs.declared.TheConstants.{NODES_MAX};
 ghost use Rattle.bully_base.specs.Setup.{Setup as SetupState, IsNodeNumber};
 ghost use Rattle.bully_table.specs.Balance.{count_of};
 ghost use Rattle.bully_table.specs.Planning.{IsFewest, IsMostKept, moves_from, planned, owners_before, planned_owner, owner_at, quota, stays, room, taker};
@@ -51,7 +53,7 @@ pub fn plan(
     ensures moves { IfOk result (λ plan. plan.moves ≡ moves_from setup (option_copied old.entry) plan.table) }
     ensures rest { IfOk result (λ plan. plan.moves ≡ setup.partitions - plan.bound) }
 {
-    if members.is_empty() {
+    if members.highest().is_none() {
         return Err(PlanFault::NoMember);
     }
     let quotas = quotas_of(setup, members, owners_before(old));
@@ -98,6 +100,7 @@ fn planned_owners(
     quotas: &[usize; PLACES],
 ) -> Result<Vec<Node>, OutOfMemory>
     requires some { members.now ≢ [] }
+    requires falling { IsFallingBelow (NODES_MAX + 1) members.now }
     requires covers { length before.now ≤ setup.partitions }
     requires quotas { (m : ℕ) → IsNodeNumber m → slice_index_or quotas.now (m - 1) 0 ≡ quota setup before.now members.now m }
     ensures { IfOk result (λ owners. owners.items ≡ map (planned_owner setup before.now members.now) (range_with_len 0 setup.partitions)) }
@@ -150,6 +153,7 @@ fn taker_of(
     counts: &[usize; PLACES],
     index: usize,
 ) -> Option<Node>
+    requires { IsFallingBelow (NODES_MAX + 1) members.now }
     ensures { (setup : SetupState) (before : List ℕ) → ((m : ℕ) → Contains members.now m → slice_index_or quotas.now (m - 1) 0 - slice_index_or counts.now (m - 1) 0 ≡ room setup before members.now m) → index < sum_by (room setup before members.now) members.now → result ≡ Some (taker setup before members.now index) }
 {
     let mut rest = index;

@@ -1,4 +1,6 @@
-ghost use Rattle.std.specs.Prelude.{◌≡◌, ◌≢◌, ◌-◌, ℕ, List, [], slice_index_or, count_by};
+ghost use Rattle.std.specs.Prelude.{◌≡◌, ◌≢◌, ◌+◌, ◌-◌, ℕ, List, [], slice_index_or, count_by};
+ghost use Rattle.bully_base.specs.NodeSet.{IsFallingBelow};
+ghost use Rattle.bully_base.specs.declared.TheConstants.{NODES_MAX};
 ghost use Rattle.bully_base.specs.Setup.{IsNodeNumber};
 ghost use Rattle.bully_table.specs.Balance.{count_of};
 ghost use Rattle.bully_table.specs.Planning.{comes_first, quota};
@@ -37,6 +39,7 @@ fn quota_of(setup: Setup, members: &NodeSet, counts: &[usize; PLACES], node: Nod
 
 // How many members come before the node.
 fn rank_of(members: &NodeSet, counts: &[usize; PLACES], base: usize, node: Node) -> usize
+    requires { IsFallingBelow (NODES_MAX + 1) members.now }
     ensures { (before : List ℕ) → ((m : ℕ) → IsNodeNumber m → slice_index_or counts.now (m - 1) 0 ≡ count_of m before) → result ≡ count_by (λ k. comes_first base before k node) members.now }
 {
     let mut rank = 0;
