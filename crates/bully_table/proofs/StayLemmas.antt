@@ -39,6 +39,11 @@ stays-outside setup before members p out = by_case (stays setup before members p
     by_case true e = absurd (out (stays-member setup before members p e))
     by_case false e = e
 
+pub stays-past : (setup : Setup) (bound : ℕ) (before members : List ℕ) (p : ℕ) → IsFallingBelow bound members → length before ≤ p → stays setup before members p ≡ false
+stays-past setup bound before members p falling l =
+    let nobody : owner_at before p ≡ 0 = grind (arith, common_steps) in
+    stays-outside setup before members p (λ x. absurd (omega (arith, falling-within bound members (owner_at before p) falling x)))
+
 -- how many stay with a member, of the first n partitions
 pub stays-count : (setup : Setup) (bound : ℕ) (before members : List ℕ) (m n : ℕ) → IsFallingBelow bound members → Contains members m →
     places_where (λ p. stays setup before members p && (owner_at before p == m)) n ≡ min (count_of m (take n before)) (quota setup before members m)

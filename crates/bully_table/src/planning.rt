@@ -132,13 +132,15 @@ fn staying_owner(
     place: usize,
     seen: &mut [usize; PLACES],
 ) -> Option<Node>
-    requires { (m : ℕ) → IsNodeNumber m → slice_index_or seen.old (m - 1) 0 ≡ count_of m (take place before.now) }
+    requires falling { IsFallingBelow (NODES_MAX + 1) members.now }
+    requires seen { (m : ℕ) → IsNodeNumber m → slice_index_or seen.old (m - 1) 0 ≡ count_of m (take place before.now) }
     ensures seen { (m : ℕ) → IsNodeNumber m → slice_index_or seen.new (m - 1) 0 ≡ count_of m (take (place + 1) before.now) }
     ensures owner { (setup : SetupState) → ((m : ℕ) → IsNodeNumber m → slice_index_or quotas.now (m - 1) 0 ≡ quota setup before.now members.now m) → result ≡ (if stays setup before.now members.now place then Some (owner_at before.now place) else None) }
 {
     let owner = *before.get(place)?;
-    let count = count_at(seen, owner);
-    seen[usize::from(owner.number() - 1)] = count + 1;
+    let index = usize::from(owner.number() - 1);
+    let count = seen[index];
+    seen[index] = count + 1;
     if members.has(owner) && count < count_at(quotas, owner) {
         Some(owner)
     } else {
