@@ -1,18 +1,18 @@
 -- The planned table is balanced, and no balanced table has fewer moves.
 use Rattle.std.proofs.Common.{◌≡◌, ◌≢◌, ℕ, zero, suc, ◌+◌, ◌-◌, ◌<◌, ◌≤◌, min, ◌⊎◌, inl, inr, Bool, true, false, cond, List, [], ◌∷◌, ◌++◌, map, length, take, get_or, arith, sym, refl, ◌∙◌, ap, All, Contains, add-one, Option, Some, None}
-use Rattle.std.specs.Prelude.{◌&&◌, not, nat_lt, nat_le, ◌==◌, IfSome}
+use Rattle.std.specs.Prelude.{◌&&◌, not, nat_lt, nat_le, ◌==◌, IfSome, is_none, sum_by}
 use Rattle.std.specs.List.{range_with_len}
 use Rattle.std.proofs.lemmas.Bool.Decides.{nat_tests}
 use Rattle.std.proofs.lemmas.Grind.{common_steps}
 use Rattle.std.proofs.lemmas.List.Elements.{All-get_or, All-from_get_or}
 use Rattle.std.proofs.lemmas.List.FromFn.{length-map-range_with_len, get_or-map-range_with_len, map-range_with_len_more}
 use Rattle.std.proofs.lemmas.List.Sums.{sum_by_push}
-use Rattle.bully_base.specs.NodeSet.{IsFallingBelow, below_node}
+use Rattle.bully_base.specs.NodeSet.{IsFallingBelow, below_node, highest_of}
 use Rattle.bully_base.specs.Setup.{Setup}
 use Rattle.bully_table.specs.Balance.{count_of, IsBalanced}
 use Rattle.bully_table.specs.Planning.{owner_at, places_where, moves, moves_from, kept_from, IsFewest, IsMostKept, owners_before, base_of, rest_of, quota, stays, room, rooms_below, taker, planned_owner, planned}
 use Rattle.bully_table.proofs.BalanceSteps.{falling-within}
-use Rattle.bully_table.proofs.TotalLemmas.{total, total-le, total-below-within, one}
+use Rattle.bully_table.proofs.TotalLemmas.{total, total-sum_by, total-le, total-below-within, one}
 use Rattle.bully_table.proofs.PlaceCounts.{places-none, places-next, places-more, places-le, places-not, places-parted, places-count_all}
 use Rattle.bully_table.proofs.ShareLemmas.{quota-is, kept-most, near-balanced, counts-total}
 use Rattle.bully_table.proofs.StayLemmas.{Plannable, stays-member, stays-count_all, room-is, stays-total, rooms-total, rooms_below-is, IsIn, taker-of, taker-only, taker-member}
@@ -21,7 +21,7 @@ use Rattle.bully_table.proofs.StayLemmas.{Plannable, stays-member, stays-count_a
 abbrev pub leaving : Setup → List ℕ → List ℕ → ℕ → ℕ
 leaving setup before members n = places_where (λ k. not (stays setup before members k)) n
 
-leaving-le : (setup : Setup) (before members : List ℕ) (p n : ℕ) → p < n → stays setup before members p ≡ false → leaving setup before members p < leaving setup before members n
+pub leaving-le : (setup : Setup) (before members : List ℕ) (p n : ℕ) → p < n → stays setup before members p ≡ false → leaving setup before members p < leaving setup before members n
 leaving-le setup before members p zero l e = absurd (omega arith)
 leaving-le setup before members p (suc n) l e = by_case (grind arith) (places-next (λ k. not (stays setup before members k)) n) (λ h. leaving-le setup before members p n h e)
   where
@@ -190,3 +190,57 @@ fewest-keeps setup old members table count fewest e = record {
   some = (table, fewest.covers, fewest.balanced, rw e refl);
   none_more = λ other covers balanced. omega (arith, e, fewest.least other covers balanced);
 }
+
+-- no more partitions move than there are
+pub moves-within : (setup : Setup) (old : Option (List ℕ)) (table : List ℕ) → length table ≡ setup.partitions → moves_from setup old table ≤ setup.partitions
+moves-within setup None table covers = omega arith
+moves-within setup (Some old) table covers = omega (arith, places-not (λ p. owner_at old p == owner_at table p) (length table))
+
+-- what the code knows makes a plan possible
+pub covers-from : (setup : Setup) (old : Option (List ℕ)) → IfSome old (λ t. length t ≡ setup.partitions) → length (owners_before old) ≤ setup.partitions
+covers-from setup None h = omega arith
+covers-from setup (Some old) h = omega arith
+
+pub lengths-from : (old : Option (List ℕ)) (partitions n : ℕ) → IfSome old (λ t. length t ≡ partitions) → n ≡ partitions → IfSome old (λ t. length t ≡ n)
+lengths-from None partitions n h e = tt
+lengths-from (Some old) partitions n h e = omega arith
+
+pub some-from : (highest : Option ℕ) (members : List ℕ) → highest ≡ highest_of members → is_none highest ≡ false → 0 < length members
+some-from highest [] e h = absurd (grind (arith, e, h))
+some-from highest (m ∷ ms) e h = omega arith
+
+pub some-length : (members : List ℕ) → members ≢ [] → 0 < length members
+some-length [] h = absurd (h refl)
+some-length (m ∷ ms) h = omega arith
+
+-- one partition more
+pub planned-more : (f : ℕ → ℕ) (place owner : ℕ) (items next : List ℕ) → items ≡ map f (range_with_len 0 place) → owner ≡ f place → next ≡ items ++ owner ∷ [] → next ≡ map f (range_with_len 0 (place + 1))
+planned-more f place owner items next was e more =
+    more ∙ (ap (λ (xs : List ℕ). xs ++ owner ∷ []) was ∙ (ap (λ (k : ℕ). map f (range_with_len 0 place) ++ k ∷ []) e ∙ sym (map-range_with_len_more f 0 place place (omega arith))))
+
+pub leaving-none : (setup : Setup) (before members : List ℕ) → 0 ≡ leaving setup before members 0
+leaving-none setup before members = sym (places-none (λ k. not (stays setup before members k)))
+
+pub leaving-more : (setup : Setup) (before members : List ℕ) (place was next : ℕ) → stays setup before members place ≡ false → was ≡ leaving setup before members place → next ≡ was + 1 → next ≡ leaving setup before members (place + 1)
+leaving-more setup before members place was next e is more = grind (arith, e, is, more, places-more (λ k. not (stays setup before members k)) place)
+
+pub leaving-same : (setup : Setup) (before members : List ℕ) (place was next : ℕ) → stays setup before members place ≡ true → was ≡ leaving setup before members place → next ≡ was → next ≡ leaving setup before members (place + 1)
+leaving-same setup before members place was next e is more = grind (arith, e, is, more, places-more (λ k. not (stays setup before members k)) place)
+
+-- and there is room for it
+pub leaving-fits : (setup : Setup) (bound : ℕ) (before members : List ℕ) (place : ℕ) → Plannable setup bound before members → place < setup.partitions → stays setup before members place ≡ false →
+    leaving setup before members place < sum_by (room setup before members) members
+leaving-fits setup bound before members place h l e = omega (arith, rooms-total setup bound before members h, leaving-le setup before members place setup.partitions l e, total-sum_by (room setup before members) members)
+
+pub planned-found : (setup : Setup) (before members : List ℕ) (place movers owner : ℕ) → stays setup before members place ≡ false → movers ≡ leaving setup before members place →
+    owner ≡ taker setup before members movers → owner ≡ planned_owner setup before members place
+planned-found setup before members place movers owner e is found = found ∙ (ap (λ (j : ℕ). taker setup before members j) is ∙ sym (planned-taken setup before members place e))
+
+-- what `staying_owner` tells
+pub told-stays : (b : Bool) (owner at : ℕ) → Some owner ≡ cond b (Some at) None → (b ≡ true) × (owner ≡ at)
+told-stays true owner at e = (refl, cc)
+told-stays false owner at e = absurd (cc)
+
+pub told-leaves : (b : Bool) (at : ℕ) → None ≡ cond b (Some at) None → b ≡ false
+told-leaves true at e = absurd (cc)
+told-leaves false at e = refl

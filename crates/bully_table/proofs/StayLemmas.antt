@@ -1,11 +1,11 @@
 -- What stays in the planned table, and who gets the rest.
-use Rattle.std.proofs.Common.{◌≡◌, ◌≢◌, ℕ, zero, suc, ◌+◌, ◌-◌, ◌<◌, ◌≤◌, min, ◌⊎◌, inl, inr, Bool, true, false, cond, List, [], ◌∷◌, length, take, arith, sym, refl, ◌∙◌, ap, Contains, add-one}
+use Rattle.std.proofs.Common.{◌≡◌, ◌≢◌, ℕ, zero, suc, ◌+◌, ◌-◌, ◌<◌, ◌≤◌, min, ◌⊎◌, inl, inr, Bool, true, false, cond, List, [], ◌∷◌, length, take, arith, sym, refl, ◌∙◌, ap, Contains, add-one, slice_index_or}
 use Rattle.std.specs.Prelude.{◌&&◌, not, nat_lt, nat_le, ◌==◌}
 use Rattle.std.specs.List.{list_any}
 use Rattle.std.proofs.lemmas.Bool.Decides.{nat_tests}
 use Rattle.std.proofs.lemmas.Grind.{common_steps}
 use Rattle.bully_base.specs.NodeSet.{IsFallingBelow, below_node}
-use Rattle.bully_base.specs.Setup.{Setup}
+use Rattle.bully_base.specs.Setup.{Setup, IsNodeNumber}
 use Rattle.bully_table.specs.Balance.{count_of}
 use Rattle.bully_table.specs.Planning.{owner_at, places_where, quota, stays, room, rooms_below, taker, member_where}
 use Rattle.bully_table.proofs.BalanceLemmas.{any_decides, earlier, later}
@@ -73,6 +73,14 @@ stays-count_all setup bound before members m h x = stays-count setup bound befor
 pub room-is : (setup : Setup) (bound : ℕ) (before members : List ℕ) (m : ℕ) → Plannable setup bound before members → Contains members m → room setup before members m ≡ quota setup before members m - count_of m before
 unfolding room
 room-is setup bound before members m h x = omega (arith, stays-count_all setup bound before members m h x)
+
+-- what the code subtracts
+pub rooms-from : (setup : Setup) (before members quotas counts : List ℕ) → Plannable setup 65 before members →
+    ((m : ℕ) → IsNodeNumber m → slice_index_or quotas (m - 1) 0 ≡ quota setup before members m) → ((m : ℕ) → IsNodeNumber m → slice_index_or counts (m - 1) 0 ≡ count_of m before) →
+    (m : ℕ) → Contains members m → slice_index_or quotas (m - 1) 0 - slice_index_or counts (m - 1) 0 ≡ room setup before members m
+rooms-from setup before members quotas counts h shares counted m x =
+    let within = falling-within 65 members m h.falling x in
+    omega (arith, room-is setup 65 before members m h x, shares m (within.0, omega (arith, within.1)), counted m (within.0, omega (arith, within.1)))
 
 -- how many partitions stay in all
 pub stays-total : (setup : Setup) (bound : ℕ) (before members : List ℕ) → Plannable setup bound before members →

@@ -56,6 +56,7 @@ pub fn plan(
     if members.highest().is_none() {
         return Err(PlanFault::NoMember);
     }
+    let partitions = setup.partitions();
     let quotas = quotas_of(setup, members, owners_before(old));
     let owners = match planned_owners(alloc, setup, members, owners_before(old), &quotas) {
         Ok(owners) => owners,
@@ -66,7 +67,7 @@ pub fn plan(
     Ok(TablePlan {
         table,
         moves,
-        bound: setup.partitions() - moves,
+        bound: partitions - moves,
     })
 }
 
@@ -114,8 +115,9 @@ fn planned_owners(
         let owner = match staying_owner(members, before, quotas, place, &mut seen) {
             Some(owner) => owner,
             None => {
+                let taker = taker_of(members, quotas, &counts, movers).unwrap();
                 movers += 1;
-                taker_of(members, quotas, &counts, movers - 1).unwrap()
+                taker
             }
         };
         owners.push(owner)?;

@@ -37,9 +37,9 @@ returns-else-has-clause-owner c = λ setup shares.
     let quota_is = shares c.in_ok-owner.field-0.now c.number.ensures.within in
     elim c.else-has.branch [
       | else-has-via-then-has+else-count-count_at w ↦
-        let test = stays-of setup c.args.before.now c.args.members.now c.args.place c.in_ok-owner.field-0.now (c.has.ensures.0 w.if-has.true) is in
-        grind (arith, nat_tests, test, counted, quota_is, is)
+          let test = stays-of setup c.args.before.now c.args.members.now c.args.place c.in_ok-owner.field-0.now (c.has.ensures.0 w.if-has.true) is in
+          grind (arith, nat_tests, test, counted, quota_is, is)
       | else-has-via-else-has w ↦
-        let test = stays-outside setup c.args.before.now c.args.members.now c.args.place (λ x. let yes = c.has.ensures.1 (rw (← is) x) in absurd (cc)) in
-        rw test
+          let test = stays-outside setup c.args.before.now c.args.members.now c.args.place (λ x. let yes = c.has.ensures.1 (rw (← is) x) in absurd (cc)) in
+          rw test
     ]
