@@ -64,6 +64,7 @@ impl Table {
     /// Refused, in this order, as `Length`, `Owner`, `Syntax`, `OutOfMemory`. This project's profile.
     pub fn read(alloc: Global, setup: Setup, text: &str) -> Result<Table, TableFault>
         ensures ok { IfOk result (λ t. table_of_text setup text.now ≡ Ok t) }
+        ensures length { IfOk result (λ t. length t ≡ setup.partitions) }
         ensures err { IfErr result (λ fault. (table_of_text setup text.now ≡ Err fault) ⊎ ((fault ≡ TableFault.OutOfMemory) × IsOk (table_of_text setup text.now))) }
     {
         Table::read_bytes(alloc, setup, text.as_bytes())
@@ -72,6 +73,7 @@ impl Table {
     /// Reads the owners from bytes, as [`Table::read`] does. Bytes that aren't UTF-8 spell no owners.
     pub fn read_bytes(alloc: Global, setup: Setup, text: &[u8]) -> Result<Table, TableFault>
         ensures ok { IfOk result (λ t. table_of_text setup text.now ≡ Ok t) }
+        ensures length { IfOk result (λ t. length t ≡ setup.partitions) }
         ensures err { IfErr result (λ fault. (table_of_text setup text.now ≡ Err fault) ⊎ ((fault ≡ TableFault.OutOfMemory) × IsOk (table_of_text setup text.now))) }
     {
         let found = look_through(setup, text);
