@@ -1,6 +1,6 @@
 use crate::random::Random;
 use bully_base::{Node, NodeSet, Setup};
-use bully_table::{Table, plan};
+use bully_table::{Table, TablePlan, plan};
 use std::alloc::Global;
 
 const NODES: u16 = 64;
@@ -41,11 +41,18 @@ pub fn plan_rounds(alloc: Global, rounds: u32) -> Option<Sums> {
     };
     for round in 0..rounds {
         let old = tables.get(usize::try_from(round).ok()? % TABLES)?;
-        let members = members_of(random.next());
-        let made = plan(alloc, setup, &members, Some(old)).ok()?;
+        let made = plan_from(alloc, setup, old, random.next())?;
         sums.add(made.moves, made.bound, &made.table);
     }
     Some(sums)
+}
+
+// A plan from the old table for the members of these bits. None for a table of another length, too.
+fn plan_from(alloc: Global, setup: Setup, old: &Table, bits: u64) -> Option<TablePlan> {
+    if old.len() != usize::from(setup.partitions()) {
+        return None;
+    }
+    plan(alloc, setup, &members_of(bits), Some(old)).ok()
 }
 
 // The nodes whose bits are set, node 1 by the lowest one, and the last node where none is.
