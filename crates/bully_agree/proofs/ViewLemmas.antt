@@ -43,7 +43,7 @@ pub view_keeps : (w : WorldState) → IsReached w → IsView (view_of w.setup w.
 view_keeps w reached = record {
   count = length-map (world_of w).members shown_of ∙ length-map w.members member_of ∙ count_of_reached w reached;
   agrees = agrees_of w.setup w.events (world_of w) (agreed_of w reached);
-  viewed = record { world = w; reached = reached; view = refl };
+  viewed = record { events = reached.applied; answers = reached.answers; world = world_of w; lawful = reached.lawful; view = ap (λ n. view_of w.setup n (world_of w)) (sym reached.counted) };
 }
 
 shown-place : (ms : List MemberState) (k : ℕ) → k < length ms → map shown_of (take (suc k) (map member_of ms)) ≡ map shown_of (take k (map member_of ms)) ++ shown_of (member_of (slice_index_or ms k (empty_state 0))) ∷ []

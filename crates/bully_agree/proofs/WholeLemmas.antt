@@ -6,11 +6,21 @@ use Rattle.std.proofs.lemmas.Bool.{eq-eqb}
 use Rattle.std.proofs.lemmas.List.{append-nil}
 use Rattle.std.proofs.lemmas.Option.{slice_get_within}
 use Rattle.bully_world.specs.declared.event.Event.{Event}
-use Rattle.bully_agree.specs.Stages.{is_between, is_whole_from, may_stand, stage_after}
+use Rattle.bully_agree.specs.Stages.{may_stand, stage_after}
 use Rattle.bully_agree.specs.WholeCalls.{BreaksAt, MayGoOn, is_whole, settles, gives_back}
 use Rattle.bully_agree.specs.declared.whole_calls.Stage.{Stage}
 use Rattle.bully_agree.specs.declared.whole_calls.Stage.TheVariants.{Between, Started, Over}
 use Rattle.bully_agree.proofs.RunLemmas.{part, take-more}
+
+abbrev pub is_between : Stage → Bool
+is_between Between = true
+is_between (Started i) = false
+is_between (Over i) = false
+
+-- the events make the call at hand whole, and go on as a whole-call list
+abbrev pub is_whole_from : Stage → List Event → Bool
+is_whole_from stage [] = is_between stage
+is_whole_from stage (e ∷ events) = may_stand stage e && is_whole_from (stage_after stage e) events
 
 and-false : (b : Bool) → (b && false) ≡ false
 and-false true = refl

@@ -30,8 +30,3 @@ abbrev pub IsWholeFault : Setup → List Event → WholeFault → Type 0
 IsWholeFault setup events (WholeFault.NotWhole index) = BreaksAt events index × (is_whole events ≡ false)
 IsWholeFault setup events (WholeFault.Stop index why) = StopsAt setup events index why × (is_whole events ≡ true)
 IsWholeFault setup events WholeFault.OutOfMemory = is_whole events ≡ true
-
--- the fault of a run, where each call is whole
-abbrev pub whole_fault : RunFault → WholeFault
-whole_fault (RunFault.Stop index why) = WholeFault.Stop index why
-whole_fault RunFault.OutOfMemory = WholeFault.OutOfMemory

@@ -1,13 +1,11 @@
--- How far the call at hand has come, as a list of events is gone through.
-use Rattle.std.specs.Prelude.{ℕ, Bool, true, false, List, [], ◌∷◌, ◌&&◌}
+-- How far the call at hand has come, as a list of events is gone through; and the fault of a run as that of whole calls.
+use Rattle.std.specs.Prelude.{Bool, true}
 use Rattle.bully_world.specs.declared.event.Event.{Event}
 use Rattle.bully_agree.specs.declared.whole_calls.Stage.{Stage}
 use Rattle.bully_agree.specs.declared.whole_calls.Stage.TheVariants.{Between, Started, Over}
+use Rattle.bully_agree.specs.declared.runs.RunFault.{RunFault}
+use Rattle.bully_agree.specs.declared.whole_calls.WholeFault.{WholeFault}
 use Rattle.bully_agree.specs.WholeCalls.{stands_alone, settles, gives_back}
-
-abbrev pub is_start : Event → Bool
-is_start (Event.Start i) = true
-is_start e = false
 
 -- whether the event may stand here
 abbrev pub may_stand : Stage → Event → Bool
@@ -23,12 +21,7 @@ stage_after Between e = Between
 stage_after (Started i) e = Over i
 stage_after (Over i) e = Between
 
-abbrev pub is_between : Stage → Bool
-is_between Between = true
-is_between (Started i) = false
-is_between (Over i) = false
-
--- the events make the call at hand whole, and go on as a whole-call list
-abbrev pub is_whole_from : Stage → List Event → Bool
-is_whole_from stage [] = is_between stage
-is_whole_from stage (e ∷ events) = may_stand stage e && is_whole_from (stage_after stage e) events
+-- the fault of a run, where each call is whole
+abbrev pub whole_fault : RunFault → WholeFault
+whole_fault (RunFault.Stop index why) = WholeFault.Stop index why
+whole_fault RunFault.OutOfMemory = WholeFault.OutOfMemory

@@ -4,7 +4,9 @@ use Rattle.bully_base.specs.Places.{at_node}
 use Rattle.bully_base.specs.Setup.{Setup}
 use Rattle.bully_base.specs.declared.node.Status.{Status}
 use Rattle.bully_base.specs.declared.node.Status.TheVariants.{Down, Reorganization, Normal}
-use Rattle.bully_world.specs.State.{WorldState, IsReached, world_of}
+use Rattle.bully_calls.specs.declared.call.Answer.{Answer}
+use Rattle.bully_world.specs.declared.event.Event.{Event}
+use Rattle.bully_world.specs.Lawful.{IsLawful}
 use Rattle.bully_world.specs.World.{World, Member}
 
 -- what is shown of one node
@@ -47,9 +49,11 @@ pub record ViewAgrees (v : View) : Type 0 where
 
 -- it is the view of a world that a lawful list leads to, of as many events as the view counts
 pub record IsViewed (v : View) : Type 0 where
-  pub world : WorldState
-  pub reached : IsReached world
-  pub view : v ≡ view_of world.setup world.events (world_of world)
+  pub events : List Event
+  pub answers : List Answer
+  pub world : World
+  pub lawful : IsLawful v.setup events answers world
+  pub view : v ≡ view_of v.setup (length events) world
 
 -- what every view keeps
 pub record IsView (v : View) : Type 0 where

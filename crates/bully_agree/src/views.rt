@@ -51,7 +51,8 @@ impl View {
         self.setup
     }
 
-    /// How many events were applied.
+    /// How many events were applied, from 0 to the setup's bound. Every view agrees, and is of a world that a lawful
+    /// list of so many events leads to.
     pub fn events(&self) -> u32
         ensures events { result ≡ self.now.events }
         ensures agrees { ViewAgrees self.now }
@@ -75,7 +76,7 @@ impl View {
         self.shown(node).status
     }
 
-    /// The node that it obeys. The node is at most the setup's last.
+    /// The node that it takes as coordinator; none where it has none. The node is at most the setup's last.
     pub fn coordinator(&self, node: Node) -> Option<Node>
         requires { node ≤ self.now.setup.nodes }
         ensures { result ≡ (shown self.now node).coordinator }
@@ -83,7 +84,8 @@ impl View {
         self.shown(node).coordinator
     }
 
-    /// Its part of the group's task, as the table of all owners. The node is at most the setup's last.
+    /// The task that it holds, a table of the owner of each partition; none where it has none. The node is at most the
+    /// setup's last.
     pub fn task(&self, node: Node) -> Option<&Table>
         requires { node ≤ self.now.setup.nodes }
         ensures { option_copied result ≡ (shown self.now node).task }

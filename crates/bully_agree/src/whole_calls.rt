@@ -1,6 +1,6 @@
 ghost use Rattle.std.specs.Prelude.{◌≡◌, List, Some, None, length, true, false, IfErr, IfOk, IfNone, IfSome, OnOk, if◌then◌else◌};
-ghost use Rattle.bully_agree.specs.Runs.{IsWholeFault, whole_fault};
-ghost use Rattle.bully_agree.specs.Stages.{may_stand, stage_after};
+ghost use Rattle.bully_agree.specs.Runs.{IsWholeFault};
+ghost use Rattle.bully_agree.specs.Stages.{may_stand, stage_after, whole_fault};
 ghost use Rattle.bully_agree.specs.View.{ViewAgrees, view_of};
 ghost use Rattle.bully_agree.specs.WholeCalls.{BreaksAt, is_whole, settles, gives_back};
 ghost use Rattle.bully_calls.specs.declared.call.Answer.{Answer};
@@ -36,7 +36,8 @@ enum Stage {
 
 /// Runs the events, as [`run`] does, where each call is whole: its Start is followed at once by its Run or Lose,
 /// and that at once by its Return, and no other Run, Lose or Return stands in the list.
-/// Refused, in this order, as `NotWhole`, `Stop`, `OutOfMemory`. This project's profile.
+/// Refused, in this order, as `NotWhole`, `Stop`, `OutOfMemory`. `NotWhole` is found before any memory is taken; a
+/// world that can't be made is told before any `Stop`. This project's profile.
 pub fn run_whole(alloc: Global, setup: Setup, events: &[Event]) -> Result<(World, View), WholeFault>
     ensures whole { OnOk result (is_whole events.now ≡ true) }
     ensures lawful { IfOk result (λ done. (answers : List Answer) × IsLawful setup events.now answers (world_of done.0)) }

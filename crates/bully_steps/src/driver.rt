@@ -23,8 +23,8 @@ pub enum Choice {
 pub struct Driver;
 
 impl Driver {
-    /// At an idle procedure a check in each 16th turn, and a timeout 8 turns later; else its procedure goes on.
-    /// This project's profile.
+    /// At an idle procedure a check where the turn is a multiple of 16, and a timeout where it is 8 more than one (the
+    /// first at turn 8); else its procedure goes on. Turns count from 1. This project's profile.
     pub fn choose(turn: u32, procedure: &Procedure) -> Choice
         ensures { result ≡ chosen turn (held procedure.now).point }
     {

@@ -32,9 +32,13 @@ pub enum Point {
 /// What a point offers, or what a procedure wants.
 #[derive(Clone, Copy, PartialEq, Eq, Debug)]
 pub enum Want {
+    /// Nothing: no procedure runs.
     Nothing,
+    /// To start this call.
     Start(Call),
+    /// To move on.
     Move,
+    /// To plan the task's new table.
     Plan,
     /// Its call is under way.
     Await,

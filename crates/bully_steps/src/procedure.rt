@@ -1,6 +1,7 @@
 ghost use Rattle.std.specs.Prelude.{◌≡◌, ◌≤◌, [], None, Some, true, false, unwrap_or};
 ghost use Rattle.std.specs.Option.{option_copied};
 ghost use Rattle.bully_base.specs.NodeSet.{IsFallingBelow};
+ghost use Rattle.bully_base.specs.Setup.{IsSetup, IsNode};
 ghost use Rattle.bully_steps.specs.Held.{IsHeld, IsCall, SuitsInquiry, CanResume, held_at, want_of, resumed};
 ghost use Rattle.bully_steps.specs.NextPoint.{next_point};
 ghost use Rattle.bully_steps.specs.Point.{offered, IsPointOf};
@@ -35,14 +36,8 @@ impl Procedure {
         requires { node ≤ setup.nodes }
         ensures { held result ≡ held_at setup node generation Point.Idle [] None false }
     {
-        // Shows the proof that the setup is within the limits.
-        let _ = (setup.nodes(), node.number());
         Procedure::Idle(Idle {
-            owner: Owner {
-                setup,
-                node,
-                generation,
-            },
+            owner: owner_of(setup, node, generation),
         })
     }
 
@@ -65,14 +60,8 @@ impl Procedure {
         requires call { awaits ≡ true → IsCall (offered setup coordinator point) }
         ensures { held result ≡ held_at setup node generation point up.now coordinator awaits }
     {
-        // Shows the proof that the setup is within the limits.
-        let _ = (setup.nodes(), node.number());
         let up = *up;
-        let owner = Owner {
-            setup,
-            node,
-            generation,
-        };
+        let owner = owner_of(setup, node, generation);
         match point {
             Point::Idle => Procedure::Idle(Idle { owner }),
             Point::Asking(next) => Procedure::Asking(Asking {
@@ -247,5 +236,21 @@ impl Procedure {
             Procedure::Checking(checking) => checking.owner,
             Procedure::Inquiring(inquiring) => inquiring.owner,
         }
+    }
+}
+
+// The owner of the node's procedure, which is one of the setup's.
+fn owner_of(setup: Setup, node: Node, generation: u32) -> Owner
+    requires { node ≤ setup.nodes }
+    ensures owner { result ≡ record { setup = setup; node = node; generation = generation } }
+    ensures setup { IsSetup setup }
+    ensures node { IsNode setup node }
+{
+    // Shows the proof that the setup is within the limits.
+    let _ = (setup.nodes(), node.number());
+    Owner {
+        setup,
+        node,
+        generation,
     }
 }

@@ -1,6 +1,6 @@
 ghost use Rattle.std.specs.Prelude.{◌≡◌, map, IfOk};
 ghost use Rattle.std.specs.Option.{option_copied};
-ghost use Rattle.bully_agree.specs.View.{ViewAgrees, shown_of, view_of};
+ghost use Rattle.bully_agree.specs.View.{IsViewed, ViewAgrees, shown_of, view_of};
 ghost use Rattle.bully_world.specs.State.{IsReached, world_of};
 
 use super::{Shown, View};
@@ -11,11 +11,11 @@ use bully_world::World;
 use std::alloc::Global;
 
 /// The view of the world as it is now. Refused where a growth of memory is.
-/// Every `World` is reached by a lawful list, so there is no other condition.
+/// Every `World` is reached by a lawful list, so there is no other condition. This project's profile.
 pub fn view(alloc: Global, world: &World) -> Result<View, OutOfMemory>
     ensures view { IfOk result (λ v. v ≡ view_of world.now.setup world.now.events (world_of world.now)) }
     ensures agrees { IfOk result ViewAgrees }
-    ensures reached { IsReached world.now }
+    ensures viewed { IfOk result IsViewed }
 {
     let events = world.events();
     Ok(View {

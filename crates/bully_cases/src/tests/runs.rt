@@ -59,6 +59,18 @@ fn whole_call_lists(rt: HostRuntime) -> Result<(), Fail> {
         Some(WholeFault::NotWhole { index: 7 })
     );
     let one = node(&rt, 1);
+    let alone = setup(&rt, 1, 1, 9);
+    assert_eq!(rt;
+        run_whole(alloc, alone, &[Event::Run(one)]).err(),
+        Some(WholeFault::NotWhole { index: 0 })
+    );
+    assert_eq!(rt;
+        run(alloc, alone, &[Event::Run(one)]).err(),
+        Some(RunFault::Stop {
+            index: 0,
+            cause: Refused::IsDown
+        })
+    );
     assert_eq!(rt;
         run_whole(
             alloc,
