@@ -1,5 +1,5 @@
 -- The planned table is balanced, and no balanced table has fewer moves.
-use Rattle.std.proofs.Common.{◌≡◌, ◌≢◌, ℕ, zero, suc, ◌+◌, ◌-◌, ◌<◌, ◌≤◌, min, ◌⊎◌, inl, inr, Bool, true, false, cond, List, [], ◌∷◌, ◌++◌, map, length, take, get_or, arith, sym, refl, ◌∙◌, ap, All, Contains, add-one, Option, Some, None}
+use Rattle.std.proofs.Common.{◌≡◌, ◌≢◌, ℕ, zero, suc, ◌+◌, ◌-◌, ◌/◌, ◌<◌, ◌≤◌, min, ◌⊎◌, inl, inr, Bool, true, false, cond, List, [], ◌∷◌, ◌++◌, map, length, take, get_or, arith, sym, refl, ◌∙◌, ap, All, Contains, add-one, Option, Some, None}
 use Rattle.std.specs.Prelude.{◌&&◌, not, nat_lt, nat_le, ◌==◌, IfSome, is_none, sum_by}
 use Rattle.std.specs.List.{range_with_len}
 use Rattle.std.proofs.lemmas.Bool.Decides.{nat_tests}
@@ -10,7 +10,7 @@ use Rattle.std.proofs.lemmas.List.Sums.{sum_by_push}
 use Rattle.bully_base.specs.NodeSet.{IsFallingBelow, below_node, highest_of}
 use Rattle.bully_base.specs.Setup.{Setup}
 use Rattle.bully_table.specs.Balance.{count_of, IsBalanced}
-use Rattle.bully_table.specs.Planning.{owner_at, places_where, moves, moves_from, kept_from, IsFewest, IsMostKept, owners_before, base_of, rest_of, quota, stays, room, rooms_below, taker, planned_owner, planned}
+use Rattle.bully_table.specs.Planning.{owner_at, places_where, moves, moves_from, kept_from, IsFewest, IsMostKept, owners_before, quota, stays, room, rooms_below, taker, planned_owner, planned}
 use Rattle.bully_table.proofs.BalanceSteps.{falling-within}
 use Rattle.bully_table.proofs.TotalLemmas.{total, total-sum_by, total-le, total-below-within, one}
 use Rattle.bully_table.proofs.PlaceCounts.{places-none, places-next, places-more, places-le, places-not, places-parted, places-count_all}
@@ -135,7 +135,7 @@ planned-balanced setup bound before members h = record {
     counted : (m : ℕ) → Contains members m → count_of m (table_of setup before members) ≡ quota setup before members m
     counted m x = count-map (planned_owner setup before members) m setup.partitions ∙ planned-quota setup bound before members m h x
 
-    quota-near : (m : ℕ) → (base_of setup members ≤ quota setup before members m) × (quota setup before members m ≤ base_of setup members + 1)
+    quota-near : (m : ℕ) → (setup.partitions / length members ≤ quota setup before members m) × (quota setup before members m ≤ setup.partitions / length members + 1)
     quota-near m = let is = quota-is setup before members m in (grind (arith, is), grind (arith, is))
 
 -- no more partitions move than those that don't stay

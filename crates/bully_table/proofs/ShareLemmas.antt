@@ -8,27 +8,27 @@ use Rattle.std.proofs.lemmas.List.Sums.{sum_by-cons}
 use Rattle.bully_base.specs.NodeSet.{IsFallingBelow}
 use Rattle.bully_base.specs.Setup.{Setup}
 use Rattle.bully_table.specs.Balance.{count_of, IsBalanced}
-use Rattle.bully_table.specs.Planning.{base_of, rest_of, comes_first, quota}
+use Rattle.bully_table.specs.Planning.{rest_of, comes_first, quota}
 use Rattle.bully_table.proofs.TotalLemmas.{total, total-sum_by, total-add, total-same, total-le, total-lower, total-constant, total-one, lower, passing, one, first-ones}
 
 -- base and rest make up the partitions
-pub shares : (setup : Setup) (members : List ℕ) → 0 < length members → (length members * base_of setup members + rest_of setup members ≡ setup.partitions) × (rest_of setup members < length members)
+pub shares : (setup : Setup) (members : List ℕ) → 0 < length members → (length members * (setup.partitions / length members) + rest_of setup members ≡ setup.partitions) × (rest_of setup members < length members)
 shares setup members some = (omega arith, omega arith)
 
 abbrev pub large : ℕ → List ℕ → ℕ → Bool
 large base before m = nat_lt base (count_of m before)
 
 abbrev pub rank : ℕ → List ℕ → List ℕ → ℕ → ℕ
-rank base before members m = count_by (λ k. comes_first base before k m) members
+rank base before members m = count_by (λ k. comes_first (large base before) k m) members
 
 rank-large : (base : ℕ) (before members : List ℕ) (m : ℕ) → large base before m ≡ true → rank base before members m ≡ lower (large base before) m members
 rank-large base before members m e =
-    total-sum_by (λ k. one (comes_first base before k m)) members
+    total-sum_by (λ k. one (comes_first (large base before) k m)) members
     ∙ total-same _ _ members (λ k x. grind (arith, e))
 
 rank-small : (base : ℕ) (before members : List ℕ) (m : ℕ) → large base before m ≡ false → rank base before members m ≡ passing (large base before) members + lower (λ k. not (large base before k)) m members
 rank-small base before members m e =
-    total-sum_by (λ k. one (comes_first base before k m)) members
+    total-sum_by (λ k. one (comes_first (large base before) k m)) members
     ∙ (total-same _ (λ k. one (large base before k) + one (not (large base before k) && nat_lt k m)) members (λ k x. grind (arith, e))
     ∙ total-add (λ k. one (large base before k)) (λ k. one (not (large base before k) && nat_lt k m)) members)
 
@@ -71,7 +71,7 @@ extras-all base rest bound before members falling l =
     let same : total (λ m. one (extra base rest before members m)) members ≡ total (λ m. one (large base before m && extra base rest before members m) + one (not (large base before m) && extra base rest before members m)) members = total-same _ _ members (λ m x. grind arith) in
     omega arith
 
-pub quota-is : (setup : Setup) (before members : List ℕ) (m : ℕ) → quota setup before members m ≡ base_of setup members + one (extra (base_of setup members) (rest_of setup members) before members m)
+pub quota-is : (setup : Setup) (before members : List ℕ) (m : ℕ) → quota setup before members m ≡ (setup.partitions / length members) + one (extra ((setup.partitions / length members)) (rest_of setup members) before members m)
 unfolding quota
 quota-is setup before members m = grind arith
 
@@ -79,9 +79,9 @@ pub quotas-total : (setup : Setup) (bound : ℕ) (before members : List ℕ) →
 quotas-total setup bound before members falling some =
     let share = shares setup members some in
     let same = total-same (quota setup before members) _ members (λ m x. quota-is setup before members m) in
-    let split = total-add (λ m. base_of setup members) (λ m. one (extra (base_of setup members) (rest_of setup members) before members m)) members in
-    let bases = total-constant (base_of setup members) members in
-    let extras = extras-all (base_of setup members) (rest_of setup members) bound before members falling (omega arith) in
+    let split = total-add (λ m. (setup.partitions / length members)) (λ m. one (extra ((setup.partitions / length members)) (rest_of setup members) before members m)) members in
+    let bases = total-constant ((setup.partitions / length members)) members in
+    let extras = extras-all ((setup.partitions / length members)) (rest_of setup members) bound before members falling (omega arith) in
     omega arith
 
 -- what a table of such counts can keep at most
@@ -115,10 +115,10 @@ most-by base rest bound before members counts shares_of falling near sum is =
     within m = grind arith
 
 pub kept-most : (setup : Setup) (bound : ℕ) (before members : List ℕ) (counts : ℕ → ℕ) → IsFallingBelow bound members → 0 < length members →
-    ((m : ℕ) → Contains members m → (base_of setup members ≤ counts m) × (counts m ≤ base_of setup members + 1)) → total counts members ≡ setup.partitions →
+    ((m : ℕ) → Contains members m → ((setup.partitions / length members) ≤ counts m) × (counts m ≤ (setup.partitions / length members) + 1)) → total counts members ≡ setup.partitions →
     total (λ m. min (count_of m before) (counts m)) members ≤ total (λ m. min (count_of m before) (quota setup before members m)) members
 kept-most setup bound before members counts falling some near sum =
-    most-by (base_of setup members) (rest_of setup members) bound before members counts (quota setup before members) falling near (omega (arith, shares setup members some)) (λ m. quota-is setup before members m)
+    most-by ((setup.partitions / length members)) (rest_of setup members) bound before members counts (quota setup before members) falling near (omega (arith, shares setup members some)) (λ m. quota-is setup before members m)
 
 -- each owner in a table is counted once among the members
 pub counts-total : (bound : ℕ) (members table : List ℕ) → IsFallingBelow bound members → All (Contains members) table → total (λ m. count_of m table) members ≡ length table
@@ -149,7 +149,7 @@ near-base base rest members counts less sum even m x = (low (grind arith), high 
         absurd (omega (arith, total-constant base members, total-constant 1 members))
 
 pub near-balanced : (setup : Setup) (bound : ℕ) (members table : List ℕ) → IsFallingBelow bound members → 0 < length members → length table ≡ setup.partitions → IsBalanced setup table members →
-    (m : ℕ) → Contains members m → (base_of setup members ≤ count_of m table) × (count_of m table ≤ base_of setup members + 1)
+    (m : ℕ) → Contains members m → ((setup.partitions / length members) ≤ count_of m table) × (count_of m table ≤ (setup.partitions / length members) + 1)
 near-balanced setup bound members table falling some covers balanced =
     let share = shares setup members some in
-    near-base (base_of setup members) (rest_of setup members) members (λ m. count_of m table) share.1 (omega (arith, counts-total bound members table falling balanced.owned)) balanced.even
+    near-base ((setup.partitions / length members)) (rest_of setup members) members (λ m. count_of m table) share.1 (omega (arith, counts-total bound members table falling balanced.owned)) balanced.even

@@ -43,25 +43,29 @@ abbrev pub owners_before : Option (List ℕ) → List ℕ
 owners_before None = []
 owners_before (Some old) = old
 
--- what each member owns at least
-abbrev pub base_of : Setup → List ℕ → ℕ
-base_of setup members = setup.partitions / length members
+-- what the member owns at least
+abbrev pub base_of : Setup → List ℕ → ℕ → ℕ
+base_of setup members m = setup.partitions / length members
 
 -- how many members own one more
 abbrev pub rest_of : Setup → List ℕ → ℕ
 rest_of setup members = setup.partitions % length members
 
--- whether member k comes before member m: first those that hold more than the base, in rising number, and then the others
-abbrev pub comes_first : ℕ → List ℕ → ℕ → ℕ → Bool
-comes_first base before k m =
-    if nat_lt base (count_of k before) then (if nat_lt base (count_of m before) then nat_lt k m else true)
-    else (if nat_lt base (count_of m before) then false else nat_lt k m)
+-- whether the member has more than that in the old table
+abbrev pub holds_more : Setup → List ℕ → List ℕ → ℕ → Bool
+holds_more setup before members m = nat_lt (base_of setup members m) (count_of m before)
+
+-- whether k comes before m: first those that hold more, in rising number, and then the others
+abbrev pub comes_first : (ℕ → Bool) → ℕ → ℕ → Bool
+comes_first more k m =
+    if more k then (if more m then nat_lt k m else true)
+    else (if more m then false else nat_lt k m)
 
 -- how many partitions the member is to own
 unfoldable pub quota : Setup → List ℕ → List ℕ → ℕ → ℕ
 quota setup before members m =
-    if nat_lt (count_by (λ k. comes_first (base_of setup members) before k m) members) (rest_of setup members) then base_of setup members + 1
-    else base_of setup members
+    if nat_lt (count_by (λ k. comes_first (holds_more setup before members) k m) members) (rest_of setup members) then base_of setup members m + 1
+    else base_of setup members m
 
 -- a partition stays where its owner is a member, and fewer than its quota of the partitions before have that owner
 unfoldable pub stays : Setup → List ℕ → List ℕ → ℕ → Bool

@@ -51,7 +51,7 @@ pub fn plan(
     ensures fewest { IfOk result (λ plan. IsFewest setup (option_copied old.entry) plan.table members.now) }
     ensures bound { IfOk result (λ plan. IsMostKept setup (option_copied old.entry) members.now plan.bound) }
     ensures moves { IfOk result (λ plan. plan.moves ≡ moves_from setup (option_copied old.entry) plan.table) }
-    ensures rest { IfOk result (λ plan. plan.moves ≡ setup.partitions - plan.bound) }
+    ensures certificate { IfOk result (λ plan. plan.moves ≡ setup.partitions - plan.bound) }
 {
     if members.highest().is_none() {
         return Err(PlanFault::NoMember);

@@ -1,4 +1,4 @@
-ghost use Rattle.std.specs.Prelude.{◌≡◌, ◌≢◌, ◌+◌, ◌-◌, ℕ, List, [], slice_index_or, count_by};
+ghost use Rattle.std.specs.Prelude.{◌≡◌, ◌≢◌, ◌+◌, ◌-◌, ℕ, List, [], slice_index_or, count_by, nat_lt};
 ghost use Rattle.bully_base.specs.NodeSet.{IsFallingBelow};
 ghost use Rattle.bully_base.specs.declared.TheConstants.{NODES_MAX};
 ghost use Rattle.bully_base.specs.Setup.{IsNodeNumber};
@@ -40,7 +40,7 @@ fn quota_of(setup: Setup, members: &NodeSet, counts: &[usize; PLACES], node: Nod
 // How many members come before the node.
 fn rank_of(members: &NodeSet, counts: &[usize; PLACES], base: usize, node: Node) -> usize
     requires { IsFallingBelow (NODES_MAX + 1) members.now }
-    ensures { (before : List ℕ) → ((m : ℕ) → IsNodeNumber m → slice_index_or counts.now (m - 1) 0 ≡ count_of m before) → result ≡ count_by (λ k. comes_first base before k node) members.now }
+    ensures { (before : List ℕ) → ((m : ℕ) → IsNodeNumber m → slice_index_or counts.now (m - 1) 0 ≡ count_of m before) → result ≡ count_by (λ k. comes_first (λ j. nat_lt base (count_of j before)) k node) members.now }
 {
     let mut rank = 0;
     for number in 1..=NODES_MAX {
@@ -54,7 +54,7 @@ fn rank_of(members: &NodeSet, counts: &[usize; PLACES], base: usize, node: Node)
 
 // Whether the node comes before the other one: first those that own more than the base, in rising number.
 fn comes_first(counts: &[usize; PLACES], base: usize, node: Node, other: Node) -> bool
-    ensures { (before : List ℕ) → ((m : ℕ) → IsNodeNumber m → slice_index_or counts.now (m - 1) 0 ≡ count_of m before) → result ≡ comes_first base before node other }
+    ensures { (before : List ℕ) → ((m : ℕ) → IsNodeNumber m → slice_index_or counts.now (m - 1) 0 ≡ count_of m before) → result ≡ comes_first (λ j. nat_lt base (count_of j before)) node other }
 {
     let holds_more = count_at(counts, node) > base;
     let other_holds_more = count_at(counts, other) > base;

@@ -33,7 +33,7 @@ pub returns-clause-bound : goal.returns-clause-bound
 returns-clause-bound c =
     rw c.partitions-partitions.ensures.partitions (fewest-keeps c.args.setup (option_copied c.args.old) c.args.members.now c.of-table.result c.moves_from-moves.result (returns-clause-fewest c) c.moves_from-moves.ensures)
 
-pub returns-clause-rest : goal.returns-clause-rest
-returns-clause-rest c =
+pub returns-clause-certificate : goal.returns-clause-certificate
+returns-clause-certificate c =
     let covers = ap (λ (xs : List ℕ). length xs) (c.of-table.ensures ∙ c.in-Ok.ensures) ∙ planned-covers c.args.setup c.owners_before-2.result.now c.args.members.now in
     omega (arith, moves-within c.args.setup (option_copied c.args.old) c.of-table.result covers)
