@@ -11,10 +11,10 @@ use Rattle.bully_table.specs.Balance.{count_of, IsBalanced, is_balanced}
 pub all_decides : (test : ℕ → Bool) (P : ℕ → Type 0) → ((x : ℕ) → Decides (test x) (P x)) → (xs : List ℕ) → Decides (list_all test xs) (All P xs)
 all_decides test P each xs = Decides-by_and test P (list_all test) each refl (λ _ _. refl) xs
 
-later : (m k : ℕ) (ms : List ℕ) → Contains ms k → Contains (m ∷ ms) k
+pub later : (m k : ℕ) (ms : List ℕ) → Contains ms k → Contains (m ∷ ms) k
 later m k ms h = (suc h.0, omega (arith, h.1), h.2)
 
-earlier : (m k : ℕ) (ms : List ℕ) → Contains (m ∷ ms) k → (m ≡ k) ⊎ Contains ms k
+pub earlier : (m k : ℕ) (ms : List ℕ) → Contains (m ∷ ms) k → (m ≡ k) ⊎ Contains ms k
 earlier m k ms h = by_index h.0 h.1 h.2
   where
     by_index : (n : ℕ) → n < suc (length ms) → slice_index_or (m ∷ ms) n k ≡ k → (m ≡ k) ⊎ Contains ms k

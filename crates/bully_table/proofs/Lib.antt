@@ -2,3 +2,9 @@ pub mod NumeralLemmas
 pub mod PieceLemmas
 pub mod BalanceSteps
 pub mod BalanceLemmas
+pub mod TotalLemmas
+pub mod PlaceCounts
+pub mod ShareLemmas
+pub mod StayLemmas
+pub mod PlannedLemmas
+pub mod PlanSteps

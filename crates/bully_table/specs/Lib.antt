@@ -1,4 +1,5 @@
 pub mod Balance
+pub mod Planning
 pub mod Numeral
 pub mod TableText
 pub mod Room

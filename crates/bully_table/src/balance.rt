@@ -5,7 +5,7 @@ ghost use Rattle.bully_table.specs.Balance.{count_of};
 use bully_base::{NODES_MAX, Node, NodeSet};
 
 /// How many counts there are: one for each node number.
-const PLACES: usize = NODES_MAX as usize;
+pub const PLACES: usize = NODES_MAX as usize;
 
 /// Whether each owner is a member.
 pub fn are_members(owners: &[Node], members: &NodeSet) -> bool
@@ -39,8 +39,8 @@ pub fn are_even(owners: &[Node], members: &NodeSet) -> bool
     count_at(&counts, most) - count_at(&counts, least) <= 1
 }
 
-// The count of each node: that of node 1 comes first.
-fn counts_of(owners: &[Node]) -> [usize; PLACES]
+/// The count of each node: that of node 1 comes first.
+pub fn counts_of(owners: &[Node]) -> [usize; PLACES]
     ensures { (node : ℕ) → IsNodeNumber node → slice_index_or result (node - 1) 0 ≡ count_of node owners.now }
 {
     let mut counts = [0; PLACES];
@@ -50,8 +50,8 @@ fn counts_of(owners: &[Node]) -> [usize; PLACES]
     counts
 }
 
-// The node's count.
-fn count_at(counts: &[usize; PLACES], node: Node) -> usize
+/// The node's count.
+pub fn count_at(counts: &[usize; PLACES], node: Node) -> usize
     ensures { result ≡ slice_index_or counts.now (node - 1) 0 }
 {
     counts[usize::from(node.number() - 1)]

@@ -5,12 +5,19 @@
 #![tactic(auto)]
 
 mod balance;
+mod moving;
 mod numeral;
 mod pieces;
+mod planning;
+mod quotas;
 mod reading;
 mod room;
 mod table;
 
 pub use numeral::read_number;
+pub use planning::{PlanFault, TablePlan, plan};
 pub use room::TableRoom;
 pub use table::{Table, TableFault};
+
+#[cfg(test)]
+mod tests;

@@ -1,11 +1,14 @@
-ghost use Rattle.std.specs.Prelude.{◌≡◌, ◌↔◌, ◌<◌, ◌⊎◌, length, slice_get, bytes_eq, IsTrue, IsOk, IfOk, IfErr, Ok, Err, Some};
+ghost use Rattle.std.specs.Prelude.{◌≡◌, ◌↔◌, ◌<◌, ◌≤◌, ◌⊎◌, length, slice_get, bytes_eq, IsTrue, IsOk, IfOk, IfErr, Ok, Err, Some};
 ghost use Rattle.std.specs.Cmp.{partial_equiv_from_equiv};
 ghost use Rattle.std.specs.Cmp.Lexicographic.{nat_list_eq_equiv};
 ghost use Rattle.bully_base.specs.Setup.{Setup as SetupState};
+ghost use Rattle.bully_base.specs.declared.TheConstants.{PARTITIONS_MAX};
 ghost use Rattle.bully_table.specs.Balance.{IsBalanced};
+ghost use Rattle.bully_table.specs.Planning.{moves};
 ghost use Rattle.bully_table.specs.TableText.{table_of_text};
 
 use crate::balance::{are_even, are_members};
+use crate::moving::count_moves;
 use crate::reading::{look_through, read_owners};
 use bully_base::{Node, NodeSet, OutOfMemory, Setup};
 use std::alloc::Global;
@@ -18,11 +21,14 @@ pub struct Table {
 }
 
 impl Model for Table {
-    ghost use Rattle.std.specs.Prelude.{List, ℕ};
+    ghost use Rattle.std.specs.Prelude.{◌≤◌, List, ℕ, length};
+    ghost use Rattle.bully_base.specs.declared.TheConstants.{PARTITIONS_MAX};
 
     ghost Value = { List ℕ };
 
     ghost view = { λ t. t.owners.items };
+
+    ghost invariant = { λ t. length t.owners.items ≤ PARTITIONS_MAX };
 }
 
 /// Two tables are equal where their owners are.
@@ -93,6 +99,21 @@ impl Table {
         Ok(Table { owners })
     }
 
+    // The table of these owners.
+    pub(crate) fn of(owners: Vec<Node>) -> Table
+        requires { length owners.items ≤ PARTITIONS_MAX }
+        ensures { result ≡ owners.items }
+    {
+        Table { owners }
+    }
+
+    // The owners.
+    pub(crate) fn owners(&self) -> &[Node]
+        ensures { result.now ≡ self.now }
+    {
+        &self.owners
+    }
+
     /// How many partitions the table has.
     pub fn len(&self) -> usize
         ensures { result ≡ length self.now }
@@ -122,6 +143,15 @@ impl Table {
         ensures { self.new ≡ other.now }
     {
         self.owners.copy_from_slice(&other.owners);
+    }
+
+    /// At how many partitions the owner is another one than in the old table, which has the same length.
+    /// This project's profile.
+    pub fn moves(&self, old: &Table) -> u16
+        requires { length old.now ≡ length self.now }
+        ensures { result ≡ moves old.now self.now }
+    {
+        count_moves(&old.owners, &self.owners)
     }
 
     /// Whether the table is balanced over the members: each owner is one, and the counts of two members

@@ -1,0 +1,175 @@
+ghost use Rattle.std.specs.Prelude.{◌≡◌, ◌≢◌, ◌↔◌, ◌+◌, ◌-◌, ◌<◌, ◌≤◌, ℕ, List, [], Some, None, map, take, length, slice_index_or, Contains, IfOk, IfErr, if◌then◌else◌};
+ghost use Rattle.std.specs.List.{range_with_len, sum_by};
+ghost use Rattle.std.specs.Option.{IfSome, option_copied};
+ghost use Rattle.bully_base.specs.NodeSet.{IsFallingBelow};
+ghost use Rattle.bully_base.specs.declared.TheConstants.{NODES_MAX};
+ghost use Rattle.bully_base.specs.Setup.{Setup as SetupState, IsNodeNumber};
+ghost use Rattle.bully_table.specs.Balance.{count_of};
+ghost use Rattle.bully_table.specs.Planning.{IsFewest, IsMostKept, moves_from, planned, owners_before, planned_owner, owner_at, quota, stays, room, taker};
+
+use crate::balance::{PLACES, count_at, counts_of};
+use crate::quotas::quotas_of;
+use crate::table::Table;
+use bully_base::{NODES_MAX, Node, NodeSet, OutOfMemory, Setup};
+use std::alloc::Global;
+
+/// A planned table, how many partitions move to it, and the most partitions that any balanced table keeps.
+#[derive(Drop, Debug)]
+pub struct TablePlan {
+    pub table: Table,
+    pub moves: u16,
+    pub bound: u16,
+}
+
+/// Why there is no plan, the first that holds.
+#[derive(Clone, Copy, PartialEq, Eq, Debug)]
+pub enum PlanFault {
+    /// The set of members is empty.
+    NoMember,
+    /// A growth of memory was refused.
+    OutOfMemory,
+}
+
+/// Plans a table of the setup's partitions that is balanced over the members and has the fewest moves from the
+/// old table; without one every partition moves. Refused, in this order, as `NoMember`, `OutOfMemory`.
+/// This project's profile.
+///
+/// Each member has a quota: the partitions divided by the members, rounded down, and one more for as many members
+/// as the rest has. First come those that own more than that in the old table, in rising number, and then the
+/// others. A partition stays where its owner is a member, until the owner's quota is full. The others, in rising
+/// order, fill the members up in rising number.
+pub fn plan(
+    alloc: Global,
+    setup: Setup,
+    members: &NodeSet,
+    old: Option<&Table>,
+) -> Result<TablePlan, PlanFault>
+    requires { IfSome (option_copied old) (λ t. length t ≡ setup.partitions) }
+    ensures member { IfOk result (λ _. members.now ≢ []) }
+    ensures no_member { IfErr result (λ fault. (fault ≡ PlanFault.NoMember) ↔ (members.now ≡ [])) }
+    ensures planned { IfOk result (λ plan. plan.table ≡ planned setup (option_copied old.entry) members.now) }
+    ensures fewest { IfOk result (λ plan. IsFewest setup (option_copied old.entry) plan.table members.now) }
+    ensures bound { IfOk result (λ plan. IsMostKept setup (option_copied old.entry) members.now plan.bound) }
+    ensures moves { IfOk result (λ plan. plan.moves ≡ moves_from setup (option_copied old.entry) plan.table) }
+    ensures certificate { IfOk result (λ plan. plan.moves ≡ setup.partitions - plan.bound) }
+{
+    if members.highest().is_none() {
+        return Err(PlanFault::NoMember);
+    }
+    let partitions = setup.partitions();
+    let quotas = quotas_of(setup, members, owners_before(old));
+    let owners = match planned_owners(alloc, setup, members, owners_before(old), &quotas) {
+        Ok(owners) => owners,
+        Err(_) => return Err(PlanFault::OutOfMemory),
+    };
+    let table = Table::of(owners);
+    let moves = moves_from(setup, old, &table);
+    Ok(TablePlan {
+        table,
+        moves,
+        bound: partitions - moves,
+    })
+}
+
+// The owners in the old table, and nobody where there is none.
+fn owners_before(old: Option<&Table>) -> &[Node]
+    ensures { result.now ≡ owners_before (option_copied old.entry) }
+{
+    match old {
+        Some(table) => table.owners(),
+        None => &[],
+    }
+}
+
+// How many partitions move; all of them where there is no old table.
+fn moves_from(setup: Setup, old: Option<&Table>, table: &Table) -> u16
+    requires { IfSome (option_copied old) (λ t. length t ≡ length table.now) }
+    ensures { result ≡ moves_from setup (option_copied old.entry) table.now }
+{
+    match old {
+        Some(old) => table.moves(old),
+        None => setup.partitions(),
+    }
+}
+
+// The owners of the planned table. Refused where a growth of memory is.
+fn planned_owners(
+    alloc: Global,
+    setup: Setup,
+    members: &NodeSet,
+    before: &[Node],
+    quotas: &[usize; PLACES],
+) -> Result<Vec<Node>, OutOfMemory>
+    requires some { members.now ≢ [] }
+    requires falling { IsFallingBelow (NODES_MAX + 1) members.now }
+    requires covers { length before.now ≤ setup.partitions }
+    requires quotas { (m : ℕ) → IsNodeNumber m → slice_index_or quotas.now (m - 1) 0 ≡ quota setup before.now members.now m }
+    ensures { IfOk result (λ owners. owners.items ≡ map (planned_owner setup before.now members.now) (range_with_len 0 setup.partitions)) }
+{
+    let counts = counts_of(before);
+    let partitions = usize::from(setup.partitions());
+    let mut owners = Vec::with_capacity(alloc, partitions)?;
+    let mut seen = [0; PLACES];
+    let mut movers = 0;
+    for place in 0..partitions {
+        let owner = match staying_owner(members, before, quotas, place, &mut seen) {
+            Some(owner) => owner,
+            None => {
+                let taker = taker_of(members, quotas, &counts, movers).unwrap();
+                movers += 1;
+                taker
+            }
+        };
+        owners.push(owner)?;
+    }
+    Ok(owners)
+}
+
+// The owner of the partition at this place, if it stays there. `seen` counts the owners of the places before, and then
+// this one too.
+fn staying_owner(
+    members: &NodeSet,
+    before: &[Node],
+    quotas: &[usize; PLACES],
+    place: usize,
+    seen: &mut [usize; PLACES],
+) -> Option<Node>
+    requires falling { IsFallingBelow (NODES_MAX + 1) members.now }
+    requires seen { (m : ℕ) → IsNodeNumber m → slice_index_or seen.old (m - 1) 0 ≡ count_of m (take place before.now) }
+    ensures seen { (m : ℕ) → IsNodeNumber m → slice_index_or seen.new (m - 1) 0 ≡ count_of m (take (place + 1) before.now) }
+    ensures owner { (setup : SetupState) → ((m : ℕ) → IsNodeNumber m → slice_index_or quotas.now (m - 1) 0 ≡ quota setup before.now members.now m) → result ≡ (if stays setup before.now members.now place then Some (owner_at before.now place) else None) }
+{
+    let owner = *before.get(place)?;
+    let index = usize::from(owner.number() - 1);
+    let count = seen[index];
+    seen[index] = count + 1;
+    if members.has(owner) && count < count_at(quotas, owner) {
+        Some(owner)
+    } else {
+        None
+    }
+}
+
+// Who gets the partition that is this one, from 0, of those that don't stay.
+fn taker_of(
+    members: &NodeSet,
+    quotas: &[usize; PLACES],
+    counts: &[usize; PLACES],
+    index: usize,
+) -> Option<Node>
+    requires { IsFallingBelow (NODES_MAX + 1) members.now }
+    ensures { (setup : SetupState) (before : List ℕ) → ((m : ℕ) → Contains members.now m → slice_index_or quotas.now (m - 1) 0 - slice_index_or counts.now (m - 1) 0 ≡ room setup before members.now m) → index < sum_by (room setup before members.now) members.now → result ≡ Some (taker setup before members.now index) }
+{
+    let mut rest = index;
+    for number in 1..=NODES_MAX {
+        let node = Node::new(number).unwrap();
+        if members.has(node) {
+            let room = count_at(quotas, node).saturating_sub(count_at(counts, node));
+            if rest < room {
+                return Some(node);
+            }
+            rest -= room;
+        }
+    }
+    None
+}
