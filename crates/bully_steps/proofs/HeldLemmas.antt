@@ -1,5 +1,6 @@
 -- What a procedure holds as it goes on.
-use Rattle.std.proofs.Common.{◌≡◌, ℕ, zero, suc, ◌<◌, true, List, [], ◌∷◌, Some, arith}
+use Rattle.std.proofs.Common.{◌≡◌, ◌≢◌, ◌∙◌, ℕ, zero, suc, ◌<◌, true, List, [], ◌∷◌, Some, arith, refl, sym}
+use Rattle.std.specs.Prelude.{◌↔◌}
 use Rattle.bully_base.proofs.NodeSetLemmas.{with_node-falling, IsFallingBelow-more}
 use Rattle.bully_base.specs.NodeSet.{with_node, IsFallingBelow}
 use Rattle.bully_calls.specs.declared.call.Outcome.{Outcome}
@@ -9,6 +10,7 @@ use Rattle.bully_steps.specs.declared.point.Point.TheVariants.{Idle, Asking, Hal
 use Rattle.bully_steps.specs.declared.point.Want.TheVariants.{Await}
 use Rattle.bully_steps.specs.Held.{Held, want_of, next_up}
 use Rattle.bully_steps.specs.NextPoint.{next_vector, rest_of}
+use Rattle.bully_table.specs.declared.planning.PlanFault.{PlanFault}
 
 -- what is left of a falling set falls
 pub rest_falls : (b : ℕ) (ms rest : List ℕ) → rest_of ms ≡ Some rest → IsFallingBelow b ms → IsFallingBelow b rest
@@ -37,3 +39,12 @@ next_up_is i Inquiring o v = grind arith
 -- a procedure that wants to await awaits
 pub awaits_wanted : (h : Held) → want_of h ≡ Await → h.awaits ≡ true
 awaits_wanted h e = grind (arith, e)
+
+-- a plan over a node and others is refused for want of memory alone
+pub plan_fault : (fault : PlanFault) (k : ℕ) (ms members : List ℕ) → members ≡ with_node k ms → (fault ≡ PlanFault.NoMember) ↔ (members ≡ []) → fault ≡ PlanFault.OutOfMemory
+plan_fault PlanFault.NoMember k ms members e h = absurd (nobody ms (sym e ∙ h.0 refl))
+  where
+    nobody : (ms : List ℕ) → with_node k ms ≢ []
+    nobody [] e = grind (arith, e)
+    nobody (m ∷ ms) e = grind (arith, e)
+plan_fault PlanFault.OutOfMemory k ms members e h = refl

@@ -9,6 +9,8 @@ mod driver;
 mod point;
 mod procedure;
 mod states;
+#[cfg(test)]
+mod tests;
 
 pub use driver::{Choice, Driver};
 pub use point::{Point, Want, begin_check, begin_recovery, begin_timeout};

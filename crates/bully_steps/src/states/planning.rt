@@ -1,14 +1,18 @@
-ghost use Rattle.std.specs.Prelude.{◌≡◌};
+ghost use Rattle.std.specs.Prelude.{◌≡◌, length, IfOk, IfErr, IfSome, Some};
+ghost use Rattle.std.specs.Option.{option_copied};
+ghost use Rattle.bully_base.specs.NodeSet.{with_node};
 ghost use Rattle.bully_calls.specs.declared.call.Outcome.{Outcome};
 ghost use Rattle.bully_steps.specs.Held.{CanResume, resumed};
 ghost use Rattle.bully_steps.specs.Procedure.{held};
 ghost use Rattle.bully_steps.specs.States.{planning, planned, readying};
+ghost use Rattle.bully_table.specs.Planning.{planned as planned_table};
 
 use crate::Procedure;
 use crate::states::{Owner, Readying};
 use bully_base::NodeSet;
 use bully_calls::Outcome;
-use bully_table::Table;
+use bully_table::{PlanFault, Table, TablePlan, plan};
+use std::alloc::Global;
 use std::marker::Model;
 
 /// The coordinator knows who takes part, itself and `up`, and has no table for them yet. What a table is, and how
@@ -51,6 +55,28 @@ impl Model for Planned {
 }
 
 impl Planning {
+    /// Plans the table over the node and those that are up, with the fewest moves from the old table, which has
+    /// the setup's partitions. Refused as `OutOfMemory`, and then the planning is handed back as it was;
+    /// `NoMember` never comes, since the node is a member. This project's profile.
+    pub fn prepare(
+        self,
+        alloc: Global,
+        old: Option<&Table>,
+    ) -> Result<Planned, (Planning, PlanFault)>
+        requires { IfSome (option_copied old) (λ t. length t ≡ self.owner.setup.partitions) }
+        ensures prepared { IfOk result (λ p. planned p ≡ record (planning self) { table = Some (planned_table self.owner.setup (option_copied old.entry) (with_node self.owner.node self.up)) }) }
+        ensures same { IfErr result (λ back. back.0 ≡ self) }
+        ensures fault { IfErr result (λ back. back.1 ≡ PlanFault.OutOfMemory) }
+    {
+        let Planning { owner, up } = self;
+        let mut members = up;
+        members.insert(owner.node);
+        match plan(alloc, owner.setup, &members, old) {
+            Ok(TablePlan { table, .. }) => Ok(Planned { owner, up, table }),
+            Err(fault) => Err((Planning { owner, up }, fault)),
+        }
+    }
+
     /// Goes on by the outcome, which is that a table was taken.
     pub(crate) fn resume(self, outcome: Outcome) -> Procedure
         requires { CanResume (planning self) outcome }

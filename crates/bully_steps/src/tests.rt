@@ -1,0 +1,47 @@
+//! A table that was planned by hand, prepared.
+
+ghost use Rattle.std.specs.Prelude.{◌≡◌, [], ◌∷◌, None, false, length};
+ghost use Rattle.bully_steps.specs.Held.{held_at};
+ghost use Rattle.bully_steps.specs.Procedure.{held};
+
+use crate::{Point, Procedure};
+use bully_base::{Node, NodeSet, Setup};
+use bully_table::Table;
+use std::alloc::Global;
+use std::test::Fail;
+
+// Whether the planning procedure prepares the expected table from the old one.
+fn prepares(alloc: Global, procedure: Procedure, old: &Table, expected: &Table) -> bool
+    requires { length old.now ≡ (held procedure).setup.partitions }
+{
+    let Procedure::Planning(planning) = procedure else {
+        return false;
+    };
+    match planning.prepare(alloc, Some(old)) {
+        Ok(planned) => Procedure::Planned(planned).table() == Some(expected),
+        Err(_) => false,
+    }
+}
+
+// Node 2 of a group of three plans for itself and node 1.
+fn planning_node(setup: Setup) -> Procedure
+    requires { setup.nodes ≡ 3 }
+    ensures { held result ≡ held_at setup 2 0 Point.Planning (1 ∷ []) None false }
+{
+    let mut up = NodeSet::new();
+    up.insert(Node::new(1).unwrap());
+    let node = Node::new(2).unwrap();
+    Procedure::at(setup, node, 0, Point::Planning, &up, None, false)
+}
+
+// Node 3 had one of the five partitions, which moves to node 1.
+#[test]
+fn prepares_with_the_fewest_moves(rt: HostRuntime) -> Result<(), Fail> {
+    let alloc = rt.alloc();
+    let setup = Setup::new(3, 5, 1)?;
+    let old = Table::read(alloc, setup, "1 2 2 2 3")?;
+    let expected = Table::read(alloc, setup, "1 2 2 2 1")?;
+    assert_eq!(rt; old.len(), 5);
+    assert!(rt; prepares(alloc, planning_node(setup), &old, &expected));
+    Ok(())
+}
