@@ -13,11 +13,13 @@ use crate::table::Table;
 use bully_base::{NODES_MAX, Node, NodeSet, OutOfMemory, Setup};
 use std::alloc::Global;
 
-/// A planned table, how many partitions move to it, and the most partitions that any balanced table keeps.
+/// A planned table, with the certificate that no balanced table keeps more partitions where they are.
 #[derive(Drop, Debug)]
 pub struct TablePlan {
     pub table: Table,
+    /// How many partitions have another owner than in the old table; all of them where there is none.
     pub moves: u16,
+    /// The most partitions that any balanced table keeps. `moves` is the number of partitions less this one.
     pub bound: u16,
 }
 
@@ -30,14 +32,13 @@ pub enum PlanFault {
     OutOfMemory,
 }
 
-/// Plans a table of the setup's partitions that is balanced over the members and has the fewest moves from the
-/// old table; without one every partition moves. Refused, in this order, as `NoMember`, `OutOfMemory`.
-/// This project's profile.
+/// Plans a table that is balanced over the members and has the fewest moves from the old table, if there is one. The old
+/// table has the setup's partitions. Refused, in this order, as `NoMember`, `OutOfMemory`. This project's profile.
 ///
-/// Each member has a quota: the partitions divided by the members, rounded down, and one more for as many members
-/// as the rest has. First come those that own more than that in the old table, in rising number, and then the
-/// others. A partition stays where its owner is a member, until the owner's quota is full. The others, in rising
-/// order, fill the members up in rising number.
+/// A member's quota is the number of partitions divided by that of the members, rounded down. What the division leaves
+/// goes to the members one by one: first to those that own more than this in the old table, in rising number, and then to
+/// the others. A partition stays where its owner is a member, until the quota of that member is full. The others, in
+/// rising order, fill the members up to their quotas, in rising number.
 pub fn plan(
     alloc: Global,
     setup: Setup,
@@ -53,6 +54,7 @@ pub fn plan(
     ensures moves { IfOk result (λ plan. plan.moves ≡ moves_from setup (option_copied old.entry) plan.table) }
     ensures certificate { IfOk result (λ plan. plan.moves ≡ setup.partitions - plan.bound) }
 {
+    // `highest` also shows the proof that the members fall.
     if members.highest().is_none() {
         return Err(PlanFault::NoMember);
     }
