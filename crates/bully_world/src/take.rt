@@ -88,6 +88,8 @@ impl World {
             ⊎ ((why ≡ StepRefusal.OutOfMemory) × (kind ≡ StepKind.Plan) × (self.old.events < self.old.setup.events_max))) }
         ensures unchanged { IfErr result (λ _. self.new ≡ self.old) }
     {
+        // Shows the proof what holds of every procedure.
+        let _ = procedure.setup();
         if self.events() >= self.setup().events_max() {
             return Err(StepRefusal::Refused(Refused::Full));
         }

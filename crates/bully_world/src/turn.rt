@@ -1,8 +1,8 @@
-ghost use Rattle.std.specs.Prelude.{◌≡◌, ◌≤◌, true};
+ghost use Rattle.std.specs.Prelude.{◌≡◌, ◌≤◌, true, bytes_eq};
 ghost use Rattle.bully_calls.specs.Slot.{pending_in};
 ghost use Rattle.bully_steps.specs.Held.{want_of};
 ghost use Rattle.bully_steps.specs.Procedure.{held};
-ghost use Rattle.bully_world.specs.Turn.{is_live_in, procedure_in, is_in_step, agree, same_point, same_set, same_node, turn, turn_of_want, has_table};
+ghost use Rattle.bully_world.specs.Turn.{is_live_in, procedure_in, is_in_step, agree, same_point, same_set, same_node, turn, turn_of_call, turn_of_want, has_table};
 
 use crate::World;
 use bully_base::{Node, NodeSet, Status};
@@ -65,15 +65,18 @@ impl World {
         requires { (held procedure.now).setup ≡ self.now.setup }
         ensures { result ≡ turn self.now (held procedure.now) }
     {
-        // Shows the proof that the node is one of the setup's.
-        let _ = procedure.setup();
-        if !agree_on_all(procedure, &self.procedure(procedure.node())) {
+        // Shows the proof what holds of every world and of every procedure.
+        let _ = (self.events(), procedure.setup());
+        let node = procedure.node();
+        if !agree_on_all(procedure, &self.procedure(node)) {
             return Next::Resync;
         }
-        let slot = self.slot(procedure.node());
-        match slot.call() {
-            Some(call) => next_of_call(slot, self.vector(call.callee).status()),
-            None => next_of_want(procedure),
+        let slot = self.slot(node);
+        match (slot.call(), slot.phase()) {
+            (Some(call), Some(phase)) => {
+                next_of_call(self.vector(call.callee).status() == Status::Down, phase)
+            }
+            _ => next_of_want(procedure),
         }
     }
 }
@@ -85,13 +88,14 @@ fn holds_live_call(slot: &Slot, generation: u32) -> bool
     slot.call().is_some() && !slot.is_orphan(generation)
 }
 
-// What the turn rule says where there is a call in the slot, and its callee has this status.
-fn next_of_call(slot: &Slot, callee: Status) -> Next {
-    match slot.phase() {
-        Some(Phase::Sent) if callee != Status::Down => Next::Rest,
-        Some(Phase::Sent) => Next::Take(StepKind::Lose),
-        Some(Phase::Ran(_) | Phase::Failed) => Next::Take(StepKind::Return),
-        None => Next::Rest,
+// What the turn rule says of a call in this phase.
+fn next_of_call(callee_is_down: bool, phase: Phase) -> Next
+    ensures { result ≡ turn_of_call callee_is_down phase }
+{
+    match phase {
+        Phase::Sent if callee_is_down => Next::Take(StepKind::Lose),
+        Phase::Sent => Next::Rest,
+        Phase::Ran(_) | Phase::Failed => Next::Take(StepKind::Return),
     }
 }
 
@@ -115,22 +119,47 @@ fn agree_on_all(procedure: &Procedure, shown: &Procedure) -> bool
     ensures { result ≡ agree (held procedure.now) (held shown.now) }
 {
     procedure.generation() == shown.generation()
-        && is_same_point(procedure.point(), shown.point())
+        && is_same_point(&procedure.point(), &shown.point())
         && procedure.awaits() == shown.awaits()
         && is_same_set(procedure.up(), shown.up())
         && is_same_node(procedure.coordinator(), shown.coordinator())
 }
 
-fn is_same_point(point: Point, shown: Point) -> bool
-    ensures { result ≡ same_point point shown }
+// Whether the points are the same, with the same sets.
+fn is_same_point(point: &Point, shown: &Point) -> bool
+    ensures { result ≡ same_point point.now shown.now }
 {
-    point == shown
+    match (point, shown) {
+        (Point::Asking(next), Point::Asking(other)) => next == other,
+        (Point::Halting(next), Point::Halting(other)) => next == other,
+        (Point::Announcing(rest), Point::Announcing(other)) => are_same_nodes(rest, other),
+        (Point::Readying(rest), Point::Readying(other)) => are_same_nodes(rest, other),
+        (Point::Checking(callee), Point::Checking(other)) => callee == other,
+        (Point::Idle, Point::Idle) => true,
+        (Point::Planning, Point::Planning) => true,
+        (Point::Inquiring, Point::Inquiring) => true,
+        _ => false,
+    }
 }
 
+// Whether both hold a set, and the same, or neither does.
 fn is_same_set(up: Option<NodeSet>, shown: Option<NodeSet>) -> bool
     ensures { result ≡ same_set up shown }
 {
-    up == shown
+    match (up, shown) {
+        (Some(up), Some(shown)) => are_same_nodes(&up, &shown),
+        (None, None) => true,
+        _ => false,
+    }
+}
+
+// Whether the sets have the same members.
+fn are_same_nodes(set: &NodeSet, other: &NodeSet) -> bool
+    ensures { result ≡ bytes_eq set.now other.now }
+{
+    // Shows the proof that the members fall.
+    let _ = (set.len(), other.len());
+    set == other
 }
 
 fn is_same_node(coordinator: Option<Node>, shown: Option<Node>) -> bool
