@@ -16,3 +16,9 @@ pub mod SplitLemmas
 pub mod TakeLemmas
 pub mod ExchangeLemmas
 pub mod WorldLemmas
+pub mod SetLemmas
+pub mod AgreeLemmas
+pub mod TurnLemmas
+pub mod TurnSteps
+pub mod GoneOn
+pub mod TurnTaken

@@ -5,3 +5,4 @@ pub mod Cause
 pub mod Shape
 pub mod State
 pub mod Taken
+pub mod Turn

@@ -8,7 +8,11 @@ mod causes;
 mod event;
 mod member;
 mod steps;
+mod take;
+mod turn;
 mod world;
 
 pub use event::{Event, Refused};
+pub use take::{StepRefusal, TakenStep};
+pub use turn::{Next, StepKind};
 pub use world::World;

@@ -1,0 +1,114 @@
+-- The procedure that a world shows of a node, whether one that its owner holds is in step with the world, and
+-- what the turn rule has its owner do.
+use Rattle.std.specs.Prelude.{ℕ, ◌==◌, ◌&&◌, Bool, true, false, not, List, [], Option, Some, None, bytes_eq, unwrap_or, if◌then◌else◌}
+use Rattle.std.specs.Option.{option_map_or, option_eq}
+use Rattle.bully_calls.specs.declared.call.Answer.{Answer}
+use Rattle.bully_calls.specs.declared.call.Outcome.{Outcome}
+use Rattle.bully_calls.specs.declared.call.Phase.{Phase}
+use Rattle.bully_calls.specs.Pending.{Pending}
+use Rattle.bully_steps.specs.declared.point.Point.{Point}
+use Rattle.bully_steps.specs.declared.point.Point.TheVariants.{Idle, Asking, Halting, Announcing, Planning, Readying, Checking, Inquiring}
+use Rattle.bully_steps.specs.declared.point.Want.{Want}
+use Rattle.bully_steps.specs.Held.{Held, held_at, want_of, resumed}
+use Rattle.bully_world.specs.declared.event.Event.{Event}
+use Rattle.bully_world.specs.declared.turn.Next.{Next}
+use Rattle.bully_world.specs.declared.turn.Next.TheVariants.{Resync, Rest, Take}
+use Rattle.bully_world.specs.declared.turn.StepKind.{StepKind}
+use Rattle.bully_world.specs.declared.turn.StepKind.TheVariants.{Start, Lose, Return, Move, Plan}
+use Rattle.bully_world.specs.Cause.{is_down_at, is_pending}
+use Rattle.bully_world.specs.State.{WorldState, state_at, member_of, world_of}
+use Rattle.bully_world.specs.World.{World, Member}
+
+-- a live call is pending
+abbrev pub is_live_in : Option Pending → Bool
+is_live_in None = false
+is_live_in (Some c) = c.is_live
+
+-- the procedure of node i that the world shows; it awaits exactly where a live call of i is pending
+abbrev pub procedure_in : WorldState → ℕ → Held
+procedure_in w i =
+    let m = member_of (state_at w i) in
+    held_at w.setup i (state_at w i).generation m.point m.vector.up m.vector.coordinator (is_live_in m.pending)
+
+abbrev pub same_flag : Bool → Bool → Bool
+same_flag true b = b
+same_flag false b = not b
+
+abbrev pub same_node : Option ℕ → Option ℕ → Bool
+same_node j k = option_eq (λ a b. a == b) j k
+
+abbrev pub same_set : Option (List ℕ) → Option (List ℕ) → Bool
+same_set up other = option_eq bytes_eq up other
+
+abbrev pub same_point : Point → Point → Bool
+same_point Idle Idle = true
+same_point (Asking k) (Asking j) = k == j
+same_point (Halting k) (Halting j) = k == j
+same_point (Announcing rest) (Announcing other) = bytes_eq rest other
+same_point Planning Planning = true
+same_point (Readying rest) (Readying other) = bytes_eq rest other
+same_point (Checking k) (Checking j) = k == j
+same_point Inquiring Inquiring = true
+same_point p q = false
+
+-- the procedures agree on generation, point and call, and on the up set or the coordinator that they hold
+abbrev pub agree : Held → Held → Bool
+agree h shown =
+    (h.generation == shown.generation)
+    && same_point h.point shown.point
+    && same_flag h.awaits shown.awaits
+    && same_set h.up shown.up
+    && same_node h.coordinator shown.coordinator
+
+-- the procedure is in step with the world: it agrees with the one that the world shows of its node
+abbrev pub is_in_step : WorldState → Held → Bool
+is_in_step w h = agree h (procedure_in w h.node)
+
+-- the turn where the slot is full: what ran or failed returns, and what was sent to a node that is Down is lost
+abbrev pub turn_of_call : Bool → Phase → Next
+turn_of_call callee_is_down Phase.Sent = if callee_is_down then Take Lose else Rest
+turn_of_call callee_is_down (Phase.Ran answer) = Take Return
+turn_of_call callee_is_down Phase.Failed = Take Return
+
+-- the turn where the slot is empty: what is wanted, a plan only with its table
+abbrev pub turn_of_want : Bool → Want → Next
+turn_of_want has_table Want.Nothing = Rest
+turn_of_want has_table (Want.Start call) = Take Start
+turn_of_want has_table Want.Move = Take Move
+turn_of_want has_table Want.Plan = if has_table then Take Plan else Rest
+turn_of_want has_table Want.Await = Rest
+
+abbrev pub has_table : Held → Bool
+has_table h = option_map_or (λ table. true) h.table false
+
+-- the turn of a procedure that is in step, by the call in its node's slot
+abbrev pub turn_in_step : World → Option Pending → Held → Next
+turn_in_step w None h = turn_of_want (has_table h) (want_of h)
+turn_in_step w (Some c) h = turn_of_call (is_down_at w c.call.callee) c.phase
+
+-- the turn rule
+abbrev pub turn : WorldState → Held → Next
+turn w h = if is_in_step w h then turn_in_step (world_of w) (member_of (state_at w h.node)).pending h else Resync
+
+-- the event of a step of the procedure; a plan has the procedure's table
+abbrev pub event_of : StepKind → Held → Event
+event_of Start h = Event.Start h.node
+event_of Lose h = Event.Lose h.node
+event_of Return h = Event.Return h.node
+event_of Move h = Event.Move h.node
+event_of Plan h = Event.Plan h.node (unwrap_or h.table [])
+
+-- the outcome by which the procedure goes on; none at a loss, and none where an orphan returned
+abbrev pub outcome_after : StepKind → Answer → Option Outcome
+outcome_after Start answer = Some Outcome.Started
+outcome_after Lose answer = None
+outcome_after Return Answer.Yes = Some Outcome.Yes
+outcome_after Return Answer.No = Some Outcome.No
+outcome_after Return Answer.Failed = Some Outcome.Failed
+outcome_after Return answer = None
+outcome_after Move answer = Some Outcome.Moved
+outcome_after Plan answer = Some Outcome.Planned
+
+-- the procedure after its step with this answer
+abbrev pub gone_on : StepKind → Answer → Held → Held
+gone_on kind answer h = option_map_or (resumed h) (outcome_after kind answer) h

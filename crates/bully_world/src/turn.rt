@@ -1,0 +1,169 @@
+ghost use Rattle.std.specs.Prelude.{◌≡◌, ◌≤◌, true, bytes_eq};
+ghost use Rattle.bully_calls.specs.Slot.{pending_in};
+ghost use Rattle.bully_steps.specs.Held.{want_of};
+ghost use Rattle.bully_steps.specs.Procedure.{held};
+ghost use Rattle.bully_world.specs.Turn.{is_live_in, procedure_in, is_in_step, agree, same_point, same_set, same_node, turn, turn_of_call, turn_of_want, has_table};
+
+use crate::World;
+use bully_base::{Node, NodeSet, Status};
+use bully_calls::{Phase, Slot};
+use bully_steps::{Point, Procedure, Want};
+
+/// A step of a node by its procedure, which the turn rule offers.
+#[derive(Clone, Copy, PartialEq, Eq, Debug)]
+pub enum StepKind {
+    /// Its call is started.
+    Start,
+    /// Its call failed, since the callee is Down.
+    Lose,
+    /// Its call returns.
+    Return,
+    /// Its procedure moves.
+    Move,
+    /// Its table becomes its task.
+    Plan,
+}
+
+/// What the turn rule says. This project's profile.
+#[derive(Clone, Copy, PartialEq, Eq, Debug)]
+pub enum Next {
+    /// The procedure isn't in step with the world.
+    Resync,
+    /// There is nothing that it can do now.
+    Rest,
+    /// It can take this step.
+    Take(StepKind),
+}
+
+impl World {
+    /// The procedure that the world shows of the node, which is at most the setup's last. It awaits exactly where
+    /// the node's slot holds a live call; at Planning it has no table.
+    pub fn procedure(&self, node: Node) -> Procedure
+        requires { node ≤ self.now.setup.nodes }
+        ensures held { held result ≡ procedure_in self.now node }
+        ensures in_step { is_in_step self.now (held result) ≡ true }
+    {
+        // Shows the proof what holds of every world.
+        let _ = (self.events(), node.number());
+        let vector = self.vector(node);
+        let generation = self.generation(node);
+        Procedure::at(
+            self.setup(),
+            node,
+            generation,
+            self.point(node),
+            vector.up(),
+            vector.coordinator(),
+            holds_live_call(self.slot(node), generation),
+        )
+    }
+
+    /// What the turn rule says of the procedure, whose setup is the world's. Resync where it isn't in step. Where
+    /// its node's slot is full, Return for a call that ran or failed, Lose for a sent one whose callee is Down.
+    /// Where the slot is empty, what the procedure wants, Plan only with its table. Else Rest.
+    pub fn next(&self, procedure: &Procedure) -> Next
+        requires { (held procedure.now).setup ≡ self.now.setup }
+        ensures { result ≡ turn self.now (held procedure.now) }
+    {
+        // Shows the proof what holds of every world and of every procedure.
+        let _ = (self.events(), procedure.setup());
+        let node = procedure.node();
+        if !agree_on_all(procedure, &self.procedure(node)) {
+            return Next::Resync;
+        }
+        let slot = self.slot(node);
+        match (slot.call(), slot.phase()) {
+            (Some(call), Some(phase)) => {
+                next_of_call(self.vector(call.callee).status() == Status::Down, phase)
+            }
+            _ => next_of_want(procedure),
+        }
+    }
+}
+
+// Whether the slot holds a call of this generation of its caller.
+fn holds_live_call(slot: &Slot, generation: u32) -> bool
+    ensures { result ≡ is_live_in (pending_in generation slot.now) }
+{
+    slot.call().is_some() && !slot.is_orphan(generation)
+}
+
+// What the turn rule says of a call in this phase.
+fn next_of_call(callee_is_down: bool, phase: Phase) -> Next
+    ensures { result ≡ turn_of_call callee_is_down phase }
+{
+    match phase {
+        Phase::Sent if callee_is_down => Next::Take(StepKind::Lose),
+        Phase::Sent => Next::Rest,
+        Phase::Ran(_) | Phase::Failed => Next::Take(StepKind::Return),
+    }
+}
+
+// What the turn rule says where the slot is empty.
+fn next_of_want(procedure: &Procedure) -> Next
+    ensures { result ≡ turn_of_want (has_table (held procedure.now)) (want_of (held procedure.now)) }
+{
+    match procedure.want() {
+        Want::Nothing | Want::Await => Next::Rest,
+        Want::Start(_) => Next::Take(StepKind::Start),
+        Want::Move => Next::Take(StepKind::Move),
+        Want::Plan => match procedure.table() {
+            Some(_) => Next::Take(StepKind::Plan),
+            None => Next::Rest,
+        },
+    }
+}
+
+// Whether the procedures agree on generation, point and call, and on the up set or the coordinator that they hold.
+fn agree_on_all(procedure: &Procedure, shown: &Procedure) -> bool
+    ensures { result ≡ agree (held procedure.now) (held shown.now) }
+{
+    procedure.generation() == shown.generation()
+        && is_same_point(&procedure.point(), &shown.point())
+        && procedure.awaits() == shown.awaits()
+        && is_same_set(procedure.up(), shown.up())
+        && is_same_node(procedure.coordinator(), shown.coordinator())
+}
+
+// Whether the points are the same, with the same sets.
+fn is_same_point(point: &Point, shown: &Point) -> bool
+    ensures { result ≡ same_point point.now shown.now }
+{
+    match (point, shown) {
+        (Point::Asking(next), Point::Asking(other)) => next == other,
+        (Point::Halting(next), Point::Halting(other)) => next == other,
+        (Point::Announcing(rest), Point::Announcing(other)) => are_same_nodes(rest, other),
+        (Point::Readying(rest), Point::Readying(other)) => are_same_nodes(rest, other),
+        (Point::Checking(callee), Point::Checking(other)) => callee == other,
+        (Point::Idle, Point::Idle) => true,
+        (Point::Planning, Point::Planning) => true,
+        (Point::Inquiring, Point::Inquiring) => true,
+        _ => false,
+    }
+}
+
+// Whether both hold a set, and the same, or neither does.
+fn is_same_set(up: Option<NodeSet>, shown: Option<NodeSet>) -> bool
+    ensures { result ≡ same_set up shown }
+{
+    match (up, shown) {
+        (Some(up), Some(shown)) => are_same_nodes(&up, &shown),
+        (None, None) => true,
+        _ => false,
+    }
+}
+
+// Whether the sets have the same members.
+fn are_same_nodes(set: &NodeSet, other: &NodeSet) -> bool
+    ensures { result ≡ bytes_eq set.now other.now }
+{
+    // Shows the proof that the members fall.
+    let _ = (set.len(), other.len());
+    set == other
+}
+
+fn is_same_node(coordinator: Option<Node>, shown: Option<Node>) -> bool
+    ensures { result ≡ same_node coordinator shown }
+{
+    coordinator == shown
+}
