@@ -32,3 +32,8 @@ returns-in-Err-clause-help g c = λ help.
       | inl memory ↦ (let stopped = c.answer_words.ensures.memory memory in inr (stopped.0, Stop.OutOfMemory, stopped.2))
       | inr shown ↦ some_stop (c.answer_words.ensures.help shown)
     ]
+
+pub returns-in-Ok-Table-clause-check : goal.returns-in-Ok-Table-clause-check
+returns-in-Ok-Table-clause-check g c = λ alone.
+    let other = c.in-Ok-Table.ensures.check (subst ParsesAsCheck (sym alone) check-parses) in
+    absurd (grind (arith, other))
