@@ -62,7 +62,7 @@ module _ (turns : ℕ) (names : List (List ℕ)) where
   fault_in ms =
       option_and_then (λ t. option_and_then (λ n. option_map (λ k. record { at = t; node = n; kind = k }) (kind_in ms)) (node_in ms)) (turn_in ms)
 
-  -- the faults that the items tell, in their order
+  -- the faults that the items tell, in their order; an item that tells none is refused
   abbrev pub faults_in : List Data → List Fault
   faults_in [] = []
   faults_in (d ∷ ds) = elim (option_and_then fault_in (as_table d)) [

@@ -93,9 +93,9 @@ impl ConfigFault {
         ensures { result ≡ key_of self }
     {
         match self {
-            ConfigFault::Missing(key) | ConfigFault::Kind(key) | ConfigFault::Range(key) => Some(
-                key,
-            ),
+            ConfigFault::Missing(key) => Some(key),
+            ConfigFault::Kind(key) => Some(key),
+            ConfigFault::Range(key) => Some(key),
             _ => None,
         }
     }

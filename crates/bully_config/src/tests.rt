@@ -1,9 +1,12 @@
-use crate::{Config, ConfigFault, FaultKind, Key};
+mod cases;
+
+use crate::{Config, ConfigFault, FAULTS_MAX, FaultKind, Key};
 use bully_base::Node;
+use cases::{GOOD, SEVERAL, SINGLE, TAILS};
 use std::alloc::Global;
 use std::test::Fail;
 
-/// The smallest configuration with a fault.
+/// A configuration of one node, which recovers in the first turn.
 const ALONE: &str = "nodes = 1
 partitions = 2
 events = 100
@@ -14,6 +17,34 @@ at = 1
 node = \"a\"
 kind = \"recover\"
 ";
+
+// The answer to a text, as the program tells it.
+fn answer(alloc: Global, text: &str) -> Result<String, Fail> {
+    match Config::read(alloc, text) {
+        Ok(_) => Ok(String::from_str(alloc, "Ok")?),
+        Err(fault) => Ok(format!(in alloc; "{fault}")?),
+    }
+}
+
+// The good configuration with some lines written anew.
+fn changed(alloc: Global, changes: &[(usize, &str)]) -> Result<String, Fail> {
+    let mut text = String::new(alloc);
+    for (index, line) in GOOD.iter().enumerate() {
+        text.push_str(line_at(changes, index, *line))?;
+        text.push_str("\n")?;
+    }
+    Ok(text)
+}
+
+// The line that stands at a place after the changes.
+fn line_at<'a>(changes: &[(usize, &'a str)], index: usize, line: &'a str) -> &'a str {
+    for (place, new) in changes {
+        if *place == index {
+            return *new;
+        }
+    }
+    line
+}
 
 #[test]
 fn reads_one_node(rt: HostRuntime) -> Result<(), Fail> {
@@ -30,5 +61,125 @@ fn reads_one_node(rt: HostRuntime) -> Result<(), Fail> {
     assert_eq!(rt; config.faults()[0].at, 1);
     assert!(rt; config.faults()[0].node == node);
     assert!(rt; config.faults()[0].kind == FaultKind::Recover);
+    Ok(())
+}
+
+#[test]
+fn reads_three_nodes(rt: HostRuntime) -> Result<(), Fail> {
+    let text = changed(rt.alloc(), &[])?;
+    let config = Config::read(rt.alloc(), text.as_str())?;
+    assert_eq!(rt; config.setup().nodes(), 3);
+    assert_eq!(rt; config.turns(), 9);
+    let last = Node::new(3).ok_or("node 3")?;
+    let middle = Node::new(2).ok_or("node 2")?;
+    assert_eq!(rt; config.name(last), "c");
+    assert_eq!(rt; config.name(middle), "b");
+    assert!(rt; config.node("c") == Some(last));
+    assert!(rt; config.node("C").is_none());
+    assert_eq!(rt; config.faults().len(), 2);
+    assert_eq!(rt; config.faults()[1].at, 9);
+    assert!(rt; config.faults()[1].node == last);
+    assert!(rt; config.faults()[1].kind == FaultKind::Crash);
+    Ok(())
+}
+
+#[test]
+fn tells_faults(rt: HostRuntime) -> Result<(), Fail> {
+    let missing = Config::read(rt.alloc(), "").err().ok_or("no fault")?;
+    assert!(rt; missing == ConfigFault::Missing(Key::Nodes));
+    assert_eq!(rt; missing.name(), "Missing");
+    assert!(rt; missing.key() == Some(Key::Nodes));
+    assert_eq!(rt; Key::Kind.word(), "kind");
+    assert!(rt; ConfigFault::DoubleName.key().is_none());
+    assert_eq!(rt; ConfigFault::OutOfMemory.name(), "OutOfMemory");
+    Ok(())
+}
+
+#[test]
+fn refuses_a_change(rt: HostRuntime) -> Result<(), Fail> {
+    for (place, line, wanted) in SINGLE.iter() {
+        let text = changed(rt.alloc(), &[(*place, *line)])?;
+        assert_eq!(rt; answer(rt.alloc(), text.as_str())?.as_str(), *wanted);
+    }
+    Ok(())
+}
+
+#[test]
+fn tells_the_first_of_several(rt: HostRuntime) -> Result<(), Fail> {
+    for (changes, wanted) in SEVERAL.iter() {
+        let text = changed(rt.alloc(), *changes)?;
+        assert_eq!(rt; answer(rt.alloc(), text.as_str())?.as_str(), *wanted);
+    }
+    Ok(())
+}
+
+// The answer to a line at the top written anew, and this in place of the faults.
+fn answer_with(alloc: Global, changes: &[(usize, &str)], tail: &str) -> Result<String, Fail> {
+    let mut text = String::new(alloc);
+    for (index, line) in GOOD[..5].iter().enumerate() {
+        text.push_str(line_at(changes, index, *line))?;
+        text.push_str("\n")?;
+    }
+    text.push_str(tail)?;
+    answer(alloc, text.as_str())
+}
+
+#[test]
+fn reads_faults_of_each_form(rt: HostRuntime) -> Result<(), Fail> {
+    for (tail, wanted) in TAILS.iter() {
+        assert_eq!(rt; answer_with(rt.alloc(), &[], *tail)?.as_str(), *wanted);
+    }
+    let tail = "fault = [{}, 1]";
+    assert_eq!(rt;
+        answer_with(rt.alloc(), &[(3, "")], tail)?.as_str(),
+        "Missing turns"
+    );
+    assert_eq!(rt;
+        answer_with(rt.alloc(), &[(4, "names = 1")], tail)?.as_str(),
+        "Kind names"
+    );
+    assert_eq!(rt;
+        answer_with(rt.alloc(), &[(0, "nodes = 0")], tail)?.as_str(),
+        "Kind fault"
+    );
+    Ok(())
+}
+
+// As many equal faults, in this turn, behind an array's bracket.
+fn many_faults(alloc: Global, count: usize, turn: &str) -> Result<String, Fail> {
+    let mut tail = String::from_str(alloc, "fault = [\n")?;
+    for _ in 0..count {
+        tail.push_str("{node = \"a\", kind = \"crash\", at = ")?;
+        tail.push_str(turn)?;
+        tail.push_str("},\n")?;
+    }
+    tail.push_str("]\n")?;
+    Ok(tail)
+}
+
+#[test]
+fn counts_faults(rt: HostRuntime) -> Result<(), Fail> {
+    let alloc = rt.alloc();
+    let most = many_faults(alloc, FAULTS_MAX, "1")?;
+    assert_eq!(rt; answer_with(alloc, &[], most.as_str())?.as_str(), "Ok");
+    let late = many_faults(alloc, FAULTS_MAX, "0")?;
+    assert_eq!(rt;
+        answer_with(alloc, &[], late.as_str())?.as_str(),
+        "Range at"
+    );
+    let more = many_faults(alloc, FAULTS_MAX + 1, "0")?;
+    assert_eq!(rt;
+        answer_with(alloc, &[], more.as_str())?.as_str(),
+        "Range fault"
+    );
+    assert_eq!(rt;
+        answer_with(alloc, &[(4, "names = []")], more.as_str())?.as_str(),
+        "Range names"
+    );
+    let kinds = many_faults(alloc, FAULTS_MAX + 1, "true")?;
+    assert_eq!(rt;
+        answer_with(alloc, &[], kinds.as_str())?.as_str(),
+        "Kind at"
+    );
     Ok(())
 }
