@@ -1,5 +1,5 @@
 -- How far the call at hand has come, as a list of events is gone through.
-use Rattle.std.specs.Prelude.{ℕ, Bool, true, false, List, [], ◌∷◌, ◌&&◌}
+use Rattle.std.specs.Prelude.{Bool, true, false, List, [], ◌∷◌, ◌&&◌}
 use Rattle.bully_world.specs.declared.event.Event.{Event}
 use Rattle.bully_agree.specs.declared.whole_calls.Stage.{Stage}
 use Rattle.bully_agree.specs.declared.whole_calls.Stage.TheVariants.{Between, Started, Over}
