@@ -1,14 +1,14 @@
 -- The view of a world shows what the world has, so it agrees.
-use Rattle.std.proofs.Common.{◌≡◌, ◌<◌, ◌+◌, ◌++◌, ℕ, zero, suc, List, [], ◌∷◌, map, take, length, add-one, arith, refl, sym, ap, subst, ◌∙◌}
+use Rattle.std.proofs.Common.{◌≡◌, ◌<◌, ◌+◌, ◌++◌, ℕ, zero, suc, List, [], ◌∷◌, map, take, length, add-one, arith, refl, sym, ap, ◌∙◌}
 use Rattle.std.specs.Prelude.{slice_index_or}
 use Rattle.std.proofs.lemmas.List.{length-map}
 use Rattle.bully_base.specs.Places.{at_node}
 use Rattle.bully_base.specs.Setup.{Setup}
 use Rattle.bully_world.proofs.ShapeLemmas.{lawful_fits}
-use Rattle.bully_world.specs.State.{MemberState, WorldState, IsReached, empty_state, member_of, members_of, world_of}
+use Rattle.bully_world.specs.State.{MemberState, WorldState, IsReached, empty_state, member_of, world_of}
 use Rattle.bully_world.specs.World.{Member, World, empty_member, member}
 use Rattle.bully_agree.specs.Agreement.{Agreement}
-use Rattle.bully_agree.specs.View.{Shown, View, IsView, ViewAgrees, nothing_shown, shown, shown_of, view_of}
+use Rattle.bully_agree.specs.View.{Shown, IsView, ViewAgrees, nothing_shown, shown, shown_of, view_of}
 use Rattle.bully_agree.proofs.Law.{agreement_lem}
 
 index-shown : (ms : List Member) (k : ℕ) → slice_index_or (map shown_of ms) k nothing_shown ≡ shown_of (slice_index_or ms k empty_member)

@@ -1,5 +1,5 @@
 -- Where a run of events stops.
-use Rattle.std.specs.Prelude.{◌≡◌, ℕ, true, false, List, take, slice_get, Option, Some}
+use Rattle.std.specs.Prelude.{◌≡◌, ℕ, true, false, List, take, slice_get, Some}
 use Rattle.bully_base.specs.Setup.{Setup}
 use Rattle.bully_calls.specs.declared.call.Answer.{Answer}
 use Rattle.bully_world.specs.declared.event.Event.{Event}

@@ -1,4 +1,4 @@
-use Rattle.std.proofs.Common.{◌≡◌, length, arith, refl, sym, ◌∙◌}
+use Rattle.std.proofs.Common.{arith, refl, sym, ◌∙◌}
 use Rattle.std.proofs.lemmas.Option.{slice_get_read}
 use Rattle.bully_agree.proofs.WholeLemmas.{not_between, whole-between, whole-breaks, whole-cut, whole-ends, whole-next}
 use Rattle.bully_agree.proofs.whole_calls.first_break.Goals as goal
