@@ -1,5 +1,5 @@
 -- After a step of the turn rule the procedure that goes on by it agrees with its node again.
-use Rattle.std.proofs.Common.{◌≡◌, ◌≢◌, ℕ, zero, suc, ◌+◌, Bool, true, false, List, [], ◌∷◌, Option, Some, None, arith, refl, sym, ◌∙◌, ap, subst}
+use Rattle.std.proofs.Common.{◌≡◌, ℕ, zero, suc, Bool, true, false, List, [], ◌∷◌, Option, Some, None, arith, refl, sym, ◌∙◌, ap, subst}
 use Rattle.std.specs.Prelude.{IfSome, unwrap_or}
 use Rattle.std.specs.Option.{option_map_or}
 use Rattle.bully_base.specs.Setup.{Setup, IsNode}
@@ -12,12 +12,12 @@ use Rattle.bully_handlers.specs.Vector.{Vector}
 use Rattle.bully_steps.specs.declared.point.Point.{Point}
 use Rattle.bully_steps.specs.declared.point.Point.TheVariants.{Idle, Asking, Halting, Announcing, Planning, Readying, Checking, Inquiring}
 use Rattle.bully_steps.specs.declared.point.Want.{Want}
-use Rattle.bully_steps.specs.Held.{Held, CanCome, CanResume, held_at, is_started, resumed, want_of}
+use Rattle.bully_steps.specs.Held.{Held, CanCome, CanResume, is_started, resumed, want_of}
 use Rattle.bully_steps.specs.NextPoint.{next_point, next_vector}
 use Rattle.bully_steps.specs.Point.{offered}
 use Rattle.bully_world.specs.declared.event.Event.{Event}
 use Rattle.bully_world.specs.declared.turn.StepKind.{StepKind}
-use Rattle.bully_world.specs.Shape.{AllFit, SuitsCall, SuitsPhase}
+use Rattle.bully_world.specs.Shape.{AllFit, SuitsPhase}
 use Rattle.bully_world.specs.Step.{Step, IsUp, Returns, sent}
 use Rattle.bully_world.specs.Turn.{is_live_in, event_of, outcome_after, gone_on}
 use Rattle.bully_world.specs.World.{World, Member, member, vector, point, pending, with_member}

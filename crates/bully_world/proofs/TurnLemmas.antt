@@ -1,7 +1,7 @@
 -- What the shape of a world gives its readers of turns.
-use Rattle.std.proofs.Common.{◌≡◌, ◌≢◌, ◌≤◌, ℕ, Bool, true, false, Option, Some, None, arith, refl, sym, subst}
+use Rattle.std.proofs.Common.{◌≡◌, ◌≤◌, ℕ, true, Option, Some, None, arith, refl, subst}
 use Rattle.std.specs.Prelude.{option_map}
-use Rattle.bully_base.specs.Setup.{Setup, IsNode}
+use Rattle.bully_base.specs.Setup.{Setup}
 use Rattle.bully_calls.specs.declared.call.Call.{Call}
 use Rattle.bully_calls.specs.Pending.{Pending}
 use Rattle.bully_calls.specs.Slot.{Posted, pending_of}

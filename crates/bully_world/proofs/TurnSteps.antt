@@ -1,36 +1,30 @@
 -- A step that the turn rule offers is possible, and the procedure that goes on by it is in step again.
-use Rattle.std.proofs.Common.{◌≡◌, ◌≢◌, ℕ, zero, suc, ◌+◌, ◌<◌, ◌⊎◌, inl, inr, Bool, true, false, List, [], ◌∷◌, length, Option, Some, None, arith, refl, sym, ◌∙◌, ap, subst}
-use Rattle.std.specs.Prelude.{IfSome, unwrap_or, if◌then◌else◌}
+use Rattle.std.proofs.Common.{◌≡◌, ◌≢◌, ℕ, zero, suc, ◌<◌, ◌⊎◌, inl, inr, Bool, true, false, List, [], ◌∷◌, length, Option, Some, None, arith, refl, sym, ◌∙◌, ap, subst}
+use Rattle.std.specs.Prelude.{IfSome, unwrap_or}
 use Rattle.std.specs.Option.{option_map_or}
 use Rattle.std.proofs.lemmas.Bool.Decides.{nat_tests}
 use Rattle.bully_base.specs.declared.node.Status.TheVariants.{Down}
 use Rattle.bully_base.specs.NodeSet.{with_node}
 use Rattle.bully_base.specs.Setup.{Setup, IsNode}
-use Rattle.bully_table.specs.Balance.{IsBalanced, is_balanced}
+use Rattle.bully_table.specs.Balance.{is_balanced}
 use Rattle.bully_table.proofs.BalanceLemmas.{is_balanced_decides}
-use Rattle.bully_calls.specs.declared.call.Answer.{Answer}
-use Rattle.bully_calls.specs.declared.call.Call.{Call}
-use Rattle.bully_calls.specs.declared.call.CallKind.TheVariants.{AreYouNormal}
-use Rattle.bully_calls.specs.declared.call.Outcome.{Outcome}
 use Rattle.bully_calls.specs.declared.call.Phase.{Phase}
-use Rattle.bully_calls.specs.Pending.{Pending, outcome_of, answer_of, is_sent}
-use Rattle.bully_handlers.specs.Vector.{Vector}
+use Rattle.bully_calls.specs.Pending.{Pending, is_sent}
 use Rattle.bully_steps.specs.declared.point.Point.{Point}
 use Rattle.bully_steps.specs.declared.point.Point.TheVariants.{Idle, Asking, Halting, Announcing, Planning, Readying, Checking, Inquiring}
 use Rattle.bully_steps.specs.declared.point.Want.{Want}
-use Rattle.bully_steps.specs.Held.{Held, IsHeld, CanCome, CanResume, SuitsPlan, IsPlannedOver, held_at, held_up, held_coordinator, is_started, resumed, want_of}
-use Rattle.bully_steps.specs.NextPoint.{next_point, next_vector}
+use Rattle.bully_steps.specs.Held.{Held, IsHeld, SuitsPlan, IsPlannedOver, held_at, held_coordinator, want_of}
 use Rattle.bully_steps.specs.Point.{offered}
 use Rattle.bully_world.specs.declared.event.Event.{Event}
 use Rattle.bully_world.specs.declared.turn.Next.{Next}
 use Rattle.bully_world.specs.declared.turn.StepKind.{StepKind}
-use Rattle.bully_world.specs.Cause.{cause, is_call, is_move, is_plan, is_down_at}
-use Rattle.bully_world.specs.Shape.{Fits, AllFit, SuitsCall, SuitsPhase}
-use Rattle.bully_world.specs.Step.{Step, IsUp, Returns, offer}
-use Rattle.bully_world.specs.Turn.{is_live_in, turn_of_call, turn_of_want, turn_in_step, has_table, event_of, outcome_after, gone_on}
-use Rattle.bully_world.specs.World.{World, Member, member, vector, point, pending, with_member}
-use Rattle.bully_world.proofs.AgreeLemmas.{Agrees, resumed_agrees}
-use Rattle.bully_world.proofs.MemberLemmas.{member_here, node_of_up, node_of_pending, call_of_pending}
+use Rattle.bully_world.specs.Cause.{cause, is_call, is_down_at}
+use Rattle.bully_world.specs.Shape.{Fits, AllFit}
+use Rattle.bully_world.specs.Step.{IsUp, offer}
+use Rattle.bully_world.specs.Turn.{is_live_in, turn_of_call, turn_of_want, turn_in_step, has_table, event_of}
+use Rattle.bully_world.specs.World.{World, Member, member, vector, pending}
+use Rattle.bully_world.proofs.AgreeLemmas.{Agrees}
+use Rattle.bully_world.proofs.MemberLemmas.{node_of_up, node_of_pending}
 
 -- the procedure that the world shows of a node with this member
 abbrev pub shown : Setup → ℕ → ℕ → Member → Held

@@ -15,9 +15,9 @@ use Rattle.bully_world.specs.declared.turn.Next.{Next}
 use Rattle.bully_world.specs.declared.turn.Next.TheVariants.{Resync, Rest, Take}
 use Rattle.bully_world.specs.declared.turn.StepKind.{StepKind}
 use Rattle.bully_world.specs.declared.turn.StepKind.TheVariants.{Start, Lose, Return, Move, Plan}
-use Rattle.bully_world.specs.Cause.{is_down_at, is_pending}
+use Rattle.bully_world.specs.Cause.{is_down_at}
 use Rattle.bully_world.specs.State.{WorldState, state_at, member_of, world_of}
-use Rattle.bully_world.specs.World.{World, Member}
+use Rattle.bully_world.specs.World.{World}
 
 -- a live call is pending
 abbrev pub is_live_in : Option Pending → Bool

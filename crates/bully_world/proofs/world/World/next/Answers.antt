@@ -2,7 +2,7 @@
 use Rattle.std.proofs.Common.{arith}
 use Rattle.bully_steps.specs.Procedure.{held}
 use Rattle.bully_world.proofs.TurnLemmas.{node_fits, call_within}
-use Rattle.bully_world.specs.State.{state_at, member_of}
+use Rattle.bully_world.specs.State.{state_at}
 use Rattle.bully_world.proofs.world.World.next.Goals as goal
 
 pub vector-requires : goal.vector-requires

@@ -1,5 +1,5 @@
 -- The procedure that goes on by the step is in step again.
-use Rattle.std.proofs.Common.{◌≡◌, arith, sym, ◌∙◌, ap, subst}
+use Rattle.std.proofs.Common.{arith, ◌∙◌, ap, subst}
 use Rattle.bully_steps.specs.Procedure.{held}
 use Rattle.bully_world.specs.State.{world_of}
 use Rattle.bully_world.specs.Step.{Step}
