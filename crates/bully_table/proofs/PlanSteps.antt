@@ -1,12 +1,11 @@
 -- Steps of the loops of planning.
-use Rattle.std.proofs.Common.{◌≡◌, ◌≢◌, ℕ, zero, suc, ◌+◌, ◌-◌, ◌<◌, ◌≤◌, ◌⊎◌, inl, inr, Bool, true, false, cond, List, [], ◌∷◌, length, take, get_or, arith, sym, refl, ◌∙◌, ap, Contains, IsTrue, slice_index_or, Option, Some, None}
-use Rattle.std.specs.Prelude.{not, nat_lt, ◌==◌, count_by, sum_by}
+use Rattle.std.proofs.Common.{◌≡◌, ◌≢◌, ℕ, ◌+◌, ◌-◌, ◌<◌, ◌≤◌, ◌⊎◌, inl, inr, Bool, true, false, List, [], ◌∷◌, arith, sym, refl, ◌∙◌, ap, Contains, slice_index_or}
+use Rattle.std.specs.Prelude.{not, ◌==◌, count_by, sum_by}
 use Rattle.std.specs.List.{list_any}
 use Rattle.std.proofs.lemmas.Bool.Decides.{nat_tests}
-use Rattle.std.proofs.lemmas.Grind.{common_steps}
 use Rattle.bully_base.specs.NodeSet.{IsFallingBelow, below_node}
 use Rattle.bully_base.specs.Setup.{Setup}
-use Rattle.bully_table.specs.Planning.{owner_at, places_where, comes_first, room, rooms_below, taker}
+use Rattle.bully_table.specs.Planning.{owner_at, places_where, room, taker}
 use Rattle.bully_table.proofs.BalanceLemmas.{any_decides}
 use Rattle.bully_table.proofs.TotalLemmas.{total, total-sum_by, total-same, total-above, total-below-member, total-below-other, total-below-same, one}
 use Rattle.bully_table.proofs.PlaceCounts.{places-none, places-more}

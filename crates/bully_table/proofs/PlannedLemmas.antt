@@ -1,18 +1,17 @@
 -- The planned table is balanced, and no balanced table has fewer moves.
-use Rattle.std.proofs.Common.{◌≡◌, ◌≢◌, ℕ, zero, suc, ◌+◌, ◌-◌, ◌/◌, ◌<◌, ◌≤◌, min, ◌⊎◌, inl, inr, Bool, true, false, cond, List, [], ◌∷◌, ◌++◌, map, length, take, get_or, arith, sym, refl, ◌∙◌, ap, All, Contains, add-one, Option, Some, None}
-use Rattle.std.specs.Prelude.{◌&&◌, not, nat_lt, nat_le, ◌==◌, IfSome, is_none, sum_by}
+use Rattle.std.proofs.Common.{◌≡◌, ◌≢◌, ℕ, zero, suc, ◌+◌, ◌-◌, ◌/◌, ◌<◌, ◌≤◌, min, ◌⊎◌, inl, inr, Bool, true, false, cond, List, [], ◌∷◌, ◌++◌, map, length, arith, sym, refl, ◌∙◌, ap, Contains, add-one, Option, Some, None}
+use Rattle.std.specs.Prelude.{◌&&◌, not, ◌==◌, IfSome, is_none, sum_by}
 use Rattle.std.specs.List.{range_with_len}
 use Rattle.std.proofs.lemmas.Bool.Decides.{nat_tests}
-use Rattle.std.proofs.lemmas.Grind.{common_steps}
 use Rattle.std.proofs.lemmas.List.Elements.{All-get_or, All-from_get_or}
 use Rattle.std.proofs.lemmas.List.FromFn.{length-map-range_with_len, get_or-map-range_with_len, map-range_with_len_more}
 use Rattle.std.proofs.lemmas.List.Sums.{sum_by_push}
-use Rattle.bully_base.specs.NodeSet.{IsFallingBelow, below_node, highest_of}
+use Rattle.bully_base.specs.NodeSet.{IsFallingBelow, highest_of}
 use Rattle.bully_base.specs.Setup.{Setup}
 use Rattle.bully_table.specs.Balance.{count_of, IsBalanced}
-use Rattle.bully_table.specs.Planning.{owner_at, places_where, moves, moves_from, kept_from, IsFewest, IsMostKept, owners_before, quota, stays, room, rooms_below, taker, planned_owner, planned}
+use Rattle.bully_table.specs.Planning.{owner_at, places_where, moves, moves_from, IsFewest, IsMostKept, owners_before, quota, stays, room, rooms_below, taker, planned_owner, planned}
 use Rattle.bully_table.proofs.BalanceSteps.{falling-within}
-use Rattle.bully_table.proofs.TotalLemmas.{total, total-sum_by, total-le, total-below-within, one}
+use Rattle.bully_table.proofs.TotalLemmas.{total-sum_by, total-le, total-below-within, one}
 use Rattle.bully_table.proofs.PlaceCounts.{places-none, places-next, places-more, places-le, places-not, places-parted, places-count_all}
 use Rattle.bully_table.proofs.ShareLemmas.{quota-is, kept-most, near-balanced, counts-total}
 use Rattle.bully_table.proofs.StayLemmas.{Plannable, stays-member, stays-count_all, room-is, stays-total, rooms-total, rooms_below-is, IsIn, taker-of, taker-only, taker-member}

@@ -1,7 +1,6 @@
 -- What stays in the planned table, and who gets the rest.
-use Rattle.std.proofs.Common.{◌≡◌, ◌≢◌, ℕ, zero, suc, ◌+◌, ◌-◌, ◌<◌, ◌≤◌, min, ◌⊎◌, inl, inr, Bool, true, false, cond, List, [], ◌∷◌, length, take, arith, sym, refl, ◌∙◌, ap, Contains, add-one, slice_index_or}
+use Rattle.std.proofs.Common.{◌≡◌, ℕ, zero, suc, ◌+◌, ◌-◌, ◌<◌, ◌≤◌, min, ◌⊎◌, inl, inr, Bool, true, false, cond, List, [], ◌∷◌, length, take, arith, refl, ◌∙◌, Contains, add-one, slice_index_or}
 use Rattle.std.specs.Prelude.{◌&&◌, not, nat_lt, nat_le, ◌==◌}
-use Rattle.std.specs.List.{list_any}
 use Rattle.std.proofs.lemmas.Bool.Decides.{nat_tests}
 use Rattle.std.proofs.lemmas.Grind.{common_steps}
 use Rattle.bully_base.specs.NodeSet.{IsFallingBelow, below_node}
@@ -10,7 +9,7 @@ use Rattle.bully_table.specs.Balance.{count_of}
 use Rattle.bully_table.specs.Planning.{owner_at, places_where, quota, stays, room, rooms_below, taker, member_where}
 use Rattle.bully_table.proofs.BalanceLemmas.{any_decides, earlier, later}
 use Rattle.bully_table.proofs.BalanceSteps.{falling-within}
-use Rattle.bully_table.proofs.TotalLemmas.{total, total-sum_by, total-add, total-same, total-above, total-below-apart, total-below-within, one}
+use Rattle.bully_table.proofs.TotalLemmas.{total, total-sum_by, total-add, total-same, total-above, total-below-apart, one}
 use Rattle.bully_table.proofs.PlaceCounts.{places-none, places-more, places-not, places-parted, count-more}
 use Rattle.bully_table.proofs.ShareLemmas.{quotas-total}
 

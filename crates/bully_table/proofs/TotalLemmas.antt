@@ -1,8 +1,7 @@
 -- Sums over the members of a set, which is a list in falling order.
-use Rattle.std.proofs.Common.{◌≡◌, ℕ, zero, suc, ◌+◌, ◌-◌, ◌*◌, ◌<◌, ◌≤◌, min, ◌≢◌, ◌⊎◌, inl, inr, Bool, true, false, cond, List, [], ◌∷◌, length, arith, sym, refl, ◌∙◌, ap, All, Contains}
-use Rattle.std.specs.Prelude.{◌&&◌, not, nat_lt, ◌==◌, sum_by, count_by}
+use Rattle.std.proofs.Common.{◌≡◌, ℕ, ◌+◌, ◌-◌, ◌*◌, ◌<◌, ◌≤◌, min, ◌≢◌, ◌⊎◌, inl, inr, Bool, cond, List, [], ◌∷◌, length, arith, refl, ◌∙◌, ap, Contains}
+use Rattle.std.specs.Prelude.{◌&&◌, nat_lt, ◌==◌, sum_by}
 use Rattle.std.proofs.lemmas.Bool.Decides.{nat_tests}
-use Rattle.std.proofs.lemmas.Grind.{common_steps}
 use Rattle.std.proofs.lemmas.List.Sums.{sum_by-cons}
 use Rattle.bully_base.specs.NodeSet.{IsFallingBelow, below_node}
 use Rattle.bully_table.proofs.BalanceLemmas.{earlier, later}

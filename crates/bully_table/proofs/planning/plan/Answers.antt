@@ -1,7 +1,6 @@
-use Rattle.std.proofs.Common.{◌≡◌, ℕ, List, false, arith, ◌∙◌, ap, sym, map, Option, length, is_none}
+use Rattle.std.proofs.Common.{◌≡◌, ℕ, List, false, arith, ◌∙◌, ap, map, length, is_none}
 use Rattle.std.specs.List.{range_with_len}
 use Rattle.std.specs.Option.{option_copied}
-use Rattle.std.proofs.lemmas.Grind.{common_steps}
 use Rattle.bully_table.specs.Planning.{owners_before, planned_owner, planned}
 use Rattle.bully_table.proofs.StayLemmas.{Plannable}
 use Rattle.bully_table.proofs.PlannedLemmas.{planned-covers, planned-fewest, fewest-keeps, moves-within, covers-from, lengths-from, some-from}

@@ -1,14 +1,9 @@
-use Rattle.std.proofs.Common.{◌≡◌, ℕ, ◌+◌, ◌-◌, ◌<◌, ◌++◌, ◌∷◌, [], false, true, List, length, take, arith, refl, sym, ◌∙◌, Contains, slice_index_or, Some, None}
-use Rattle.std.specs.Option.{IsSome}
-use Rattle.std.proofs.lemmas.Bool.Decides.{nat_tests}
+use Rattle.std.proofs.Common.{◌≡◌, ◌-◌, ◌++◌, ◌∷◌, [], arith, sym, ◌∙◌}
 use Rattle.std.proofs.lemmas.Grind.{common_steps}
 use Rattle.std.proofs.lemmas.List.{get_or-replicate}
-use Rattle.bully_base.specs.Setup.{Setup, IsNodeNumber}
-use Rattle.bully_table.specs.Balance.{count_of}
-use Rattle.bully_table.specs.Planning.{owner_at, stays, quota, room, taker, planned_owner}
-use Rattle.bully_table.proofs.BalanceSteps.{falling-within}
-use Rattle.bully_table.proofs.StayLemmas.{Plannable, room-is, rooms-from}
-use Rattle.bully_table.proofs.PlannedLemmas.{some-length, planned-more, planned-stays, planned-taken, leaving-none, leaving-more, leaving-same, leaving-fits, planned-found, told-stays, told-leaves}
+use Rattle.bully_table.specs.Planning.{owner_at, stays, planned_owner}
+use Rattle.bully_table.proofs.StayLemmas.{Plannable, rooms-from}
+use Rattle.bully_table.proofs.PlannedLemmas.{some-length, planned-more, planned-stays, leaving-none, leaving-more, leaving-same, leaving-fits, planned-found, told-stays, told-leaves}
 use Rattle.bully_table.proofs.planning.planned_owners.Goals as goal
 use Rattle.bully_table.proofs.planning.planned_owners.Goals.{in-Some, in-None}
 

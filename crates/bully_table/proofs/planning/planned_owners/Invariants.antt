@@ -1,4 +1,4 @@
-use Rattle.std.proofs.Common.{◌≡◌, ℕ, ◌-◌, ◌≤◌, map, take, not, slice_index_or, length}
+use Rattle.std.proofs.Common.{◌≡◌, ℕ, ◌-◌, ◌≤◌, map, take, not, slice_index_or}
 use Rattle.std.specs.List.{range_with_len}
 use Rattle.bully_base.specs.Setup.{IsNodeNumber}
 use Rattle.bully_table.specs.Balance.{count_of}

@@ -1,10 +1,9 @@
-use Rattle.std.proofs.Common.{◌≡◌, ◌-◌, ◌<◌, ◌≤◌, false, true, length, take, slice_index_or, arith, sym, ◌∙◌, Contains}
+use Rattle.std.proofs.Common.{◌≡◌, ◌<◌, ◌≤◌, length, take, arith}
 use Rattle.std.specs.Prelude.{◌==◌}
 use Rattle.std.proofs.lemmas.Bool.Decides.{nat_tests}
 use Rattle.std.proofs.lemmas.Grind.{common_steps}
 use Rattle.std.proofs.lemmas.List.Sums.{count_by-le-length}
-use Rattle.bully_table.specs.Balance.{count_of}
-use Rattle.bully_table.specs.Planning.{owner_at, stays}
+use Rattle.bully_table.specs.Planning.{owner_at}
 use Rattle.bully_table.proofs.StayLemmas.{stays-past, stays-of, stays-outside}
 use Rattle.bully_table.proofs.planning.staying_owner.Goals as goal
 use Rattle.bully_table.proofs.planning.staying_owner.Goals.{else-has-via-then-has+else-count-count_at, else-has-via-else-has}

@@ -1,5 +1,4 @@
-use Rattle.std.proofs.Common.{◌≡◌, ℕ, arith, ap, sym, ◌∙◌, Some}
-use Rattle.std.proofs.lemmas.Bool.Decides.{nat_tests}
+use Rattle.std.proofs.Common.{◌≡◌, arith}
 use Rattle.bully_table.proofs.PlanSteps.{spare, spare-none, spare-yes, spare-no, taken-at, taken-somewhere}
 use Rattle.bully_table.proofs.planning.taker_of.Goals as goal
 use Rattle.bully_table.proofs.planning.taker_of.Goals.{then-has+else-rest-room, else-has}

@@ -1,7 +1,5 @@
-use Rattle.std.proofs.Common.{◌≡◌, ℕ, ◌+◌, ◌-◌, List, slice_index_or, Contains}
+use Rattle.std.proofs.Common.{◌≡◌, ◌+◌, ◌-◌, slice_index_or}
 use Rattle.bully_base.specs.NodeSet.{below_node}
-use Rattle.bully_base.specs.Setup.{Setup}
-use Rattle.bully_table.specs.Planning.{room}
 use Rattle.bully_table.proofs.TotalLemmas.{total}
 use Rattle.bully_table.proofs.planning.taker_of.Given as goal
 
