@@ -9,7 +9,7 @@ use Rattle.std.proofs.lemmas.List.Sums.{sum_by_push}
 use Rattle.bully_base.specs.NodeSet.{IsFallingBelow, highest_of}
 use Rattle.bully_base.specs.Setup.{Setup}
 use Rattle.bully_table.specs.Balance.{count_of, IsBalanced}
-use Rattle.bully_table.specs.Planning.{owner_at, places_where, moves, moves_from, IsFewest, IsMostKept, owners_before, quota, stays, room, rooms_below, taker, planned_owner, planned}
+use Rattle.bully_table.specs.Planning.{owner_at, places_where, moves, moves_from, kept_from, IsFewest, IsMostKept, owners_before, quota, stays, room, rooms_below, taker, planned_owner, planned}
 use Rattle.bully_table.proofs.BalanceSteps.{falling-within}
 use Rattle.bully_table.proofs.TotalLemmas.{total-sum_by, total-le, total-below-within, one}
 use Rattle.bully_table.proofs.PlaceCounts.{places-none, places-next, places-more, places-le, places-not, places-parted, places-count_all}
@@ -183,11 +183,16 @@ planned-fewest setup bound (Some old) members h = record {
   least = λ other covers balanced. omega (arith, planned-moves setup old members, balanced-moves setup bound old members other h covers balanced);
 }
 
+-- each partition stays or moves
+kept-rest : (setup : Setup) (old : Option (List ℕ)) (table : List ℕ) → length table ≡ setup.partitions → kept_from old table + moves_from setup old table ≡ setup.partitions
+kept-rest setup None table covers = omega arith
+kept-rest setup (Some old) table covers = omega (arith, covers, places-not (λ p. owner_at old p == owner_at table p) (length table))
+
 -- a table with the fewest moves keeps the most
 pub fewest-keeps : (setup : Setup) (old : Option (List ℕ)) (members table : List ℕ) (count : ℕ) → IsFewest setup old table members → count ≡ moves_from setup old table → IsMostKept setup old members (setup.partitions - count)
 fewest-keeps setup old members table count fewest e = record {
-  some = (table, fewest.covers, fewest.balanced, rw e refl);
-  none_more = λ other covers balanced. omega (arith, e, fewest.least other covers balanced);
+  some = (table, fewest.covers, fewest.balanced, omega (arith, e, kept-rest setup old table fewest.covers));
+  none_more = λ other covers balanced. omega (arith, e, fewest.least other covers balanced, kept-rest setup old other covers, kept-rest setup old table fewest.covers);
 }
 
 -- no more partitions move than there are

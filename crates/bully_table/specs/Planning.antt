@@ -29,21 +29,22 @@ pub record IsFewest (setup : Setup) (old : Option (List ℕ)) (table members : L
   pub balanced : IsBalanced setup table members
   pub least : (other : List ℕ) → length other ≡ setup.partitions → IsBalanced setup other members → moves_from setup old table ≤ moves_from setup old other
 
--- how many partitions stay
-abbrev pub kept_from : Setup → Option (List ℕ) → List ℕ → ℕ
-kept_from setup old new = setup.partitions - moves_from setup old new
+-- how many partitions stay: the places at which the owners are the same; none where there is no old table
+abbrev pub kept_from : Option (List ℕ) → List ℕ → ℕ
+kept_from None new = 0
+kept_from (Some old) new = places_where (λ p. owner_at old p == owner_at new p) (length new)
 
 -- some balanced table keeps as many partitions, and none keeps more
 pub record IsMostKept (setup : Setup) (old : Option (List ℕ)) (members : List ℕ) (bound : ℕ) : Type 0 where
-  pub some : (table : List ℕ) × (length table ≡ setup.partitions) × IsBalanced setup table members × (kept_from setup old table ≡ bound)
-  pub none_more : (other : List ℕ) → length other ≡ setup.partitions → IsBalanced setup other members → kept_from setup old other ≤ bound
+  pub some : (table : List ℕ) × (length table ≡ setup.partitions) × IsBalanced setup table members × (kept_from old table ≡ bound)
+  pub none_more : (other : List ℕ) → length other ≡ setup.partitions → IsBalanced setup other members → kept_from old other ≤ bound
 
 -- the planned table, by its rule. `before` has the owners in the old table, and nobody where there is none
 abbrev pub owners_before : Option (List ℕ) → List ℕ
 owners_before None = []
 owners_before (Some old) = old
 
--- what the member owns at least
+-- what the member owns at least: the same for all
 abbrev pub base_of : Setup → List ℕ → ℕ → ℕ
 base_of setup members m = setup.partitions / length members
 
