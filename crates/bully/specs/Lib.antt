@@ -1,3 +1,4 @@
 pub mod Words
 pub mod Answer
 pub mod PlanText
+pub mod RefusalText

@@ -15,11 +15,12 @@ use std::rt::Files;
 
 /// Does what the words ask for, those after the program's name, and tells the status.
 ///
-/// 0: done, the trace is lawful, or help was asked for and stands on the output. 1: an event of the trace is
-/// refused or a claim of it differs. 2: bad words; the message stands on `errors` and nothing on the output.
-/// 3: a fault of form in the trace; its line stands on `errors` and nothing on the output. 4: Read, Write or
-/// OutOfMemory, which a line on `errors` tells. A line on `errors` that can't be written changes no status.
-/// The words are read first, then the trace. This project's profile.
+/// 0: done, the trace is lawful, the table is written, or help was asked for and stands on the output. 1: an event
+/// of the trace is refused or a claim of it differs. 2: bad words, a member that is no name, or owners that are no
+/// table; the message stands on `errors` and nothing on the output. 3: a fault of form in the trace or in the
+/// configuration; its line stands on `errors` and nothing on the output. 4: Read, Write or OutOfMemory, which a
+/// line on `errors` tells. A line on `errors` that can't be written changes no status. The words are looked at
+/// first; then the trace, or the configuration, the members and the old owners. This project's profile.
 pub fn answer<H: Files + AllocGlobal, S: AsStr, R: Read + Drop, W: Write, E: Write>(
     rt: &H,
     words: &[S],

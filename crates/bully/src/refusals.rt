@@ -1,4 +1,6 @@
-ghost use Rattle.std.specs.Prelude.{◌≡◌, ◌≤◌, ◌⊎◌};
+ghost use Rattle.std.specs.Prelude.{◌≡◌, ◌⊎◌, ◌++◌, IfOk, IfErr, codes, string_bytes};
+ghost use Rattle.bully.specs.Answer.{Tells, stop_line};
+ghost use Rattle.bully.specs.RefusalText.{refusal_line, refusal_status, table_fault_text};
 
 use crate::telling::{Stop, answer_stop, tell};
 use bully_base::OutOfMemory;
@@ -50,7 +52,7 @@ impl From<PlanFault> for Refusal {
 /// Tells a refusal on the errors, and its status: 2 for words, 3 for a configuration's form, and 4 for what
 /// failed from outside and where there is no memory for the line.
 pub fn answer_refusal<E: Write>(alloc: Global, refusal: Refusal, errors: &mut E) -> u8
-    ensures { result ≤ 4 }
+    ensures { ((result ≡ refusal_status refusal) × Tells (E.contents errors.old) (E.contents errors.new) (refusal_line refusal)) ⊎ ((result ≡ 4) × Tells (E.contents errors.old) (E.contents errors.new) (stop_line Stop.OutOfMemory)) }
 {
     match refusal {
         Refusal::Config(fault) => answer_line(config_line(alloc, fault), 3, errors),
@@ -65,7 +67,8 @@ pub fn answer_refusal<E: Write>(alloc: Global, refusal: Refusal, errors: &mut E)
 
 // Tells a line on the errors, with its status, or that there is no memory for it.
 fn answer_line<E: Write>(line: Result<String, OutOfMemory>, status: u8, errors: &mut E) -> u8
-    ensures { (result ≡ status) ⊎ (result ≡ 4) }
+    ensures told { IfOk line (λ line. (result ≡ status) × Tells (E.contents errors.old) (E.contents errors.new) (string_bytes line)) }
+    ensures memory { IfErr line (λ _. (result ≡ 4) × Tells (E.contents errors.old) (E.contents errors.new) (stop_line Stop.OutOfMemory)) }
 {
     match line {
         Ok(line) => {
@@ -77,21 +80,32 @@ fn answer_line<E: Write>(line: Result<String, OutOfMemory>, status: u8, errors: 
 }
 
 // The line of a configuration's fault.
-fn config_line(alloc: Global, fault: ConfigFault) -> Result<String, OutOfMemory> {
+fn config_line(alloc: Global, fault: ConfigFault) -> Result<String, OutOfMemory>
+    ensures { IfOk result (λ line. string_bytes line ≡ refusal_line (Refusal.Config fault)) }
+{
     let mut line = String::new(alloc);
     writeln!(line, "bully: config: {fault}")?;
     Ok(line)
 }
 
 // The line of a fault of the old table.
-fn table_line(alloc: Global, fault: TableFault) -> Result<String, OutOfMemory> {
+fn table_line(alloc: Global, fault: TableFault) -> Result<String, OutOfMemory>
+    ensures { IfOk result (λ line. string_bytes line ≡ refusal_line (Refusal.Old fault)) }
+{
     let mut line = String::new(alloc);
-    let name = match fault {
+    let name = fault_word(fault);
+    writeln!(line, "bully: words: {name}")?;
+    Ok(line)
+}
+
+// A table's fault as its line spells it.
+fn fault_word(fault: TableFault) -> &'static str
+    ensures { result.now ≡ table_fault_text fault }
+{
+    match fault {
         TableFault::Length => "Length",
         TableFault::Owner => "Owner",
         TableFault::Syntax => "Syntax",
         TableFault::OutOfMemory => "OutOfMemory",
-    };
-    writeln!(line, "bully: words: {name}")?;
-    Ok(line)
+    }
 }

@@ -1,4 +1,6 @@
 ghost use Rattle.std.specs.Prelude.{◌≡◌, ◌≤◌, ◌⊎◌, IfOk, string_bytes};
+ghost use Rattle.std.specs.Io.KnownBytes.{Appends};
+ghost use Rattle.bully.specs.Answer.{Tells, stop_line};
 ghost use Rattle.bully.specs.PlanText.{plan_text};
 
 use crate::configs::read_config;
@@ -61,7 +63,7 @@ fn answer_plan<W: Write, E: Write>(
     output: &mut W,
     errors: &mut E,
 ) -> u8
-    ensures status { (result ≡ 0) ⊎ (result ≡ 4) }
+    ensures { ((result ≡ 0) × Appends (W.contents output.old) (W.contents output.new) (plan_text plan.now.table plan.now.moves plan.now.bound) × (errors.new ≡ errors.old)) ⊎ ((result ≡ 4) × (stop : Stop) × Tells (E.contents errors.old) (E.contents errors.new) (stop_line stop)) }
 {
     let Ok(text) = text_of(alloc, plan) else {
         return answer_stop(Stop::OutOfMemory, errors);

@@ -158,6 +158,14 @@ fn tables<H: Files + AllocGlobal>(
         && errors.as_slice() == told.1.as_bytes())
 }
 
+// With these words the configuration can't be read.
+fn is_unread<H: Files + AllocGlobal>(rt: &H, words: &[&str]) -> bool {
+    let mut output = Vec::new(rt.alloc());
+    let mut errors = Vec::new(rt.alloc());
+    let status = answer(rt, words, io::empty(), &mut output, &mut errors);
+    status == 4 && output.is_empty() && errors.as_slice() == "bully: Read\n".as_bytes()
+}
+
 #[test]
 fn plans_tables(rt: HostRuntime) -> Result<(), Fail> {
     let three = ("plans_tables.toml", THREE.as_bytes());
@@ -166,6 +174,10 @@ fn plans_tables(rt: HostRuntime) -> Result<(), Fail> {
     assert!(rt; tables(&rt, three, &["--old", "1 2 2 2 3", "b", "a"], 0, kept)?);
     assert!(rt; tables(&rt, three, &["a", "b", "a", "a", "--old=1 2 2 2 3"], 0, kept)?);
     assert!(rt; tables(&rt, three, &["c"], 0, ("3 3 3 3 3\nmoves 5\nbound 0\n", ""))?);
+    let dash = "nodes = 1\npartitions = 1\nevents = 1\nturns = 1\nnames = [\"-x\"]\n";
+    let dashed = ("plans_tables.toml", dash.as_bytes());
+    assert!(rt; tables(&rt, dashed, &["--", "-x"], 0, ("1\nmoves 1\nbound 0\n", ""))?);
+    assert!(rt; tables(&rt, dashed, &["--old", "", "--", "-x"], 2, ("", "bully: words: Syntax\n"))?);
     Ok(())
 }
 
@@ -174,17 +186,31 @@ fn refuses_tables(rt: HostRuntime) -> Result<(), Fail> {
     let three = ("refuses_tables.toml", THREE.as_bytes());
     let member = ("", "bully: words: Member\n");
     assert!(rt; tables(&rt, three, &["d"], 2, member)?);
+    assert!(rt; tables(&rt, three, &["", "a"], 2, member)?);
     assert!(rt; tables(&rt, three, &["a", "d", "--old", "1"], 2, member)?);
     assert!(rt; tables(&rt, three, &["a", "--old", "1"], 2, ("", "bully: words: Length\n"))?);
     assert!(rt; tables(&rt, three, &["a", "--old", "1 2 2 2 4"], 2, ("", "bully: words: Owner\n"))?);
     assert!(rt; tables(&rt, three, &["a", "--old", "1 2 2 2 03"], 2, ("", "bully: words: Syntax\n"))?);
+    let length = ("", "bully: words: Length\n");
+    assert!(rt; tables(&rt, three, &["a", "--old", ""], 2, length)?);
+    assert!(rt; tables(&rt, three, &["a", "--old="], 2, length)?);
+    assert!(rt; tables(&rt, three, &["a", "--old", "1 2 2 2 3 "], 2, length)?);
     let bad = ("refuses_tables.toml", "nodes = [".as_bytes());
     assert!(rt; tables(&rt, bad, &["d", "--old", "1"], 3, ("", "bully: config: Toml\n"))?);
     let no_text = ("refuses_tables.toml", [0xff].as_slice());
     assert!(rt; tables(&rt, no_text, &["a"], 3, ("", "bully: config: Toml\n"))?);
+    let double = "nodes = 2\npartitions = 1\nevents = 1\nturns = 1\nnames = [\"a\", \"a\"]\n";
+    let twice = ("refuses_tables.toml", double.as_bytes());
+    assert!(rt; tables(&rt, twice, &["d", "--old", "1 1"], 3, ("", "bully: config: DoubleName\n"))?);
+    let unlisted = "x = 1\nnodes = 1\npartitions = 1\nevents = 1\nturns = 1\nnames = [\"a\"]\n";
+    let unknown = ("refuses_tables.toml", unlisted.as_bytes());
+    assert!(rt; tables(&rt, unknown, &["d"], 3, ("", "bully: config: UnknownKey\n"))?);
     let empty = ("refuses_tables.toml", "".as_bytes());
     assert!(rt; tables(&rt, empty, &["d"], 3, ("", "bully: config: Missing nodes\n"))?);
-    assert!(rt; told(&rt, &["table", "no_such_file.toml", "d"]) == (4, false, true));
+    assert!(rt; is_unread(&rt, &["table", "no_such_file.toml", "d", "--old", "1"]));
+    assert!(rt; is_unread(&rt, &["table", ".", "d"]));
+    assert!(rt; told(&rt, &["table", "no_such_file.toml", "a", "--old", "1", "--old", "1"]) == (2, false, true));
+    assert!(rt; told(&rt, &["table", "no_such_file.toml", "-x"]) == (2, false, true));
     assert!(rt; told(&rt, &["table"]) == (2, false, true));
     assert!(rt; told(&rt, &["table", "no_such_file.toml"]) == (2, false, true));
     assert!(rt; told(&rt, &["table", "no_such_file.toml", "a", "--old"]) == (2, false, true));

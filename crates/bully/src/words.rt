@@ -1,7 +1,7 @@
 ghost use Rattle.std.specs.Prelude.{◌≡◌, ◌≢◌, [], Some, codes, false, map, IfOk, IsErrAnd, MatchResult};
 ghost use Rattle.clap.specs.Words.{app_of, fault_of, kind_of, rule_of, subcommand_name_of, HasKind};
 ghost use Rattle.clap.specs.declared.builder.command.Command.TheViews.{out-Command as fields_of};
-ghost use Rattle.bully.specs.Words.{config_rule, member_rule, old_rule, program, table_app, ParsesAsCheck};
+ghost use Rattle.bully.specs.Words.{config_rule, member_rule, old_rule, program, table_app, command_named, ParsesAsCheck};
 
 use clap::error::ErrorKind;
 use clap::{Arg, ArgAction, ArgMatches, Command, Error};
@@ -30,6 +30,7 @@ pub struct TableWords<'a> {
 /// request for help, or want of memory.
 pub fn action_of<'a, S: AsStr>(alloc: Global, words: &'a [S]) -> Result<Action<'a>, Error>
     ensures check { ParsesAsCheck (map S.text words.now) → MatchResult result (λ action. action ≡ Action.Check) (λ error. kind_of error ≡ ErrorKind.OutOfMemory) }
+    ensures only_check { IfOk result (λ action. action ≡ Action.Check → command_named (map S.text words.now) ≡ Some (codes "check")) }
     ensures fault { fault_of program (map S.text words.now) ≢ [] → IsErrAnd result (HasKind (fault_of program (map S.text words.now))) }
 {
     let mut command = command_line(alloc)?;
@@ -43,6 +44,7 @@ pub fn action_of<'a, S: AsStr>(alloc: Global, words: &'a [S]) -> Result<Action<'
 // The command that was chosen, with its words.
 fn chosen<'a>(alloc: Global, matches: &ArgMatches<'a>) -> Result<Option<Action<'a>>, AllocError>
     ensures check { IfOk result (λ action. subcommand_name_of matches.now ≡ Some (codes "check") → action ≡ Some Action.Check) }
+    ensures only_check { IfOk result (λ action. action ≡ Some Action.Check → subcommand_name_of matches.now ≡ Some (codes "check")) }
 {
     match matches.subcommand_name() {
         Some("check") => Ok(Some(Action::Check)),

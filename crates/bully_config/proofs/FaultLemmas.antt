@@ -33,7 +33,7 @@ number_within key limit n ms e = by_value (integer_at key ms) e
     by_value (Some (pos m)) h = grind (arith, common_steps, h)
     by_value (Some (negsuc m)) h = grind (arith, h)
 
-pub node_within : (names : List (List ℕ)) (n : ℕ) (ms : Members) → node_in 0 names ms ≡ Some n → (0 < n) × (n ≤ length names)
+pub node_within : (names : List (List ℕ)) (n : ℕ) (ms : Members) → node_in names ms ≡ Some n → (0 < n) × (n ≤ length names)
 node_within names n ms e = by_value (string_at Key.Node ms) e
   where
     by_value : (o : Option (List ℕ)) → option_and_then (node_named names) o ≡ Some n → (0 < n) × (n ≤ length names)
@@ -55,7 +55,7 @@ fault_parts (Some x) (Some y) (Some z) f e =
 pub fault_within : (setup : Setup) (turns : ℕ) (names : List (List ℕ)) (ms : Members) (f : Fault) → length names ≡ setup.nodes
     → fault_in turns names ms ≡ Some f → IsFaultOf setup turns f
 fault_within setup turns names ms f same e =
-    let (at, node) = fault_parts (turn_in turns names ms) (node_in turns names ms) (kind_in turns names ms) f e in
+    let (at, node) = fault_parts (turn_in turns ms) (node_in names ms) (kind_in ms) f e in
     let (first, last) = number_within Key.At turns f.at ms at in
     let (low, high) = node_within names f.node ms node in
     (first, last, (low, omega (arith, high, same)))

@@ -1,5 +1,5 @@
 -- The keys of a configuration and the names of its faults, as texts.
-use Rattle.std.specs.Prelude.{ℕ, List, [], ◌∷◌, Option, Some, None, codes}
+use Rattle.std.specs.Prelude.{ℕ, List, [], ◌∷◌, ◌++◌, Option, Some, None, codes}
 use Rattle.bully_config.specs.declared.fault.Key.{Key}
 use Rattle.bully_config.specs.declared.fault.ConfigFault.{ConfigFault}
 
@@ -46,3 +46,12 @@ key_of (ConfigFault.Range key) = Some key
 key_of ConfigFault.DoubleName = None
 key_of ConfigFault.UnknownKey = None
 key_of ConfigFault.OutOfMemory = None
+
+-- a space and the key, where there is one
+abbrev pub key_text : Option Key → List ℕ
+key_text None = []
+key_text (Some key) = 32 ∷ word_of key
+
+-- the refusal as the program tells it
+abbrev pub fault_text : ConfigFault → List ℕ
+fault_text fault = name_of fault ++ key_text (key_of fault)

@@ -80,9 +80,9 @@ are_names nodes names = (length names == nodes) && not (list_any is_empty names)
 -- the first key of a fault that is out of its range
 abbrev pub fault_out_of_range : ℕ → List (List ℕ) → Members → Option Key
 fault_out_of_range turns names ms =
-    if not (is_some (turn_in turns names ms)) then Some Key.At
-    else if not (is_some (node_in turns names ms)) then Some Key.Node
-    else if not (is_some (kind_in turns names ms)) then Some Key.Kind
+    if not (is_some (turn_in turns ms)) then Some Key.At
+    else if not (is_some (node_in names ms)) then Some Key.Node
+    else if not (is_some (kind_in ms)) then Some Key.Kind
     else None
 
 abbrev pub out_of_range_in : Members → Option Key

@@ -46,21 +46,21 @@ kind_named word =
     else if bytes_eq word (codes "recover") then Some FaultKind.Recover
     else None
 
+-- the turn, the node and the kind of a fault, where they are in their ranges
+abbrev pub turn_in : ℕ → Members → Option ℕ
+turn_in turns ms = number_at Key.At turns ms
+
+abbrev pub node_in : List (List ℕ) → Members → Option ℕ
+node_in names ms = option_and_then (node_named names) (string_at Key.Node ms)
+
+abbrev pub kind_in : Members → Option FaultKind
+kind_in ms = option_and_then kind_named (string_at Key.Kind ms)
+
 module _ (turns : ℕ) (names : List (List ℕ)) where
-  -- the turn, the node and the kind of a fault, where they are in their ranges
-  abbrev pub turn_in : Members → Option ℕ
-  turn_in ms = number_at Key.At turns ms
-
-  abbrev pub node_in : Members → Option ℕ
-  node_in ms = option_and_then (node_named names) (string_at Key.Node ms)
-
-  abbrev pub kind_in : Members → Option FaultKind
-  kind_in ms = option_and_then kind_named (string_at Key.Kind ms)
-
   -- the fault that a table tells
   abbrev pub fault_in : Members → Option Fault
   fault_in ms =
-      option_and_then (λ t. option_and_then (λ n. option_map (λ k. record { at = t; node = n; kind = k }) (kind_in ms)) (node_in ms)) (turn_in ms)
+      option_and_then (λ t. option_and_then (λ n. option_map (λ k. record { at = t; node = n; kind = k }) (kind_in ms)) (node_in names ms)) (turn_in turns ms)
 
   -- the faults that the items tell, in their order; an item that tells none is refused
   abbrev pub faults_in : List Data → List Fault

@@ -5,15 +5,20 @@ use std::marker::Model;
 /// What a fault does to its node.
 #[derive(Clone, Copy, PartialEq, Eq, Debug)]
 pub enum FaultKind {
+    /// The node goes down.
     Crash,
+    /// The node comes back.
     Recover,
 }
 
-/// A fault that the operator brings about: in this turn, from 1 on, at this node.
+/// A fault that the operator brings about.
 #[derive(Clone, Copy, PartialEq, Eq, Debug)]
 pub struct Fault {
+    /// The turn, from 1 to the configuration's turns.
     pub at: u32,
+    /// The node, one of the setup's.
     pub node: Node,
+    /// What happens to it.
     pub kind: FaultKind,
 }
 
@@ -94,7 +99,8 @@ impl Config {
         Node::new(index as u16 + 1)
     }
 
-    /// The faults, in the order of the document.
+    /// The faults, in the order of the document: at most [`crate::FAULTS_MAX`], each in a turn from 1 to the
+    /// configuration's turns and at a node of its setup.
     pub fn faults(&self) -> &[Fault]
         ensures faults { result.now ≡ self.now.faults }
         ensures within { IsConfiguration self.now }

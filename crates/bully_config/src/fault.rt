@@ -14,13 +14,13 @@ pub enum Key {
     Events,
     /// The turns of each thread: an integer from 1 to 1,000,000.
     Turns,
-    /// The names of the nodes, in the order of their numbers: an array of strings.
+    /// The names of the nodes, in the order of their numbers: an array of as many strings as nodes, none empty.
     Names,
     /// The faults: an array of at most 10,000 tables. It may be left out.
     Fault,
     /// The turn of a fault: an integer from 1 to the turns.
     At,
-    /// The name of a fault's node: a string.
+    /// The name of a fault's node: a string, one of the names.
     Node,
     /// What the fault is: the string `crash` or `recover`.
     Kind,
@@ -46,6 +46,11 @@ impl Key {
 }
 
 impl fmt::Display for Key {
+    ghost use Rattle.std.specs.Prelude.{Some};
+    ghost use Rattle.bully_config.specs.Keys.{word_of};
+
+    ghost output = { λ key. Some (word_of key) };
+
     fn fmt<W: fmt::Write>(&self, f: &mut fmt::Formatter<W>) -> fmt::Result {
         f.write_str(self.word())
     }
@@ -101,7 +106,13 @@ impl ConfigFault {
     }
 }
 
+/// The fault's name, and its key behind a space where it has one.
 impl fmt::Display for ConfigFault {
+    ghost use Rattle.std.specs.Prelude.{Some};
+    ghost use Rattle.bully_config.specs.Keys.{fault_text};
+
+    ghost output = { λ fault. Some (fault_text fault) };
+
     fn fmt<W: fmt::Write>(&self, f: &mut fmt::Formatter<W>) -> fmt::Result {
         f.write_str(self.name())?;
         match self.key() {

@@ -43,14 +43,14 @@ pub fn number_at(table: &Table, key: Key, limit: u32) -> Option<u32>
 /// The node that a fault names, among the names of a document.
 pub fn node_at(fault: &Table, names: &[Value]) -> Option<Node>
     requires { length names.now ≤ NODES_MAX }
-    ensures { result ≡ node_in 0 (names_of (map view names.now)) (table_view fault.now) }
+    ensures { result ≡ node_in (names_of (map view names.now)) (table_view fault.now) }
 {
     node_named(names, string_at(fault, Key::Node)?)
 }
 
 /// What a fault does.
 pub fn kind_at(fault: &Table) -> Option<FaultKind>
-    ensures { result ≡ kind_in 0 [] (table_view fault.now) }
+    ensures { result ≡ kind_in (table_view fault.now) }
 {
     kind_named(string_at(fault, Key::Kind)?)
 }

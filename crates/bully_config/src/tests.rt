@@ -176,6 +176,15 @@ fn counts_faults(rt: HostRuntime) -> Result<(), Fail> {
         answer_with(alloc, &[(4, "names = []")], more.as_str())?.as_str(),
         "Range names"
     );
+    let unfinished = "[[fault]]\nnode = \"a\"\nkind = \"crash\"\n";
+    let mut many = String::new(alloc);
+    for _ in 0..=FAULTS_MAX {
+        many.push_str(unfinished)?;
+    }
+    assert_eq!(rt;
+        answer_with(alloc, &[], many.as_str())?.as_str(),
+        "Missing at"
+    );
     let kinds = many_faults(alloc, FAULTS_MAX + 1, "true")?;
     assert_eq!(rt;
         answer_with(alloc, &[], kinds.as_str())?.as_str(),

@@ -1,7 +1,7 @@
-//! Task tables: the owner of each partition, as text, and in room that was reserved for one.
+//! Task tables: the owner of each partition, as text, planned anew with the fewest moves, and in reserved room.
 //!
-//! It stands on bully_base. The crates above see a table as the list of its owners, and rely on
-//! `is_balanced` being the definition's balance.
+//! It stands on bully_base. The crates above see a table as the list of its owners, and rely on `is_balanced` being
+//! the definition's balance, and on a plan being balanced with the fewest moves.
 #![tactic(auto)]
 
 mod balance;

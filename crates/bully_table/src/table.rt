@@ -147,7 +147,7 @@ impl Table {
         self.owners.copy_from_slice(&other.owners);
     }
 
-    /// At how many partitions the owner is another one than in the old table, which has the same length.
+    /// At how many partitions the owner is another one than in the old table, which has the same length: from 0 to that.
     /// This project's profile.
     pub fn moves(&self, old: &Table) -> u16
         requires { length old.now ≡ length self.now }

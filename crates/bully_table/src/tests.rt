@@ -178,7 +178,7 @@ fn plans_worked_by_hand(rt: HostRuntime) {
     let found = plan_from(&rt, alloc, three, &members(true, true, true), "3 3 3");
     assert_plan(&rt, alloc, three, found, ("3 1 2", 2, 1));
     let two = Setup::new(3, 2, 1).expect(&rt, "a setup");
-    let found = plan(alloc, two, &members(true, true, false), None);
+    let found = plan(alloc, two, &members(true, true, true), None);
     assert_plan(&rt, alloc, two, found, ("1 2", 2, 0));
     let refused = plan(alloc, two, &NodeSet::new(), None);
     assert!(rt; matches!(&refused, Err(PlanFault::NoMember)));
@@ -197,6 +197,9 @@ fn assert_best(rt: &impl Abort, alloc: Global, setup: Setup, case: Case) -> Resu
                 assert!(rt; found.table.is_balanced(&members));
                 assert_eq!(rt; found.bound, most);
                 assert_eq!(rt; found.moves.saturating_add(most), case.partitions);
+                let before = Table::read(alloc, setup, text.as_str())?;
+                assert_eq!(rt; before.len(), found.table.len());
+                assert_eq!(rt; found.table.moves(&before), found.moves);
             }
             Err(_) => assert!(rt; false),
         }
@@ -204,26 +207,33 @@ fn assert_best(rt: &impl Abort, alloc: Global, setup: Setup, case: Case) -> Resu
     Ok(())
 }
 
+// For each set of members among the nodes that isn't empty, the plans are as good as what the search finds.
+fn assert_best_for_all(
+    rt: &impl Abort,
+    alloc: Global,
+    nodes: u16,
+    partitions: u16,
+) -> Result<(), Fail> {
+    let setup = Setup::new(nodes, partitions, 1).expect(rt, "a setup");
+    for marks in 1..8 {
+        let case = Case {
+            nodes,
+            partitions,
+            members: [marks % 2 == 1, marks / 2 % 2 == 1, marks / 4 == 1],
+        };
+        let highest = case.member_set().highest();
+        if highest.is_some_and(|node| node.number() <= nodes) {
+            assert_best(rt, alloc, setup, case)?;
+        }
+    }
+    Ok(())
+}
+
 #[test]
 fn plans_beside_a_search(rt: HostRuntime) -> Result<(), Fail> {
-    let alloc = rt.alloc();
     for nodes in 1..=3 {
         for partitions in 1..=5 {
-            let setup = Setup::new(nodes, partitions, 1).expect(&rt, "a setup");
-            for marks in 1..8 {
-                let case = Case {
-                    nodes,
-                    partitions,
-                    members: [marks % 2 == 1, marks / 2 % 2 == 1, marks / 4 == 1],
-                };
-                if case
-                    .member_set()
-                    .highest()
-                    .is_some_and(|node| node.number() <= nodes)
-                {
-                    assert_best(&rt, alloc, setup, case)?;
-                }
-            }
+            assert_best_for_all(&rt, rt.alloc(), nodes, partitions)?;
         }
     }
     Ok(())

@@ -18,7 +18,10 @@ pub const GOOD: [&str; 13] = [
 ];
 
 /// One line that is written anew, and the answer.
-pub const SINGLE: [(usize, &str, &str); 67] = [
+pub const SINGLE: [(usize, &str, &str); 70] = [
+    (1, "partitions = 256", "Ok"),
+    (2, "events = 1000000", "Ok"),
+    (4, "names = [\"a\", \"\\u0061\", \"c\"]", "DoubleName"),
     (0, "\"nodes\" = 3", "Ok"),
     (3, "turns = 1000000", "Ok"),
     (12, "kind = \"recover\"", "Ok"),
