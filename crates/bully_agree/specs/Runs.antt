@@ -11,7 +11,8 @@ use Rattle.bully_agree.specs.declared.runs.RunFault.{RunFault}
 use Rattle.bully_agree.specs.declared.whole_calls.WholeFault.{WholeFault}
 use Rattle.bully_agree.specs.WholeCalls.{is_whole, BreaksAt}
 
--- the events before the index are lawful, and in the world that they lead to the event at the index has this cause
+-- the events before the index are lawful, so that none of them has a cause, and in the world that they lead to the
+-- event at the index has this one
 pub record StopsAt (setup : Setup) (events : List Event) (index : ℕ) (why : Refused) : Type 0 where
   pub event : Event
   pub answers : List Answer
