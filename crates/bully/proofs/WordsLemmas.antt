@@ -18,7 +18,7 @@ pub no-words-mistaken : is_mistake [] ≡ true
 unfolding clap_on_literals
 no-words-mistaken = refl
 
-pub other-command-mistaken : is_mistake (codes "play" ∷ []) ≡ true
+pub other-command-mistaken : is_mistake (codes "judge" ∷ []) ≡ true
 unfolding clap_on_literals
 other-command-mistaken = refl
 

@@ -25,12 +25,15 @@ old_rule = record (new_rule (codes "old")) { long = Some (codes "old"); value_na
 abbrev pub check_app : App
 check_app = new_app (codes "check")
 
+abbrev pub play_app : App
+play_app = with_rule (new_app (codes "play")) config_rule
+
 abbrev pub table_app : App
 table_app = with_rule (with_rule (with_rule (new_app (codes "table")) config_rule) member_rule) old_rule
 
 -- the program with its commands
 abbrev pub program : App
-program = with_subcommand (with_subcommand bare check_app.top) table_app.top
+program = with_subcommand (with_subcommand (with_subcommand bare check_app.top) play_app.top) table_app.top
 
 -- the command that the words name
 abbrev pub command_named : List Text → Option Text

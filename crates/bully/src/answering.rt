@@ -4,6 +4,7 @@ ghost use Rattle.bully.specs.Words.{ParsesAsCheck, is_help, is_mistake, asks_for
 ghost use Rattle.bully.specs.Answer.{IsAnswer, Tells, stop_line};
 
 use crate::checking::answer_check;
+use crate::playing::answer_play;
 use crate::tables::answer_table;
 use crate::telling::{Stop, answer_stop, finish};
 use crate::words::{Action, action_of};
@@ -37,6 +38,7 @@ pub fn answer<H: Files + AllocGlobal, S: AsStr, R: Read + Drop, W: Write, E: Wri
 {
     match action_of(rt.alloc(), words) {
         Ok(Action::Check) => answer_check(rt.alloc(), input, output, errors),
+        Ok(Action::Play(path)) => answer_play(rt, path, output, errors),
         Ok(Action::Table(words)) => answer_table(rt, &words, output, errors),
         Err(error) => answer_words(&error, output, errors),
     }

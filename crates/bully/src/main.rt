@@ -1,6 +1,6 @@
-//! The program `bully`: it judges recorded traces, and plans tables.
+//! The program `bully`: it judges recorded traces, plays groups, and plans tables.
 //!
-//! It stands on bully_trace, bully_config, bully_table, the crates below them, and clap. No crate stands on it; its
+//! It stands on bully_nodes, bully_trace, bully_config, bully_table, the crates below them, and clap. No crate stands on it; its
 //! callers rely on the statuses: 0 done, lawful or help asked for; 1 refused or differs; 2 bad words; 3 a fault of
 //! form in a trace or a configuration; 4 what stops it from outside, as Read, Write or OutOfMemory.
 #![tactic(auto)]
@@ -8,6 +8,7 @@
 mod answering;
 mod checking;
 mod configs;
+mod playing;
 mod refusals;
 mod tables;
 mod telling;

@@ -110,6 +110,9 @@ fn told<H: Files + AllocGlobal>(rt: &H, words: &[&str]) -> (u8, bool, bool) {
 fn reads_words(rt: HostRuntime) {
     assert!(rt; told(&rt, &[]) == (2, false, true));
     assert!(rt; told(&rt, &["play"]) == (2, false, true));
+    assert!(rt; told(&rt, &["play", "no_such_file.toml"]) == (4, false, true));
+    assert!(rt; told(&rt, &["play", "no_such_file.toml", "x"]) == (2, false, true));
+    assert!(rt; told(&rt, &["judge"]) == (2, false, true));
     assert!(rt; told(&rt, &["check", "x"]) == (2, false, true));
     assert!(rt; told(&rt, &["--help"]) == (0, true, false));
     assert!(rt; told(&rt, &["help"]) == (0, true, false));
@@ -164,6 +167,38 @@ fn is_unread<H: Files + AllocGlobal>(rt: &H, words: &[&str]) -> bool {
     let mut errors = Vec::new(rt.alloc());
     let status = answer(rt, words, io::empty(), &mut output, &mut errors);
     status == 4 && output.is_empty() && errors.as_slice() == "bully: Read\n".as_bytes()
+}
+
+// `play` of a file that holds this text: the status, and exactly what is written.
+fn plays<H: Files + AllocGlobal>(
+    rt: &H,
+    file: (&str, &str),
+    status: u8,
+    told: (&str, &str),
+) -> Result<bool, Fail> {
+    fs::write(rt, file.0, file.1)?;
+    let mut output = Vec::new(rt.alloc());
+    let mut errors = Vec::new(rt.alloc());
+    let answered = answer(rt, &["play", file.0], io::empty(), &mut output, &mut errors);
+    fs::remove_file(rt, file.0)?;
+    Ok(answered == status
+        && output.as_slice() == told.0.as_bytes()
+        && errors.as_slice() == told.1.as_bytes())
+}
+
+// A node recovers in a group where the others stay down.
+const ONE_NODE: &str = "nodes = 1\npartitions = 2\nevents = 100\nturns = 6\nnames = [\"a\"]\n[[fault]]\nat = 1\nnode = \"a\"\nkind = \"recover\"\n";
+const TWO_NODES: &str = "nodes = 2\npartitions = 2\nevents = 100\nturns = 9\nnames = [\"a\", \"b\"]\n[[fault]]\nat = 1\nnode = \"b\"\nkind = \"recover\"\n";
+
+#[test]
+fn plays_groups(rt: HostRuntime) -> Result<(), Fail> {
+    let alone = "bully,1,1,2\nrecover,1\nmove,1\nmove,1\nmove,1\nplan,1,1 1\nmove,1\n";
+    assert!(rt; plays(&rt, ("plays_groups.toml", ONE_NODE), 0, (alone, ""))?);
+    let two = "bully,1,2,2\nrecover,2\nmove,2\nstart,2\nlose,2\nreturn,2\nmove,2\nmove,2\nplan,2,2 2\nmove,2\n";
+    assert!(rt; plays(&rt, ("plays_groups.toml", TWO_NODES), 0, (two, ""))?);
+    let bad = ("plays_groups.toml", "nodes = 65\n");
+    assert!(rt; plays(&rt, bad, 3, ("", "bully: config: Missing partitions\n"))?);
+    Ok(())
 }
 
 #[test]

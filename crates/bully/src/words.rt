@@ -13,6 +13,8 @@ use std::convert::AsStr;
 pub enum Action<'a> {
     /// Judge the trace on the input.
     Check,
+    /// Play the group of the configuration at this path.
+    Play(&'a str),
     /// Plan a table.
     Table(TableWords<'a>),
 }
@@ -48,12 +50,18 @@ fn chosen<'a>(alloc: Global, matches: &ArgMatches<'a>) -> Result<Option<Action<'
 {
     match matches.subcommand_name() {
         Some("check") => Ok(Some(Action::Check)),
+        Some("play") => Ok(play_word(matches).map(Action::Play)),
         Some("table") => match table_words(alloc, matches)? {
             Some(words) => Ok(Some(Action::Table(words))),
             None => Ok(None),
         },
         _ => Ok(None),
     }
+}
+
+// The word of `play`, where that is the command.
+fn play_word<'a>(matches: &ArgMatches<'a>) -> Option<&'a str> {
+    matches.subcommand_matches("play")?.get_str("CONFIG")
 }
 
 // The words of `table`, where that is the command.
@@ -85,7 +93,18 @@ fn command_line<'a>(alloc: Global) -> Result<Command<'a>, AllocError>
         .no_binary_name(true)
         .subcommand_required(true)
         .subcommand(check)?
+        .subcommand(play_command(alloc)?)?
         .subcommand(table_command(alloc)?)
+}
+
+// The command that plays a group.
+fn play_command<'a>(alloc: Global) -> Result<Command<'a>, AllocError>
+    ensures app { IfOk result (λ command. app_of command ≡ play_app) }
+    ensures local { IfOk result (λ command. (fields_of command).has_globals ≡ false) }
+{
+    Command::new(alloc, "play")
+        .about("Plays a group and writes its trace")
+        .arg(config_arg(alloc))
 }
 
 // The command that plans a table.

@@ -1,5 +1,6 @@
 //! The worked cases, with the values that this project's profile gives.
 
+mod playing;
 mod procedures;
 mod runs;
 mod scripts;

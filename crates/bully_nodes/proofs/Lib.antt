@@ -1,0 +1,3 @@
+pub mod LawfulLemmas
+pub mod RecordingLemmas
+pub mod TurnLemmas

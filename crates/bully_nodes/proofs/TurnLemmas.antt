@@ -1,0 +1,34 @@
+-- What a node's turn keeps.
+use Rattle.std.proofs.Common.{◌≡◌, ◌∙◌, ℕ, List, Option, Some, None, length, refl, sym, ap}
+use Rattle.std.specs.Option.{IfSome}
+use Rattle.bully_base.specs.Setup.{Setup}
+use Rattle.bully_nodes.specs.Recording.{IsAnother}
+use Rattle.bully_nodes.specs.Turns.{prepared_at, prepared}
+use Rattle.bully_steps.specs.declared.point.Point.{Point}
+use Rattle.bully_steps.specs.declared.point.Point.TheVariants.{Idle, Asking, Halting, Announcing, Planning, Readying, Checking, Inquiring}
+use Rattle.bully_steps.specs.Held.{Held}
+use Rattle.bully_world.specs.State.{WorldState, IsReached, state_at, world_of}
+use Rattle.bully_world.specs.World.{Member}
+use Rattle.bully_world.proofs.MembersOf.{member-members_of}
+use Rattle.bully_world.proofs.ShapeLemmas.{lawful_fits}
+
+-- a task has the setup's partitions
+pub task_fits : (w : WorldState) (i : ℕ) (setup : Setup) (task : Option (List ℕ)) → IsReached w → setup ≡ w.setup → task ≡ (state_at w i).vector.vector.task → IfSome task (λ t. length t ≡ setup.partitions)
+task_fits w i setup None reached same is = tt
+task_fits w i setup (Some table) reached same is =
+    let fits = (lawful_fits w.setup reached.applied reached.answers (world_of w) reached.lawful).fits i in
+    rw same (fits.by_setup.task table (ap (λ (m : Member). m.vector.task) (member-members_of w.members i) ∙ sym is))
+
+prepared_another : (p : Point) (t old : Option (List ℕ)) (h : Held) → IsAnother h (prepared_at p t old h)
+prepared_another Idle t old h = record { setup = refl; node = refl }
+prepared_another (Asking k) t old h = record { setup = refl; node = refl }
+prepared_another (Halting k) t old h = record { setup = refl; node = refl }
+prepared_another (Announcing rest) t old h = record { setup = refl; node = refl }
+prepared_another Planning None old h = record { setup = refl; node = refl }
+prepared_another Planning (Some table) old h = record { setup = refl; node = refl }
+prepared_another (Readying rest) t old h = record { setup = refl; node = refl }
+prepared_another (Checking k) t old h = record { setup = refl; node = refl }
+prepared_another Inquiring t old h = record { setup = refl; node = refl }
+
+pub another_prepared : (w : WorldState) (h h' : Held) → h' ≡ prepared w h → IsAnother h h'
+another_prepared w h h' is = rw is (prepared_another h.point h.table _ h)

@@ -1,0 +1,9 @@
+use Rattle.std.proofs.Common.{◌≡◌, All}
+use Rattle.bully_steps.specs.Procedure.{held}
+use Rattle.bully_nodes.proofs.playing.idle_procedures.Given as goal
+
+abbrev pub invariant-loop-before : goal.invariant-loop-before
+invariant-loop-before l = record {
+  setups : All (λ p. (held p).setup ≡ l.setup) l.procedures.items;
+  end : l.before-end ≡ l.setup.nodes;
+}

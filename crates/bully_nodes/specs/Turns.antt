@@ -1,0 +1,74 @@
+-- What the operator and a node do in a turn.
+use Rattle.std.specs.Prelude.{◌≡◌, ◌≢◌, ◌<◌, ◌⊎◌, ℕ, Bool, true, false, List, [], ◌∷◌, Option, Some, None, unwrap_or, ◌==◌}
+use Rattle.std.specs.Bool.{MatchBool}
+use Rattle.bully_base.specs.declared.node.Status.TheVariants.{Down}
+use Rattle.bully_base.specs.NodeSet.{with_node}
+use Rattle.bully_config.specs.declared.config.Fault.{Fault}
+use Rattle.bully_nodes.specs.Play.{event_of_fault}
+use Rattle.bully_nodes.specs.Recording.{RecordingState, Applies, Steps}
+use Rattle.bully_steps.specs.declared.driver.Choice.{Choice}
+use Rattle.bully_steps.specs.declared.point.Point.{Point}
+use Rattle.bully_steps.specs.declared.point.Point.TheVariants.{Planning}
+use Rattle.bully_steps.specs.Driver.{chosen}
+use Rattle.bully_steps.specs.Held.{Held}
+use Rattle.bully_table.specs.Planning.{planned}
+use Rattle.bully_world.specs.declared.event.Event.{Event}
+use Rattle.bully_world.specs.declared.turn.Next.{Next}
+use Rattle.bully_world.specs.State.{WorldState, state_at, world_of}
+use Rattle.bully_world.specs.Turn.{procedure_in, turn}
+use Rattle.bully_world.specs.World.{pending, is_sent_to}
+
+-- at Planning without a table one is planned from the old one, over the node and its up set
+abbrev pub prepared_at : Point → Option (List ℕ) → Option (List ℕ) → Held → Held
+prepared_at Planning None old h = record h { table = Some (planned h.setup old (with_node h.node (unwrap_or h.up []))) }
+prepared_at _ _ old h = h
+
+abbrev pub prepared_from : Option (List ℕ) → Held → Held
+prepared_from old h = prepared_at h.point h.table old h
+
+-- from the task that the procedure's node has
+abbrev pub prepared : WorldState → Held → Held
+prepared w h = prepared_from (state_at w h.node).vector.vector.task h
+
+-- the lowest caller that waits for node i
+pub record IsLowest (w : WorldState) (i caller : ℕ) : Type 0 where
+  pub waits : is_sent_to i (pending (world_of w) caller) ≡ true
+  pub lowest : (j : ℕ) → j < caller → is_sent_to i (pending (world_of w) j) ≡ false
+
+-- node i serves: the call of the lowest caller that waits for it runs. It serves nobody where it is Down or none waits
+abbrev pub Serves : RecordingState → ℕ → Bool → RecordingState → Type 0
+Serves before i true after =
+    (caller : ℕ) × IsLowest before.world i caller × ((state_at before.world i).vector.vector.status ≢ Down) × Applies (Event.Run caller) before after
+Serves before i false after =
+    (after ≡ before)
+    × (((state_at before.world i).vector.vector.status ≡ Down) ⊎ ((j : ℕ) → is_sent_to i (pending (world_of before.world) j) ≡ false))
+
+-- the procedure goes on by the turn rule
+abbrev pub Proceeds : Next → RecordingState → Held → RecordingState → Held → Type 0
+Proceeds Next.Resync before h after h' = (after ≡ before) × (h' ≡ procedure_in before.world h.node)
+Proceeds Next.Rest before h after h' = (after ≡ before) × (h' ≡ h)
+Proceeds (Next.Take kind) before h after h' = Steps kind before h after h'
+
+-- the node does what it chooses
+abbrev pub GoesOn : Choice → RecordingState → Held → RecordingState → Held → Type 0
+GoesOn Choice.Check before h after h' = Applies (Event.Check h.node) before after × (h' ≡ h)
+GoesOn Choice.Timeout before h after h' = Applies (Event.Timeout h.node) before after × (h' ≡ h)
+GoesOn Choice.Proceed before h after h' = Proceeds (turn before.world h) before h after h'
+
+-- a node that served does nothing else in its turn
+abbrev pub Follows : Bool → ℕ → RecordingState → Held → RecordingState → Held → Type 0
+Follows true number before h after h' = (after ≡ before) × (h' ≡ h)
+Follows false number before h after h' = GoesOn (chosen number h.point) before h after h'
+
+-- a node's turn of this number, with the procedure that it holds
+abbrev pub IsTurn : ℕ → RecordingState → Held → RecordingState → Held → Type 0
+IsTurn number before h after h' =
+    (mid : RecordingState) × (served : Bool) × Serves before h.node served mid × Follows served number mid (prepared before.world h) after h'
+
+-- the operator's turn: the faults of that turn, one after the other
+abbrev pub Operates : ℕ → List Fault → RecordingState → RecordingState → Type 0
+Operates number [] before after = after ≡ before
+Operates number (fault ∷ faults) before after =
+    MatchBool (fault.at == number)
+    ((mid : RecordingState) × Applies (event_of_fault fault) before mid × Operates number faults mid after)
+    (Operates number faults before after)

@@ -1,0 +1,13 @@
+//! The nodes of a group at work: what the operator and each node do, turn by turn.
+//!
+//! It stands on bully_steps, bully_world, bully_config and bully_trace. The program relies on what `play` writes
+//! being the text of a lawful trace.
+#![tactic(auto)]
+
+mod playing;
+mod recording;
+#[cfg(test)]
+mod tests;
+mod turns;
+
+pub use playing::{PlayFault, play};

@@ -1,0 +1,100 @@
+ghost use Rattle.std.specs.Prelude.{◌≡◌, List, Err, All, length, IfOk, OnOk};
+ghost use Rattle.std.specs.Io.KnownBytes.{Appends};
+ghost use Rattle.bully_nodes.specs.Play.{IsPlay, trace_with, fault_of};
+ghost use Rattle.bully_nodes.specs.Recording.{Continues, IsRecorded};
+ghost use Rattle.bully_config.specs.Configuration.{Configuration};
+ghost use Rattle.bully_steps.specs.Procedure.{held};
+ghost use Rattle.bully_trace.specs.TraceText.{trace_text};
+ghost use Rattle.bully_world.specs.declared.event.Event.{Event};
+
+use crate::recording::Recording;
+use crate::turns::{operator_turn, take_turn};
+use bully_base::{Node, OutOfMemory, Setup};
+use bully_config::Config;
+use bully_steps::Procedure;
+use bully_trace::{Trace, TraceCause, TraceFault, write_trace};
+use std::alloc::Global;
+use std::io::Write;
+
+/// Why a play ends without its trace.
+#[derive(Clone, Copy, PartialEq, Eq, Debug)]
+pub enum PlayFault {
+    /// The writer failed.
+    Write,
+    /// A growth of memory was refused.
+    OutOfMemory,
+}
+
+/// Plays the configuration on one thread, and writes the trace of what happened. In each of the configuration's
+/// turns the operator comes first, and then the nodes in rising order. Refused as `OutOfMemory` where a growth of
+/// memory is refused, and then nothing was written; as `Write` where the writer fails, and then a prefix of the
+/// trace may have been written. This project's profile.
+pub fn play<W: Write>(alloc: Global, config: &Config, writer: &mut W) -> Result<(), PlayFault>
+    ensures played { OnOk result ((events : List Event) × IsPlay config.now events × Appends (W.contents writer.old) (W.contents writer.new) (trace_text (trace_with config.now.setup events))) }
+    ensures memory { result ≡ Err PlayFault.OutOfMemory → writer.new ≡ writer.old }
+{
+    let trace = trace_of(alloc, config).map_err(no_memory)?;
+    write_trace(alloc, writer, &trace).map_err(not_written)
+}
+
+// The trace of a play.
+fn trace_of(alloc: Global, config: &Config) -> Result<Trace, OutOfMemory>
+    ensures { IfOk result (λ trace. (events : List Event) × IsPlay config.now events × (trace ≡ trace_with config.now.setup events)) }
+{
+    let setup = config.setup();
+    let mut recording = Recording::new(alloc, setup)?;
+    let mut procedures = idle_procedures(alloc, setup)?;
+    for before in 0..config.turns() {
+        take_round(alloc, config, before + 1, &mut recording, &mut procedures)?;
+    }
+    Ok(recording.into_trace())
+}
+
+// The procedures that the nodes hold at first.
+fn idle_procedures(alloc: Global, setup: Setup) -> Result<Vec<Procedure>, OutOfMemory>
+    ensures { IfOk result (λ procedures. All (λ p. (held p).setup ≡ setup) procedures.items) }
+{
+    let mut procedures = Vec::with_capacity(alloc, usize::from(setup.nodes()))?;
+    for before in 0..setup.nodes() {
+        let node = Node::new(before + 1).unwrap();
+        procedures.push(Procedure::idle(setup, node, 0))?;
+    }
+    Ok(procedures)
+}
+
+// A round: the operator's turn, and then each node's.
+fn take_round(
+    alloc: Global,
+    config: &Config,
+    turn: u32,
+    recording: &mut Recording,
+    procedures: &mut [Procedure],
+) -> Result<(), OutOfMemory>
+    requires recorded { IsRecorded config.now recording.old }
+    requires setups { All (λ p. (held p).setup ≡ config.now.setup) procedures.old }
+    ensures recorded { OnOk result (IsRecorded config.now recording.new) }
+    ensures setups { OnOk result (All (λ p. (held p).setup ≡ config.now.setup) procedures.new) }
+{
+    operator_turn(recording, config.faults(), turn)?;
+    for procedure in procedures.iter_mut() {
+        take_turn(recording, alloc, turn, procedure)?;
+    }
+    Ok(())
+}
+
+// The fault of a trace that isn't written.
+fn not_written(fault: TraceFault) -> PlayFault
+    ensures { result ≡ fault_of fault.cause }
+{
+    match fault.cause {
+        TraceCause::OutOfMemory => PlayFault::OutOfMemory,
+        _ => PlayFault::Write,
+    }
+}
+
+// The fault of memory that was refused.
+fn no_memory(_: OutOfMemory) -> PlayFault
+    ensures { result ≡ PlayFault.OutOfMemory }
+{
+    PlayFault::OutOfMemory
+}

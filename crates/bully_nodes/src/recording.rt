@@ -1,0 +1,107 @@
+ghost use Rattle.std.specs.Prelude.{◌≡◌, ◌≤◌, ◌++◌, ◌∷◌, [], length, IfOk, OnOk};
+ghost use Rattle.bully_nodes.specs.Play.{trace_setup};
+ghost use Rattle.bully_nodes.specs.Recording.{Applies, Steps, IsAnother};
+ghost use Rattle.bully_steps.specs.Procedure.{held};
+ghost use Rattle.bully_trace.specs.declared.TheConstants.{ROWS_MAX};
+ghost use Rattle.bully_world.specs.State.{first_state};
+ghost use Rattle.bully_world.specs.Turn.{turn};
+ghost use Rattle.bully_world.specs.declared.turn.Next.{Next};
+
+use bully_base::{EVENTS_MAX, OutOfMemory, Setup};
+use bully_steps::Procedure;
+use bully_trace::{Row, Rows, Trace};
+use bully_world::{Event, StepKind, StepRefusal, World};
+use std::alloc::{AllocError, Global};
+use std::marker::Model;
+
+/// A world, and a row of a trace for each event that led to it, in order.
+#[derive(Drop, Debug)]
+pub struct Recording {
+    world: World,
+    rows: Vec<Row>,
+}
+
+impl Model for Recording {
+    ghost use Rattle.bully_nodes.specs.Recording.{RecordingState};
+
+    ghost Value = { RecordingState };
+
+    ghost view = { λ r. record { world = r.world; rows = r.rows.items } };
+}
+
+impl Recording {
+    /// The world before any event, and no row. Refused where a growth of memory is.
+    pub fn new(alloc: Global, setup: Setup) -> Result<Recording, OutOfMemory>
+        ensures { IfOk result (λ r. r ≡ record { world = first_state setup; rows = [] }) }
+    {
+        Ok(Recording {
+            world: World::new(alloc, setup)?,
+            rows: Vec::new(alloc),
+        })
+    }
+
+    /// The world.
+    pub fn world(&self) -> &World
+        ensures { result.now ≡ self.now.world }
+    {
+        &self.world
+    }
+
+    /// Applies the event and records it. One that the world refuses is passed over. Refused where a growth of
+    /// memory is.
+    pub fn apply(&mut self, event: Event) -> Result<(), OutOfMemory>
+        ensures { OnOk result (Applies event self.old self.new) }
+    {
+        match self.world.apply(&event) {
+            Ok(_) => self.record(event),
+            Err(_) => Ok(()),
+        }
+    }
+
+    /// Takes a step that the turn rule offers, and records its event: the procedure as the step leaves it. Where
+    /// the world refuses the step, nothing changes. Refused where a growth of memory is.
+    pub fn take(&mut self, kind: StepKind, procedure: Procedure) -> Result<Procedure, OutOfMemory>
+        requires setup { (held procedure).setup ≡ self.old.world.setup }
+        requires offered { turn self.old.world (held procedure) ≡ Next.Take kind }
+        ensures steps { IfOk result (λ p. Steps kind self.old (held procedure) self.new (held p)) }
+        ensures another { IfOk result (λ p. IsAnother (held procedure) (held p)) }
+    {
+        match self.world.take(kind, procedure) {
+            Ok(step) => {
+                self.record(step.event)?;
+                Ok(step.procedure)
+            }
+            Err((procedure, StepRefusal::Refused(_))) => Ok(procedure),
+            Err((_, StepRefusal::OutOfMemory)) => Err(AllocError),
+        }
+    }
+
+    /// The trace of what was recorded.
+    pub fn into_trace(self) -> Trace
+        requires { length self.rows ≤ ROWS_MAX }
+        ensures { result ≡ record { setup = trace_setup self.world.setup; rows = self.rows } }
+    {
+        Trace {
+            setup: trace_setup(self.world.setup()),
+            rows: Rows::from_vec(self.rows),
+        }
+    }
+
+    // A row for an event that was applied.
+    fn record(&mut self, event: Event) -> Result<(), OutOfMemory>
+        ensures rows { OnOk result (self.new ≡ record self.old { rows = self.old.rows ++ Row.Event event ∷ [] }) }
+        ensures bounded { self.new.world.events ≤ self.new.world.setup.events_max }
+    {
+        // Shows the proof that a lawful list leads to the world, no longer than its bound.
+        let _ = self.world.events();
+        self.rows.push(Row::Event(event))?;
+        Ok(())
+    }
+}
+
+// The setup that a trace's header tells: it has no bound on events, so that is the profile's.
+fn trace_setup(setup: Setup) -> Setup
+    ensures { result ≡ trace_setup setup }
+{
+    Setup::new(setup.nodes(), setup.partitions(), EVENTS_MAX).unwrap()
+}

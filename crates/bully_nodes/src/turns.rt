@@ -1,0 +1,153 @@
+ghost use Rattle.std.specs.Prelude.{◌≡◌, ◌≤◌, length, IfOk, OnOk};
+ghost use Rattle.std.specs.Option.{IfSome, option_copied};
+ghost use Rattle.bully_config.specs.Configuration.{Configuration};
+ghost use Rattle.bully_nodes.specs.Play.{event_of_fault};
+ghost use Rattle.bully_nodes.specs.Recording.{IsRecorded, Continues, IsAnother};
+ghost use Rattle.bully_nodes.specs.Turns.{prepared, prepared_from};
+ghost use Rattle.bully_steps.specs.Procedure.{held};
+
+use crate::recording::Recording;
+use bully_base::{Node, OutOfMemory, Status};
+use bully_config::{Fault, FaultKind};
+use bully_steps::{Choice, Driver, Procedure};
+use bully_table::Table;
+use bully_world::{Event, Next};
+use std::alloc::{AllocError, Global};
+use std::mem;
+
+/// The operator's turn: the faults of this turn, in the order of the document. One that the world refuses is
+/// passed over.
+pub fn operator_turn(
+    recording: &mut Recording,
+    faults: &[Fault],
+    turn: u32,
+) -> Result<(), OutOfMemory>
+    ensures setup { OnOk result (recording.new.world.setup ≡ recording.old.world.setup) }
+    ensures recorded { OnOk result ((c : Configuration) → c.faults ≡ faults.now → IsRecorded c recording.old → IsRecorded c recording.new) }
+{
+    for fault in faults {
+        if fault.at == turn {
+            recording.apply(event_of(*fault))?;
+        }
+    }
+    Ok(())
+}
+
+// The event of a fault.
+fn event_of(fault: Fault) -> Event
+    ensures { result ≡ event_of_fault fault }
+{
+    match fault.kind {
+        FaultKind::Crash => Event::Crash(fault.node),
+        FaultKind::Recover => Event::Recover(fault.node),
+    }
+}
+
+#[tactic(auto, using(crate::proofs::RecordingLemmas::continues_then))]
+/// The turn of this number of the node that holds the procedure, which goes on. It is prepared first, where it
+/// is Planning. Then the node serves the call that waits for it, if any; else it goes on as it chooses.
+pub fn take_turn(
+    recording: &mut Recording,
+    alloc: Global,
+    turn: u32,
+    place: &mut Procedure,
+) -> Result<(), OutOfMemory>
+    requires { (held place.old).setup ≡ recording.old.world.setup }
+    ensures recorded { OnOk result (Continues recording.old recording.new) }
+    ensures another { OnOk result (IsAnother (held place.old) (held place.new)) }
+{
+    let node = place.node();
+    let idle = Procedure::idle(place.setup(), node, 0);
+    let procedure = mem::replace(place, idle);
+    let procedure = prepared(recording, alloc, procedure)?;
+    *place = if serve(recording, node)? {
+        procedure
+    } else {
+        go_on(recording, turn, procedure)?
+    };
+    Ok(())
+}
+
+// The procedure, with a table where it is Planning: planned from its node's own task.
+fn prepared(
+    recording: &Recording,
+    alloc: Global,
+    procedure: Procedure,
+) -> Result<Procedure, OutOfMemory>
+    requires { (held procedure).setup ≡ recording.now.world.setup }
+    ensures held { IfOk result (λ p. held p ≡ prepared recording.now.world (held procedure)) }
+    ensures another { IfOk result (λ p. IsAnother (held procedure) (held p)) }
+{
+    // Shows the proof that the node is one of the setup's, and that a lawful list leads to the world.
+    let _ = (procedure.setup(), recording.world().events());
+    let task = recording.world().vector(procedure.node()).task();
+    prepared_from(alloc, task, procedure)
+}
+
+// The procedure, with a table where it is Planning: planned from the old one.
+fn prepared_from(
+    alloc: Global,
+    old: Option<&Table>,
+    procedure: Procedure,
+) -> Result<Procedure, OutOfMemory>
+    requires { IfSome (option_copied old) (λ t. length t ≡ (held procedure).setup.partitions) }
+    ensures { IfOk result (λ p. held p ≡ prepared_from (option_copied old.entry) (held procedure)) }
+{
+    match procedure {
+        Procedure::Planning(planning) => match planning.prepare(alloc, old) {
+            Ok(planned) => Ok(Procedure::Planned(planned)),
+            Err(_) => Err(AllocError),
+        },
+        other => Ok(other),
+    }
+}
+
+// The node runs the lowest caller's call that waits for it, and tells whether one waits. A Down node serves nobody.
+fn serve(recording: &mut Recording, node: Node) -> Result<bool, OutOfMemory>
+    requires { node ≤ recording.old.world.setup.nodes }
+    ensures { OnOk result (Continues recording.old recording.new) }
+{
+    if recording.world().vector(node).status() == Status::Down {
+        return Ok(false);
+    }
+    let Some(caller) = recording.world().waiting_for(node) else {
+        return Ok(false);
+    };
+    recording.apply(Event::Run(caller))?;
+    Ok(true)
+}
+
+// The node begins a check or has a timeout, where it chooses so, and holds its procedure as it is; else the
+// procedure goes on by the turn rule.
+fn go_on(
+    recording: &mut Recording,
+    turn: u32,
+    procedure: Procedure,
+) -> Result<Procedure, OutOfMemory>
+    requires { (held procedure).setup ≡ recording.old.world.setup }
+    ensures recorded { OnOk result (Continues recording.old recording.new) }
+    ensures another { IfOk result (λ p. IsAnother (held procedure) (held p)) }
+{
+    let node = procedure.node();
+    match Driver::choose(turn, &procedure) {
+        Choice::Check => recording.apply(Event::Check(node))?,
+        Choice::Timeout => recording.apply(Event::Timeout(node))?,
+        Choice::Proceed => return proceed(recording, procedure),
+    }
+    Ok(procedure)
+}
+
+// The procedure goes on by the turn rule: it is given up for the one that the world shows, rests, or takes a step.
+fn proceed(recording: &mut Recording, procedure: Procedure) -> Result<Procedure, OutOfMemory>
+    requires { (held procedure).setup ≡ recording.old.world.setup }
+    ensures recorded { OnOk result (Continues recording.old recording.new) }
+    ensures another { IfOk result (λ p. IsAnother (held procedure) (held p)) }
+{
+    // Shows the proof that the node is one of the setup's.
+    let _ = procedure.setup();
+    match recording.world().next(&procedure) {
+        Next::Resync => Ok(recording.world().procedure(procedure.node())),
+        Next::Rest => Ok(procedure),
+        Next::Take(kind) => recording.take(kind, procedure),
+    }
+}
