@@ -1,7 +1,7 @@
 ghost use Rattle.std.specs.Prelude.{◌≡◌, ◌≢◌, [], Some, codes, false, map, IfOk, IsErrAnd, MatchResult};
 ghost use Rattle.clap.specs.Words.{app_of, fault_of, kind_of, rule_of, subcommand_name_of, HasKind};
 ghost use Rattle.clap.specs.declared.builder.command.Command.TheViews.{out-Command as fields_of};
-ghost use Rattle.bully.specs.Words.{config_rule, member_rule, old_rule, program, table_app, command_named, ParsesAsCheck};
+ghost use Rattle.bully.specs.Words.{config_rule, member_rule, old_rule, play_app, program, table_app, command_named, ParsesAsCheck};
 
 use clap::error::ErrorKind;
 use clap::{Arg, ArgAction, ArgMatches, Command, Error};

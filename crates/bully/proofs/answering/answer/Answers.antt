@@ -37,3 +37,8 @@ pub returns-in-Ok-Table-clause-check : goal.returns-in-Ok-Table-clause-check
 returns-in-Ok-Table-clause-check g c = λ alone.
     let other = c.in-Ok-Table.ensures.check (subst ParsesAsCheck (sym alone) check-parses) in
     absurd (grind (arith, other))
+
+pub returns-in-Ok-Play-clause-check : goal.returns-in-Ok-Play-clause-check
+returns-in-Ok-Play-clause-check g c = λ alone.
+    let other = c.in-Ok-Play.ensures.check (subst ParsesAsCheck (sym alone) check-parses) in
+    absurd (grind (arith, other))
