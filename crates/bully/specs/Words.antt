@@ -31,9 +31,13 @@ play_app = with_rule (new_app (codes "play")) config_rule
 abbrev pub table_app : App
 table_app = with_rule (with_rule (with_rule (new_app (codes "table")) config_rule) member_rule) old_rule
 
+-- the program with the commands that are about traces
+abbrev pub with_traces : App
+with_traces = with_subcommand (with_subcommand bare check_app.top) play_app.top
+
 -- the program with its commands
 abbrev pub program : App
-program = with_subcommand (with_subcommand (with_subcommand bare check_app.top) play_app.top) table_app.top
+program = with_subcommand with_traces table_app.top
 
 -- the command that the words name
 abbrev pub command_named : List Text → Option Text

@@ -1,10 +1,9 @@
 use crate::refusals::Refusal;
 use crate::telling::Stop;
 use bully_config::{Config, ConfigFault};
-use std::fs;
 use std::io::ErrorKind;
 use std::rt::Files;
-use std::str;
+use std::{fs, str};
 
 /// Reads the configuration at the path. Refused as `Read` where the file can't be read, as the configuration's own
 /// fault, which is `Toml` for bytes that are no text, and for want of memory.

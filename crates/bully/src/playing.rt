@@ -38,7 +38,7 @@ fn answer_config<W: Write, E: Write>(
     errors: &mut E,
 ) -> u8
     ensures { ((result ≡ 0) × (errors.new ≡ errors.old)
-            × ((events : List Event) × IsPlay config.now events × Appends (W.contents output.old) (W.contents output.new) (trace_text (trace_with config.now.setup events))))
+        × ((events : List Event) × IsPlay config.now events × Appends (W.contents output.old) (W.contents output.new) (trace_text (trace_with config.now.setup events))))
         ⊎ ((result ≡ 4) × (stop : Stop) × Tells (E.contents errors.old) (E.contents errors.new) (stop_line stop)) }
 {
     match play(alloc, config, output) {

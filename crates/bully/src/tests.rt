@@ -1,9 +1,8 @@
 use crate::answering::answer;
-use std::fs;
-use std::io;
 use std::io::{ErrorKind, Read, Write};
 use std::rt::Files;
 use std::test::Fail;
+use std::{fs, io};
 
 // A reader and a writer that fail at each call.
 #[derive(Clone, Copy)]
@@ -26,7 +25,13 @@ impl Write for Broken {
 }
 
 // `check` of this text answers this status, and writes exactly this.
-fn checks<H: Files + AllocGlobal>(rt: &H, text: &str, status: u8, output: &str, errors: &str) -> bool {
+fn checks<H: Files + AllocGlobal>(
+    rt: &H,
+    text: &str,
+    status: u8,
+    output: &str,
+    errors: &str,
+) -> bool {
     let mut told = Vec::new(rt.alloc());
     let mut faults = Vec::new(rt.alloc());
     let answered = answer(rt, &["check"], text.as_bytes(), &mut told, &mut faults);
@@ -36,7 +41,12 @@ fn checks<H: Files + AllocGlobal>(rt: &H, text: &str, status: u8, output: &str, 
 }
 
 // The header of two nodes and two partitions with these rows behind it: the output or the errors, by the status.
-fn follows<H: Files + AllocGlobal>(rt: &H, rows: &str, status: u8, line: &str) -> Result<bool, Fail> {
+fn follows<H: Files + AllocGlobal>(
+    rt: &H,
+    rows: &str,
+    status: u8,
+    line: &str,
+) -> Result<bool, Fail> {
     let text = format!(in rt.alloc(); "bully,1,2,2\n{rows}\n")?;
     if status == 3 {
         return Ok(checks(rt, text.as_str(), 3, "", line));
@@ -156,9 +166,11 @@ fn tables<H: Files + AllocGlobal>(
     let mut errors = Vec::new(rt.alloc());
     let answered = answer(rt, all.as_slice(), io::empty(), &mut output, &mut errors);
     fs::remove_file(rt, file.0)?;
-    Ok(answered == status
-        && output.as_slice() == told.0.as_bytes()
-        && errors.as_slice() == told.1.as_bytes())
+    Ok(
+        answered == status
+            && output.as_slice() == told.0.as_bytes()
+            && errors.as_slice() == told.1.as_bytes(),
+    )
 }
 
 // With these words the configuration can't be read.
@@ -181,20 +193,26 @@ fn plays<H: Files + AllocGlobal>(
     let mut errors = Vec::new(rt.alloc());
     let answered = answer(rt, &["play", file.0], io::empty(), &mut output, &mut errors);
     fs::remove_file(rt, file.0)?;
-    Ok(answered == status
-        && output.as_slice() == told.0.as_bytes()
-        && errors.as_slice() == told.1.as_bytes())
+    Ok(
+        answered == status
+            && output.as_slice() == told.0.as_bytes()
+            && errors.as_slice() == told.1.as_bytes(),
+    )
 }
 
 // A node recovers in a group where the others stay down.
-const ONE_NODE: &str = "nodes = 1\npartitions = 2\nevents = 100\nturns = 6\nnames = [\"a\"]\n[[fault]]\nat = 1\nnode = \"a\"\nkind = \"recover\"\n";
-const TWO_NODES: &str = "nodes = 2\npartitions = 2\nevents = 100\nturns = 9\nnames = [\"a\", \"b\"]\n[[fault]]\nat = 1\nnode = \"b\"\nkind = \"recover\"\n";
+const ONE_NODE: &str =
+    "nodes = 1\npartitions = 2\nevents = 100\nturns = 6\nnames = [\"a\"]\n[[fault]]\nat = 1\nnode = \"a\"\nkind = \"recover\"\n";
+
+const TWO_NODES: &str =
+    "nodes = 2\npartitions = 2\nevents = 100\nturns = 9\nnames = [\"a\", \"b\"]\n[[fault]]\nat = 1\nnode = \"b\"\nkind = \"recover\"\n";
 
 #[test]
 fn plays_groups(rt: HostRuntime) -> Result<(), Fail> {
     let alone = "bully,1,1,2\nrecover,1\nmove,1\nmove,1\nmove,1\nplan,1,1 1\nmove,1\n";
     assert!(rt; plays(&rt, ("plays_groups.toml", ONE_NODE), 0, (alone, ""))?);
-    let two = "bully,1,2,2\nrecover,2\nmove,2\nstart,2\nlose,2\nreturn,2\nmove,2\nmove,2\nplan,2,2 2\nmove,2\n";
+    let two =
+        "bully,1,2,2\nrecover,2\nmove,2\nstart,2\nlose,2\nreturn,2\nmove,2\nmove,2\nplan,2,2 2\nmove,2\n";
     assert!(rt; plays(&rt, ("plays_groups.toml", TWO_NODES), 0, (two, ""))?);
     let bad = ("plays_groups.toml", "nodes = 65\n");
     assert!(rt; plays(&rt, bad, 3, ("", "bully: config: Missing partitions\n"))?);
@@ -207,12 +225,28 @@ fn plans_tables(rt: HostRuntime) -> Result<(), Fail> {
     let kept = ("1 2 2 2 1\nmoves 1\nbound 4\n", "");
     assert!(rt; tables(&rt, three, &["a", "b", "--old", "1 2 2 2 3"], 0, kept)?);
     assert!(rt; tables(&rt, three, &["--old", "1 2 2 2 3", "b", "a"], 0, kept)?);
-    assert!(rt; tables(&rt, three, &["a", "b", "a", "a", "--old=1 2 2 2 3"], 0, kept)?);
+    assert!(rt;
+        tables(
+            &rt,
+            three,
+            &["a", "b", "a", "a", "--old=1 2 2 2 3"],
+            0,
+            kept
+        )?
+    );
     assert!(rt; tables(&rt, three, &["c"], 0, ("3 3 3 3 3\nmoves 5\nbound 0\n", ""))?);
     let dash = "nodes = 1\npartitions = 1\nevents = 1\nturns = 1\nnames = [\"-x\"]\n";
     let dashed = ("plans_tables.toml", dash.as_bytes());
     assert!(rt; tables(&rt, dashed, &["--", "-x"], 0, ("1\nmoves 1\nbound 0\n", ""))?);
-    assert!(rt; tables(&rt, dashed, &["--old", "", "--", "-x"], 2, ("", "bully: words: Syntax\n"))?);
+    assert!(rt;
+        tables(
+            &rt,
+            dashed,
+            &["--old", "", "--", "-x"],
+            2,
+            ("", "bully: words: Syntax\n")
+        )?
+    );
     Ok(())
 }
 
@@ -223,28 +257,89 @@ fn refuses_tables(rt: HostRuntime) -> Result<(), Fail> {
     assert!(rt; tables(&rt, three, &["d"], 2, member)?);
     assert!(rt; tables(&rt, three, &["", "a"], 2, member)?);
     assert!(rt; tables(&rt, three, &["a", "d", "--old", "1"], 2, member)?);
-    assert!(rt; tables(&rt, three, &["a", "--old", "1"], 2, ("", "bully: words: Length\n"))?);
-    assert!(rt; tables(&rt, three, &["a", "--old", "1 2 2 2 4"], 2, ("", "bully: words: Owner\n"))?);
-    assert!(rt; tables(&rt, three, &["a", "--old", "1 2 2 2 03"], 2, ("", "bully: words: Syntax\n"))?);
+    assert!(rt;
+        tables(
+            &rt,
+            three,
+            &["a", "--old", "1"],
+            2,
+            ("", "bully: words: Length\n")
+        )?
+    );
+    assert!(rt;
+        tables(
+            &rt,
+            three,
+            &["a", "--old", "1 2 2 2 4"],
+            2,
+            ("", "bully: words: Owner\n")
+        )?
+    );
+    assert!(rt;
+        tables(
+            &rt,
+            three,
+            &["a", "--old", "1 2 2 2 03"],
+            2,
+            ("", "bully: words: Syntax\n")
+        )?
+    );
     let length = ("", "bully: words: Length\n");
     assert!(rt; tables(&rt, three, &["a", "--old", ""], 2, length)?);
     assert!(rt; tables(&rt, three, &["a", "--old="], 2, length)?);
     assert!(rt; tables(&rt, three, &["a", "--old", "1 2 2 2 3 "], 2, length)?);
     let bad = ("refuses_tables.toml", "nodes = [".as_bytes());
-    assert!(rt; tables(&rt, bad, &["d", "--old", "1"], 3, ("", "bully: config: Toml\n"))?);
+    assert!(rt;
+        tables(
+            &rt,
+            bad,
+            &["d", "--old", "1"],
+            3,
+            ("", "bully: config: Toml\n")
+        )?
+    );
     let no_text = ("refuses_tables.toml", [0xff].as_slice());
     assert!(rt; tables(&rt, no_text, &["a"], 3, ("", "bully: config: Toml\n"))?);
     let double = "nodes = 2\npartitions = 1\nevents = 1\nturns = 1\nnames = [\"a\", \"a\"]\n";
     let twice = ("refuses_tables.toml", double.as_bytes());
-    assert!(rt; tables(&rt, twice, &["d", "--old", "1 1"], 3, ("", "bully: config: DoubleName\n"))?);
+    assert!(rt;
+        tables(
+            &rt,
+            twice,
+            &["d", "--old", "1 1"],
+            3,
+            ("", "bully: config: DoubleName\n")
+        )?
+    );
     let unlisted = "x = 1\nnodes = 1\npartitions = 1\nevents = 1\nturns = 1\nnames = [\"a\"]\n";
     let unknown = ("refuses_tables.toml", unlisted.as_bytes());
     assert!(rt; tables(&rt, unknown, &["d"], 3, ("", "bully: config: UnknownKey\n"))?);
     let empty = ("refuses_tables.toml", "".as_bytes());
-    assert!(rt; tables(&rt, empty, &["d"], 3, ("", "bully: config: Missing nodes\n"))?);
+    assert!(rt;
+        tables(
+            &rt,
+            empty,
+            &["d"],
+            3,
+            ("", "bully: config: Missing nodes\n")
+        )?
+    );
     assert!(rt; is_unread(&rt, &["table", "no_such_file.toml", "d", "--old", "1"]));
     assert!(rt; is_unread(&rt, &["table", ".", "d"]));
-    assert!(rt; told(&rt, &["table", "no_such_file.toml", "a", "--old", "1", "--old", "1"]) == (2, false, true));
+    assert!(rt;
+        told(
+            &rt,
+            &[
+                "table",
+                "no_such_file.toml",
+                "a",
+                "--old",
+                "1",
+                "--old",
+                "1"
+            ]
+        ) == (2, false, true)
+    );
     assert!(rt; told(&rt, &["table", "no_such_file.toml", "-x"]) == (2, false, true));
     assert!(rt; told(&rt, &["table"]) == (2, false, true));
     assert!(rt; told(&rt, &["table", "no_such_file.toml"]) == (2, false, true));

@@ -1,7 +1,7 @@
 ghost use Rattle.std.specs.Prelude.{◌≡◌, ◌≢◌, [], Some, codes, false, map, IfOk, IsErrAnd, MatchResult};
 ghost use Rattle.clap.specs.Words.{app_of, fault_of, kind_of, rule_of, subcommand_name_of, HasKind};
 ghost use Rattle.clap.specs.declared.builder.command.Command.TheViews.{out-Command as fields_of};
-ghost use Rattle.bully.specs.Words.{config_rule, member_rule, old_rule, play_app, program, table_app, command_named, ParsesAsCheck};
+ghost use Rattle.bully.specs.Words.{config_rule, member_rule, old_rule, play_app, program, table_app, with_traces, command_named, ParsesAsCheck};
 
 use clap::error::ErrorKind;
 use clap::{Arg, ArgAction, ArgMatches, Command, Error};
@@ -86,6 +86,13 @@ fn table_words<'a>(
 fn command_line<'a>(alloc: Global) -> Result<Command<'a>, AllocError>
     ensures { IfOk result (λ command. app_of command ≡ program) }
 {
+    trace_commands(alloc)?.subcommand(table_command(alloc)?)
+}
+
+// The command line with the commands that are about traces.
+fn trace_commands<'a>(alloc: Global) -> Result<Command<'a>, AllocError>
+    ensures { IfOk result (λ command. app_of command ≡ with_traces) }
+{
     let check = Command::new(alloc, "check").about("Judges the trace on the standard input");
     Command::new(alloc, "bully")
         .bin_name("bully")?
@@ -93,8 +100,7 @@ fn command_line<'a>(alloc: Global) -> Result<Command<'a>, AllocError>
         .no_binary_name(true)
         .subcommand_required(true)
         .subcommand(check)?
-        .subcommand(play_command(alloc)?)?
-        .subcommand(table_command(alloc)?)
+        .subcommand(play_command(alloc)?)
 }
 
 // The command that plays a group.

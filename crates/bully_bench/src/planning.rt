@@ -4,7 +4,9 @@ use bully_table::{Table, TablePlan, plan};
 use std::alloc::Global;
 
 const NODES: u16 = 64;
+
 const PARTITIONS: u16 = 256;
+
 const TABLES: usize = 64;
 
 /// What the plans of some rounds come to: the sums of their moves and of their bounds, and a number that all their

@@ -10,11 +10,22 @@ use std::process::Abort;
 fn halts_fall_from_the_highest_lower_node(rt: HostRuntime) {
     let three = node(&rt, 3);
     let group = setup(&rt, 3, 3, 9);
-    let asking = Procedure::at(group, three, 7, Point::Asking(4), &NodeSet::new(), None, false);
+    let asking = Procedure::at(
+        group,
+        three,
+        7,
+        Point::Asking(4),
+        &NodeSet::new(),
+        None,
+        false,
+    );
     assert_eq!(rt; asking.want(), Want::Move);
     let halting = asking.resume(Outcome::Moved);
     assert_eq!(rt; halting.point(), Point::Halting(2));
-    let halt = Call { callee: node(&rt, 2), kind: CallKind::Halt };
+    let halt = Call {
+        callee: node(&rt, 2),
+        kind: CallKind::Halt,
+    };
     assert_eq!(rt; halting.want(), Want::Start(halt));
     let halting = halting.resume(Outcome::Started);
     assert_eq!(rt; halting.want(), Want::Await);
@@ -23,7 +34,10 @@ fn halts_fall_from_the_highest_lower_node(rt: HostRuntime) {
     let mut up = NodeSet::new();
     up.insert(node(&rt, 2));
     assert_eq!(rt; halting.up(), Some(up));
-    let announcing = halting.resume(Outcome::Started).resume(Outcome::Failed).resume(Outcome::Moved);
+    let announcing = halting
+        .resume(Outcome::Started)
+        .resume(Outcome::Failed)
+        .resume(Outcome::Moved);
     assert_eq!(rt; announcing.point(), Point::Announcing(up));
     assert_eq!(rt; announcing.generation(), 7);
 }
