@@ -1,9 +1,9 @@
 -- What is known of a document that nothing refuses.
-use Rattle.std.proofs.Common.{◌≡◌, subst, ℕ, ◌<◌, ◌≤◌, Bool, true, false, List, length, refl, sym, ap, arith, ◌∙◌, Option, Some, None, option_map, if◌then◌else◌}
-use Rattle.std.specs.Option.{option_or, is_some}
+use Rattle.std.proofs.Common.{[], option_and_then, ◌≡◌, subst, ℕ, ◌<◌, ◌≤◌, Bool, true, false, List, length, refl, sym, ap, arith, ◌∙◌, Option, Some, None, option_map, if◌then◌else◌}
+use Rattle.std.specs.Option.{option_or, is_some, unwrap_or}
 use Rattle.std.specs.List.{list_any}
 use Rattle.std.proofs.lemmas.Grind.{common_steps}
-use Rattle.toml.specs.Data.{Data, Members, no_members}
+use Rattle.toml.specs.Data.{as_array, Items, Data, Members, no_members}
 use Rattle.toml.specs.Errors.{IsBlank}
 use Rattle.toml.specs.Parse.{parse_document, lines}
 use Rattle.std.proofs.lemmas.Option.{same_Some}
@@ -13,8 +13,8 @@ use Rattle.bully_config.specs.declared.fault.ConfigFault.{ConfigFault}
 use Rattle.bully_config.specs.declared.TheConstants.{TURNS_MAX, FAULTS_MAX}
 use Rattle.bully_config.specs.Answers.{refusal_of}
 use Rattle.bully_config.specs.Configuration.{Configuration, has_double, is_empty, IsConfiguration}
-use Rattle.bully_config.specs.Document.{value_at, items_at}
-use Rattle.bully_config.specs.Refusals.{are_names, out_of_range_in, missing_in, misfit_in, has_double_in, has_unlisted_in}
+use Rattle.bully_config.specs.Document.{list_of, value_at, items_at}
+use Rattle.bully_config.specs.Refusals.{are_names, first_in, fits, are_all, is_table, fault_out_of_range, out_of_range_in, missing_in, misfit_in, has_double_in, has_unlisted_in}
 use Rattle.std.specs.Prelude.{map, Result, Ok, Err, ◌↔◌}
 use Rattle.std.specs.Result.{IsOk}
 use Rattle.std.proofs.lemmas.List.{length-map}
@@ -25,7 +25,7 @@ use Rattle.bully_base.specs.declared.setup.SetupFault.{SetupFault}
 use Rattle.bully_config.specs.Document.{text_of}
 use Rattle.std.proofs.lemmas.Bool.{false≢true}
 use Rattle.bully_base.specs.declared.TheConstants.{NODES_MAX, PARTITIONS_MAX, EVENTS_MAX}
-use Rattle.bully_config.proofs.FaultLemmas.{number_within, faults_within, faults_few}
+use Rattle.bully_config.proofs.FaultLemmas.{faults_all, number_within, faults_within, faults_few}
 use Rattle.bully_config.specs.Values.{number_at, nodes_in, partitions_in, events_in, turns_in, or_zero, names_of, faults_in, values_of}
 
 -- the parts of it that the values rest on
@@ -139,3 +139,51 @@ pub not_blank : (text : List ℕ) (ms : Members) → parse_document text ≡ Som
 not_blank text ms told none blank =
     let same : no_members ≡ ms = same_Some no_members ms (sym (blank_document text blank) ∙ told) in
     no_keys (subst (λ (m : Members). refusal_of m ≡ None) (sym same) none)
+
+-- the faults of a document that nothing refuses are all told
+items_fit : (o : Option Items) → (elim o [ None ↦ false | Some items ↦ are_all is_table (list_of items) ]) ≡ true
+    → are_all is_table (unwrap_or (option_map list_of o) []) ≡ true
+items_fit None h = absurd (false≢true h)
+items_fit (Some items) h = h
+
+value_fits : (o : Option Data) → fits Key.Fault o ≡ true → are_all is_table (unwrap_or (option_map list_of (option_and_then as_array o)) []) ≡ true
+value_fits None h = refl
+value_fits (Some d) h = items_fit (as_array d) h
+
+-- the last of six tests, where none fails
+last_fits : (a b c d e f : Bool) (rest : Option Key)
+    → option_or (if a then if b then if c then if d then if e then if f then None else Some Key.Fault else Some Key.Names else Some Key.Turns else Some Key.Events else Some Key.Partitions else Some Key.Nodes) rest ≡ None
+    → f ≡ true
+last_fits true true true true true true rest h = refl
+last_fits true true true true true false rest h = grind (arith, h)
+last_fits true true true true false f rest h = grind (arith, h)
+last_fits true true true false e f rest h = grind (arith, h)
+last_fits true true false d e f rest h = grind (arith, h)
+last_fits true false c d e f rest h = grind (arith, h)
+last_fits false b c d e f rest h = grind (arith, h)
+
+tables_there : (ms : Members) → misfit_in ms ≡ None → are_all is_table (items_at Key.Fault ms) ≡ true
+unfolding items_at
+tables_there ms e =
+    value_fits (value_at Key.Fault ms)
+    (last_fits (fits Key.Nodes (value_at Key.Nodes ms)) (fits Key.Partitions (value_at Key.Partitions ms)) (fits Key.Events (value_at Key.Events ms))
+    (fits Key.Turns (value_at Key.Turns ms)) (fits Key.Names (value_at Key.Names ms)) (fits Key.Fault (value_at Key.Fault ms)) _ e)
+
+inside : (ms : Members) → out_of_range_in ms ≡ None → first_in (fault_out_of_range (or_zero (turns_in ms)) (names_of (items_at Key.Names ms))) (items_at Key.Fault ms) ≡ None
+inside ms e = grind (arith, common_steps, e)
+
+passed : (a b c rest : Option ConfigFault) → option_or a (option_or b (option_or c rest)) ≡ None → (b ≡ None) × (c ≡ None)
+passed None None None rest e = (refl, refl)
+passed None None (Some x) rest e = grind (arith, e)
+passed None (Some x) c rest e = grind (arith, e)
+passed (Some x) b c rest e = grind (arith, e)
+
+unmapped : (f : Key → ConfigFault) (o : Option Key) → option_map f o ≡ None → o ≡ None
+unmapped f None e = refl
+unmapped f (Some x) e = grind (arith, e)
+
+pub all_told : (ms : Members) → refusal_of ms ≡ None → length (values_of ms).faults ≡ length (items_at Key.Fault ms)
+all_told ms e =
+    let (kinds, ranges) = passed _ (option_map ConfigFault.Kind (misfit_in ms)) (option_map ConfigFault.Range (out_of_range_in ms)) _ e in
+    faults_all (or_zero (turns_in ms)) (names_of (items_at Key.Names ms)) (items_at Key.Fault ms) (tables_there ms (unmapped ConfigFault.Kind (misfit_in ms) kinds))
+    (inside ms (unmapped ConfigFault.Range (out_of_range_in ms) ranges))

@@ -10,6 +10,10 @@ use Rattle.bully_base.specs.Setup.{Setup}
 use Rattle.bully_config.specs.declared.config.Fault.{Fault}
 use Rattle.bully_config.specs.declared.fault.Key.{Key}
 use Rattle.bully_config.specs.Configuration.{IsFaultOf, node_named}
+use Rattle.std.specs.Prelude.{not, if◌then◌else◌}
+use Rattle.std.specs.Option.{is_some, option_or}
+use Rattle.std.proofs.lemmas.Bool.{false≢true, and_parts}
+use Rattle.bully_config.specs.Refusals.{first_in, is_table, are_all, fault_out_of_range}
 use Rattle.bully_config.specs.Document.{integer_at, string_at}
 use Rattle.bully_config.specs.Values.{within, number_at, turn_in, node_in, kind_in, fault_in, faults_in}
 
@@ -86,3 +90,34 @@ pub faults_few : (turns : ℕ) (names : List (List ℕ)) (ds : List Data) → le
 faults_few turns names [] = omega arith
 faults_few turns names (d ∷ ds) =
     faults_few_by (option_and_then (fault_in turns names) (as_table d)) (faults_in turns names (d ∷ ds)) (faults_in turns names ds) (length ds) refl (faults_few turns names ds)
+
+-- a table without a key out of its range tells a fault
+told_there : (t n : Option ℕ) (k : Option FaultKind)
+    → (if not (is_some t) then Some Key.At else if not (is_some n) then Some Key.Node else if not (is_some k) then Some Key.Kind else None) ≡ None
+    → is_some (option_and_then (λ x. option_and_then (λ y. option_map {T = FaultKind} {U = Fault} (λ z. record { at = x; node = y; kind = z }) k) n) t) ≡ true
+told_there None n k e = grind (arith, e)
+told_there (Some x) None k e = grind (arith, e)
+told_there (Some x) (Some y) None e = grind (arith, e)
+told_there (Some x) (Some y) (Some z) e = refl
+
+none_of : (a b : Option Key) → option_or a b ≡ None → (a ≡ None) × (b ≡ None)
+none_of None b e = (refl, e)
+none_of (Some x) b e = grind (arith, e)
+
+one_more : (o : Option Fault) (more : List Fault) (n : ℕ) → is_some o ≡ true → length more ≡ n → length {A = Fault} (elim o [ None ↦ more | Some f ↦ f ∷ more ]) ≡ suc n
+one_more None more n there e = absurd (false≢true there)
+one_more (Some f) more n there e = ap suc e
+
+-- where none is out of its range, each table tells a fault
+pub faults_all : (turns : ℕ) (names : List (List ℕ)) (ds : List Data) → are_all is_table ds ≡ true → first_in (fault_out_of_range turns names) ds ≡ None
+    → length (faults_in turns names ds) ≡ length ds
+faults_all turns names [] tables none = refl
+faults_all turns names (d ∷ ds) tables none =
+    let (here, later) = none_of (option_and_then (fault_out_of_range turns names) (as_table d)) (first_in (fault_out_of_range turns names) ds) none in
+    let (table, others) = and_parts (is_table d) (are_all is_table ds) tables in
+    one_more (option_and_then (fault_in turns names) (as_table d)) (faults_in turns names ds) (length ds) (by_table (as_table d) table here)
+    (faults_all turns names ds others later)
+  where
+    by_table : (o : Option Members) → is_some o ≡ true → option_and_then (fault_out_of_range turns names) o ≡ None → is_some (option_and_then (fault_in turns names) o) ≡ true
+    by_table None there e = absurd (false≢true there)
+    by_table (Some ms) there e = told_there (turn_in turns names ms) (node_in turns names ms) (kind_in turns names ms) e

@@ -1,11 +1,12 @@
 //! Reading a configuration: the text's document, its first refusal, and else its values.
-ghost use Rattle.std.specs.Prelude.{◌≡◌, ◌≢◌, ◌≤◌, map, length, false, None, Ok, Err, IfOk, IfErr, string_bytes, option_and_then};
+ghost use Rattle.std.specs.Prelude.{Some, ◌≡◌, ◌≢◌, ◌≤◌, map, length, false, None, Ok, Err, IfOk, IfErr, string_bytes, option_and_then};
 ghost use Rattle.toml.specs.Errors.{IsBlank};
 ghost use Rattle.toml.specs.Parse.{parse_document};
 ghost use Rattle.toml.specs.View.{view, table_view};
 ghost use Rattle.bully_base.specs.declared.TheConstants.{NODES_MAX};
 ghost use Rattle.bully_config.specs.Answers.{answer_of, refusal_of};
-ghost use Rattle.toml.specs.Data.{as_table};
+ghost use Rattle.toml.specs.Data.{Members, as_table};
+ghost use Rattle.bully_config.specs.Document.{items_at};
 ghost use Rattle.bully_config.specs.Configuration.{has_double};
 ghost use Rattle.bully_config.specs.Values.{values_of, fault_in, faults_in, names_of};
 
@@ -24,6 +25,7 @@ impl Config {
     /// answered at once, whatever stands behind. This project's profile.
     pub fn read(alloc: Global, text: &str) -> Result<Config, ConfigFault>
         ensures ok { IfOk result (λ config. answer_of text.now ≡ Ok config) }
+        ensures whole { IfOk result (λ config. (document : Members) × (parse_document text.now ≡ Some document) × (length config.faults ≡ length (items_at Key.Fault document))) }
         ensures fault { IfErr result (λ fault. fault ≢ ConfigFault.OutOfMemory → answer_of text.now ≡ Err fault) }
         ensures toml { result ≡ Err ConfigFault.Toml → parse_document text.now ≡ None }
         ensures memory { result ≡ Err ConfigFault.OutOfMemory → ¬ IsBlank text.now }
