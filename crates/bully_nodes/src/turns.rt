@@ -3,8 +3,10 @@ ghost use Rattle.std.specs.Option.{IfSome, option_copied};
 ghost use Rattle.bully_config.specs.Configuration.{Configuration};
 ghost use Rattle.bully_nodes.specs.Play.{event_of_fault};
 ghost use Rattle.bully_nodes.specs.Recording.{IsRecorded, Continues, IsAnother};
-ghost use Rattle.bully_nodes.specs.Turns.{prepared, prepared_from};
+ghost use Rattle.bully_nodes.specs.Turns.{prepared, prepared_from, Serves, Proceeds, GoesOn, IsTurn, Operates};
+ghost use Rattle.bully_steps.specs.Driver.{chosen};
 ghost use Rattle.bully_steps.specs.Procedure.{held};
+ghost use Rattle.bully_world.specs.Turn.{turn as turn_rule};
 
 use crate::recording::Recording;
 use bully_base::{Node, OutOfMemory, Status};
@@ -22,6 +24,7 @@ pub fn operator_turn(
     faults: &[Fault],
     turn: u32,
 ) -> Result<(), OutOfMemory>
+    ensures operates { OnOk result (Operates turn faults.now recording.old recording.new) }
     ensures setup { OnOk result (recording.new.world.setup ≡ recording.old.world.setup) }
     ensures recorded { OnOk result ((c : Configuration) → c.faults ≡ faults.now → IsRecorded c recording.old → IsRecorded c recording.new) }
 {
@@ -53,6 +56,7 @@ pub fn take_turn(
     place: &mut Procedure,
 ) -> Result<(), OutOfMemory>
     requires { (held place.old).setup ≡ recording.old.world.setup }
+    ensures turn { OnOk result (IsTurn turn recording.old (held place.old) recording.new (held place.new)) }
     ensures recorded { OnOk result (Continues recording.old recording.new) }
     ensures another { OnOk result (IsAnother (held place.old) (held place.new)) }
 {
@@ -105,7 +109,8 @@ fn prepared_from(
 // The node runs the lowest caller's call that waits for it, and tells whether one waits. A Down node serves nobody.
 fn serve(recording: &mut Recording, node: Node) -> Result<bool, OutOfMemory>
     requires { node ≤ recording.old.world.setup.nodes }
-    ensures { OnOk result (Continues recording.old recording.new) }
+    ensures serves { IfOk result (λ served. Serves recording.old node served recording.new) }
+    ensures recorded { OnOk result (Continues recording.old recording.new) }
 {
     if recording.world().vector(node).status() == Status::Down {
         return Ok(false);
@@ -125,6 +130,7 @@ fn go_on(
     procedure: Procedure,
 ) -> Result<Procedure, OutOfMemory>
     requires { (held procedure).setup ≡ recording.old.world.setup }
+    ensures goes_on { IfOk result (λ p. GoesOn (chosen turn (held procedure).point) recording.old (held procedure) recording.new (held p)) }
     ensures recorded { OnOk result (Continues recording.old recording.new) }
     ensures another { IfOk result (λ p. IsAnother (held procedure) (held p)) }
 {
@@ -140,6 +146,7 @@ fn go_on(
 // The procedure goes on by the turn rule: it is given up for the one that the world shows, rests, or takes a step.
 fn proceed(recording: &mut Recording, procedure: Procedure) -> Result<Procedure, OutOfMemory>
     requires { (held procedure).setup ≡ recording.old.world.setup }
+    ensures proceeds { IfOk result (λ p. Proceeds (turn_rule recording.old.world (held procedure)) recording.old (held procedure) recording.new (held p)) }
     ensures recorded { OnOk result (Continues recording.old recording.new) }
     ensures another { IfOk result (λ p. IsAnother (held procedure) (held p)) }
 {
