@@ -10,6 +10,7 @@ use Rattle.bully_config.specs.declared.config.Fault.{Fault}
 use Rattle.bully_config.specs.declared.config.FaultKind.{FaultKind}
 use Rattle.bully_nodes.specs.Play.{HasFault, IsDue, IsPlay, event_of_kind, event_of_fault, trace_setup, trace_with}
 use Rattle.bully_nodes.specs.Recording.{RecordingState, IsRecorded, Records, Applies, Steps, Continues}
+use Rattle.bully_nodes.specs.Turns.{Rounds, IsScheduled, first_recording, idle_first}
 use Rattle.bully_nodes.proofs.LawfulLemmas.{lawful-bound}
 use Rattle.bully_steps.specs.declared.procedure.Procedure.{Procedure}
 use Rattle.bully_steps.specs.Held.{Held}
@@ -132,6 +133,7 @@ recorded_play c r within is = record {
 }
 
 -- and so is its trace
-pub recorded_trace : (c : Configuration) (r : RecordingState) (trace : Trace) → IsSetup c.setup → (is : IsRecorded c r) → trace ≡ record { setup = trace_setup r.world.setup; rows = r.rows }
-    → (events : List Event) × IsPlay c events × (trace ≡ trace_with c.setup events)
-recorded_trace c r trace within is same = (is.events, recorded_play c r within is, grind (arith, same, is.setup, is.rows))
+pub recorded_trace : (c : Configuration) (r : RecordingState) (hs : List Held) (trace : Trace) → IsSetup c.setup → Rounds c.faults c.turns 1 (first_recording c.setup) (idle_first c.setup c.setup.nodes) r hs → (is : IsRecorded c r)
+    → trace ≡ record { setup = trace_setup r.world.setup; rows = r.rows } → (events : List Event) × IsPlay c events × IsScheduled c events × (trace ≡ trace_with c.setup events)
+recorded_trace c r hs trace within rounds is same =
+    (is.events, recorded_play c r within is, record { last = r; procedures = hs; rounds = rounds; rows = is.rows }, grind (arith, same, is.setup, is.rows))

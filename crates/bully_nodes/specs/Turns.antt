@@ -1,20 +1,23 @@
 -- What the operator and a node do in a turn.
-use Rattle.std.specs.Prelude.{◌≡◌, ◌≢◌, ◌<◌, ◌⊎◌, ℕ, Bool, true, false, List, [], ◌∷◌, Option, Some, None, unwrap_or, ◌==◌}
+use Rattle.std.specs.Prelude.{◌≡◌, ◌≢◌, ◌<◌, ◌⊎◌, ◌+◌, ◌++◌, ℕ, zero, suc, Bool, true, false, List, [], ◌∷◌, map, Option, Some, None, unwrap_or, ◌==◌}
 use Rattle.std.specs.Bool.{MatchBool}
 use Rattle.bully_base.specs.declared.node.Status.TheVariants.{Down}
 use Rattle.bully_base.specs.NodeSet.{with_node}
+use Rattle.bully_base.specs.Setup.{Setup}
+use Rattle.bully_config.specs.Configuration.{Configuration}
 use Rattle.bully_config.specs.declared.config.Fault.{Fault}
 use Rattle.bully_nodes.specs.Play.{event_of_fault}
 use Rattle.bully_nodes.specs.Recording.{RecordingState, Applies, Steps}
 use Rattle.bully_steps.specs.declared.driver.Choice.{Choice}
 use Rattle.bully_steps.specs.declared.point.Point.{Point}
-use Rattle.bully_steps.specs.declared.point.Point.TheVariants.{Planning}
+use Rattle.bully_steps.specs.declared.point.Point.TheVariants.{Idle, Planning}
 use Rattle.bully_steps.specs.Driver.{chosen}
-use Rattle.bully_steps.specs.Held.{Held}
+use Rattle.bully_steps.specs.Held.{Held, held_at}
 use Rattle.bully_table.specs.Planning.{planned}
+use Rattle.bully_trace.specs.declared.trace.Row.{Row}
 use Rattle.bully_world.specs.declared.event.Event.{Event}
 use Rattle.bully_world.specs.declared.turn.Next.{Next}
-use Rattle.bully_world.specs.State.{WorldState, state_at, world_of}
+use Rattle.bully_world.specs.State.{WorldState, state_at, world_of, first_state}
 use Rattle.bully_world.specs.Turn.{procedure_in, turn}
 use Rattle.bully_world.specs.World.{pending, is_sent_to}
 
@@ -72,3 +75,39 @@ Operates number (fault ∷ faults) before after =
     MatchBool (fault.at == number)
     ((mid : RecordingState) × Applies (event_of_fault fault) before mid × Operates number faults mid after)
     (Operates number faults before after)
+
+-- the turns of the nodes that hold these procedures, one after the other
+abbrev pub TakeTurns : ℕ → RecordingState → List Held → RecordingState → List Held → Type 0
+TakeTurns number before [] after hs' = (after ≡ before) × (hs' ≡ [])
+TakeTurns number before (h ∷ hs) after [] = ⊥
+TakeTurns number before (h ∷ hs) after (h' ∷ hs') =
+    (mid : RecordingState) × IsTurn number before h mid h' × TakeTurns number mid hs after hs'
+
+-- a round: the operator's turn of this number, and then each node's
+abbrev pub IsRound : List Fault → ℕ → RecordingState → List Held → RecordingState → List Held → Type 0
+IsRound faults number before hs after hs' =
+    (mid : RecordingState) × Operates number faults before mid × TakeTurns number mid hs after hs'
+
+-- so many rounds, the first of which has this number
+abbrev pub Rounds : List Fault → ℕ → ℕ → RecordingState → List Held → RecordingState → List Held → Type 0
+Rounds faults zero number before hs after hs' = (after ≡ before) × (hs' ≡ hs)
+Rounds faults (suc more) number before hs after hs' =
+    (mid : RecordingState) × (between : List Held) × IsRound faults number before hs mid between × Rounds faults more (number + 1) mid between after hs'
+
+abbrev pub idle_at : Setup → ℕ → Held
+idle_at setup i = held_at setup i 0 Idle [] None false
+
+-- what the first n nodes hold at first
+abbrev pub idle_first : Setup → ℕ → List Held
+idle_first setup zero = []
+idle_first setup (suc n) = idle_first setup n ++ idle_at setup (n + 1) ∷ []
+
+abbrev pub first_recording : Setup → RecordingState
+first_recording setup = record { world = first_state setup; rows = [] }
+
+-- the events are those of the configuration's rounds
+pub record IsScheduled (c : Configuration) (events : List Event) : Type 0 where
+  pub last : RecordingState
+  pub procedures : List Held
+  pub rounds : Rounds c.faults c.turns 1 (first_recording c.setup) (idle_first c.setup c.setup.nodes) last procedures
+  pub rows : last.rows ≡ map Row.Event events

@@ -1,8 +1,8 @@
-ghost use Rattle.std.specs.Prelude.{◌≡◌, List, Err, All, length, IfOk, OnOk};
+ghost use Rattle.std.specs.Prelude.{◌≡◌, List, Err, All, map, IfOk, OnOk};
 ghost use Rattle.std.specs.Io.KnownBytes.{Appends};
 ghost use Rattle.bully_nodes.specs.Play.{IsPlay, trace_with, fault_of};
-ghost use Rattle.bully_nodes.specs.Recording.{Continues, IsRecorded};
-ghost use Rattle.bully_config.specs.Configuration.{Configuration};
+ghost use Rattle.bully_nodes.specs.Recording.{IsRecorded};
+ghost use Rattle.bully_nodes.specs.Turns.{IsRound, IsScheduled, idle_first};
 ghost use Rattle.bully_steps.specs.Procedure.{held};
 ghost use Rattle.bully_trace.specs.TraceText.{trace_text};
 ghost use Rattle.bully_world.specs.declared.event.Event.{Event};
@@ -30,7 +30,7 @@ pub enum PlayFault {
 /// memory is refused, and then nothing was written; as `Write` where the writer fails, and then a prefix of the
 /// trace may have been written. This project's profile.
 pub fn play<W: Write>(alloc: Global, config: &Config, writer: &mut W) -> Result<(), PlayFault>
-    ensures played { OnOk result ((events : List Event) × IsPlay config.now events × Appends (W.contents writer.old) (W.contents writer.new) (trace_text (trace_with config.now.setup events))) }
+    ensures played { OnOk result ((events : List Event) × IsPlay config.now events × IsScheduled config.now events × Appends (W.contents writer.old) (W.contents writer.new) (trace_text (trace_with config.now.setup events))) }
     ensures memory { result ≡ Err PlayFault.OutOfMemory → writer.new ≡ writer.old }
 {
     let trace = trace_of(alloc, config).map_err(no_memory)?;
@@ -39,7 +39,7 @@ pub fn play<W: Write>(alloc: Global, config: &Config, writer: &mut W) -> Result<
 
 // The trace of a play.
 fn trace_of(alloc: Global, config: &Config) -> Result<Trace, OutOfMemory>
-    ensures { IfOk result (λ trace. (events : List Event) × IsPlay config.now events × (trace ≡ trace_with config.now.setup events)) }
+    ensures { IfOk result (λ trace. (events : List Event) × IsPlay config.now events × IsScheduled config.now events × (trace ≡ trace_with config.now.setup events)) }
 {
     let setup = config.setup();
     let mut recording = Recording::new(alloc, setup)?;
@@ -52,7 +52,8 @@ fn trace_of(alloc: Global, config: &Config) -> Result<Trace, OutOfMemory>
 
 // The procedures that the nodes hold at first.
 fn idle_procedures(alloc: Global, setup: Setup) -> Result<Vec<Procedure>, OutOfMemory>
-    ensures { IfOk result (λ procedures. All (λ p. (held p).setup ≡ setup) procedures.items) }
+    ensures idle { IfOk result (λ procedures. map held procedures.items ≡ idle_first setup setup.nodes) }
+    ensures setups { IfOk result (λ procedures. All (λ p. (held p).setup ≡ setup) procedures.items) }
 {
     let mut procedures = Vec::with_capacity(alloc, usize::from(setup.nodes()))?;
     for before in 0..setup.nodes() {
@@ -72,6 +73,7 @@ fn take_round(
 ) -> Result<(), OutOfMemory>
     requires recorded { IsRecorded config.now recording.old }
     requires setups { All (λ p. (held p).setup ≡ config.now.setup) procedures.old }
+    ensures round { OnOk result (IsRound config.now.faults turn recording.old (map held procedures.old) recording.new (map held procedures.new)) }
     ensures recorded { OnOk result (IsRecorded config.now recording.new) }
     ensures setups { OnOk result (All (λ p. (held p).setup ≡ config.now.setup) procedures.new) }
 {

@@ -46,9 +46,9 @@ fn event_of(fault: Fault) -> Event
     }
 }
 
-#[tactic(auto, using(crate::proofs::RecordingLemmas::continues_then))]
 /// The turn of this number of the node that holds the procedure, which goes on. It is prepared first, where it
 /// is Planning. Then the node serves the call that waits for it, if any; else it goes on as it chooses.
+#[tactic(auto, using(crate::proofs::RecordingLemmas::continues_then))]
 pub fn take_turn(
     recording: &mut Recording,
     alloc: Global,
