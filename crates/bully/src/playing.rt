@@ -2,6 +2,7 @@ ghost use Rattle.std.specs.Prelude.{◌≡◌, ◌≤◌, ◌⊎◌, List};
 ghost use Rattle.std.specs.Io.KnownBytes.{Appends};
 ghost use Rattle.bully.specs.Answer.{Tells, stop_line};
 ghost use Rattle.bully_nodes.specs.Play.{IsPlay, trace_with};
+ghost use Rattle.bully_nodes.specs.Turns.{IsScheduled};
 ghost use Rattle.bully_trace.specs.TraceText.{trace_text};
 ghost use Rattle.bully_world.specs.declared.event.Event.{Event};
 
@@ -38,7 +39,7 @@ fn answer_config<W: Write, E: Write>(
     errors: &mut E,
 ) -> u8
     ensures { ((result ≡ 0) × (errors.new ≡ errors.old)
-        × ((events : List Event) × IsPlay config.now events × Appends (W.contents output.old) (W.contents output.new) (trace_text (trace_with config.now.setup events))))
+        × ((events : List Event) × IsPlay config.now events × IsScheduled config.now events × Appends (W.contents output.old) (W.contents output.new) (trace_text (trace_with config.now.setup events))))
         ⊎ ((result ≡ 4) × (stop : Stop) × Tells (E.contents errors.old) (E.contents errors.new) (stop_line stop)) }
 {
     match play(alloc, config, output) {
