@@ -120,4 +120,4 @@ faults_all turns names (d ∷ ds) tables none =
   where
     by_table : (o : Option Members) → is_some o ≡ true → option_and_then (fault_out_of_range turns names) o ≡ None → is_some (option_and_then (fault_in turns names) o) ≡ true
     by_table None there e = absurd (false≢true there)
-    by_table (Some ms) there e = told_there (turn_in turns names ms) (node_in turns names ms) (kind_in turns names ms) e
+    by_table (Some ms) there e = told_there (turn_in turns ms) (node_in names ms) (kind_in ms) e
