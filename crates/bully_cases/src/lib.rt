@@ -1,5 +1,6 @@
 //! Tries the definitions on the scripts: short lists of events, with what is known to come of them.
-//! It stands on the definitions of bully_world and bully_agree, and of the crates below them; its tests on bully_trace too.
+//! It stands on the definitions of bully_world and bully_agree, and of the crates below them. Its tests also check
+//! traces and play configurations.
 //! It may be used to judge a change of a definition, and no crate stands on it.
 #![tactic(auto)]
 
