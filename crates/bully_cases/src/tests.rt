@@ -1,7 +1,7 @@
 //! The worked cases, with the values that this project's profile gives.
 
+mod choices;
 mod playing;
-mod procedures;
 mod runs;
 mod scripts;
 

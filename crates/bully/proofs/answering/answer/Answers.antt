@@ -1,4 +1,4 @@
-use Rattle.std.proofs.Common.{◌≡◌, ◌⊎◌, inl, inr, ap, sym, subst, map, arith}
+use Rattle.std.proofs.Common.{◌⊎◌, inl, inr, ap, sym, subst, map, arith}
 use Rattle.clap.specs.Words.{fault_of}
 use Rattle.bully.specs.Words.{ParsesAsCheck, program}
 use Rattle.bully.specs.declared.telling.Stop.{Stop}
