@@ -1,5 +1,5 @@
 -- What is recorded stays a lawful list, event by event.
-use Rattle.std.proofs.Common.{◌≡◌, ◌∙◌, ℕ, ◌+◌, ◌<◌, inl, inr, List, [], ◌∷◌, ◌++◌, Option, Some, None, MatchOption, Result, Ok, Err, IfOk, OnOk, get_or, length, length-append, arith, refl, sym, ap, subst}
+use Rattle.std.proofs.Common.{◌≡◌, ◌∙◌, ℕ, ◌+◌, ◌<◌, inl, inr, List, [], ◌∷◌, ◌++◌, Option, Some, None, MatchOption, if◌then◌else◌, Result, Ok, Err, IfOk, OnOk, get_or, length, length-append, arith, refl, sym, ap, subst}
 use Rattle.std.proofs.lemmas.List.{map-append}
 use Rattle.std.proofs.lemmas.List.Elements.{All-nil, All-push}
 use Rattle.bully_base.specs.declared.TheConstants.{EVENTS_MAX}
@@ -19,7 +19,7 @@ use Rattle.bully_trace.specs.declared.trace.Row.{Row}
 use Rattle.bully_trace.specs.declared.trace.Trace.{Trace}
 use Rattle.bully_world.specs.declared.event.Event.{Event}
 use Rattle.bully_world.specs.declared.event.Refused.{Refused}
-use Rattle.bully_world.specs.State.{WorldState, world_of, first_state, cause_in}
+use Rattle.bully_world.specs.State.{WorldState, state_at, world_of, first_state, cause_in, raises}
 use Rattle.bully_world.specs.Step.{Step}
 use Rattle.bully_world.specs.Turn.{event_of, gone_on}
 use Rattle.bully_world.specs.declared.turn.StepKind.{StepKind}
@@ -103,11 +103,20 @@ pub ok_continues : {E : Type 0} (result : Result Procedure E) (kind : StepKind) 
 ok_continues (Ok p) kind before h after steps = steps_continue kind before h after (held p) steps
 ok_continues (Err e) kind before h after steps = tt
 
+-- a node's own step stops nobody
+generation_stays : (kind : StepKind) (h : Held) (before after : WorldState) (i : ℕ) → (state_at after i).generation ≡ (state_at before i).generation
+    → (state_at after i).generation ≡ (state_at before i).generation + (if raises (world_of before) (event_of kind h) i then 1 else 0)
+generation_stays Start h before after i same = omega (arith, same)
+generation_stays Lose h before after i same = omega (arith, same)
+generation_stays Return h before after i same = omega (arith, same)
+generation_stays Move h before after i same = omega (arith, same)
+generation_stays Plan h before after i same = omega (arith, same)
+
 -- a step that the world took, with its row
 pub steps_taken : (kind : StepKind) (h h' : Held) (e : Event) (a : Answer) (w : WorldState) (before after : RecordingState) → e ≡ event_of kind h → Step before.world.setup (world_of before.world) e (world_of w) a → w.setup ≡ before.world.setup
-    → w.events ≡ before.world.events + 1 → before.world.events < before.world.setup.events_max → h' ≡ gone_on kind a h → after ≡ record { world = w; rows = before.rows ++ Row.Event e ∷ [] } → Steps kind before h after h'
-steps_taken kind h h' e a w before after named step setup counted room went is =
-    rw (is, went) (inl (record { answer = a; step = rw (← named) step; setup = setup; counted = counted; bounded = grind (arith, setup, counted, room); rows = rw named refl }, refl))
+    → w.events ≡ before.world.events + 1 → before.world.events < before.world.setup.events_max → ((i : ℕ) → (state_at w i).generation ≡ (state_at before.world i).generation) → h' ≡ gone_on kind a h → after ≡ record { world = w; rows = before.rows ++ Row.Event e ∷ [] } → Steps kind before h after h'
+steps_taken kind h h' e a w before after named step setup counted room same went is =
+    rw (is, went) (inl (record { answer = a; step = rw (← named) step; setup = setup; counted = counted; bounded = grind (arith, setup, counted, room); generations = λ i. generation_stays kind h before.world w i (same i); rows = rw named refl }, refl))
 
 -- a fault's event is due
 due_of_kind : (faults : List Fault) (kind : FaultKind) (node : ℕ) → HasFault faults kind node → IsDue faults (event_of_kind kind node)

@@ -2,7 +2,7 @@
 use Rattle.std.proofs.Common.{◌≡◌, ◌∙◌, ℕ, List, Option, Some, None, length, refl, sym, ap}
 use Rattle.std.specs.Option.{IfSome}
 use Rattle.bully_base.specs.Setup.{Setup}
-use Rattle.bully_nodes.specs.Recording.{IsAnother}
+use Rattle.bully_nodes.specs.Recording.{HasSameOwner}
 use Rattle.bully_nodes.specs.Turns.{prepared_at, prepared}
 use Rattle.bully_steps.specs.declared.point.Point.{Point}
 use Rattle.bully_steps.specs.declared.point.Point.TheVariants.{Idle, Asking, Halting, Announcing, Planning, Readying, Checking, Inquiring}
@@ -19,16 +19,16 @@ task_fits w i setup (Some table) reached same is =
     let fits = (lawful_fits w.setup reached.applied reached.answers (world_of w) reached.lawful).fits i in
     rw same (fits.by_setup.task table (ap (λ (m : Member). m.vector.task) (member-members_of w.members i) ∙ sym is))
 
-prepared_another : (p : Point) (t old : Option (List ℕ)) (h : Held) → IsAnother h (prepared_at p t old h)
-prepared_another Idle t old h = record { setup = refl; node = refl }
-prepared_another (Asking k) t old h = record { setup = refl; node = refl }
-prepared_another (Halting k) t old h = record { setup = refl; node = refl }
-prepared_another (Announcing rest) t old h = record { setup = refl; node = refl }
-prepared_another Planning None old h = record { setup = refl; node = refl }
-prepared_another Planning (Some table) old h = record { setup = refl; node = refl }
-prepared_another (Readying rest) t old h = record { setup = refl; node = refl }
-prepared_another (Checking k) t old h = record { setup = refl; node = refl }
-prepared_another Inquiring t old h = record { setup = refl; node = refl }
+prepared_owner : (p : Point) (t old : Option (List ℕ)) (h : Held) → HasSameOwner h (prepared_at p t old h)
+prepared_owner Idle t old h = record { setup = refl; node = refl }
+prepared_owner (Asking k) t old h = record { setup = refl; node = refl }
+prepared_owner (Halting k) t old h = record { setup = refl; node = refl }
+prepared_owner (Announcing rest) t old h = record { setup = refl; node = refl }
+prepared_owner Planning None old h = record { setup = refl; node = refl }
+prepared_owner Planning (Some table) old h = record { setup = refl; node = refl }
+prepared_owner (Readying rest) t old h = record { setup = refl; node = refl }
+prepared_owner (Checking k) t old h = record { setup = refl; node = refl }
+prepared_owner Inquiring t old h = record { setup = refl; node = refl }
 
-pub another_prepared : (w : WorldState) (h h' : Held) → h' ≡ prepared w h → IsAnother h h'
-another_prepared w h h' is = rw is (prepared_another h.point h.table _ h)
+pub owner_prepared : (w : WorldState) (h h' : Held) → h' ≡ prepared w h → HasSameOwner h h'
+owner_prepared w h h' is = rw is (prepared_owner h.point h.table _ h)

@@ -1,5 +1,5 @@
 -- What is recorded while a configuration is played.
-use Rattle.std.specs.Prelude.{◌≡◌, ◌≤◌, ◌+◌, ◌⊎◌, ◌++◌, List, [], ◌∷◌, length, map, All, MatchOption}
+use Rattle.std.specs.Prelude.{◌≡◌, ◌≤◌, ◌+◌, ◌⊎◌, ◌++◌, ℕ, if◌then◌else◌, List, [], ◌∷◌, length, map, All, MatchOption}
 use Rattle.bully_calls.specs.declared.call.Answer.{Answer}
 use Rattle.bully_config.specs.Configuration.{Configuration}
 use Rattle.bully_nodes.specs.Play.{IsDue}
@@ -7,7 +7,7 @@ use Rattle.bully_steps.specs.Held.{Held}
 use Rattle.bully_trace.specs.declared.trace.Row.{Row}
 use Rattle.bully_world.specs.declared.event.Event.{Event}
 use Rattle.bully_world.specs.Lawful.{IsLawful}
-use Rattle.bully_world.specs.State.{WorldState, world_of, cause_in}
+use Rattle.bully_world.specs.State.{WorldState, state_at, world_of, cause_in, raises}
 use Rattle.bully_world.specs.Step.{Step}
 use Rattle.bully_world.specs.Turn.{event_of, gone_on}
 use Rattle.bully_world.specs.declared.turn.StepKind.{StepKind}
@@ -35,6 +35,7 @@ pub record Records (e : Event) (before after : RecordingState) : Type 0 where
   pub setup : after.world.setup ≡ before.world.setup
   pub counted : after.world.events ≡ before.world.events + 1
   pub bounded : after.world.events ≤ after.world.setup.events_max
+  pub generations : (i : ℕ) → (state_at after.world i).generation ≡ (state_at before.world i).generation + (if raises (world_of before.world) e i then 1 else 0)
   pub rows : after.rows ≡ before.rows ++ Row.Event e ∷ []
 
 -- the event is applied and recorded where nothing refuses it, else it is passed over
@@ -53,6 +54,6 @@ pub record Continues (before after : RecordingState) : Type 0 where
   pub recorded : (c : Configuration) → IsRecorded c before → IsRecorded c after
 
 -- the procedure is one of the same node, in the same group
-pub record IsAnother (h other : Held) : Type 0 where
+pub record HasSameOwner (h other : Held) : Type 0 where
   pub setup : other.setup ≡ h.setup
   pub node : other.node ≡ h.node

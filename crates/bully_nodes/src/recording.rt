@@ -1,6 +1,6 @@
 ghost use Rattle.std.specs.Prelude.{◌≡◌, ◌≤◌, ◌++◌, ◌∷◌, [], length, IfOk, OnOk};
 ghost use Rattle.bully_nodes.specs.Play.{trace_setup};
-ghost use Rattle.bully_nodes.specs.Recording.{Applies, Steps, IsAnother};
+ghost use Rattle.bully_nodes.specs.Recording.{Applies, Steps, HasSameOwner};
 ghost use Rattle.bully_steps.specs.Procedure.{held};
 ghost use Rattle.bully_trace.specs.declared.TheConstants.{ROWS_MAX};
 ghost use Rattle.bully_world.specs.State.{first_state};
@@ -64,7 +64,7 @@ impl Recording {
         requires setup { (held procedure).setup ≡ self.old.world.setup }
         requires offered { turn self.old.world (held procedure) ≡ Next.Take kind }
         ensures steps { IfOk result (λ p. Steps kind self.old (held procedure) self.new (held p)) }
-        ensures another { IfOk result (λ p. IsAnother (held procedure) (held p)) }
+        ensures owner { IfOk result (λ p. HasSameOwner (held procedure) (held p)) }
     {
         match self.world.take(kind, procedure) {
             Ok(step) => {

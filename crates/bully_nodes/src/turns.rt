@@ -2,7 +2,7 @@ ghost use Rattle.std.specs.Prelude.{◌≡◌, ◌≤◌, length, IfOk, OnOk};
 ghost use Rattle.std.specs.Option.{IfSome, option_copied};
 ghost use Rattle.bully_config.specs.Configuration.{Configuration};
 ghost use Rattle.bully_nodes.specs.Play.{event_of_fault};
-ghost use Rattle.bully_nodes.specs.Recording.{IsRecorded, Continues, IsAnother};
+ghost use Rattle.bully_nodes.specs.Recording.{IsRecorded, Continues, HasSameOwner};
 ghost use Rattle.bully_nodes.specs.Turns.{prepared, prepared_from, Serves, Proceeds, GoesOn, IsTurn, Operates};
 ghost use Rattle.bully_steps.specs.Driver.{chosen};
 ghost use Rattle.bully_steps.specs.Procedure.{held};
@@ -58,7 +58,7 @@ pub fn take_turn(
     requires { (held place.old).setup ≡ recording.old.world.setup }
     ensures turn { OnOk result (IsTurn turn recording.old (held place.old) recording.new (held place.new)) }
     ensures recorded { OnOk result (Continues recording.old recording.new) }
-    ensures another { OnOk result (IsAnother (held place.old) (held place.new)) }
+    ensures owner { OnOk result (HasSameOwner (held place.old) (held place.new)) }
 {
     let node = place.node();
     let idle = Procedure::idle(place.setup(), node, 0);
@@ -80,7 +80,7 @@ fn prepared(
 ) -> Result<Procedure, OutOfMemory>
     requires { (held procedure).setup ≡ recording.now.world.setup }
     ensures held { IfOk result (λ p. held p ≡ prepared recording.now.world (held procedure)) }
-    ensures another { IfOk result (λ p. IsAnother (held procedure) (held p)) }
+    ensures owner { IfOk result (λ p. HasSameOwner (held procedure) (held p)) }
 {
     // Shows the proof that the node is one of the setup's, and that a lawful list leads to the world.
     let _ = (procedure.setup(), recording.world().events());
@@ -132,7 +132,7 @@ fn go_on(
     requires { (held procedure).setup ≡ recording.old.world.setup }
     ensures goes_on { IfOk result (λ p. GoesOn (chosen turn (held procedure).point) recording.old (held procedure) recording.new (held p)) }
     ensures recorded { OnOk result (Continues recording.old recording.new) }
-    ensures another { IfOk result (λ p. IsAnother (held procedure) (held p)) }
+    ensures owner { IfOk result (λ p. HasSameOwner (held procedure) (held p)) }
 {
     let node = procedure.node();
     match Driver::choose(turn, &procedure) {
@@ -148,7 +148,7 @@ fn proceed(recording: &mut Recording, procedure: Procedure) -> Result<Procedure,
     requires { (held procedure).setup ≡ recording.old.world.setup }
     ensures proceeds { IfOk result (λ p. Proceeds (turn_rule recording.old.world (held procedure)) recording.old (held procedure) recording.new (held p)) }
     ensures recorded { OnOk result (Continues recording.old recording.new) }
-    ensures another { IfOk result (λ p. IsAnother (held procedure) (held p)) }
+    ensures owner { IfOk result (λ p. HasSameOwner (held procedure) (held p)) }
 {
     // Shows the proof that the node is one of the setup's.
     let _ = procedure.setup();

@@ -59,18 +59,6 @@ fn whole_call_lists(rt: HostRuntime) -> Result<(), Fail> {
         Some(WholeFault::NotWhole { index: 7 })
     );
     let one = node(&rt, 1);
-    let alone = setup(&rt, 1, 1, 9);
-    assert_eq!(rt;
-        run_whole(alloc, alone, &[Event::Run(one)]).err(),
-        Some(WholeFault::NotWhole { index: 0 })
-    );
-    assert_eq!(rt;
-        run(alloc, alone, &[Event::Run(one)]).err(),
-        Some(RunFault::Stop {
-            index: 0,
-            cause: Refused::IsDown
-        })
-    );
     assert_eq!(rt;
         run_whole(
             alloc,
@@ -93,6 +81,24 @@ fn whole_call_lists(rt: HostRuntime) -> Result<(), Fail> {
         })
     );
     Ok(())
+}
+
+#[test]
+fn lone_run(rt: HostRuntime) {
+    let alloc = rt.alloc();
+    let one = node(&rt, 1);
+    let alone = setup(&rt, 1, 1, 9);
+    assert_eq!(rt;
+        run_whole(alloc, alone, &[Event::Run(one)]).err(),
+        Some(WholeFault::NotWhole { index: 0 })
+    );
+    assert_eq!(rt;
+        run(alloc, alone, &[Event::Run(one)]).err(),
+        Some(RunFault::Stop {
+            index: 0,
+            cause: Refused::IsDown
+        })
+    );
 }
 
 #[test]
