@@ -2,7 +2,7 @@ mod cases;
 
 use crate::{Config, ConfigFault, FAULTS_MAX, FaultKind, Key};
 use bully_base::Node;
-use cases::{GOOD, SEVERAL, SINGLE, TAILS};
+use cases::{BESIDE, GOOD, MANY, SEVERAL, SINGLE, TAILS};
 use std::alloc::Global;
 use std::test::Fail;
 
@@ -95,11 +95,17 @@ fn tells_faults(rt: HostRuntime) -> Result<(), Fail> {
     Ok(())
 }
 
+// The answer to the good configuration after the changes.
+fn answer_to(alloc: Global, changes: &[(usize, &str)]) -> Result<String, Fail> {
+    let text = changed(alloc, changes)?;
+    answer(alloc, text.as_str())
+}
+
 #[test]
 fn refuses_a_change(rt: HostRuntime) -> Result<(), Fail> {
     for (place, line, wanted) in SINGLE.iter() {
-        let text = changed(rt.alloc(), &[(*place, *line)])?;
-        assert_eq!(rt; answer(rt.alloc(), text.as_str())?.as_str(), *wanted);
+        let told = answer_to(rt.alloc(), &[(*place, *line)])?;
+        assert_eq!(rt; told.as_str(), *wanted);
     }
     Ok(())
 }
@@ -107,8 +113,8 @@ fn refuses_a_change(rt: HostRuntime) -> Result<(), Fail> {
 #[test]
 fn tells_the_first_of_several(rt: HostRuntime) -> Result<(), Fail> {
     for (changes, wanted) in SEVERAL.iter() {
-        let text = changed(rt.alloc(), *changes)?;
-        assert_eq!(rt; answer(rt.alloc(), text.as_str())?.as_str(), *wanted);
+        let told = answer_to(rt.alloc(), *changes)?;
+        assert_eq!(rt; told.as_str(), *wanted);
     }
     Ok(())
 }
@@ -127,21 +133,18 @@ fn answer_with(alloc: Global, changes: &[(usize, &str)], tail: &str) -> Result<S
 #[test]
 fn reads_faults_of_each_form(rt: HostRuntime) -> Result<(), Fail> {
     for (tail, wanted) in TAILS.iter() {
-        assert_eq!(rt; answer_with(rt.alloc(), &[], *tail)?.as_str(), *wanted);
+        let told = answer_with(rt.alloc(), &[], *tail)?;
+        assert_eq!(rt; told.as_str(), *wanted);
     }
-    let tail = "fault = [{}, 1]";
-    assert_eq!(rt;
-        answer_with(rt.alloc(), &[(3, "")], tail)?.as_str(),
-        "Missing turns"
-    );
-    assert_eq!(rt;
-        answer_with(rt.alloc(), &[(4, "names = 1")], tail)?.as_str(),
-        "Kind names"
-    );
-    assert_eq!(rt;
-        answer_with(rt.alloc(), &[(0, "nodes = 0")], tail)?.as_str(),
-        "Kind fault"
-    );
+    Ok(())
+}
+
+#[test]
+fn passes_over_faults_that_are_no_tables(rt: HostRuntime) -> Result<(), Fail> {
+    for (place, line, wanted) in BESIDE.iter() {
+        let told = answer_with(rt.alloc(), &[(*place, *line)], "fault = [{}, 1]")?;
+        assert_eq!(rt; told.as_str(), *wanted);
+    }
     Ok(())
 }
 
@@ -157,38 +160,29 @@ fn many_faults(alloc: Global, count: usize, turn: &str) -> Result<String, Fail> 
     Ok(tail)
 }
 
+// As many faults without a turn.
+fn unfinished_faults(alloc: Global, count: usize) -> Result<String, Fail> {
+    let mut tail = String::new(alloc);
+    for _ in 0..count {
+        tail.push_str("[[fault]]\nnode = \"a\"\nkind = \"crash\"\n")?;
+    }
+    Ok(tail)
+}
+
 #[test]
 fn counts_faults(rt: HostRuntime) -> Result<(), Fail> {
-    let alloc = rt.alloc();
-    let most = many_faults(alloc, FAULTS_MAX, "1")?;
-    assert_eq!(rt; answer_with(alloc, &[], most.as_str())?.as_str(), "Ok");
-    let late = many_faults(alloc, FAULTS_MAX, "0")?;
-    assert_eq!(rt;
-        answer_with(alloc, &[], late.as_str())?.as_str(),
-        "Range at"
-    );
-    let more = many_faults(alloc, FAULTS_MAX + 1, "0")?;
-    assert_eq!(rt;
-        answer_with(alloc, &[], more.as_str())?.as_str(),
-        "Range fault"
-    );
-    assert_eq!(rt;
-        answer_with(alloc, &[(4, "names = []")], more.as_str())?.as_str(),
-        "Range names"
-    );
-    let unfinished = "[[fault]]\nnode = \"a\"\nkind = \"crash\"\n";
-    let mut many = String::new(alloc);
-    for _ in 0..=FAULTS_MAX {
-        many.push_str(unfinished)?;
+    for (count, turn, names, wanted) in MANY.iter() {
+        let tail = many_faults(rt.alloc(), *count, *turn)?;
+        let told = answer_with(rt.alloc(), &[(4, *names)], tail.as_str())?;
+        assert_eq!(rt; told.as_str(), *wanted);
     }
-    assert_eq!(rt;
-        answer_with(alloc, &[], many.as_str())?.as_str(),
-        "Missing at"
-    );
-    let kinds = many_faults(alloc, FAULTS_MAX + 1, "true")?;
-    assert_eq!(rt;
-        answer_with(alloc, &[], kinds.as_str())?.as_str(),
-        "Kind at"
-    );
+    Ok(())
+}
+
+#[test]
+fn misses_a_turn_before_it_counts(rt: HostRuntime) -> Result<(), Fail> {
+    let tail = unfinished_faults(rt.alloc(), FAULTS_MAX + 1)?;
+    let told = answer_with(rt.alloc(), &[], tail.as_str())?;
+    assert_eq!(rt; told.as_str(), "Missing at");
     Ok(())
 }

@@ -234,3 +234,19 @@ pub const TAILS: [(&str, &str); 14] = [
         "UnknownKey",
     ),
 ];
+
+/// A line beside a fault that is no table, and the answer.
+pub const BESIDE: [(usize, &str, &str); 3] = [
+    (3, "", "Missing turns"),
+    (4, "names = 1", "Kind names"),
+    (0, "nodes = 0", "Kind fault"),
+];
+
+/// How many equal faults, their turn, the line of the names, and the answer.
+pub const MANY: [(usize, &str, &str, &str); 5] = [
+    (10_000, "1", "names = [\"a\", \"b\", \"c\"]", "Ok"),
+    (10_000, "0", "names = [\"a\", \"b\", \"c\"]", "Range at"),
+    (10_001, "0", "names = [\"a\", \"b\", \"c\"]", "Range fault"),
+    (10_001, "0", "names = []", "Range names"),
+    (10_001, "true", "names = [\"a\", \"b\", \"c\"]", "Kind at"),
+];
