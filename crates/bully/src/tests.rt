@@ -1,3 +1,5 @@
+mod configs;
+
 use crate::answering::answer;
 use std::io::{ErrorKind, Read, Write};
 use std::rt::Files;
@@ -116,16 +118,54 @@ fn told<H: Files + AllocGlobal>(rt: &H, words: &[&str]) -> (u8, bool, bool) {
     (status, !output.is_empty(), !errors.is_empty())
 }
 
+/// Words, their status, whether something stands on the output, and whether something stands on the errors.
+const WORDS: [(&[&str], u8, bool, bool); 16] = [
+    (&[], 2, false, true),
+    (&["judge"], 2, false, true),
+    (&["check", "x"], 2, false, true),
+    (&["--help"], 0, true, false),
+    (&["help"], 0, true, false),
+    (&["play"], 2, false, true),
+    (&["play", "no_such_file.toml"], 4, false, true),
+    (&["play", "no_such_file.toml", "x"], 2, false, true),
+    (&["table"], 2, false, true),
+    (&["table", "no_such_file.toml"], 2, false, true),
+    (
+        &["table", "no_such_file.toml", "a", "--old"],
+        2,
+        false,
+        true,
+    ),
+    (
+        &[
+            "table",
+            "no_such_file.toml",
+            "a",
+            "--old",
+            "1",
+            "--old",
+            "1",
+        ],
+        2,
+        false,
+        true,
+    ),
+    (&["table", "no_such_file.toml", "-x"], 2, false, true),
+    (
+        &["table", "no_such_file.toml", "d", "--old", "1"],
+        4,
+        false,
+        true,
+    ),
+    (&["table", ".", "d"], 4, false, true),
+    (&["table", "--help"], 0, true, false),
+];
+
 #[test]
 fn reads_words(rt: HostRuntime) {
-    assert!(rt; told(&rt, &[]) == (2, false, true));
-    assert!(rt; told(&rt, &["play"]) == (2, false, true));
-    assert!(rt; told(&rt, &["play", "no_such_file.toml"]) == (4, false, true));
-    assert!(rt; told(&rt, &["play", "no_such_file.toml", "x"]) == (2, false, true));
-    assert!(rt; told(&rt, &["judge"]) == (2, false, true));
-    assert!(rt; told(&rt, &["check", "x"]) == (2, false, true));
-    assert!(rt; told(&rt, &["--help"]) == (0, true, false));
-    assert!(rt; told(&rt, &["help"]) == (0, true, false));
+    for (words, status, output, errors) in WORDS.iter() {
+        assert!(rt; told(&rt, *words) == (*status, *output, *errors));
+    }
 }
 
 #[test]
@@ -145,205 +185,4 @@ fn tells_failures(rt: HostRuntime) {
     assert!(rt; errors.as_slice() == "bully: Write\n".as_bytes());
     assert!(rt; answer(&rt, &["check"], io::empty(), &mut output, &mut Broken) == 3);
     assert!(rt; output.is_empty());
-}
-
-// The configuration of three nodes, a, b and c, with five partitions.
-const THREE: &str =
-    "nodes = 3\npartitions = 5\nevents = 100\nturns = 6\nnames = [\"a\", \"b\", \"c\"]\n";
-
-// `table` with these words behind a file that holds these bytes: the status, and exactly what is written.
-fn tables<H: Files + AllocGlobal>(
-    rt: &H,
-    file: (&str, &[u8]),
-    words: &[&str],
-    status: u8,
-    told: (&str, &str),
-) -> Result<bool, Fail> {
-    fs::write(rt, file.0, file.1)?;
-    let mut all = vec![in rt.alloc(); "table", file.0]?;
-    all.extend_from_slice(words)?;
-    let mut output = Vec::new(rt.alloc());
-    let mut errors = Vec::new(rt.alloc());
-    let answered = answer(rt, all.as_slice(), io::empty(), &mut output, &mut errors);
-    fs::remove_file(rt, file.0)?;
-    Ok(
-        answered == status
-            && output.as_slice() == told.0.as_bytes()
-            && errors.as_slice() == told.1.as_bytes(),
-    )
-}
-
-// With these words the configuration can't be read.
-fn is_unread<H: Files + AllocGlobal>(rt: &H, words: &[&str]) -> bool {
-    let mut output = Vec::new(rt.alloc());
-    let mut errors = Vec::new(rt.alloc());
-    let status = answer(rt, words, io::empty(), &mut output, &mut errors);
-    status == 4 && output.is_empty() && errors.as_slice() == "bully: Read\n".as_bytes()
-}
-
-// `play` of a file that holds this text: the status, and exactly what is written.
-fn plays<H: Files + AllocGlobal>(
-    rt: &H,
-    file: (&str, &str),
-    status: u8,
-    told: (&str, &str),
-) -> Result<bool, Fail> {
-    fs::write(rt, file.0, file.1)?;
-    let mut output = Vec::new(rt.alloc());
-    let mut errors = Vec::new(rt.alloc());
-    let answered = answer(rt, &["play", file.0], io::empty(), &mut output, &mut errors);
-    fs::remove_file(rt, file.0)?;
-    Ok(
-        answered == status
-            && output.as_slice() == told.0.as_bytes()
-            && errors.as_slice() == told.1.as_bytes(),
-    )
-}
-
-// A node recovers in a group where the others stay down.
-const ONE_NODE: &str =
-    "nodes = 1\npartitions = 2\nevents = 100\nturns = 6\nnames = [\"a\"]\n[[fault]]\nat = 1\nnode = \"a\"\nkind = \"recover\"\n";
-
-const TWO_NODES: &str =
-    "nodes = 2\npartitions = 2\nevents = 100\nturns = 9\nnames = [\"a\", \"b\"]\n[[fault]]\nat = 1\nnode = \"b\"\nkind = \"recover\"\n";
-
-#[test]
-fn plays_groups(rt: HostRuntime) -> Result<(), Fail> {
-    let alone = "bully,1,1,2\nrecover,1\nmove,1\nmove,1\nmove,1\nplan,1,1 1\nmove,1\n";
-    assert!(rt; plays(&rt, ("plays_groups.toml", ONE_NODE), 0, (alone, ""))?);
-    let two =
-        "bully,1,2,2\nrecover,2\nmove,2\nstart,2\nlose,2\nreturn,2\nmove,2\nmove,2\nplan,2,2 2\nmove,2\n";
-    assert!(rt; plays(&rt, ("plays_groups.toml", TWO_NODES), 0, (two, ""))?);
-    let bad = ("plays_groups.toml", "nodes = 65\n");
-    assert!(rt; plays(&rt, bad, 3, ("", "bully: config: Missing partitions\n"))?);
-    Ok(())
-}
-
-#[test]
-fn plans_tables(rt: HostRuntime) -> Result<(), Fail> {
-    let three = ("plans_tables.toml", THREE.as_bytes());
-    let kept = ("1 2 2 2 1\nmoves 1\nbound 4\n", "");
-    assert!(rt; tables(&rt, three, &["a", "b", "--old", "1 2 2 2 3"], 0, kept)?);
-    assert!(rt; tables(&rt, three, &["--old", "1 2 2 2 3", "b", "a"], 0, kept)?);
-    assert!(rt;
-        tables(
-            &rt,
-            three,
-            &["a", "b", "a", "a", "--old=1 2 2 2 3"],
-            0,
-            kept
-        )?
-    );
-    assert!(rt; tables(&rt, three, &["c"], 0, ("3 3 3 3 3\nmoves 5\nbound 0\n", ""))?);
-    let dash = "nodes = 1\npartitions = 1\nevents = 1\nturns = 1\nnames = [\"-x\"]\n";
-    let dashed = ("plans_tables.toml", dash.as_bytes());
-    assert!(rt; tables(&rt, dashed, &["--", "-x"], 0, ("1\nmoves 1\nbound 0\n", ""))?);
-    assert!(rt;
-        tables(
-            &rt,
-            dashed,
-            &["--old", "", "--", "-x"],
-            2,
-            ("", "bully: words: Syntax\n")
-        )?
-    );
-    Ok(())
-}
-
-#[test]
-fn refuses_tables(rt: HostRuntime) -> Result<(), Fail> {
-    let three = ("refuses_tables.toml", THREE.as_bytes());
-    let member = ("", "bully: words: Member\n");
-    assert!(rt; tables(&rt, three, &["d"], 2, member)?);
-    assert!(rt; tables(&rt, three, &["", "a"], 2, member)?);
-    assert!(rt; tables(&rt, three, &["a", "d", "--old", "1"], 2, member)?);
-    assert!(rt;
-        tables(
-            &rt,
-            three,
-            &["a", "--old", "1"],
-            2,
-            ("", "bully: words: Length\n")
-        )?
-    );
-    assert!(rt;
-        tables(
-            &rt,
-            three,
-            &["a", "--old", "1 2 2 2 4"],
-            2,
-            ("", "bully: words: Owner\n")
-        )?
-    );
-    assert!(rt;
-        tables(
-            &rt,
-            three,
-            &["a", "--old", "1 2 2 2 03"],
-            2,
-            ("", "bully: words: Syntax\n")
-        )?
-    );
-    let length = ("", "bully: words: Length\n");
-    assert!(rt; tables(&rt, three, &["a", "--old", ""], 2, length)?);
-    assert!(rt; tables(&rt, three, &["a", "--old="], 2, length)?);
-    assert!(rt; tables(&rt, three, &["a", "--old", "1 2 2 2 3 "], 2, length)?);
-    let bad = ("refuses_tables.toml", "nodes = [".as_bytes());
-    assert!(rt;
-        tables(
-            &rt,
-            bad,
-            &["d", "--old", "1"],
-            3,
-            ("", "bully: config: Toml\n")
-        )?
-    );
-    let no_text = ("refuses_tables.toml", [0xff].as_slice());
-    assert!(rt; tables(&rt, no_text, &["a"], 3, ("", "bully: config: Toml\n"))?);
-    let double = "nodes = 2\npartitions = 1\nevents = 1\nturns = 1\nnames = [\"a\", \"a\"]\n";
-    let twice = ("refuses_tables.toml", double.as_bytes());
-    assert!(rt;
-        tables(
-            &rt,
-            twice,
-            &["d", "--old", "1 1"],
-            3,
-            ("", "bully: config: DoubleName\n")
-        )?
-    );
-    let unlisted = "x = 1\nnodes = 1\npartitions = 1\nevents = 1\nturns = 1\nnames = [\"a\"]\n";
-    let unknown = ("refuses_tables.toml", unlisted.as_bytes());
-    assert!(rt; tables(&rt, unknown, &["d"], 3, ("", "bully: config: UnknownKey\n"))?);
-    let empty = ("refuses_tables.toml", "".as_bytes());
-    assert!(rt;
-        tables(
-            &rt,
-            empty,
-            &["d"],
-            3,
-            ("", "bully: config: Missing nodes\n")
-        )?
-    );
-    assert!(rt; is_unread(&rt, &["table", "no_such_file.toml", "d", "--old", "1"]));
-    assert!(rt; is_unread(&rt, &["table", ".", "d"]));
-    assert!(rt;
-        told(
-            &rt,
-            &[
-                "table",
-                "no_such_file.toml",
-                "a",
-                "--old",
-                "1",
-                "--old",
-                "1"
-            ]
-        ) == (2, false, true)
-    );
-    assert!(rt; told(&rt, &["table", "no_such_file.toml", "-x"]) == (2, false, true));
-    assert!(rt; told(&rt, &["table"]) == (2, false, true));
-    assert!(rt; told(&rt, &["table", "no_such_file.toml"]) == (2, false, true));
-    assert!(rt; told(&rt, &["table", "no_such_file.toml", "a", "--old"]) == (2, false, true));
-    assert!(rt; told(&rt, &["table", "--help"]) == (0, true, false));
-    Ok(())
 }
