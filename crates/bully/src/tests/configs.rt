@@ -1,6 +1,8 @@
 //! `play` and `table` of a configuration in a file.
 
 use crate::answering::answer;
+use std::alloc::Global;
+use std::convert::AsStr;
 use std::rt::Files;
 use std::test::Fail;
 use std::{fs, io};
@@ -159,7 +161,7 @@ impl Told {
 }
 
 // What the words tell.
-fn told_by<H: Files + AllocGlobal>(rt: &H, words: &[&str]) -> Told {
+fn told_by<H: Files + AllocGlobal, S: AsStr>(rt: &H, words: &[S]) -> Told {
     let mut output = Vec::new(rt.alloc());
     let mut errors = Vec::new(rt.alloc());
     let status = answer(rt, words, io::empty(), &mut output, &mut errors);
@@ -170,25 +172,36 @@ fn told_by<H: Files + AllocGlobal>(rt: &H, words: &[&str]) -> Told {
     }
 }
 
-// What the command tells of a file of this name and these bytes, with these words behind its path.
+// The command, the path, and the words behind it.
+fn words_of(alloc: Global, command: &str, path: &str, words: &[&str]) -> Result<Vec<String>, Fail> {
+    let mut all = Vec::new(alloc);
+    all.push(String::from_str(alloc, command)?)?;
+    all.push(String::from_str(alloc, path)?)?;
+    for word in words {
+        all.push(String::from_str(alloc, *word)?)?;
+    }
+    Ok(all)
+}
+
+// What the command tells of a file at this path with these bytes, with these words behind it.
 fn told_of<H: Files + AllocGlobal>(
     rt: &H,
+    path: &str,
+    bytes: &[u8],
     command: &str,
-    file: (&str, &[u8]),
     words: &[&str],
 ) -> Result<Told, Fail> {
-    fs::write(rt, file.0, file.1)?;
-    let mut all = vec![in rt.alloc(); command, file.0]?;
-    all.extend_from_slice(words)?;
+    fs::write(rt, path, bytes)?;
+    let all = words_of(rt.alloc(), command, path, words)?;
     let told = told_by(rt, all.as_slice());
-    fs::remove_file(rt, file.0)?;
+    fs::remove_file(rt, path)?;
     Ok(told)
 }
 
 #[test]
 fn writes_plays_and_plans(rt: HostRuntime) -> Result<(), Fail> {
     for (command, text, words, wanted) in WRITTEN.iter() {
-        let told = told_of(&rt, *command, ("written.toml", text.as_bytes()), *words)?;
+        let told = told_of(&rt, "written.toml", text.as_bytes(), *command, *words)?;
         assert!(rt; told.is(0, *wanted, ""));
     }
     Ok(())
@@ -197,7 +210,7 @@ fn writes_plays_and_plans(rt: HostRuntime) -> Result<(), Fail> {
 #[test]
 fn refuses_configurations(rt: HostRuntime) -> Result<(), Fail> {
     for (command, text, words, status, line) in REFUSED.iter() {
-        let told = told_of(&rt, *command, ("refused.toml", text.as_bytes()), *words)?;
+        let told = told_of(&rt, "refused.toml", text.as_bytes(), *command, *words)?;
         assert!(rt; told.is(*status, "", *line));
     }
     Ok(())
@@ -205,7 +218,7 @@ fn refuses_configurations(rt: HostRuntime) -> Result<(), Fail> {
 
 #[test]
 fn refuses_bytes_that_are_no_text(rt: HostRuntime) -> Result<(), Fail> {
-    let told = told_of(&rt, "table", ("bytes.toml", [0xff].as_slice()), &["a"])?;
+    let told = told_of(&rt, "bytes.toml", [0xff].as_slice(), "table", &["a"])?;
     assert!(rt; told.is(3, "", "bully: config: Toml\n"));
     Ok(())
 }
