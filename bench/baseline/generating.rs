@@ -1,30 +1,10 @@
 //! Makes lawful traces: it keeps a world and takes, again and again, an event that is possible there.
 
 use crate::checking::{or_dash, status_word};
+use crate::random::Random;
 use crate::world::{bit, Action, CallKind, Node, Offer, Phase, Point, Setup, World};
 use std::fmt;
 use std::io::{self, Write};
-
-/// Pseudo-random numbers: Marsaglia's xorshift with 64 bits.
-struct Random(u64);
-
-impl Random {
-    fn next(&mut self) -> u64 {
-        self.0 ^= self.0 << 13;
-        self.0 ^= self.0 >> 7;
-        self.0 ^= self.0 << 17;
-        self.0
-    }
-
-    fn below(&mut self, limit: u32) -> u32 {
-        ((self.next() >> 32) % limit as u64) as u32
-    }
-
-    /// True once in so many times.
-    fn once_in(&mut self, times: u32) -> bool {
-        self.below(times) == 0
-    }
-}
 
 /// What a trace has in it.
 #[derive(Default)]

@@ -7,6 +7,8 @@
 
 mod checking;
 mod generating;
+#[path = "../random.rs"]
+mod random;
 mod rows;
 mod world;
 

@@ -5,23 +5,17 @@
 //! It makes 64 random tables of 256 partitions over 64 nodes. Each round plans from one of them, in turn, for a random
 //! set of members. It prints the sums of the moves and of the bounds, and a number that the owners of all plans make.
 
+// The other calls of it are the baseline's.
+#[allow(dead_code)]
+#[path = "../random.rs"]
+mod random;
+
+use random::Random;
 use std::env;
 
 const NODES: usize = 64;
 const PARTITIONS: usize = 256;
 const TABLES: usize = 64;
-
-/// Pseudo-random numbers: Marsaglia's xorshift with 64 bits.
-struct Random(u64);
-
-impl Random {
-    fn next(&mut self) -> u64 {
-        self.0 ^= self.0 << 13;
-        self.0 ^= self.0 >> 7;
-        self.0 ^= self.0 << 17;
-        self.0
-    }
-}
 
 struct Plan {
     owners: [u8; PARTITIONS],
