@@ -1,4 +1,4 @@
--- What the program makes of words that are written out.
+-- What the program makes of words that are written out, and of what clap finds in words.
 use Rattle.std.proofs.Common.{◌≡◌, ◌≢◌, ◌⊎◌, inl, inr, refl, ap, true, false, not, ◌&&◌, codes, [], ◌∷◌, arith}
 use Rattle.std.specs.List.{list_all}
 use Rattle.std.proofs.lemmas.Grind.{common_steps}
@@ -7,7 +7,7 @@ use Rattle.clap.specs.declared.error.Error.{Error}
 use Rattle.clap.specs.declared.error.kind.ErrorKind.{ErrorKind}
 use Rattle.clap.specs.declared.error.kind.ErrorKind.TheVariants as kind
 use Rattle.clap.proofs.OnLiterals.{clap_on_literals}
-use Rattle.bully.specs.Words.{ParsesAsCheck, is_help, is_filled, is_mistake, asks_for_help}
+use Rattle.bully.specs.Words.{ParsesAsCheck, is_help, is_filled, is_mistake}
 
 -- the one word `check` parses as `check`
 pub check-parses : ParsesAsCheck (codes "check" ∷ [])
@@ -17,22 +17,6 @@ check-parses = (refl, refl)
 pub no-words-mistaken : is_mistake [] ≡ true
 unfolding clap_on_literals
 no-words-mistaken = refl
-
-pub other-command-mistaken : is_mistake (codes "judge" ∷ []) ≡ true
-unfolding clap_on_literals
-other-command-mistaken = refl
-
-pub more-words-mistaken : is_mistake (codes "check" ∷ codes "x" ∷ []) ≡ true
-unfolding clap_on_literals
-more-words-mistaken = refl
-
-pub help-asked : asks_for_help (codes "--help" ∷ []) ≡ true
-unfolding clap_on_literals
-help-asked = refl
-
-pub help-of-check-asked : asks_for_help (codes "check" ∷ codes "--help" ∷ []) ≡ true
-unfolding clap_on_literals
-help-of-check-asked = refl
 
 -- no kind of a list without help is one
 among-none : (kinds : Kinds) (k : ErrorKind) → list_all (λ x. not (is_help x)) kinds ≡ true → IsAmong k kinds → is_help k ≡ false
