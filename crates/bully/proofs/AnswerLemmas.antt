@@ -10,12 +10,12 @@ use Rattle.bully_trace.specs.declared.verdict.Verdict.{Verdict}
 use Rattle.bully_trace.specs.Rows.{records_of, trace_of, is_of_form}
 use Rattle.bully_trace.specs.Verdict.{IsVerdict}
 use Rattle.bully_trace.specs.VerdictText.{verdict_text}
-use Rattle.bully.specs.Answer.{Held, Tells, IsAnswer, verdict_status, stop_of, stop_line, row_line}
+use Rattle.bully.specs.Answer.{KnownBytes, Tells, IsAnswer, verdict_status, stop_of, stop_line, row_line}
 use Rattle.bully.specs.declared.telling.Stop.{Stop}
-use Rattle.bully.proofs.HeldLemmas.{appends-keeps, keeps-same}
+use Rattle.bully.proofs.KnownBytesLemmas.{appends-keeps, keeps-same}
 
 -- the text of the verdict was appended, and then the output was flushed
-pub judged-answer : {E : Type 0} (contents : E → Held) (remaining : Held) (verdict : Verdict) (output written output' : Held) (errors errors' : E) (status : ℕ)
+pub judged-answer : {E : Type 0} (contents : E → KnownBytes) (remaining : KnownBytes) (verdict : Verdict) (output written output' : KnownBytes) (errors errors' : E) (status : ℕ)
     → IfSome remaining (λ bytes. (trace : Trace) × (w : World) × (trace_of (records_of bytes) ≡ Ok trace) × IsVerdict trace verdict w × Appends output written (verdict_text trace.setup verdict w))
     → (((status ≡ verdict_status verdict) × Keeps written output' × (errors' ≡ errors)) ⊎ ((status ≡ 4) × Tells (contents errors) (contents errors') (stop_line Stop.Write)))
     → IfSome remaining (λ bytes. IsAnswer bytes output output' (contents errors) (contents errors') status)
@@ -26,7 +26,7 @@ judged-answer contents (Some bytes) verdict output written output' errors errors
     inr (inr (Stop.Write, (λ other. absurd (other refl)), (λ _. rw is refl), told, stopped))
 
 -- the first faulty row was told, or there was no memory for its line
-form-case : (remaining : Held) (fault : TraceFault) (output output' errors errors' : Held) (status : ℕ)
+form-case : (remaining : KnownBytes) (fault : TraceFault) (output output' errors errors' : KnownBytes) (status : ℕ)
     → IfSome remaining (λ bytes. trace_of (records_of bytes) ≡ Err fault)
     → Keeps output output'
     → (((status ≡ 3) × Tells errors errors' (row_line fault)) ⊎ ((status ≡ 4) × Tells errors errors' (stop_line Stop.OutOfMemory)))
@@ -35,7 +35,7 @@ form-case None fault output output' errors errors' status read kept told = tt
 form-case (Some bytes) fault output output' errors errors' status read kept (inl (done, told)) = inr (inl (fault, read, kept, told, done))
 form-case (Some bytes) fault output output' errors errors' status read kept (inr (done, told)) = inr (inr (Stop.OutOfMemory, (λ _. kept), (λ e. absurd (grind (arith, e))), told, done))
 
-pub stop-case : (remaining : Held) (stop : Stop) (output output' errors errors' : Held) (status : ℕ)
+pub stop-case : (remaining : KnownBytes) (stop : Stop) (output output' errors errors' : KnownBytes) (status : ℕ)
     → (stop ≢ Stop.Write → Keeps output output')
     → (stop ≡ Stop.Write → IfSome remaining (λ bytes. IsOk (trace_of (records_of bytes))))
     → (status ≡ 4) × Tells errors errors' (stop_line stop)
@@ -44,7 +44,7 @@ stop-case None stop output output' errors errors' status kept read told = tt
 stop-case (Some bytes) stop output output' errors errors' status kept read (done, told) = inr (inr (stop, kept, read, told, done))
 
 -- the trace is at fault, or something failed
-pub fault-answer : (cause : TraceCause) (remaining : Held) (fault : TraceFault) (output output' errors errors' : Held) (status : ℕ)
+pub fault-answer : (cause : TraceCause) (remaining : KnownBytes) (fault : TraceFault) (output output' errors errors' : KnownBytes) (status : ℕ)
     → (IsTrue (is_of_form cause) → IfSome remaining (λ bytes. trace_of (records_of bytes) ≡ Err fault))
     → (cause ≢ TraceCause.Write → Keeps output output')
     → (cause ≡ TraceCause.Write → IfSome remaining (λ bytes. IsOk (trace_of (records_of bytes))))

@@ -1,3 +1,3 @@
-pub mod HeldLemmas
+pub mod KnownBytesLemmas
 pub mod AnswerLemmas
 pub mod WordsLemmas

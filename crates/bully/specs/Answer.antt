@@ -13,12 +13,12 @@ use Rattle.bully_trace.specs.VerdictText.{verdict_text}
 use Rattle.bully.specs.declared.telling.Stop.{Stop}
 
 -- the bytes that a writer holds, where they are known
-abbrev pub Held : Type 0
-Held = Option (List ℕ)
+abbrev pub KnownBytes : Type 0
+KnownBytes = Option (List ℕ)
 
 -- a part of the text from its front was written and nothing else; what is left out is what a failed write left out,
 -- which a writer's bytes don't tell
-abbrev pub Tells : Held → Held → List ℕ → Type 0
+abbrev pub Tells : KnownBytes → KnownBytes → List ℕ → Type 0
 Tells old new text = (n : ℕ) × Appends old new (take n text)
 
 abbrev pub verdict_status : Verdict → ℕ
@@ -53,24 +53,24 @@ stop_line Stop.Write = codes "bully: Write\n"
 stop_line Stop.OutOfMemory = codes "bully: OutOfMemory\n"
 
 -- the rows of the input have a verdict: it stands on the output
-abbrev pub IsJudgedAnswer : List ℕ → Held → Held → Held → Held → ℕ → Type 0
+abbrev pub IsJudgedAnswer : List ℕ → KnownBytes → KnownBytes → KnownBytes → KnownBytes → ℕ → Type 0
 IsJudgedAnswer bytes output output' errors errors' status =
     (trace : Trace) × (verdict : Verdict) × (w : World) × (trace_of (records_of bytes) ≡ Ok trace) × IsVerdict trace verdict w
     × Appends output output' (verdict_text trace.setup verdict w) × Keeps errors errors' × (status ≡ verdict_status verdict)
 
 -- a row of the input is faulty: the first such row is told on the errors, and nothing stands on the output
-abbrev pub IsFaultAnswer : List ℕ → Held → Held → Held → Held → ℕ → Type 0
+abbrev pub IsFaultAnswer : List ℕ → KnownBytes → KnownBytes → KnownBytes → KnownBytes → ℕ → Type 0
 IsFaultAnswer bytes output output' errors errors' status =
     (fault : TraceFault) × (trace_of (records_of bytes) ≡ Err fault) × Keeps output output' × Tells errors errors' (row_line fault) × (status ≡ 3)
 
 -- reading, writing or memory failed: that is told on the errors; nothing is written before all rows were read
-abbrev pub IsStopAnswer : List ℕ → Held → Held → Held → Held → ℕ → Type 0
+abbrev pub IsStopAnswer : List ℕ → KnownBytes → KnownBytes → KnownBytes → KnownBytes → ℕ → Type 0
 IsStopAnswer bytes output output' errors errors' status =
     (stop : Stop) × (stop ≢ Stop.Write → Keeps output output') × (stop ≡ Stop.Write → IsOk (trace_of (records_of bytes)))
     × Tells errors errors' (stop_line stop) × (status ≡ 4)
 
 -- the answer to `check` with these bytes on the input
-abbrev pub IsAnswer : List ℕ → Held → Held → Held → Held → ℕ → Type 0
+abbrev pub IsAnswer : List ℕ → KnownBytes → KnownBytes → KnownBytes → KnownBytes → ℕ → Type 0
 IsAnswer bytes output output' errors errors' status =
     IsJudgedAnswer bytes output output' errors errors' status
     ⊎ IsFaultAnswer bytes output output' errors errors' status

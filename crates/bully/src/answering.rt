@@ -21,7 +21,7 @@ use std::rt::Files;
 /// table; the message stands on `errors` and nothing on the output. 3: a fault of form in the trace or in the
 /// configuration; its line stands on `errors` and nothing on the output. 4: Read, Write or OutOfMemory, which a
 /// line on `errors` tells. A line on `errors` that can't be written changes no status. The words are looked at
-/// first; then the trace, or the configuration, the members and the old owners. This project's profile.
+/// first; then the trace, or the configuration, the members and the old owners. The rule: docs/FORMATS.md.
 pub fn answer<H: Files + AllocGlobal, S: AsStr, R: Read + Drop, W: Write, E: Write>(
     rt: &H,
     words: &[S],

@@ -14,7 +14,7 @@ pub enum Stop {
     Read,
     /// The output failed.
     Write,
-    /// A growth of memory was refused.
+    /// An allocation failed.
     OutOfMemory,
 }
 

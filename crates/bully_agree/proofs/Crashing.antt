@@ -3,14 +3,14 @@ use Rattle.std.proofs.Common.{ℕ, None, arith, refl}
 use Rattle.bully_base.specs.Setup.{Setup}
 use Rattle.bully_handlers.specs.Vector.{crashed}
 use Rattle.bully_steps.specs.declared.point.Point.TheVariants.{Idle}
-use Rattle.bully_world.proofs.ShapeLemmas.{node_of_up}
-use Rattle.bully_world.specs.Shape.{AllFit}
+use Rattle.bully_world.proofs.NodeInvariantLemmas.{node_of_up}
+use Rattle.bully_world.specs.NodeInvariant.{WorldInvariant}
 use Rattle.bully_world.specs.Step.{IsUp}
 use Rattle.bully_world.specs.World.{World, vector, with_member}
 use Rattle.bully_agree.proofs.Changes.Shrinks.{forgets, shrinks}
-use Rattle.bully_agree.proofs.Fitting.{traits_of, written}
-use Rattle.bully_agree.proofs.Traits.{Keeps}
+use Rattle.bully_agree.proofs.Fitting.{summary_of, written}
+use Rattle.bully_agree.proofs.NodeSummary.{GroupInvariant}
 
-pub crash_keeps : (setup : Setup) (w : World) (i : ℕ) → AllFit setup w → Keeps (traits_of setup w) → IsUp w i
-    → Keeps (traits_of setup (with_member w i (record { vector = crashed setup (vector w i); point = Idle; pending = None })))
+pub crash_keeps : (setup : Setup) (w : World) (i : ℕ) → WorldInvariant setup w → GroupInvariant (summary_of setup w) → IsUp w i
+    → GroupInvariant (summary_of setup (with_member w i (record { vector = crashed setup (vector w i); point = Idle; pending = None })))
 crash_keeps setup w i all kept up = shrinks (written setup w i _ all (node_of_up setup w i all up)) kept (forgets (grind arith) (grind arith) refl refl refl refl refl)

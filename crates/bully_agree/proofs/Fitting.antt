@@ -9,10 +9,10 @@ use Rattle.bully_calls.specs.Pending.{Pending, is_sent, is_failed}
 use Rattle.bully_handlers.specs.Vector.{Vector}
 use Rattle.bully_steps.specs.declared.point.Point.{Point}
 use Rattle.bully_steps.specs.declared.point.Point.TheVariants.{Idle, Asking, Halting, Announcing, Planning, Readying, Checking, Inquiring}
-use Rattle.bully_world.proofs.ShapeLemmas.{member_here, member_other}
-use Rattle.bully_world.specs.Shape.{Fits, AllFit}
+use Rattle.bully_world.proofs.NodeInvariantLemmas.{member_here, member_other}
+use Rattle.bully_world.specs.NodeInvariant.{NodeInvariant, WorldInvariant}
 use Rattle.bully_world.specs.World.{Member, World, member, vector, point, pending, with_member}
-use Rattle.bully_agree.proofs.Traits.{Stage, Rests, Halts, Calls, Hands, Traits, Sound, AllSound, Turns}
+use Rattle.bully_agree.proofs.NodeSummary.{Activity, Rests, Halts, Calls, Hands, NodeSummary, LocalInvariant, AllLocal, Turns}
 
 -- there is a live call that failed
 abbrev pub has_failed : Option Pending → Bool
@@ -46,15 +46,15 @@ passed_front i (Readying rest) c = 0
 passed_front i (Checking k) c = i
 passed_front i Inquiring c = i
 
-abbrev pub stage_of : Point → Stage
-stage_of Idle = Rests
-stage_of (Asking k) = Rests
-stage_of (Halting k) = Halts
-stage_of (Announcing rest) = Calls
-stage_of Planning = Calls
-stage_of (Readying rest) = Hands
-stage_of (Checking k) = Rests
-stage_of Inquiring = Rests
+abbrev pub activity_of : Point → Activity
+activity_of Idle = Rests
+activity_of (Asking k) = Rests
+activity_of (Halting k) = Halts
+activity_of (Announcing rest) = Calls
+activity_of Planning = Calls
+activity_of (Readying rest) = Hands
+activity_of (Checking k) = Rests
+activity_of Inquiring = Rests
 
 -- a NewCoordinator is sent to this node
 abbrev pub announces_by : CallKind → Phase → ℕ → Option ℕ
@@ -79,13 +79,13 @@ abbrev pub carries_of : Option Pending → Option (List ℕ)
 carries_of None = None
 carries_of (Some c) = c.table
 
--- the traits of node i of n, with this vector, point and call
-abbrev pub traits : ℕ → ℕ → Vector → Point → Option Pending → Traits
-traits n i v p c =
+-- the summary of node i of n, with this vector, point and call
+abbrev pub summary : ℕ → ℕ → Vector → Point → Option Pending → NodeSummary
+summary n i v p c =
     record {
       asked = asked_front n p c;
       passed = passed_front i p c;
-      stage = stage_of p;
+      activity = activity_of p;
       status = v.status;
       coordinator = v.coordinator;
       halter = v.halter;
@@ -95,13 +95,13 @@ traits n i v p c =
       carries = carries_of c;
     }
 
-abbrev pub traits_of : Setup → World → ℕ → Traits
-traits_of setup w i = traits setup.nodes i (vector w i) (point w i) (pending w i)
+abbrev pub summary_of : Setup → World → ℕ → NodeSummary
+summary_of setup w i = summary setup.nodes i (vector w i) (point w i) (pending w i)
 
 -- the only place that reads the shape of a node whole
-pub sound : (setup : Setup) (i : ℕ) (v : Vector) (p : Point) (c : Option Pending) → Fits setup i (record { vector = v; point = p; pending = c })
-    → Sound setup.nodes i (traits setup.nodes i v p c)
-sound setup i v p c fits = record {
+pub local : (setup : Setup) (i : ℕ) (v : Vector) (p : Point) (c : Option Pending) → NodeInvariant setup i (record { vector = v; point = p; pending = c })
+    → LocalInvariant setup.nodes i (summary setup.nodes i v p c)
+local setup i v p c fits = record {
   down_passed_none = λ d. grind (arith, fits.down_idle d);
   passed_then_asked = λ l. grind (arith, fits.by_point);
   a_node = fits.a_node;
@@ -117,22 +117,22 @@ sound setup i v p c fits = record {
   readies_table = λ k a. grind (arith, fits.by_call);
 }
 
-pub all_sound : (setup : Setup) (w : World) → AllFit setup w → AllSound setup.nodes (traits_of setup w)
-all_sound setup w all i = sound setup i (vector w i) (point w i) (pending w i) (all.fits i)
+pub all_local : (setup : Setup) (w : World) → WorldInvariant setup w → AllLocal setup.nodes (summary_of setup w)
+all_local setup w all i = local setup i (vector w i) (point w i) (pending w i) (all.fits i)
 
--- node i's traits, where it is this member
-abbrev pub traits_at : Setup → ℕ → Member → Traits
-traits_at setup i m = traits setup.nodes i m.vector m.point m.pending
+-- node i's summary, where it is this member
+abbrev pub summary_at : Setup → ℕ → Member → NodeSummary
+summary_at setup i m = summary setup.nodes i m.vector m.point m.pending
 
 -- w' is w with this member as node i
 pub turns : (setup : Setup) (w w' : World) (i : ℕ) (m : Member) → member w' i ≡ m → ((j : ℕ) → j ≢ i → member w' j ≡ member w j)
-    → Turns (traits_of setup w) (traits_of setup w') i (traits_at setup i m)
+    → Turns (summary_of setup w) (summary_of setup w') i (summary_at setup i m)
 turns setup w w' i m here others = record { same = λ j. by_case j (grind arith) }
   where
-    by_case : (j : ℕ) → (j ≡ i) ⊎ (j ≢ i) → ((j ≡ i) × (traits_of setup w' j ≡ traits_at setup i m)) ⊎ ((j ≢ i) × (traits_of setup w' j ≡ traits_of setup w j))
-    by_case j (inl e) = inl (e, rw e (ap (traits_at setup i) here))
-    by_case j (inr d) = inr (d, ap (traits_at setup j) (others j d))
+    by_case : (j : ℕ) → (j ≡ i) ⊎ (j ≢ i) → ((j ≡ i) × (summary_of setup w' j ≡ summary_at setup i m)) ⊎ ((j ≢ i) × (summary_of setup w' j ≡ summary_of setup w j))
+    by_case j (inl e) = inl (e, rw e (ap (summary_at setup i) here))
+    by_case j (inr d) = inr (d, ap (summary_at setup j) (others j d))
 
-pub written : (setup : Setup) (w : World) (i : ℕ) (m : Member) → AllFit setup w → IsNode setup i
-    → Turns (traits_of setup w) (traits_of setup (with_member w i m)) i (traits_at setup i m)
+pub written : (setup : Setup) (w : World) (i : ℕ) (m : Member) → WorldInvariant setup w → IsNode setup i
+    → Turns (summary_of setup w) (summary_of setup (with_member w i m)) i (summary_at setup i m)
 written setup w i m all node = turns setup w (with_member w i m) i m (member_here setup w i m all node) (λ j d. member_other w i j m d)

@@ -2,18 +2,18 @@
 use Rattle.std.proofs.Common.{◌≡◌, ◌<◌, ℕ, List, [], ◌∷◌, None, true, arith, refl, ap, ◌↔◌}
 use Rattle.bully_base.specs.Setup.{Setup}
 use Rattle.bully_calls.specs.declared.call.Answer.{Answer}
-use Rattle.bully_world.proofs.ShapeLemmas.{first_member, first_fits, step_fits, lawful_fits}
+use Rattle.bully_world.proofs.NodeInvariantLemmas.{first_member, first_fits, step_fits, lawful_fits}
 use Rattle.bully_world.specs.declared.event.Event.{Event}
 use Rattle.bully_world.specs.Cause.{cause}
 use Rattle.bully_world.specs.Lawful.{LeadTo, IsLawful}
-use Rattle.bully_world.specs.Shape.{AllFit, TakesPart}
+use Rattle.bully_world.specs.NodeInvariant.{WorldInvariant, TakesPart}
 use Rattle.bully_world.specs.Step.{Step}
 use Rattle.bully_world.specs.World.{World, vector, empty_member, first_world}
 use Rattle.bully_agree.specs.Agreement.{Agreement}
 use Rattle.bully_world.proofs.CauseLemmas.{no_cause_if_step, step_if_no_cause}
 use Rattle.bully_agree.proofs.Checking.{check_keeps, timeout_keeps}
 use Rattle.bully_agree.proofs.Crashing.{crash_keeps}
-use Rattle.bully_agree.proofs.Fitting.{traits_at, traits_of}
+use Rattle.bully_agree.proofs.Fitting.{summary_at, summary_of}
 use Rattle.bully_agree.proofs.Losing.{lose_keeps}
 use Rattle.bully_agree.proofs.Moving.{move_keeps}
 use Rattle.bully_agree.proofs.Planning.{plan_keeps}
@@ -21,10 +21,10 @@ use Rattle.bully_agree.proofs.Recovering.{recover_keeps}
 use Rattle.bully_agree.proofs.Returning.{return_keeps}
 use Rattle.bully_agree.proofs.Running.{run_keeps}
 use Rattle.bully_agree.proofs.Starting.{start_keeps}
-use Rattle.bully_agree.proofs.Traits.{Traits, takes_part, Keeps}
+use Rattle.bully_agree.proofs.NodeSummary.{NodeSummary, takes_part, GroupInvariant}
 
 -- where every node rests and is Down, there is nothing to keep
-all_down : (setup : Setup) (f : ℕ → Traits) → ((i : ℕ) → f i ≡ traits_at setup i empty_member) → Keeps f
+all_down : (setup : Setup) (f : ℕ → NodeSummary) → ((i : ℕ) → f i ≡ summary_at setup i empty_member) → GroupInvariant f
 all_down setup f none = record {
   elections = record {
     asked_unpassed = λ i k l a. grind (arith, none i);
@@ -53,10 +53,10 @@ all_down setup f none = record {
   };
 }
 
-pub first_keeps : (setup : Setup) → Keeps (traits_of setup (first_world setup))
-first_keeps setup = all_down setup (traits_of setup (first_world setup)) (λ i. ap (traits_at setup i) (first_member setup i))
+pub first_keeps : (setup : Setup) → GroupInvariant (summary_of setup (first_world setup))
+first_keeps setup = all_down setup (summary_of setup (first_world setup)) (λ i. ap (summary_at setup i) (first_member setup i))
 
-pub step_keeps : (setup : Setup) (w : World) (e : Event) (w' : World) (a : Answer) → Step setup w e w' a → AllFit setup w → Keeps (traits_of setup w) → Keeps (traits_of setup w')
+pub step_keeps : (setup : Setup) (w : World) (e : Event) (w' : World) (a : Answer) → Step setup w e w' a → WorldInvariant setup w → GroupInvariant (summary_of setup w) → GroupInvariant (summary_of setup w')
 step_keeps setup w (Event.Recover i) w' a s all kept = rw s.2 (recover_keeps setup w i all kept s.0 s.1)
 step_keeps setup w (Event.Crash i) w' a s all kept = rw s.1 (crash_keeps setup w i all kept s.0)
 step_keeps setup w (Event.Check i) w' a s all kept = rw s.2 (check_keeps setup w i all kept s.0 s.1)
@@ -68,7 +68,7 @@ step_keeps setup w (Event.Return i) w' a s all kept = return_keeps setup w w' i 
 step_keeps setup w (Event.Move i) w' a s all kept = move_keeps setup w w' i all kept s.0 s.1 s.2 s.3
 step_keeps setup w (Event.Plan i table) w' a s all kept = rw s.4 (plan_keeps setup w i table all kept s.0 s.1)
 
-pub lead_keeps : (setup : Setup) (w : World) (events : List Event) (answers : List Answer) (w' : World) → LeadTo setup w events answers w' → AllFit setup w → Keeps (traits_of setup w) → Keeps (traits_of setup w')
+pub lead_keeps : (setup : Setup) (w : World) (events : List Event) (answers : List Answer) (w' : World) → LeadTo setup w events answers w' → WorldInvariant setup w → GroupInvariant (summary_of setup w) → GroupInvariant (summary_of setup w')
 lead_keeps setup w [] [] w' l all kept = rw l kept
 lead_keeps setup w (e ∷ events) (a ∷ answers) w' l all kept =
     lead_keeps setup l.0 events answers w' l.2 (step_fits setup w e l.0 a l.1 all) (step_keeps setup w e l.0 a l.1 all kept)

@@ -1,4 +1,4 @@
-pub mod Traits
+pub mod NodeSummary
 pub mod Changes
 pub mod Fitting
 pub mod Recovering

@@ -7,18 +7,18 @@ use Rattle.bully_calls.specs.Pending.{Pending, outcome_of}
 use Rattle.bully_handlers.specs.Vector.{Vector}
 use Rattle.bully_steps.specs.declared.point.Point.{Point}
 use Rattle.bully_steps.specs.NextPoint.{next_point, next_vector}
-use Rattle.bully_world.proofs.ShapeLemmas.{node_of_pending}
-use Rattle.bully_world.specs.Shape.{AllFit}
+use Rattle.bully_world.proofs.NodeInvariantLemmas.{node_of_pending}
+use Rattle.bully_world.specs.NodeInvariant.{WorldInvariant}
 use Rattle.bully_world.specs.Step.{Returns}
 use Rattle.bully_world.specs.World.{World, vector, point, pending}
 use Rattle.bully_agree.proofs.Changes.Shrinks.{Shrinks, calls_on, shrinks}
-use Rattle.bully_agree.proofs.Fitting.{traits, traits_of, written}
-use Rattle.bully_agree.proofs.Traits.{Traits, Keeps}
+use Rattle.bully_agree.proofs.Fitting.{summary, summary_of, written}
+use Rattle.bully_agree.proofs.NodeSummary.{NodeSummary, GroupInvariant}
 
-module _ (setup : Setup) (i : ℕ) (v : Vector) (p : Point) (c : Pending) (f : ℕ → Traits) where
+module _ (setup : Setup) (i : ℕ) (v : Vector) (p : Point) (c : Pending) (f : ℕ → NodeSummary) where
   -- what a live call brought was read off the call already
   live_shrinks : (o : Outcome) (q : Point) → c.is_live ≡ true → outcome_of c.phase ≡ Some o → next_point setup i v.up p o ≡ Some q
-      → Shrinks f i (traits setup.nodes i v p (Some c)) (traits setup.nodes i (next_vector i p o v) q None)
+      → Shrinks f i (summary setup.nodes i v p (Some c)) (summary setup.nodes i (next_vector i p o v) q None)
   live_shrinks o q live done next = record {
     asked = λ k l a. grind (arith, done, next, live);
     passed = λ k l a. grind (arith, done, next, live);
@@ -31,15 +31,15 @@ module _ (setup : Setup) (i : ℕ) (v : Vector) (p : Point) (c : Pending) (f : �
   }
 
   -- an orphan brought nothing
-  orphan_shrinks : c.is_live ≡ false → Shrinks f i (traits setup.nodes i v p (Some c)) (traits setup.nodes i v p None)
+  orphan_shrinks : c.is_live ≡ false → Shrinks f i (summary setup.nodes i v p (Some c)) (summary setup.nodes i v p None)
   orphan_shrinks orphan = calls_on refl (grind (arith, orphan)) (grind (arith, orphan)) (λ k e. grind arith) (λ k e. grind arith)
 
 pub return_keeps : (setup : Setup) (w w' : World) (i : ℕ) (c : Pending) (o : Outcome) (a : Answer) (live : Bool) → c.is_live ≡ live
-    → AllFit setup w → Keeps (traits_of setup w) → pending w i ≡ Some c → outcome_of c.phase ≡ Some o → Returns setup w i live o w' a
-    → Keeps (traits_of setup w')
+    → WorldInvariant setup w → GroupInvariant (summary_of setup w) → pending w i ≡ Some c → outcome_of c.phase ≡ Some o → Returns setup w i live o w' a
+    → GroupInvariant (summary_of setup w')
 return_keeps setup w w' i c o a true live all kept is done ((q, next, becomes), answered) =
     rw becomes (shrinks (written setup w i _ all (node_of_pending setup w i c all is).0) kept
-    (rw is (live_shrinks setup i (vector w i) (point w i) c (traits_of setup w) o q live done next)))
+    (rw is (live_shrinks setup i (vector w i) (point w i) c (summary_of setup w) o q live done next)))
 return_keeps setup w w' i c o a false live all kept is done (becomes, answered) =
     rw becomes (shrinks (written setup w i _ all (node_of_pending setup w i c all is).0) kept
-    (rw is (orphan_shrinks setup i (vector w i) (point w i) c (traits_of setup w) live)))
+    (rw is (orphan_shrinks setup i (vector w i) (point w i) c (summary_of setup w) live)))

@@ -4,7 +4,7 @@ use Rattle.std.specs.Prelude.{slice_index_or}
 use Rattle.std.proofs.lemmas.List.{length-map}
 use Rattle.bully_base.specs.Places.{at_node}
 use Rattle.bully_base.specs.Setup.{Setup}
-use Rattle.bully_world.proofs.ShapeLemmas.{lawful_fits}
+use Rattle.bully_world.proofs.NodeInvariantLemmas.{lawful_fits}
 use Rattle.bully_world.specs.State.{MemberState, WorldState, IsReached, empty_state, member_of, world_of}
 use Rattle.bully_world.specs.World.{Member, World, empty_member, member}
 use Rattle.bully_agree.specs.Agreement.{Agreement}

@@ -1,7 +1,7 @@
 -- What the nodes of a world agree on: the two assertions of the 1982 paper.
 use Rattle.std.specs.Prelude.{◌≡◌, ℕ, IsSome}
 use Rattle.bully_base.specs.declared.node.Status.TheVariants.{Normal}
-use Rattle.bully_world.specs.Shape.{TakesPart}
+use Rattle.bully_world.specs.NodeInvariant.{TakesPart}
 use Rattle.bully_world.specs.World.{World, vector}
 
 -- any two nodes in Reorganization or Normal have a coordinator, and the same; any two Normal nodes have a

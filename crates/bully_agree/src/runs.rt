@@ -17,13 +17,13 @@ use std::alloc::Global;
 pub enum RunFault {
     /// The event at this index, from 0, is the first that is refused, and this is why.
     Stop { index: usize, cause: Refused },
-    /// A growth of memory was refused.
+    /// An allocation failed.
     OutOfMemory,
 }
 
 /// Applies the events in order to a new world, and gives that world and its view.
 /// Refused, in this order, as `Stop` at the first event that has a cause, and as `OutOfMemory`. A world that
-/// can't be made is told at once, whatever the events are. This project's profile.
+/// can't be made is told at once, whatever the events are. The rule: docs/ALGORITHM.md.
 pub fn run(alloc: Global, setup: Setup, events: &[Event]) -> Result<(World, View), RunFault>
     ensures lawful { IfOk result (λ done. (answers : List Answer) × IsLawful setup events.now answers (world_of done.0)) }
     ensures setup { IfOk result (λ done. done.0.setup ≡ setup) }

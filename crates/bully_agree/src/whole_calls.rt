@@ -22,7 +22,7 @@ pub enum WholeFault {
     NotWhole { index: usize },
     /// The event at this index, from 0, is the first that is refused, and this is why.
     Stop { index: usize, cause: Refused },
-    /// A growth of memory was refused.
+    /// An allocation failed.
     OutOfMemory,
 }
 
@@ -37,7 +37,7 @@ enum Stage {
 /// Runs the events, as [`run`] does, where each call is whole: its Start is followed at once by its Run or Lose,
 /// and that at once by its Return, and no other Run, Lose or Return stands in the list.
 /// Refused, in this order, as `NotWhole`, `Stop`, `OutOfMemory`. `NotWhole` is found before any memory is taken; a
-/// world that can't be made is told before any `Stop`. This project's profile.
+/// world that can't be made is told before any `Stop`. The rule: docs/ALGORITHM.md.
 pub fn run_whole(alloc: Global, setup: Setup, events: &[Event]) -> Result<(World, View), WholeFault>
     ensures whole { OnOk result (is_whole events.now ≡ true) }
     ensures lawful { IfOk result (λ done. (answers : List Answer) × IsLawful setup events.now answers (world_of done.0)) }

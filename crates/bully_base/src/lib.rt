@@ -13,7 +13,7 @@ pub use node_set::NodeSet;
 pub use setup::{Setup, SetupFault};
 use std::alloc::AllocError;
 
-/// A growth of memory was refused.
+/// An allocation failed.
 pub type OutOfMemory = AllocError;
 
 /// The most nodes of a group. The profile's limit.

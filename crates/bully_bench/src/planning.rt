@@ -31,7 +31,7 @@ impl Sums {
 }
 
 /// Plans as often as asked, from 64 random tables in turn, each time for a random set of members. None where a
-/// growth of memory is refused.
+/// allocation fails.
 pub fn plan_rounds(alloc: Global, rounds: u32) -> Option<Sums> {
     let mut random = Random(1982);
     let setup = Setup::new(NODES, PARTITIONS, 1).ok()?;

@@ -1,7 +1,7 @@
 ghost use Rattle.std.specs.Prelude.{◌≡◌, ◌⊎◌, length, not, IfOk, IsSome, IsTrue, Some, None, option_map, option_and_then};
 ghost use Rattle.std.specs.Option.{option_copied};
 ghost use Rattle.bully_calls.specs.Pending.{is_sent, is_failed};
-ghost use Rattle.bully_calls.specs.Slot.{phased, CarriesFor, is_posted, outcome_in, is_orphan as orphan_in};
+ghost use Rattle.bully_calls.specs.Slot.{phased, CarriesFor, holds_call, outcome_in, is_orphan as orphan_in};
 
 use crate::call::{Answer, Call, Outcome, Phase, Tag};
 use bully_base::{OutOfMemory, Setup};
@@ -11,50 +11,50 @@ use std::marker::Model;
 
 /// A call as it was posted, but for its table.
 #[derive(Clone, Copy, Debug)]
-struct Posting {
+struct Content {
     tag: Tag,
     call: Call,
     phase: Phase,
 }
 
-/// The one call slot of a node, with room for the table of a Ready. This project's profile.
+/// The one call slot of a node, with room for the table of a Ready. The rule: docs/ALGORITHM.md.
 #[derive(Drop, Debug)]
 pub struct Slot {
-    posting: Option<Posting>,
+    content: Option<Content>,
     carried: TableRoom,
 }
 
 impl Model for Slot {
     ghost use Rattle.std.specs.Option.{option_map};
-    ghost use Rattle.bully_calls.specs.Slot.{Slot as SlotState, Posted};
+    ghost use Rattle.bully_calls.specs.Slot.{Slot as SlotState, SlotCall};
 
     ghost Value = { SlotState };
 
-    ghost view = { λ s. record { posted = option_map (λ p. record { tag = p.tag; call = p.call; phase = p.phase; table = s.carried.table }) s.posting; room = s.carried.size } };
+    ghost view = { λ s. record { content = option_map (λ p. record { tag = p.tag; call = p.call; phase = p.phase; table = s.carried.table }) s.content; room = s.carried.size } };
 }
 
 impl Slot {
-    /// An empty slot with room for a table of the setup's partitions. Refused where a growth of memory is.
+    /// An empty slot with room for a table of the setup's partitions. Refused where an allocation fails.
     pub fn new(alloc: Global, setup: Setup) -> Result<Slot, OutOfMemory>
-        ensures { IfOk result (λ s. s ≡ record { posted = None; room = setup.partitions }) }
+        ensures { IfOk result (λ s. s ≡ record { content = None; room = setup.partitions }) }
     {
         Ok(Slot {
-            posting: None,
+            content: None,
             carried: TableRoom::new(alloc, setup)?,
         })
     }
 
     /// Posts a call as sent. Exactly a Ready carries a table.
     pub fn open(&mut self, tag: Tag, call: Call, table: Option<&Table>)
-        requires empty { self.old.posted ≡ None }
+        requires empty { self.old.content ≡ None }
         requires carries { CarriesFor call (option_copied table) self.old.room }
-        ensures { self.new ≡ record self.old { posted = Some (record { tag = tag; call = call; phase = Phase.Sent; table = option_copied table.entry }) } }
+        ensures { self.new ≡ record self.old { content = Some (record { tag = tag; call = call; phase = Phase.Sent; table = option_copied table.entry }) } }
     {
         match table {
             Some(table) => self.carried.put(table),
             None => self.carried.clear(),
         }
-        self.posting = Some(Posting {
+        self.content = Some(Content {
             tag,
             call,
             phase: Phase::Sent,
@@ -63,17 +63,17 @@ impl Slot {
 
     /// The call ran at its callee, which answered so.
     pub fn ran(&mut self, answer: Answer)
-        requires sent { IsTrue (is_posted is_sent self.old) }
+        requires sent { IsTrue (holds_call is_sent self.old) }
         requires replied { (answer ≡ Answer.Yes) ⊎ (answer ≡ Answer.No) }
-        ensures { self.new ≡ record self.old { posted = option_map (phased (Phase.Ran answer)) self.old.posted } }
+        ensures { self.new ≡ record self.old { content = option_map (phased (Phase.Ran answer)) self.old.content } }
     {
         self.set_phase(Phase::Ran(answer));
     }
 
     /// The call failed. It may have run before, and its reply is lost.
     pub fn fail(&mut self)
-        requires pending { IsTrue (is_posted (λ f. not (is_failed f)) self.old) }
-        ensures { self.new ≡ record self.old { posted = option_map (phased Phase.Failed) self.old.posted } }
+        requires pending { IsTrue (holds_call (λ f. not (is_failed f)) self.old) }
+        ensures { self.new ≡ record self.old { content = option_map (phased Phase.Failed) self.old.content } }
     {
         self.set_phase(Phase::Failed);
     }
@@ -82,7 +82,7 @@ impl Slot {
     pub fn take(&mut self) -> Outcome
         requires { IsSome (outcome_in self.old) }
         ensures outcome { outcome_in self.old ≡ Some result }
-        ensures emptied { self.new ≡ record self.old { posted = None } }
+        ensures emptied { self.new ≡ record self.old { content = None } }
     {
         let outcome = match self.phase() {
             Some(Phase::Ran(Answer::Yes)) => Outcome::Yes,
@@ -95,47 +95,47 @@ impl Slot {
 
     /// Empties the slot.
     pub fn clear(&mut self)
-        ensures { self.new ≡ record self.old { posted = None } }
+        ensures { self.new ≡ record self.old { content = None } }
     {
-        self.posting = None;
+        self.content = None;
     }
 
     /// Whether the slot holds a call of another generation of its caller than this one.
     pub fn is_orphan(&self, generation: u32) -> bool
         ensures { result ≡ orphan_in generation self.now }
     {
-        match self.posting {
-            Some(posting) => posting.tag.generation != generation,
+        match self.content {
+            Some(content) => content.tag.generation != generation,
             None => false,
         }
     }
 
     /// How far the call has come.
     pub fn phase(&self) -> Option<Phase>
-        ensures { result ≡ option_map (λ p. p.phase) self.now.posted }
+        ensures { result ≡ option_map (λ p. p.phase) self.now.content }
     {
-        self.posting.map(|posting| posting.phase)
+        self.content.map(|content| content.phase)
     }
 
     /// The call.
     pub fn call(&self) -> Option<Call>
-        ensures { result ≡ option_map (λ p. p.call) self.now.posted }
+        ensures { result ≡ option_map (λ p. p.call) self.now.content }
     {
-        self.posting.map(|posting| posting.call)
+        self.content.map(|content| content.call)
     }
 
     /// Who started the call, and when.
     pub fn tag(&self) -> Option<Tag>
-        ensures { result ≡ option_map (λ p. p.tag) self.now.posted }
+        ensures { result ≡ option_map (λ p. p.tag) self.now.content }
     {
-        self.posting.map(|posting| posting.tag)
+        self.content.map(|content| content.tag)
     }
 
     /// The table that the call carries.
     pub fn table(&self) -> Option<&Table>
-        ensures { option_copied result ≡ option_and_then (λ p. p.table) self.now.posted }
+        ensures { option_copied result ≡ option_and_then (λ p. p.table) self.now.content }
     {
-        match self.posting {
+        match self.content {
             Some(_) => self.carried.table(),
             None => None,
         }
@@ -143,10 +143,10 @@ impl Slot {
 
     // The call has this phase from now on.
     fn set_phase(&mut self, phase: Phase)
-        ensures { self.new ≡ record self.old { posted = option_map (phased phase) self.old.posted } }
+        ensures { self.new ≡ record self.old { content = option_map (phased phase) self.old.content } }
     {
-        if let Some(posting) = &mut self.posting {
-            posting.phase = phase;
+        if let Some(content) = &mut self.content {
+            content.phase = phase;
         }
     }
 }

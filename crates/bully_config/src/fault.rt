@@ -58,7 +58,7 @@ impl fmt::Display for Key {
 
 /// Why a text isn't read as a configuration: the first refusal that holds, in this order. Each is looked for in
 /// the whole document before the next one, and within each the keys come in the order of [`Key`], those at the
-/// top first, and then fault by fault. This project's profile.
+/// top first, and then fault by fault. The rule: docs/FORMATS.md.
 #[derive(Clone, Copy, PartialEq, Eq, Debug)]
 pub enum ConfigFault {
     /// The text is no TOML document.
@@ -73,7 +73,7 @@ pub enum ConfigFault {
     DoubleName,
     /// There is a key that the profile doesn't list, at the top or in a fault.
     UnknownKey,
-    /// A growth of memory was refused. It is answered at once, so it says nothing of the text.
+    /// An allocation failed. It is answered at once, so it says nothing of the text.
     OutOfMemory,
 }
 

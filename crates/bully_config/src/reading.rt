@@ -22,7 +22,7 @@ use toml::{Table, Value};
 
 impl Config {
     /// Reads a configuration. Refused by the first of [`ConfigFault`] that the text has; only want of memory is
-    /// answered at once, whatever stands behind. This project's profile.
+    /// answered at once, whatever stands behind. The rule: docs/FORMATS.md.
     pub fn read(alloc: Global, text: &str) -> Result<Config, ConfigFault>
         ensures ok { IfOk result (λ config. answer_of text.now ≡ Ok config) }
         ensures whole { IfOk result (λ config. (document : Members) × (parse_document text.now ≡ Some document) × (length config.faults ≡ length (items_at Key.Fault document))) }

@@ -8,13 +8,13 @@ use Rattle.bully_calls.specs.declared.call.CallKind.TheVariants.{AreYouUp, AreYo
 use Rattle.bully_handlers.specs.Vector.{Vector, is_election, is_reorganization, is_normal, names}
 
 -- the callee's vector after a call from node i, with the table that a Ready carries
-abbrev pub heard : ℕ → CallKind → Option (List ℕ) → Vector → Vector
-heard i AreYouUp table v = v
-heard i AreYouNormal table v = v
-heard i Halt table v = record v { status = Election; halter = Some i }
-heard i NewCoordinator table v =
+abbrev pub callee_after : ℕ → CallKind → Option (List ℕ) → Vector → Vector
+callee_after i AreYouUp table v = v
+callee_after i AreYouNormal table v = v
+callee_after i Halt table v = record v { status = Election; halter = Some i }
+callee_after i NewCoordinator table v =
     if names v.halter i && is_election v.status then record v { status = Reorganization; coordinator = Some i } else v
-heard i Ready table v =
+callee_after i Ready table v =
     if names v.coordinator i && is_reorganization v.status then record v { status = Normal; task = table } else v
 
 -- what the callee answers

@@ -24,7 +24,7 @@ abbrev pub recovered : Setup → Vector → Vector
 recovered setup v = record empty_vector { status = Election }
 
 -- a vector as it is kept, with the number of partitions of a task that fits in
-pub record RoomyVector : Type 0 where
+pub record StoredVector : Type 0 where
   pub vector : Vector
   pub room : ℕ
 

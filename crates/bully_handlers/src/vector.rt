@@ -2,7 +2,7 @@ ghost use Rattle.std.specs.Prelude.{◌≡◌, ◌≢◌, [], length, IfOk, Some
 ghost use Rattle.std.specs.Option.{option_copied};
 ghost use Rattle.bully_base.specs.NodeSet.{with_node};
 ghost use Rattle.bully_calls.specs.declared.call.CallKind.TheVariants.{AreYouUp, AreYouNormal, Halt, NewCoordinator, Ready};
-ghost use Rattle.bully_handlers.specs.Handler.{heard, reply};
+ghost use Rattle.bully_handlers.specs.Handler.{callee_after, reply};
 ghost use Rattle.bully_handlers.specs.Vector.{empty_vector};
 
 use bully_base::{Node, NodeSet, OutOfMemory, Setup, Status};
@@ -23,9 +23,9 @@ pub struct Vector {
 }
 
 impl Model for Vector {
-    ghost use Rattle.bully_handlers.specs.Vector.{RoomyVector};
+    ghost use Rattle.bully_handlers.specs.Vector.{StoredVector};
 
-    ghost Value = { RoomyVector };
+    ghost Value = { StoredVector };
 
     ghost view = { λ v. record {
       vector = record { status = v.status; coordinator = v.coordinator; halter = v.halter; up = v.up; task = v.task.table };
@@ -34,7 +34,7 @@ impl Model for Vector {
 }
 
 impl Vector {
-    /// An empty vector with room for a task of the setup's partitions. Refused where a growth of memory is.
+    /// An empty vector with room for a task of the setup's partitions. Refused where an allocation fails.
     pub fn new(alloc: Global, setup: Setup) -> Result<Vector, OutOfMemory>
         ensures { IfOk result (λ v. v ≡ record { vector = empty_vector; room = setup.partitions }) }
     {
@@ -104,7 +104,7 @@ impl Vector {
     /// A Halt from the caller runs at this node, which isn't Down. To stop its procedure is the world's part.
     pub fn halt(&mut self, caller: Node) -> Answer
         requires { self.old.vector.status ≢ Status.Down }
-        ensures after { self.new ≡ record self.old { vector = heard caller Halt None self.old.vector } }
+        ensures after { self.new ≡ record self.old { vector = callee_after caller Halt None self.old.vector } }
         ensures answer { result ≡ reply Halt self.old.vector }
     {
         self.status = Status::Election;
@@ -116,7 +116,7 @@ impl Vector {
     /// is the last that halted the node, which still is in Election.
     pub fn new_coordinator(&mut self, caller: Node) -> Answer
         requires { self.old.vector.status ≢ Status.Down }
-        ensures after { self.new ≡ record self.old { vector = heard caller NewCoordinator None self.old.vector } }
+        ensures after { self.new ≡ record self.old { vector = callee_after caller NewCoordinator None self.old.vector } }
         ensures answer { result ≡ reply NewCoordinator self.old.vector }
     {
         if self.halter == Some(caller) && self.status == Status::Election {
@@ -131,7 +131,7 @@ impl Vector {
     pub fn ready(&mut self, caller: Node, table: &Table) -> Answer
         requires up { self.old.vector.status ≢ Status.Down }
         requires fits { length table.now ≡ self.old.room }
-        ensures after { self.new ≡ record self.old { vector = heard caller Ready (Some table.now) self.old.vector } }
+        ensures after { self.new ≡ record self.old { vector = callee_after caller Ready (Some table.now) self.old.vector } }
         ensures answer { result ≡ reply Ready self.old.vector }
     {
         if self.coordinator == Some(caller) && self.status == Status::Reorganization {
@@ -161,7 +161,7 @@ impl Vector {
     }
 
     /// The node, which this is, halts itself to stand for election; nobody is up yet.
-    pub fn stand(&mut self, node: Node)
+    pub fn become_candidate(&mut self, node: Node)
         ensures { self.new ≡ record self.old { vector = record self.old.vector { status = Status.Election; halter = Some node; up = [] } } }
     {
         self.status = Status::Election;
@@ -177,7 +177,7 @@ impl Vector {
     }
 
     /// The node, which this is, leads from now on.
-    pub fn lead(&mut self, node: Node)
+    pub fn become_coordinator(&mut self, node: Node)
         ensures { self.new ≡ record self.old { vector = record self.old.vector { status = Status.Reorganization; coordinator = Some node } } }
     {
         self.status = Status::Reorganization;

@@ -13,15 +13,15 @@ use Rattle.bully_nodes.specs.Recording.{RecordingState, IsRecorded, Records, App
 use Rattle.bully_nodes.specs.Turns.{Rounds, IsScheduled, first_recording, idle_first}
 use Rattle.bully_nodes.proofs.LawfulLemmas.{lawful-bound}
 use Rattle.bully_steps.specs.declared.procedure.Procedure.{Procedure}
-use Rattle.bully_steps.specs.Held.{Held}
-use Rattle.bully_steps.specs.Procedure.{held}
+use Rattle.bully_steps.specs.ProcedureState.{ProcedureState}
+use Rattle.bully_steps.specs.Procedure.{state_of}
 use Rattle.bully_trace.specs.declared.trace.Row.{Row}
 use Rattle.bully_trace.specs.declared.trace.Trace.{Trace}
 use Rattle.bully_world.specs.declared.event.Event.{Event}
 use Rattle.bully_world.specs.declared.event.Refused.{Refused}
 use Rattle.bully_world.specs.State.{WorldState, state_at, world_of, first_state, cause_in, raises}
 use Rattle.bully_world.specs.Step.{Step}
-use Rattle.bully_world.specs.Turn.{event_of, gone_on}
+use Rattle.bully_world.specs.Turn.{event_of, procedure_after}
 use Rattle.bully_world.specs.declared.turn.StepKind.{StepKind}
 use Rattle.bully_world.specs.declared.turn.StepKind.TheVariants.{Start, Lose, Return, Move, Plan}
 use Rattle.bully_world.proofs.LawfulLemmas.{lawful_more}
@@ -85,26 +85,26 @@ continues_then before mid after one two = record {
 }
 
 -- a node's own step needs no fault
-step_due : (c : Configuration) (kind : StepKind) (h : Held) → IsDue c.faults (event_of kind h)
+step_due : (c : Configuration) (kind : StepKind) (h : ProcedureState) → IsDue c.faults (event_of kind h)
 step_due c Start h = tt
 step_due c Lose h = tt
 step_due c Return h = tt
 step_due c Move h = tt
 step_due c Plan h = tt
 
-pub steps_continue : (kind : StepKind) (before : RecordingState) (h : Held) (after : RecordingState) (h' : Held) → Steps kind before h after h' → Continues before after
+pub steps_continue : (kind : StepKind) (before : RecordingState) (h : ProcedureState) (after : RecordingState) (h' : ProcedureState) → Steps kind before h after h' → Continues before after
 steps_continue kind before h after h' (inl taken) = record {
   setup = taken.0.setup;
   recorded = λ c is. recorded_more c (event_of kind h) before after taken.0 (step_due c kind h) is;
 }
 steps_continue kind before h after h' (inr full) = rw full.1 (nothing_continues before)
 
-pub ok_continues : {E : Type 0} (result : Result Procedure E) (kind : StepKind) (before : RecordingState) (h : Held) (after : RecordingState) → IfOk result (λ p. Steps kind before h after (held p)) → OnOk result (Continues before after)
-ok_continues (Ok p) kind before h after steps = steps_continue kind before h after (held p) steps
+pub ok_continues : {E : Type 0} (result : Result Procedure E) (kind : StepKind) (before : RecordingState) (h : ProcedureState) (after : RecordingState) → IfOk result (λ p. Steps kind before h after (state_of p)) → OnOk result (Continues before after)
+ok_continues (Ok p) kind before h after steps = steps_continue kind before h after (state_of p) steps
 ok_continues (Err e) kind before h after steps = tt
 
 -- a node's own step stops nobody
-generation_stays : (kind : StepKind) (h : Held) (before after : WorldState) (i : ℕ) → (state_at after i).generation ≡ (state_at before i).generation
+generation_stays : (kind : StepKind) (h : ProcedureState) (before after : WorldState) (i : ℕ) → (state_at after i).generation ≡ (state_at before i).generation
     → (state_at after i).generation ≡ (state_at before i).generation + (if raises (world_of before) (event_of kind h) i then 1 else 0)
 generation_stays Start h before after i same = omega (arith, same)
 generation_stays Lose h before after i same = omega (arith, same)
@@ -113,8 +113,8 @@ generation_stays Move h before after i same = omega (arith, same)
 generation_stays Plan h before after i same = omega (arith, same)
 
 -- a step that the world took, with its row
-pub steps_taken : (kind : StepKind) (h h' : Held) (e : Event) (a : Answer) (w : WorldState) (before after : RecordingState) → e ≡ event_of kind h → Step before.world.setup (world_of before.world) e (world_of w) a → w.setup ≡ before.world.setup
-    → w.events ≡ before.world.events + 1 → before.world.events < before.world.setup.events_max → ((i : ℕ) → (state_at w i).generation ≡ (state_at before.world i).generation) → h' ≡ gone_on kind a h → after ≡ record { world = w; rows = before.rows ++ Row.Event e ∷ [] } → Steps kind before h after h'
+pub steps_taken : (kind : StepKind) (h h' : ProcedureState) (e : Event) (a : Answer) (w : WorldState) (before after : RecordingState) → e ≡ event_of kind h → Step before.world.setup (world_of before.world) e (world_of w) a → w.setup ≡ before.world.setup
+    → w.events ≡ before.world.events + 1 → before.world.events < before.world.setup.events_max → ((i : ℕ) → (state_at w i).generation ≡ (state_at before.world i).generation) → h' ≡ procedure_after kind a h → after ≡ record { world = w; rows = before.rows ++ Row.Event e ∷ [] } → Steps kind before h after h'
 steps_taken kind h h' e a w before after named step setup counted room same went is =
     rw (is, went) (inl (record { answer = a; step = rw (← named) step; setup = setup; counted = counted; bounded = grind (arith, setup, counted, room); generations = λ i. generation_stays kind h before.world w i (same i); rows = rw named refl }, refl))
 
@@ -142,7 +142,7 @@ recorded_play c r within is = record {
 }
 
 -- and so is its trace
-pub recorded_trace : (c : Configuration) (r : RecordingState) (hs : List Held) (trace : Trace) → IsSetup c.setup → Rounds c.faults c.turns 1 (first_recording c.setup) (idle_first c.setup c.setup.nodes) r hs → (is : IsRecorded c r)
+pub recorded_trace : (c : Configuration) (r : RecordingState) (hs : List ProcedureState) (trace : Trace) → IsSetup c.setup → Rounds c.faults c.turns 1 (first_recording c.setup) (idle_first c.setup c.setup.nodes) r hs → (is : IsRecorded c r)
     → trace ≡ record { setup = trace_setup r.world.setup; rows = r.rows } → (events : List Event) × IsPlay c events × IsScheduled c events × (trace ≡ trace_with c.setup events)
 recorded_trace c r hs trace within rounds is same =
     (is.events, recorded_play c r within is, record { last = r; procedures = hs; rounds = rounds; rows = is.rows }, grind (arith, same, is.setup, is.rows))

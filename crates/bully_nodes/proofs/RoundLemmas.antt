@@ -5,20 +5,20 @@ use Rattle.bully_config.specs.declared.config.Fault.{Fault}
 use Rattle.bully_nodes.specs.Recording.{RecordingState}
 use Rattle.bully_nodes.specs.Turns.{TakeTurns, IsRound, Rounds}
 use Rattle.bully_steps.specs.declared.procedure.Procedure.{Procedure}
-use Rattle.bully_steps.specs.Held.{Held}
-use Rattle.bully_steps.specs.Procedure.{held}
+use Rattle.bully_steps.specs.ProcedureState.{ProcedureState}
+use Rattle.bully_steps.specs.Procedure.{state_of}
 
 -- all turns are taken
-pub turns_all : (number place : ℕ) (ps : List Procedure) (hs : List Held) (start last : RecordingState) → length ps ≤ place
-    → ((after : RecordingState) (hs' : List Held) → TakeTurns number last (map held (drop place ps)) after hs' → TakeTurns number start hs after (map held (take place ps) ++ hs'))
-    → TakeTurns number start hs last (map held ps)
+pub turns_all : (number place : ℕ) (ps : List Procedure) (hs : List ProcedureState) (start last : RecordingState) → length ps ≤ place
+    → ((after : RecordingState) (hs' : List ProcedureState) → TakeTurns number last (map state_of (drop place ps)) after hs' → TakeTurns number start hs after (map state_of (take place ps) ++ hs'))
+    → TakeTurns number start hs last (map state_of ps)
 turns_all number place ps hs start last past so_far =
     let none : drop place ps ≡ [] = grind (arith, common_steps, past) in
-    let all : map held (take place ps) ++ [] ≡ map held ps = grind (arith, common_steps, past) in
-    subst (λ (hs' : List Held). TakeTurns number start hs last hs') all
-    (so_far last [] (subst (λ (qs : List Procedure). TakeTurns number last (map held qs) last []) (sym none) (refl, refl)))
+    let all : map state_of (take place ps) ++ [] ≡ map state_of ps = grind (arith, common_steps, past) in
+    subst (λ (hs' : List ProcedureState). TakeTurns number start hs last hs') all
+    (so_far last [] (subst (λ (qs : List Procedure). TakeTurns number last (map state_of qs) last []) (sym none) (refl, refl)))
 
-rounds_more : (faults : List Fault) (so_far number last : ℕ) (start before after : RecordingState) (hs mids hs' : List Held) → number + so_far ≡ last → Rounds faults so_far number start hs before mids → IsRound faults last before mids after hs'
+rounds_more : (faults : List Fault) (so_far number last : ℕ) (start before after : RecordingState) (hs mids hs' : List ProcedureState) → number + so_far ≡ last → Rounds faults so_far number start hs before mids → IsRound faults last before mids after hs'
     → Rounds faults (suc so_far) number start hs after hs'
 rounds_more faults zero number last start before after hs mids hs' e rounds round =
     let now : last ≡ number = omega (arith, e) in
@@ -27,7 +27,7 @@ rounds_more faults (suc n) number last start before after hs mids hs' e rounds r
     (rounds.0, rounds.1, rounds.2, rounds_more faults n (number + 1) last rounds.0 before after rounds.1 mids hs' (omega (arith, e)) rounds.3 round)
 
 -- a round more
-pub rounds_next : (faults : List Fault) (so_far : ℕ) (start before after : RecordingState) (hs mids hs' : List Held) → Rounds faults so_far 1 start hs before mids → IsRound faults (so_far + 1) before mids after hs'
+pub rounds_next : (faults : List Fault) (so_far : ℕ) (start before after : RecordingState) (hs mids hs' : List ProcedureState) → Rounds faults so_far 1 start hs before mids → IsRound faults (so_far + 1) before mids after hs'
     → Rounds faults (so_far + 1) 1 start hs after hs'
 rounds_next faults so_far start before after hs mids hs' rounds round =
     let more : suc so_far ≡ so_far + 1 = omega arith in

@@ -3,13 +3,13 @@ use Rattle.std.specs.Prelude.{◌≡◌, ◌≤◌, ◌+◌, ◌⊎◌, ◌++◌
 use Rattle.bully_calls.specs.declared.call.Answer.{Answer}
 use Rattle.bully_config.specs.Configuration.{Configuration}
 use Rattle.bully_nodes.specs.Play.{IsDue}
-use Rattle.bully_steps.specs.Held.{Held}
+use Rattle.bully_steps.specs.ProcedureState.{ProcedureState}
 use Rattle.bully_trace.specs.declared.trace.Row.{Row}
 use Rattle.bully_world.specs.declared.event.Event.{Event}
 use Rattle.bully_world.specs.Lawful.{IsLawful}
 use Rattle.bully_world.specs.State.{WorldState, state_at, world_of, cause_in, raises}
 use Rattle.bully_world.specs.Step.{Step}
-use Rattle.bully_world.specs.Turn.{event_of, gone_on}
+use Rattle.bully_world.specs.Turn.{event_of, procedure_after}
 use Rattle.bully_world.specs.declared.turn.StepKind.{StepKind}
 
 -- a world, and a row for each event that led to it
@@ -43,9 +43,9 @@ abbrev pub Applies : Event → RecordingState → RecordingState → Type 0
 Applies e before after = MatchOption (cause_in before.world e) (Records e before after) (λ why. after ≡ before)
 
 -- the procedure takes a step, which is recorded, and goes on by it; where the bound on events is reached, nothing changes
-abbrev pub Steps : StepKind → RecordingState → Held → RecordingState → Held → Type 0
+abbrev pub Steps : StepKind → RecordingState → ProcedureState → RecordingState → ProcedureState → Type 0
 Steps kind before h after h' =
-    ((r : Records (event_of kind h) before after) × (h' ≡ gone_on kind r.answer h))
+    ((r : Records (event_of kind h) before after) × (h' ≡ procedure_after kind r.answer h))
     ⊎ ((before.world.setup.events_max ≤ before.world.events) × (after ≡ before) × (h' ≡ h))
 
 -- whatever happens, it is recorded, and no fault is needed for it but those of the configuration
@@ -54,6 +54,6 @@ pub record Continues (before after : RecordingState) : Type 0 where
   pub recorded : (c : Configuration) → IsRecorded c before → IsRecorded c after
 
 -- the procedure is one of the same node, in the same group
-pub record HasSameOwner (h other : Held) : Type 0 where
+pub record HasSameNode (h other : ProcedureState) : Type 0 where
   pub setup : other.setup ≡ h.setup
   pub node : other.node ≡ h.node

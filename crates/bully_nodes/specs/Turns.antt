@@ -12,7 +12,7 @@ use Rattle.bully_steps.specs.declared.driver.Choice.{Choice}
 use Rattle.bully_steps.specs.declared.point.Point.{Point}
 use Rattle.bully_steps.specs.declared.point.Point.TheVariants.{Idle, Planning}
 use Rattle.bully_steps.specs.Driver.{chosen}
-use Rattle.bully_steps.specs.Held.{Held, held_at}
+use Rattle.bully_steps.specs.ProcedureState.{ProcedureState, procedure_state}
 use Rattle.bully_table.specs.Planning.{planned}
 use Rattle.bully_trace.specs.declared.trace.Row.{Row}
 use Rattle.bully_world.specs.declared.event.Event.{Event}
@@ -22,15 +22,15 @@ use Rattle.bully_world.specs.Turn.{procedure_in, turn}
 use Rattle.bully_world.specs.World.{pending, is_sent_to}
 
 -- at Planning without a table one is planned from the old one, over the node and its up set
-abbrev pub prepared_at : Point → Option (List ℕ) → Option (List ℕ) → Held → Held
+abbrev pub prepared_at : Point → Option (List ℕ) → Option (List ℕ) → ProcedureState → ProcedureState
 prepared_at Planning None old h = record h { table = Some (planned h.setup old (with_node h.node (unwrap_or h.up []))) }
 prepared_at _ _ old h = h
 
-abbrev pub prepared_from : Option (List ℕ) → Held → Held
+abbrev pub prepared_from : Option (List ℕ) → ProcedureState → ProcedureState
 prepared_from old h = prepared_at h.point h.table old h
 
 -- from the task that the procedure's node has
-abbrev pub prepared : WorldState → Held → Held
+abbrev pub prepared : WorldState → ProcedureState → ProcedureState
 prepared w h = prepared_from (state_at w h.node).vector.vector.task h
 
 -- the lowest caller that waits for node i
@@ -47,24 +47,24 @@ Serves before i false after =
     × (((state_at before.world i).vector.vector.status ≡ Down) ⊎ ((j : ℕ) → is_sent_to i (pending (world_of before.world) j) ≡ false))
 
 -- the procedure goes on by the turn rule
-abbrev pub Proceeds : Next → RecordingState → Held → RecordingState → Held → Type 0
+abbrev pub Proceeds : Next → RecordingState → ProcedureState → RecordingState → ProcedureState → Type 0
 Proceeds Next.Resync before h after h' = (after ≡ before) × (h' ≡ procedure_in before.world h.node)
 Proceeds Next.Rest before h after h' = (after ≡ before) × (h' ≡ h)
 Proceeds (Next.Take kind) before h after h' = Steps kind before h after h'
 
 -- the node does what it chooses
-abbrev pub GoesOn : Choice → RecordingState → Held → RecordingState → Held → Type 0
+abbrev pub GoesOn : Choice → RecordingState → ProcedureState → RecordingState → ProcedureState → Type 0
 GoesOn Choice.Check before h after h' = Applies (Event.Check h.node) before after × (h' ≡ h)
 GoesOn Choice.Timeout before h after h' = Applies (Event.Timeout h.node) before after × (h' ≡ h)
 GoesOn Choice.Proceed before h after h' = Proceeds (turn before.world h) before h after h'
 
 -- a node that served does nothing else in its turn
-abbrev pub Follows : Bool → ℕ → RecordingState → Held → RecordingState → Held → Type 0
+abbrev pub Follows : Bool → ℕ → RecordingState → ProcedureState → RecordingState → ProcedureState → Type 0
 Follows true number before h after h' = (after ≡ before) × (h' ≡ h)
 Follows false number before h after h' = GoesOn (chosen number h.point) before h after h'
 
 -- a node's turn of this number, with the procedure that it holds
-abbrev pub IsTurn : ℕ → RecordingState → Held → RecordingState → Held → Type 0
+abbrev pub IsTurn : ℕ → RecordingState → ProcedureState → RecordingState → ProcedureState → Type 0
 IsTurn number before h after h' =
     (mid : RecordingState) × (served : Bool) × Serves before h.node served mid × Follows served number mid (prepared before.world h) after h'
 
@@ -77,28 +77,28 @@ Operates number (fault ∷ faults) before after =
     (Operates number faults before after)
 
 -- the turns of the nodes that hold these procedures, one after the other
-abbrev pub TakeTurns : ℕ → RecordingState → List Held → RecordingState → List Held → Type 0
+abbrev pub TakeTurns : ℕ → RecordingState → List ProcedureState → RecordingState → List ProcedureState → Type 0
 TakeTurns number before [] after hs' = (after ≡ before) × (hs' ≡ [])
 TakeTurns number before (h ∷ hs) after [] = ⊥
 TakeTurns number before (h ∷ hs) after (h' ∷ hs') =
     (mid : RecordingState) × IsTurn number before h mid h' × TakeTurns number mid hs after hs'
 
 -- a round: the operator's turn of this number, and then each node's
-abbrev pub IsRound : List Fault → ℕ → RecordingState → List Held → RecordingState → List Held → Type 0
+abbrev pub IsRound : List Fault → ℕ → RecordingState → List ProcedureState → RecordingState → List ProcedureState → Type 0
 IsRound faults number before hs after hs' =
     (mid : RecordingState) × Operates number faults before mid × TakeTurns number mid hs after hs'
 
 -- so many rounds, the first of which has this number
-abbrev pub Rounds : List Fault → ℕ → ℕ → RecordingState → List Held → RecordingState → List Held → Type 0
+abbrev pub Rounds : List Fault → ℕ → ℕ → RecordingState → List ProcedureState → RecordingState → List ProcedureState → Type 0
 Rounds faults zero number before hs after hs' = (after ≡ before) × (hs' ≡ hs)
 Rounds faults (suc more) number before hs after hs' =
-    (mid : RecordingState) × (between : List Held) × IsRound faults number before hs mid between × Rounds faults more (number + 1) mid between after hs'
+    (mid : RecordingState) × (between : List ProcedureState) × IsRound faults number before hs mid between × Rounds faults more (number + 1) mid between after hs'
 
-abbrev pub idle_at : Setup → ℕ → Held
-idle_at setup i = held_at setup i 0 Idle [] None false
+abbrev pub idle_at : Setup → ℕ → ProcedureState
+idle_at setup i = procedure_state setup i 0 Idle [] None false
 
 -- what the first n nodes hold at first
-abbrev pub idle_first : Setup → ℕ → List Held
+abbrev pub idle_first : Setup → ℕ → List ProcedureState
 idle_first setup zero = []
 idle_first setup (suc n) = idle_first setup n ++ idle_at setup (n + 1) ∷ []
 
@@ -108,6 +108,6 @@ first_recording setup = record { world = first_state setup; rows = [] }
 -- the events are those of the configuration's rounds
 pub record IsScheduled (c : Configuration) (events : List Event) : Type 0 where
   pub last : RecordingState
-  pub procedures : List Held
+  pub procedures : List ProcedureState
   pub rounds : Rounds c.faults c.turns 1 (first_recording c.setup) (idle_first c.setup c.setup.nodes) last procedures
   pub rows : last.rows ≡ map Row.Event events

@@ -3,7 +3,7 @@ ghost use Rattle.std.specs.Io.KnownBytes.{Appends};
 ghost use Rattle.bully_nodes.specs.Play.{IsPlay, trace_with, fault_of};
 ghost use Rattle.bully_nodes.specs.Recording.{IsRecorded};
 ghost use Rattle.bully_nodes.specs.Turns.{IsRound, IsScheduled, idle_first};
-ghost use Rattle.bully_steps.specs.Procedure.{held};
+ghost use Rattle.bully_steps.specs.Procedure.{state_of};
 ghost use Rattle.bully_trace.specs.TraceText.{trace_text};
 ghost use Rattle.bully_world.specs.declared.event.Event.{Event};
 
@@ -21,14 +21,14 @@ use std::io::Write;
 pub enum PlayFault {
     /// The writer failed.
     Write,
-    /// A growth of memory was refused.
+    /// An allocation failed.
     OutOfMemory,
 }
 
 /// Plays the configuration on one thread, and writes the trace of what happened. In each of the configuration's
-/// turns the operator comes first, and then the nodes in rising order. Refused as `OutOfMemory` where a growth of
-/// memory is refused, and then nothing was written; as `Write` where the writer fails, and then a prefix of the
-/// trace may have been written. This project's profile.
+/// turns the operator comes first, and then the nodes in rising order. Refused as `OutOfMemory` where an
+/// allocation fails, and then nothing was written; as `Write` where the writer fails, and then a prefix of the
+/// trace may have been written. The rule: docs/ALGORITHM.md.
 pub fn play<W: Write>(alloc: Global, config: &Config, writer: &mut W) -> Result<(), PlayFault>
     ensures played { OnOk result ((events : List Event) × IsPlay config.now events × IsScheduled config.now events × Appends (W.contents writer.old) (W.contents writer.new) (trace_text (trace_with config.now.setup events))) }
     ensures memory { result ≡ Err PlayFault.OutOfMemory → writer.new ≡ writer.old }
@@ -52,8 +52,8 @@ fn trace_of(alloc: Global, config: &Config) -> Result<Trace, OutOfMemory>
 
 // The procedures that the nodes hold at first.
 fn idle_procedures(alloc: Global, setup: Setup) -> Result<Vec<Procedure>, OutOfMemory>
-    ensures idle { IfOk result (λ procedures. map held procedures.items ≡ idle_first setup setup.nodes) }
-    ensures setups { IfOk result (λ procedures. All (λ p. (held p).setup ≡ setup) procedures.items) }
+    ensures idle { IfOk result (λ procedures. map state_of procedures.items ≡ idle_first setup setup.nodes) }
+    ensures setups { IfOk result (λ procedures. All (λ p. (state_of p).setup ≡ setup) procedures.items) }
 {
     let mut procedures = Vec::with_capacity(alloc, usize::from(setup.nodes()))?;
     for before in 0..setup.nodes() {
@@ -72,10 +72,10 @@ fn take_round(
     procedures: &mut [Procedure],
 ) -> Result<(), OutOfMemory>
     requires recorded { IsRecorded config.now recording.old }
-    requires setups { All (λ p. (held p).setup ≡ config.now.setup) procedures.old }
-    ensures round { OnOk result (IsRound config.now.faults turn recording.old (map held procedures.old) recording.new (map held procedures.new)) }
+    requires setups { All (λ p. (state_of p).setup ≡ config.now.setup) procedures.old }
+    ensures round { OnOk result (IsRound config.now.faults turn recording.old (map state_of procedures.old) recording.new (map state_of procedures.new)) }
     ensures recorded { OnOk result (IsRecorded config.now recording.new) }
-    ensures setups { OnOk result (All (λ p. (held p).setup ≡ config.now.setup) procedures.new) }
+    ensures setups { OnOk result (All (λ p. (state_of p).setup ≡ config.now.setup) procedures.new) }
 {
     operator_turn(recording, config.faults(), turn)?;
     for procedure in procedures.iter_mut() {

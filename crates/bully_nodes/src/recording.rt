@@ -1,7 +1,7 @@
 ghost use Rattle.std.specs.Prelude.{◌≡◌, ◌≤◌, ◌++◌, ◌∷◌, [], length, IfOk, OnOk};
 ghost use Rattle.bully_nodes.specs.Play.{trace_setup};
-ghost use Rattle.bully_nodes.specs.Recording.{Applies, Steps, HasSameOwner};
-ghost use Rattle.bully_steps.specs.Procedure.{held};
+ghost use Rattle.bully_nodes.specs.Recording.{Applies, Steps, HasSameNode};
+ghost use Rattle.bully_steps.specs.Procedure.{state_of};
 ghost use Rattle.bully_trace.specs.declared.TheConstants.{ROWS_MAX};
 ghost use Rattle.bully_world.specs.State.{first_state};
 ghost use Rattle.bully_world.specs.Turn.{turn};
@@ -30,7 +30,7 @@ impl Model for Recording {
 }
 
 impl Recording {
-    /// The world before any event, and no row. Refused where a growth of memory is.
+    /// The world before any event, and no row. Refused where an allocation fails.
     pub fn new(alloc: Global, setup: Setup) -> Result<Recording, OutOfMemory>
         ensures { IfOk result (λ r. r ≡ record { world = first_state setup; rows = [] }) }
     {
@@ -47,8 +47,8 @@ impl Recording {
         &self.world
     }
 
-    /// Applies the event and records it. One that the world refuses is passed over. Refused where a growth of
-    /// memory is.
+    /// Applies the event and records it. One that the world refuses is passed over. Refused where an
+    /// allocation fails.
     pub fn apply(&mut self, event: Event) -> Result<(), OutOfMemory>
         ensures { OnOk result (Applies event self.old self.new) }
     {
@@ -59,12 +59,12 @@ impl Recording {
     }
 
     /// Takes a step that the turn rule offers, and records its event: the procedure as the step leaves it. Where
-    /// the world refuses the step, nothing changes. Refused where a growth of memory is.
+    /// the world refuses the step, nothing changes. Refused where an allocation fails.
     pub fn take(&mut self, kind: StepKind, procedure: Procedure) -> Result<Procedure, OutOfMemory>
-        requires setup { (held procedure).setup ≡ self.old.world.setup }
-        requires offered { turn self.old.world (held procedure) ≡ Next.Take kind }
-        ensures steps { IfOk result (λ p. Steps kind self.old (held procedure) self.new (held p)) }
-        ensures owner { IfOk result (λ p. HasSameOwner (held procedure) (held p)) }
+        requires setup { (state_of procedure).setup ≡ self.old.world.setup }
+        requires offered { turn self.old.world (state_of procedure) ≡ Next.Take kind }
+        ensures steps { IfOk result (λ p. Steps kind self.old (state_of procedure) self.new (state_of p)) }
+        ensures owner { IfOk result (λ p. HasSameNode (state_of procedure) (state_of p)) }
     {
         match self.world.take(kind, procedure) {
             Ok(step) => {

@@ -2,10 +2,10 @@ ghost use Rattle.std.specs.Prelude.{◌≡◌, ◌≤◌, length, IfOk, OnOk};
 ghost use Rattle.std.specs.Option.{IfSome, option_copied};
 ghost use Rattle.bully_config.specs.Configuration.{Configuration};
 ghost use Rattle.bully_nodes.specs.Play.{event_of_fault};
-ghost use Rattle.bully_nodes.specs.Recording.{IsRecorded, Continues, HasSameOwner};
+ghost use Rattle.bully_nodes.specs.Recording.{IsRecorded, Continues, HasSameNode};
 ghost use Rattle.bully_nodes.specs.Turns.{prepared, prepared_from, Serves, Proceeds, GoesOn, IsTurn, Operates};
 ghost use Rattle.bully_steps.specs.Driver.{chosen};
-ghost use Rattle.bully_steps.specs.Procedure.{held};
+ghost use Rattle.bully_steps.specs.Procedure.{state_of};
 ghost use Rattle.bully_world.specs.Turn.{turn as turn_rule};
 
 use crate::recording::Recording;
@@ -55,10 +55,10 @@ pub fn take_turn(
     turn: u32,
     place: &mut Procedure,
 ) -> Result<(), OutOfMemory>
-    requires { (held place.old).setup ≡ recording.old.world.setup }
-    ensures turn { OnOk result (IsTurn turn recording.old (held place.old) recording.new (held place.new)) }
+    requires { (state_of place.old).setup ≡ recording.old.world.setup }
+    ensures turn { OnOk result (IsTurn turn recording.old (state_of place.old) recording.new (state_of place.new)) }
     ensures recorded { OnOk result (Continues recording.old recording.new) }
-    ensures owner { OnOk result (HasSameOwner (held place.old) (held place.new)) }
+    ensures owner { OnOk result (HasSameNode (state_of place.old) (state_of place.new)) }
 {
     let node = place.node();
     let idle = Procedure::idle(place.setup(), node, 0);
@@ -78,9 +78,9 @@ fn prepared(
     alloc: Global,
     procedure: Procedure,
 ) -> Result<Procedure, OutOfMemory>
-    requires { (held procedure).setup ≡ recording.now.world.setup }
-    ensures held { IfOk result (λ p. held p ≡ prepared recording.now.world (held procedure)) }
-    ensures owner { IfOk result (λ p. HasSameOwner (held procedure) (held p)) }
+    requires { (state_of procedure).setup ≡ recording.now.world.setup }
+    ensures state { IfOk result (λ p. state_of p ≡ prepared recording.now.world (state_of procedure)) }
+    ensures owner { IfOk result (λ p. HasSameNode (state_of procedure) (state_of p)) }
 {
     // Shows the proof that the node is one of the setup's, and that a lawful list leads to the world.
     let _ = (procedure.setup(), recording.world().events());
@@ -94,8 +94,8 @@ fn prepared_from(
     old: Option<&Table>,
     procedure: Procedure,
 ) -> Result<Procedure, OutOfMemory>
-    requires { IfSome (option_copied old) (λ t. length t ≡ (held procedure).setup.partitions) }
-    ensures { IfOk result (λ p. held p ≡ prepared_from (option_copied old.entry) (held procedure)) }
+    requires { IfSome (option_copied old) (λ t. length t ≡ (state_of procedure).setup.partitions) }
+    ensures { IfOk result (λ p. state_of p ≡ prepared_from (option_copied old.entry) (state_of procedure)) }
 {
     match procedure {
         Procedure::Planning(planning) => match planning.prepare(alloc, old) {
@@ -129,10 +129,10 @@ fn go_on(
     turn: u32,
     procedure: Procedure,
 ) -> Result<Procedure, OutOfMemory>
-    requires { (held procedure).setup ≡ recording.old.world.setup }
-    ensures goes_on { IfOk result (λ p. GoesOn (chosen turn (held procedure).point) recording.old (held procedure) recording.new (held p)) }
+    requires { (state_of procedure).setup ≡ recording.old.world.setup }
+    ensures goes_on { IfOk result (λ p. GoesOn (chosen turn (state_of procedure).point) recording.old (state_of procedure) recording.new (state_of p)) }
     ensures recorded { OnOk result (Continues recording.old recording.new) }
-    ensures owner { IfOk result (λ p. HasSameOwner (held procedure) (held p)) }
+    ensures owner { IfOk result (λ p. HasSameNode (state_of procedure) (state_of p)) }
 {
     let node = procedure.node();
     match Driver::choose(turn, &procedure) {
@@ -145,10 +145,10 @@ fn go_on(
 
 // The procedure goes on by the turn rule: it is given up for the one that the world shows, rests, or takes a step.
 fn proceed(recording: &mut Recording, procedure: Procedure) -> Result<Procedure, OutOfMemory>
-    requires { (held procedure).setup ≡ recording.old.world.setup }
-    ensures proceeds { IfOk result (λ p. Proceeds (turn_rule recording.old.world (held procedure)) recording.old (held procedure) recording.new (held p)) }
+    requires { (state_of procedure).setup ≡ recording.old.world.setup }
+    ensures proceeds { IfOk result (λ p. Proceeds (turn_rule recording.old.world (state_of procedure)) recording.old (state_of procedure) recording.new (state_of p)) }
     ensures recorded { OnOk result (Continues recording.old recording.new) }
-    ensures owner { IfOk result (λ p. HasSameOwner (held procedure) (held p)) }
+    ensures owner { IfOk result (λ p. HasSameNode (state_of procedure) (state_of p)) }
 {
     // Shows the proof that the node is one of the setup's.
     let _ = procedure.setup();

@@ -1,1 +1,1 @@
-pub mod HeldLemmas
+pub mod ProcedureStateLemmas

@@ -1,6 +1,6 @@
 pub mod Point
 pub mod NextPoint
-pub mod Held
+pub mod ProcedureState
 pub mod States
 pub mod Procedure
 pub mod Driver

@@ -1,6 +1,6 @@
 ghost use Rattle.std.specs.Prelude.{◌≡◌};
 ghost use Rattle.bully_steps.specs.Driver.{chosen};
-ghost use Rattle.bully_steps.specs.Procedure.{held};
+ghost use Rattle.bully_steps.specs.Procedure.{state_of};
 
 use crate::{Point, Procedure};
 
@@ -24,9 +24,9 @@ pub struct Driver;
 
 impl Driver {
     /// At an idle procedure a check where the turn is a multiple of 16, and a timeout where it is 8 more than one (the
-    /// first at turn 8); else its procedure goes on. Turns count from 1. This project's profile.
+    /// first at turn 8); else its procedure goes on. Turns count from 1. The rule: docs/ALGORITHM.md.
     pub fn choose(turn: u32, procedure: &Procedure) -> Choice
-        ensures { result ≡ chosen turn (held procedure.now).point }
+        ensures { result ≡ chosen turn (state_of procedure.now).point }
     {
         match procedure.point() {
             Point::Idle if turn % PERIOD == 0 => Choice::Check,

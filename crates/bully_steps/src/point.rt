@@ -45,7 +45,7 @@ pub enum Want {
 }
 
 impl Point {
-    /// What the point offers at a node that has this coordinator. This project's profile.
+    /// What the point offers at a node that has this coordinator. The rule: docs/ALGORITHM.md.
     pub fn offers(self, setup: Setup, node: Node, coordinator: Option<Node>) -> Want
         requires { IsPointOf setup node self }
         ensures { result ≡ offered setup coordinator self }

@@ -2,13 +2,13 @@ ghost use Rattle.std.specs.Prelude.{◌≡◌, ◌≤◌, [], None, Some, true, 
 ghost use Rattle.std.specs.Option.{option_copied};
 ghost use Rattle.bully_base.specs.NodeSet.{IsFallingBelow};
 ghost use Rattle.bully_base.specs.Setup.{IsSetup, IsNode};
-ghost use Rattle.bully_steps.specs.Held.{IsHeld, IsCall, SuitsInquiry, CanResume, held_at, want_of, resumed};
+ghost use Rattle.bully_steps.specs.ProcedureState.{IsProcedureState, IsCall, SuitsInquiry, CanResume, procedure_state, want_of, resumed};
 ghost use Rattle.bully_steps.specs.NextPoint.{next_point};
 ghost use Rattle.bully_steps.specs.Point.{offered, IsPointOf};
-ghost use Rattle.bully_steps.specs.Procedure.{held};
+ghost use Rattle.bully_steps.specs.Procedure.{state_of};
 
 use crate::states::{
-    Announcing, Asking, Checking, Halting, Idle, Inquiring, Owner, Planned, Planning, Readying,
+    Announcing, Asking, Checking, Halting, Idle, Inquiring, Identity, Planned, Planning, Readying,
 };
 use crate::{Point, Want};
 use bully_base::{Node, NodeSet, Setup};
@@ -34,10 +34,10 @@ impl Procedure {
     /// No procedure runs at the node, which is at most the setup's last, in this of its generations.
     pub fn idle(setup: Setup, node: Node, generation: u32) -> Procedure
         requires { node ≤ setup.nodes }
-        ensures { held result ≡ held_at setup node generation Point.Idle [] None false }
+        ensures { state_of result ≡ procedure_state setup node generation Point.Idle [] None false }
     {
         Procedure::Idle(Idle {
-            owner: owner_of(setup, node, generation),
+            identity: identity_of(setup, node, generation),
         })
     }
 
@@ -58,42 +58,42 @@ impl Procedure {
         requires point { IsPointOf setup node point }
         requires inquiry { SuitsInquiry setup node coordinator point }
         requires call { awaits ≡ true → IsCall (offered setup coordinator point) }
-        ensures { held result ≡ held_at setup node generation point up.now coordinator awaits }
+        ensures { state_of result ≡ procedure_state setup node generation point up.now coordinator awaits }
     {
         let up = *up;
-        let owner = owner_of(setup, node, generation);
+        let identity = identity_of(setup, node, generation);
         match point {
-            Point::Idle => Procedure::Idle(Idle { owner }),
+            Point::Idle => Procedure::Idle(Idle { identity }),
             Point::Asking(next) => Procedure::Asking(Asking {
-                owner,
+                identity,
                 next,
                 awaits,
             }),
             Point::Halting(next) => Procedure::Halting(Halting {
-                owner,
+                identity,
                 next,
                 up,
                 awaits,
             }),
             Point::Announcing(rest) => Procedure::Announcing(Announcing {
-                owner,
+                identity,
                 rest,
                 up,
                 awaits,
             }),
-            Point::Planning => Procedure::Planning(Planning { owner, up }),
+            Point::Planning => Procedure::Planning(Planning { identity, up }),
             Point::Readying(rest) => Procedure::Readying(Readying {
-                owner,
+                identity,
                 rest,
                 awaits,
             }),
             Point::Checking(callee) => Procedure::Checking(Checking {
-                owner,
+                identity,
                 callee,
                 awaits,
             }),
             Point::Inquiring => Procedure::Inquiring(Inquiring {
-                owner,
+                identity,
                 coordinator: coordinator.unwrap(),
                 awaits,
             }),
@@ -102,29 +102,29 @@ impl Procedure {
 
     /// The setup of the node's group.
     pub fn setup(&self) -> Setup
-        ensures setup { result ≡ (held self.now).setup }
-        ensures held { IsHeld (held self.now) }
+        ensures setup { result ≡ (state_of self.now).setup }
+        ensures state { IsProcedureState (state_of self.now) }
     {
-        self.owner().setup
+        self.identity().setup
     }
 
     /// The node.
     pub fn node(&self) -> Node
-        ensures { result ≡ (held self.now).node }
+        ensures { result ≡ (state_of self.now).node }
     {
-        self.owner().node
+        self.identity().node
     }
 
     /// The generation of the node at which the procedure began.
     pub fn generation(&self) -> u32
-        ensures { result ≡ (held self.now).generation }
+        ensures { result ≡ (state_of self.now).generation }
     {
-        self.owner().generation
+        self.identity().generation
     }
 
     /// Where it stands.
     pub fn point(&self) -> Point
-        ensures { result ≡ (held self.now).point }
+        ensures { result ≡ (state_of self.now).point }
     {
         match self {
             Procedure::Idle(_) => Point::Idle,
@@ -140,7 +140,7 @@ impl Procedure {
 
     /// The lower nodes that are up, at Halting, Announcing and Planning.
     pub fn up(&self) -> Option<NodeSet>
-        ensures { result ≡ (held self.now).up }
+        ensures { result ≡ (state_of self.now).up }
     {
         match self {
             Procedure::Halting(halting) => Some(halting.up),
@@ -153,7 +153,7 @@ impl Procedure {
 
     /// Whom the node inquires of, at Inquiring.
     pub fn coordinator(&self) -> Option<Node>
-        ensures { result ≡ (held self.now).coordinator }
+        ensures { result ≡ (state_of self.now).coordinator }
     {
         match self {
             Procedure::Inquiring(inquiring) => Some(inquiring.coordinator),
@@ -163,7 +163,7 @@ impl Procedure {
 
     /// The planned table, at Planning once it is prepared.
     pub fn table(&self) -> Option<&Table>
-        ensures { option_copied result ≡ (held self.now).table }
+        ensures { option_copied result ≡ (state_of self.now).table }
     {
         match self {
             Procedure::Planned(planned) => Some(&planned.table),
@@ -173,7 +173,7 @@ impl Procedure {
 
     /// Whether its call is under way.
     pub fn awaits(&self) -> bool
-        ensures { result ≡ (held self.now).awaits }
+        ensures { result ≡ (state_of self.now).awaits }
     {
         match self {
             Procedure::Asking(asking) => asking.awaits,
@@ -188,7 +188,7 @@ impl Procedure {
 
     /// What the procedure wants: to await its call where one is under way, else what its point offers.
     pub fn want(&self) -> Want
-        ensures { result ≡ want_of (held self.now) }
+        ensures { result ≡ want_of (state_of self.now) }
     {
         if self.awaits() {
             Want::Await
@@ -201,9 +201,9 @@ impl Procedure {
     /// The procedure that goes on by the outcome, one that its want can have: a call is started, moves and plans
     /// are done, and a call under way is answered or fails; No comes at Checking alone.
     pub fn resume(self, outcome: Outcome) -> Procedure
-        requires { CanResume (held self) outcome }
-        ensures held { held result ≡ resumed (held self) outcome }
-        ensures point { next_point (held self).setup (held self).node (unwrap_or (held self).up []) (held self).point outcome ≡ Some (held result).point }
+        requires { CanResume (state_of self) outcome }
+        ensures state { state_of result ≡ resumed (state_of self) outcome }
+        ensures point { next_point (state_of self).setup (state_of self).node (unwrap_or (state_of self).up []) (state_of self).point outcome ≡ Some (state_of result).point }
     {
         match self {
             Procedure::Idle(_) => unreachable!(),
@@ -219,36 +219,36 @@ impl Procedure {
     }
 
     // Whose procedure it is.
-    fn owner(&self) -> Owner
-        ensures setup { result.setup ≡ (held self.now).setup }
-        ensures node { result.node ≡ (held self.now).node }
-        ensures generation { result.generation ≡ (held self.now).generation }
-        ensures held { IsHeld (held self.now) }
+    fn identity(&self) -> Identity
+        ensures setup { result.setup ≡ (state_of self.now).setup }
+        ensures node { result.node ≡ (state_of self.now).node }
+        ensures generation { result.generation ≡ (state_of self.now).generation }
+        ensures state { IsProcedureState (state_of self.now) }
     {
         match self {
-            Procedure::Idle(idle) => idle.owner,
-            Procedure::Asking(asking) => asking.owner,
-            Procedure::Halting(halting) => halting.owner,
-            Procedure::Announcing(announcing) => announcing.owner,
-            Procedure::Planning(planning) => planning.owner,
-            Procedure::Planned(planned) => planned.owner,
-            Procedure::Readying(readying) => readying.owner,
-            Procedure::Checking(checking) => checking.owner,
-            Procedure::Inquiring(inquiring) => inquiring.owner,
+            Procedure::Idle(idle) => idle.identity,
+            Procedure::Asking(asking) => asking.identity,
+            Procedure::Halting(halting) => halting.identity,
+            Procedure::Announcing(announcing) => announcing.identity,
+            Procedure::Planning(planning) => planning.identity,
+            Procedure::Planned(planned) => planned.identity,
+            Procedure::Readying(readying) => readying.identity,
+            Procedure::Checking(checking) => checking.identity,
+            Procedure::Inquiring(inquiring) => inquiring.identity,
         }
     }
 }
 
 // The owner of the node's procedure, which is one of the setup's.
-fn owner_of(setup: Setup, node: Node, generation: u32) -> Owner
+fn identity_of(setup: Setup, node: Node, generation: u32) -> Identity
     requires { node ≤ setup.nodes }
-    ensures owner { result ≡ record { setup = setup; node = node; generation = generation } }
+    ensures identity { result ≡ record { setup = setup; node = node; generation = generation } }
     ensures setup { IsSetup setup }
     ensures node { IsNode setup node }
 {
     // Shows the proof that the setup is within the limits.
     let _ = (setup.nodes(), node.number());
-    Owner {
+    Identity {
         setup,
         node,
         generation,

@@ -4,7 +4,7 @@ mod checking;
 mod halting;
 mod idle;
 mod inquiring;
-mod owner;
+mod identity;
 mod planning;
 mod readying;
 
@@ -14,6 +14,6 @@ pub use checking::Checking;
 pub use halting::Halting;
 pub use idle::Idle;
 pub use inquiring::Inquiring;
-pub use owner::Owner;
+pub use identity::Identity;
 pub use planning::{Planned, Planning};
 pub use readying::Readying;

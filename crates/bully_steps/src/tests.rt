@@ -1,8 +1,8 @@
 //! A table that was planned by hand, prepared.
 
 ghost use Rattle.std.specs.Prelude.{◌≡◌, [], ◌∷◌, None, false, length};
-ghost use Rattle.bully_steps.specs.Held.{held_at};
-ghost use Rattle.bully_steps.specs.Procedure.{held};
+ghost use Rattle.bully_steps.specs.ProcedureState.{procedure_state};
+ghost use Rattle.bully_steps.specs.Procedure.{state_of};
 
 use crate::{Point, Procedure};
 use bully_base::{Node, NodeSet, Setup};
@@ -12,7 +12,7 @@ use std::test::Fail;
 
 // Whether the planning procedure prepares the expected table from the old one.
 fn prepares(alloc: Global, procedure: Procedure, old: &Table, expected: &Table) -> bool
-    requires { length old.now ≡ (held procedure).setup.partitions }
+    requires { length old.now ≡ (state_of procedure).setup.partitions }
 {
     let Procedure::Planning(planning) = procedure else {
         return false;
@@ -26,7 +26,7 @@ fn prepares(alloc: Global, procedure: Procedure, old: &Table, expected: &Table) 
 // Node 2 of a group of three plans for itself and node 1.
 fn planning_node(setup: Setup) -> Procedure
     requires { setup.nodes ≡ 3 }
-    ensures { held result ≡ held_at setup 2 0 Point.Planning (1 ∷ []) None false }
+    ensures { state_of result ≡ procedure_state setup 2 0 Point.Planning (1 ∷ []) None false }
 {
     let mut up = NodeSet::new();
     up.insert(Node::new(1).unwrap());

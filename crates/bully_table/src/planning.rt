@@ -28,12 +28,12 @@ pub struct TablePlan {
 pub enum PlanFault {
     /// The set of members is empty.
     NoMember,
-    /// A growth of memory was refused.
+    /// An allocation failed.
     OutOfMemory,
 }
 
 /// Plans a table that is balanced over the members and has the fewest moves from the old table, if there is one. The old
-/// table has the setup's partitions. Refused, in this order, as `NoMember`, `OutOfMemory`. This project's profile.
+/// table has the setup's partitions. Refused, in this order, as `NoMember`, `OutOfMemory`. The rule: docs/ALGORITHM.md.
 ///
 /// A member's quota is the number of partitions divided by that of the members, rounded down. What the division leaves
 /// goes to the members one by one: first to those that own more than this in the old table, in rising number, and then to
@@ -94,7 +94,7 @@ fn moves_from(setup: Setup, old: Option<&Table>, table: &Table) -> u16
     }
 }
 
-// The owners of the planned table. Refused where a growth of memory is.
+// The owners of the planned table. Refused where an allocation fails.
 fn planned_owners(
     alloc: Global,
     setup: Setup,

@@ -45,7 +45,7 @@ pub fn look_through(setup: Setup, text: &[u8]) -> Found
     found
 }
 
-/// The owners that the text names. Refused where a growth of memory is.
+/// The owners that the text names. Refused where an allocation fails.
 pub fn read_owners(alloc: Global, setup: Setup, text: &[u8]) -> Result<Vec<Node>, OutOfMemory>
     requires owners { list_any (names_nobody setup) (pieces_of text.now) ≡ false }
     requires numbers { list_any is_no_number (pieces_of text.now) ≡ false }

@@ -23,7 +23,7 @@ impl Model for TableRoom {
 }
 
 impl TableRoom {
-    /// Empty room for a table of the setup's partitions. Refused where a growth of memory is.
+    /// Empty room for a table of the setup's partitions. Refused where an allocation fails.
     pub fn new(alloc: Global, setup: Setup) -> Result<TableRoom, OutOfMemory>
         ensures { IfOk result (λ r. r ≡ record { table = None; size = setup.partitions }) }
     {

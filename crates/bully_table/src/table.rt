@@ -55,13 +55,13 @@ pub enum TableFault {
     Owner,
     /// A piece is no number: neither `0` nor decimal digits without a leading zero.
     Syntax,
-    /// A growth of memory was refused.
+    /// An allocation failed.
     OutOfMemory,
 }
 
 impl Table {
     /// Reads the owners of the setup's partitions, parted by single spaces.
-    /// Refused, in this order, as `Length`, `Owner`, `Syntax`, `OutOfMemory`. This project's profile.
+    /// Refused, in this order, as `Length`, `Owner`, `Syntax`, `OutOfMemory`. The rule: docs/ALGORITHM.md.
     pub fn read(alloc: Global, setup: Setup, text: &str) -> Result<Table, TableFault>
         ensures ok { IfOk result (λ t. table_of_text setup text.now ≡ Ok t) }
         ensures length { IfOk result (λ t. length t ≡ setup.partitions) }
@@ -148,7 +148,7 @@ impl Table {
     }
 
     /// At how many partitions the owner is another one than in the old table, which has the same length: from 0 to that.
-    /// This project's profile.
+    /// The rule: docs/ALGORITHM.md.
     pub fn moves(&self, old: &Table) -> u16
         requires { length old.now ≡ length self.now }
         ensures { result ≡ moves old.now self.now }
@@ -157,7 +157,7 @@ impl Table {
     }
 
     /// Whether the table is balanced over the members: each owner is one, and the counts of two members
-    /// differ by one at most. This project's profile.
+    /// differ by one at most. The rule: docs/ALGORITHM.md.
     pub fn is_balanced(&self, members: &NodeSet) -> bool
         ensures { (setup : SetupState) → (IsTrue result ↔ IsBalanced setup self.now members.now) }
     {

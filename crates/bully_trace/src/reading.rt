@@ -14,7 +14,7 @@ use std::io::Read;
 
 /// Reads a trace, row by row, up to its end or to the first row at fault.
 /// Refused there as `BadHeader` at row 1, as `TooManyRows` behind the most rows, or as `BadRow`; as `Read` where
-/// the reader fails, and as `OutOfMemory` where a growth of memory is refused. This project's profile.
+/// the reader fails, and as `OutOfMemory` where an allocation fails. The rule: docs/FORMATS.md.
 pub fn read_trace<R: Read + Drop>(alloc: Global, reader: R) -> Result<Trace, TraceFault>
     ensures ok { IfOk result (λ t. IfSome (R.remaining reader) (λ bytes. trace_of (records_of bytes) ≡ Ok t)) }
     ensures fault { IfErr result (λ f. IsTrue (is_of_form f.cause) → IfSome (R.remaining reader) (λ bytes. trace_of (records_of bytes) ≡ Err f)) }

@@ -25,7 +25,7 @@ pub fn read_header(row: &ByteRecord) -> Option<Setup>
 }
 
 /// The row that a later record of a trace tells; none where it has no form that the profile lists.
-/// Refused where a growth of memory is.
+/// Refused where an allocation fails.
 pub fn read_row(alloc: Global, setup: Setup, row: &ByteRecord) -> Result<Option<Row>, OutOfMemory>
     ensures { IfOk result (λ r. r ≡ row_of setup (fields_of row.now)) }
 {

@@ -83,7 +83,7 @@ pub enum TraceCause {
     Read,
     /// The writer failed.
     Write,
-    /// A growth of memory was refused.
+    /// An allocation failed.
     OutOfMemory,
 }
 

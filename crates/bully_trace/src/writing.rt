@@ -12,7 +12,7 @@ use std::io::Write;
 
 /// Writes the trace's text: its header and its rows, a line each. The text is made before it is written.
 /// Refused as `Write` where the writer fails, and then a prefix of the text may have been written; as
-/// `OutOfMemory` where a growth of memory is refused, and then nothing was written. Each is at row 0.
+/// `OutOfMemory` where an allocation fails, and then nothing was written. Each is at row 0.
 pub fn write_trace<W: Write>(alloc: Global, writer: &mut W, trace: &Trace) -> Result<(), TraceFault>
     ensures ok { OnOk result (Appends (W.contents writer.old) (W.contents writer.new) (trace_text trace.now)) }
     ensures err { IfErr result (λ fault. (fault.row ≡ 0) × ((fault.cause ≡ TraceCause.Write) ⊎ (fault.cause ≡ TraceCause.OutOfMemory))) }

@@ -8,11 +8,11 @@ use Rattle.bully_calls.specs.declared.call.Outcome.{Outcome}
 use Rattle.bully_handlers.specs.Vector.{Vector}
 use Rattle.bully_steps.specs.declared.point.Point.{Point}
 use Rattle.bully_steps.specs.declared.point.Point.TheVariants.{Idle, Asking, Halting, Announcing, Planning, Readying, Checking, Inquiring}
-use Rattle.bully_steps.specs.Held.{Held, held_at, held_up, held_coordinator, next_up, is_started, resumed, resumed_point}
+use Rattle.bully_steps.specs.ProcedureState.{ProcedureState, procedure_state, up_at, coordinator_at, next_up, is_started, resumed, resumed_point}
 use Rattle.bully_steps.specs.NextPoint.{next_point, next_vector}
 use Rattle.bully_world.specs.Turn.{agree, same_flag, same_node, same_set, same_point}
 
-pub record Agrees (h s : Held) : Type 0 where
+pub record Agrees (h s : ProcedureState) : Type 0 where
   pub generation : h.generation ≡ s.generation
   pub point : h.point ≡ s.point
   pub awaits : h.awaits ≡ s.awaits
@@ -66,9 +66,9 @@ set_is (Some ms) (Some ns) e = ap Some (sets_are ms ns e)
 set_is None (Some ns) e = absurd (grind (arith, e))
 set_is (Some ms) None e = absurd (grind (arith, e))
 
-held_set_itself : (a : Option (List ℕ)) → same_set a a ≡ true
-held_set_itself None = refl
-held_set_itself (Some ms) = set_itself ms
+state_set_itself : (a : Option (List ℕ)) → same_set a a ≡ true
+state_set_itself None = refl
+state_set_itself (Some ms) = set_itself ms
 
 node_is : (a b : Option ℕ) → same_node a b ≡ true → a ≡ b
 node_is None None e = refl
@@ -81,7 +81,7 @@ node_itself None = refl
 node_itself (Some j) = number_itself j
 
 -- procedures that agree have the same, and the other way round
-pub agrees_of : (h s : Held) → agree h s ≡ true → Agrees h s
+pub agrees_of : (h s : ProcedureState) → agree h s ≡ true → Agrees h s
 agrees_of h s e = record {
   generation = grind (arith, nat_tests, e);
   point = point_is h.point s.point (grind (arith, e));
@@ -90,61 +90,61 @@ agrees_of h s e = record {
   coordinator = node_is h.coordinator s.coordinator (grind (arith, e));
 }
 
-pub agree_if : (h s : Held) → Agrees h s → agree h s ≡ true
-agree_if h s a = grind (arith, a.generation, a.point, a.awaits, a.up, a.coordinator, number_itself s.generation, point_itself s.point, flag_itself s.awaits, held_set_itself s.up, node_itself s.coordinator)
+pub agree_if : (h s : ProcedureState) → Agrees h s → agree h s ≡ true
+agree_if h s a = grind (arith, a.generation, a.point, a.awaits, a.up, a.coordinator, number_itself s.generation, point_itself s.point, flag_itself s.awaits, state_set_itself s.up, node_itself s.coordinator)
 
 -- What the procedure holds is enough to go on.
 
-held_point : (setup : Setup) (i : ℕ) (p : Point) (u : List ℕ) (o : Outcome) → next_point setup i (unwrap_or (held_up p u) []) p o ≡ next_point setup i u p o
-held_point setup i Idle u o = refl
-held_point setup i (Asking k) u o = grind arith
-held_point setup i (Halting zero) u o = refl
-held_point setup i (Halting (suc k)) u o = refl
-held_point setup i (Announcing []) u o = refl
-held_point setup i (Announcing (k ∷ rest)) u o = refl
-held_point setup i Planning u o = refl
-held_point setup i (Readying []) u o = grind arith
-held_point setup i (Readying (k ∷ rest)) u o = grind arith
-held_point setup i (Checking k) u o = grind arith
-held_point setup i Inquiring u o = grind arith
+state_point : (setup : Setup) (i : ℕ) (p : Point) (u : List ℕ) (o : Outcome) → next_point setup i (unwrap_or (up_at p u) []) p o ≡ next_point setup i u p o
+state_point setup i Idle u o = refl
+state_point setup i (Asking k) u o = grind arith
+state_point setup i (Halting zero) u o = refl
+state_point setup i (Halting (suc k)) u o = refl
+state_point setup i (Announcing []) u o = refl
+state_point setup i (Announcing (k ∷ rest)) u o = refl
+state_point setup i Planning u o = refl
+state_point setup i (Readying []) u o = grind arith
+state_point setup i (Readying (k ∷ rest)) u o = grind arith
+state_point setup i (Checking k) u o = grind arith
+state_point setup i Inquiring u o = grind arith
 
-held_set : (setup : Setup) (i : ℕ) (p : Point) (v : Vector) (o : Outcome) (q : Point) → next_point setup i v.up p o ≡ Some q
-    → held_up q (next_up i p o (unwrap_or (held_up p v.up) [])) ≡ held_up q (next_vector i p o v).up
-held_set setup i Idle v o q e = absurd (grind (arith, e))
-held_set setup i (Asking k) v o q e = grind (arith, e)
-held_set setup i (Halting zero) v o q e = grind (arith, e)
-held_set setup i (Halting (suc k)) v o q e = grind (arith, e)
-held_set setup i (Announcing []) v o q e = grind (arith, e)
-held_set setup i (Announcing (k ∷ rest)) v o q e = grind (arith, e)
-held_set setup i Planning v o q e = grind (arith, e)
-held_set setup i (Readying []) v o q e = grind (arith, e)
-held_set setup i (Readying (k ∷ rest)) v o q e = grind (arith, e)
-held_set setup i (Checking k) v o q e = grind (arith, e)
-held_set setup i Inquiring v o q e = grind (arith, e)
+state_set : (setup : Setup) (i : ℕ) (p : Point) (v : Vector) (o : Outcome) (q : Point) → next_point setup i v.up p o ≡ Some q
+    → up_at q (next_up i p o (unwrap_or (up_at p v.up) [])) ≡ up_at q (next_vector i p o v).up
+state_set setup i Idle v o q e = absurd (grind (arith, e))
+state_set setup i (Asking k) v o q e = grind (arith, e)
+state_set setup i (Halting zero) v o q e = grind (arith, e)
+state_set setup i (Halting (suc k)) v o q e = grind (arith, e)
+state_set setup i (Announcing []) v o q e = grind (arith, e)
+state_set setup i (Announcing (k ∷ rest)) v o q e = grind (arith, e)
+state_set setup i Planning v o q e = grind (arith, e)
+state_set setup i (Readying []) v o q e = grind (arith, e)
+state_set setup i (Readying (k ∷ rest)) v o q e = grind (arith, e)
+state_set setup i (Checking k) v o q e = grind (arith, e)
+state_set setup i Inquiring v o q e = grind (arith, e)
 
-held_other : (setup : Setup) (i : ℕ) (p : Point) (v : Vector) (o : Outcome) (q : Point) → next_point setup i v.up p o ≡ Some q
-    → held_coordinator q (held_coordinator p v.coordinator) ≡ held_coordinator q (next_vector i p o v).coordinator
-held_other setup i Idle v o q e = absurd (grind (arith, e))
-held_other setup i (Asking k) v o q e = grind (arith, e)
-held_other setup i (Halting zero) v o q e = grind (arith, e)
-held_other setup i (Halting (suc k)) v o q e = grind (arith, e)
-held_other setup i (Announcing []) v o q e = grind (arith, e)
-held_other setup i (Announcing (k ∷ rest)) v o q e = grind (arith, e)
-held_other setup i Planning v o q e = grind (arith, e)
-held_other setup i (Readying []) v o q e = grind (arith, e)
-held_other setup i (Readying (k ∷ rest)) v o q e = grind (arith, e)
-held_other setup i (Checking k) v o q e = grind (arith, e)
-held_other setup i Inquiring v o q e = grind (arith, e)
+state_other : (setup : Setup) (i : ℕ) (p : Point) (v : Vector) (o : Outcome) (q : Point) → next_point setup i v.up p o ≡ Some q
+    → coordinator_at q (coordinator_at p v.coordinator) ≡ coordinator_at q (next_vector i p o v).coordinator
+state_other setup i Idle v o q e = absurd (grind (arith, e))
+state_other setup i (Asking k) v o q e = grind (arith, e)
+state_other setup i (Halting zero) v o q e = grind (arith, e)
+state_other setup i (Halting (suc k)) v o q e = grind (arith, e)
+state_other setup i (Announcing []) v o q e = grind (arith, e)
+state_other setup i (Announcing (k ∷ rest)) v o q e = grind (arith, e)
+state_other setup i Planning v o q e = grind (arith, e)
+state_other setup i (Readying []) v o q e = grind (arith, e)
+state_other setup i (Readying (k ∷ rest)) v o q e = grind (arith, e)
+state_other setup i (Checking k) v o q e = grind (arith, e)
+state_other setup i Inquiring v o q e = grind (arith, e)
 
 -- a procedure that agrees with its node is resumed to where the node goes on
-pub resumed_agrees : (setup : Setup) (i g : ℕ) (p : Point) (v : Vector) (b : Bool) (o : Outcome) (q : Point) (h : Held) → h.setup ≡ setup → h.node ≡ i → Agrees h (held_at setup i g p v.up v.coordinator b)
-    → next_point setup i v.up p o ≡ Some q → Agrees (resumed h o) (held_at setup i g q (next_vector i p o v).up (next_vector i p o v).coordinator (is_started o))
+pub resumed_agrees : (setup : Setup) (i g : ℕ) (p : Point) (v : Vector) (b : Bool) (o : Outcome) (q : Point) (h : ProcedureState) → h.setup ≡ setup → h.node ≡ i → Agrees h (procedure_state setup i g p v.up v.coordinator b)
+    → next_point setup i v.up p o ≡ Some q → Agrees (resumed h o) (procedure_state setup i g q (next_vector i p o v).up (next_vector i p o v).coordinator (is_started o))
 resumed_agrees setup i g p v b o q h se ne a e =
-    let at : resumed_point h o ≡ q = grind (arith, se, ne, a.point, a.up, held_point setup i p v.up o, e) in
+    let at : resumed_point h o ≡ q = grind (arith, se, ne, a.point, a.up, state_point setup i p v.up o, e) in
     record {
       generation = a.generation;
       point = at;
       awaits = refl;
-      up = grind (arith, at, ne, a.point, a.up, held_set setup i p v o q e);
-      coordinator = grind (arith, at, a.coordinator, held_other setup i p v o q e);
+      up = grind (arith, at, ne, a.point, a.up, state_set setup i p v o q e);
+      coordinator = grind (arith, at, a.coordinator, state_other setup i p v o q e);
     }

@@ -8,7 +8,7 @@ use Rattle.bully_base.specs.Setup.{Setup, IsNode}
 use Rattle.bully_table.proofs.BalanceLemmas.{is_balanced_decides}
 use Rattle.bully_table.specs.Balance.{IsBalanced, is_balanced}
 use Rattle.bully_calls.specs.Pending.{is_sent, is_failed}
-use Rattle.bully_calls.specs.Slot.{Posted, pending_of}
+use Rattle.bully_calls.specs.Slot.{SlotCall, pending_of}
 use Rattle.bully_steps.specs.Point.{offered}
 use Rattle.bully_base.specs.declared.node.Status.{Status}
 use Rattle.bully_base.specs.declared.node.Status.TheVariants.{Down, Election, Reorganization, Normal}
@@ -16,7 +16,7 @@ use Rattle.bully_handlers.specs.Vector.{is_down}
 use Rattle.bully_world.specs.declared.event.Event.{Event}
 use Rattle.bully_world.specs.declared.event.Refused.{Refused}
 use Rattle.bully_world.specs.Cause.{refuses, first_of, later_refusals, cause, node_of, is_down_at, is_idle, is_call, is_move, is_plan, in_phase, is_pending, callee_is_down}
-use Rattle.bully_world.specs.Shape.{AllFit, SuitsPending}
+use Rattle.bully_world.specs.NodeInvariant.{WorldInvariant, SuitsPending}
 use Rattle.bully_world.specs.State.{MemberState, empty_state, member_of, members_of}
 use Rattle.bully_world.specs.World.{World, Member, member}
 use Rattle.bully_world.proofs.MembersOf.{member-members_of, members_of-length}
@@ -25,7 +25,7 @@ use Rattle.bully_world.proofs.MembersOf.{member-members_of, members_of-length}
 pub member-place : (ms : List MemberState) (k i : ℕ) (s : MemberState) → k + 1 ≡ i → k < length ms → s ≡ slice_index_or ms k s → member (members_of ms) i ≡ member_of s
 member-place ms k i s e l is = member-members_of ms i ∙ ap member_of (at_node-place (empty_state 0) s ms k i e l ∙ sym is)
 
-pub place-within : (setup : Setup) (ms : List MemberState) (k i : ℕ) → AllFit setup (members_of ms) → k + 1 ≡ i → i ≤ setup.nodes → k < length ms
+pub place-within : (setup : Setup) (ms : List MemberState) (k i : ℕ) → WorldInvariant setup (members_of ms) → k + 1 ≡ i → i ≤ setup.nodes → k < length ms
 place-within setup ms k i all e l = omega (arith, members_of-length ms, all.count)
 
 module _ (setup : Setup) (w : World) (count i : ℕ) (m : Member) (here : member w i ≡ m) where
@@ -65,14 +65,14 @@ pub at_event : (setup : Setup) (w : World) (count : ℕ) (e f : Event) (r : Opti
 at_event setup w count e f r same is = is ∙ ap (λ x. first_of (refuses setup w count x) later_refusals) (sym same)
 
 -- a call in a slot goes to a node of the setup
-pub callee-within : (setup : Setup) (ms : List MemberState) (i : ℕ) (s : MemberState) → AllFit setup (members_of ms) → member (members_of ms) i ≡ member_of s
-    → IfSome s.slot.posted (λ p. (0 < p.call.callee) × (p.call.callee ≤ length ms))
-callee-within setup ms i s all here = by_slot s.slot.posted (all_calls s.slot.posted refl)
+pub callee-within : (setup : Setup) (ms : List MemberState) (i : ℕ) (s : MemberState) → WorldInvariant setup (members_of ms) → member (members_of ms) i ≡ member_of s
+    → IfSome s.slot.content (λ p. (0 < p.call.callee) × (p.call.callee ≤ length ms))
+callee-within setup ms i s all here = by_slot s.slot.content (all_calls s.slot.content refl)
   where
-    all_calls : (q : Option Posted) → s.slot.posted ≡ q → SuitsPending setup i s.vector.vector s.point (option_map (pending_of s.generation) q)
+    all_calls : (q : Option SlotCall) → s.slot.content ≡ q → SuitsPending setup i s.vector.vector s.point (option_map (pending_of s.generation) q)
     all_calls q e = grind (arith, here, e, (all.fits i).by_call)
 
-    by_slot : (q : Option Posted) → SuitsPending setup i s.vector.vector s.point (option_map (pending_of s.generation) q) → IfSome q (λ p. (0 < p.call.callee) × (p.call.callee ≤ length ms))
+    by_slot : (q : Option SlotCall) → SuitsPending setup i s.vector.vector s.point (option_map (pending_of s.generation) q) → IfSome q (λ p. (0 < p.call.callee) × (p.call.callee ≤ length ms))
     by_slot None h = tt
     by_slot (Some p) h = (h.to_node.0, omega (arith, h.to_node.1, all.count, members_of-length ms))
 

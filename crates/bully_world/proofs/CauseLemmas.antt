@@ -19,12 +19,12 @@ use Rattle.bully_steps.specs.Point.{offered}
 use Rattle.bully_steps.specs.NextPoint.{next_point}
 use Rattle.bully_world.specs.declared.event.Event.{Event}
 use Rattle.bully_world.specs.Cause.{cause, is_call, is_plan, is_pending, in_phase, callee_is_down}
-use Rattle.bully_world.specs.Shape.{AllFit, SuitsPhase, SuitsCall}
+use Rattle.bully_world.specs.NodeInvariant.{WorldInvariant, SuitsPhase, SuitsCall}
 use Rattle.bully_world.specs.Step.{Step, IsUp, Returns, offer}
 use Rattle.bully_world.specs.World.{World, vector, point, pending}
 use Rattle.bully_world.proofs.MemberLemmas.{call_of_pending}
 
-pub no_cause_if_step : (setup : Setup) (w : World) (count : ℕ) (e : Event) (w' : World) (a : Answer) → AllFit setup w → count < setup.events_max → Step setup w e w' a → cause setup w count e ≡ None
+pub no_cause_if_step : (setup : Setup) (w : World) (count : ℕ) (e : Event) (w' : World) (a : Answer) → WorldInvariant setup w → count < setup.events_max → Step setup w e w' a → cause setup w count e ≡ None
 no_cause_if_step setup w count (Event.Recover i) w' a all room s = grind (arith, s, room)
 no_cause_if_step setup w count (Event.Crash i) w' a all room s = grind (arith, s, room, (all.fits i).a_node)
 no_cause_if_step setup w count (Event.Check i) w' a all room s = grind (arith, s, room, (all.fits i).a_node)
@@ -36,7 +36,7 @@ no_cause_if_step setup w count (Event.Return i) w' a all room s = grind (arith, 
 no_cause_if_step setup w count (Event.Move i) w' a all room s = grind (arith, s, room, (all.fits i).a_node)
 no_cause_if_step setup w count (Event.Plan i table) w' a all room s = grind (arith, s, room, (all.fits i).a_node, (all.fits i).down_idle, (is_balanced_decides setup table (with_node i (vector w i).up)).1)
 
-module _ (setup : Setup) (w : World) (count : ℕ) (all : AllFit setup w) where
+module _ (setup : Setup) (w : World) (count : ℕ) (all : WorldInvariant setup w) where
   room_if : (e : Event) → cause setup w count e ≡ None → count < setup.events_max
   room_if e n = grind (arith, n)
 
@@ -171,7 +171,7 @@ module _ (setup : Setup) (w : World) (count : ℕ) (all : AllFit setup w) where
   stepping (Event.Move i) n = move_if i n
   stepping (Event.Plan i table) n = plan_if i table n
 
-pub step_if_no_cause : (setup : Setup) (w : World) (count : ℕ) (e : Event) → AllFit setup w → cause setup w count e ≡ None → (count < setup.events_max) × (w' : World) × (a : Answer) × Step setup w e w' a
+pub step_if_no_cause : (setup : Setup) (w : World) (count : ℕ) (e : Event) → WorldInvariant setup w → cause setup w count e ≡ None → (count < setup.events_max) × (w' : World) × (a : Answer) × Step setup w e w' a
 step_if_no_cause setup w count e all n =
     let s = stepping setup w count all e n in
     (room_if setup w count all e n, s.0, s.1, s.2)

@@ -11,16 +11,16 @@ use Rattle.bully_calls.specs.declared.call.CallKind.TheVariants.{AreYouUp, AreYo
 use Rattle.bully_calls.specs.declared.call.Outcome.{Outcome}
 use Rattle.bully_calls.specs.declared.call.Phase.{Phase}
 use Rattle.bully_calls.specs.Pending.{outcome_of}
-use Rattle.bully_calls.specs.Slot.{Posted, pending_of}
-use Rattle.bully_handlers.specs.Handler.{heard}
+use Rattle.bully_calls.specs.Slot.{SlotCall, pending_of}
+use Rattle.bully_handlers.specs.Handler.{callee_after}
 use Rattle.bully_handlers.specs.Vector.{Vector}
 use Rattle.bully_steps.specs.declared.point.Want.{Want}
 use Rattle.bully_steps.specs.Point.{offered}
 use Rattle.bully_world.specs.declared.event.Event.{Event}
 use Rattle.bully_world.specs.Cause.{cause}
-use Rattle.bully_world.specs.Shape.{AllFit}
+use Rattle.bully_world.specs.NodeInvariant.{WorldInvariant}
 use Rattle.bully_world.specs.State.{MemberState, empty_state, members_of, is_halt, halts, raises}
-use Rattle.bully_world.specs.Taken.{taken, run_taken, return_taken, returned_state, proceeded_state, posted_state, crashed_state, phased_state, started_state, heard_state, stopped_state_by, with_vector, with_posted, replied}
+use Rattle.bully_world.specs.Taken.{taken, run_taken, return_taken, returned_state, proceeded_state, opened_state, crashed_state, phased_state, started_state, callee_state_after, stopped_state_by, with_vector, with_content, replied}
 use Rattle.bully_world.specs.World.{World, Member, pending}
 use Rattle.bully_world.proofs.MemberLemmas.{call_of_pending}
 use Rattle.bully_world.proofs.MembersOf.{kept_at, at_node-put_cases, member-members_of}
@@ -57,18 +57,18 @@ put_raised ms i j s b pos l e = by_case (grind arith)
 started_same : (setup : Setup) (i : ℕ) (m : MemberState) → (started_state setup i m).generation ≡ m.generation
 started_same setup i m = by_want (offered setup m.vector.vector.coordinator m.point)
   where
-    by_want : (q : Want) → MemberState.generation (elim q [ Want.Start call ↦ posted_state i call m | _ ↦ m ]) ≡ m.generation
+    by_want : (q : Want) → MemberState.generation (elim q [ Want.Start call ↦ opened_state i call m | _ ↦ m ]) ≡ m.generation
     by_want (Want.Start call) = refl
     by_want Want.Nothing = refl
     by_want Want.Move = refl
     by_want Want.Plan = refl
     by_want Want.Await = refl
 
-returned_same : (setup : Setup) (i : ℕ) (m : MemberState) (q : Option Posted) → (return_taken setup i m q).generation ≡ m.generation
+returned_same : (setup : Setup) (i : ℕ) (m : MemberState) (q : Option SlotCall) → (return_taken setup i m q).generation ≡ m.generation
 returned_same setup i m None = refl
 returned_same setup i m (Some p) = by_outcome (outcome_of p.phase)
   where
-    by_test : (b : Bool) (o : Outcome) → MemberState.generation (if b then proceeded_state setup i o (with_posted None m) else with_posted None m) ≡ m.generation
+    by_test : (b : Bool) (o : Outcome) → MemberState.generation (if b then proceeded_state setup i o (with_content None m) else with_content None m) ≡ m.generation
     by_test true o = refl
     by_test false o = refl
 
@@ -76,8 +76,8 @@ returned_same setup i m (Some p) = by_outcome (outcome_of p.phase)
     by_outcome None = refl
     by_outcome (Some o) = by_test (p.tag.generation == m.generation) o
 
-heard_raised : (i : ℕ) (p : Posted) (m : MemberState) → (heard_state i p m).generation ≡ m.generation + raised (is_halt p.call.kind)
-heard_raised i p m = by_kind p.call.kind (heard i p.call.kind p.table m.vector.vector)
+callee_raised : (i : ℕ) (p : SlotCall) (m : MemberState) → (callee_state_after i p m).generation ≡ m.generation + raised (is_halt p.call.kind)
+callee_raised i p m = by_kind p.call.kind (callee_after i p.call.kind p.table m.vector.vector)
   where
     by_kind : (kind : CallKind) (v : Vector) → (stopped_state_by kind (with_vector v m)).generation ≡ m.generation + raised (is_halt kind)
     by_kind AreYouUp v = omega arith
@@ -92,8 +92,8 @@ unraised a g e = omega (arith, e)
 node_of_crash : (setup : Setup) (w : World) (count i : ℕ) → cause setup w count (Event.Crash i) ≡ None → IsNode setup i
 node_of_crash setup w count i n = grind (arith, n)
 
-module _ (setup : Setup) (ms : List MemberState) (many : length ms ≡ setup.nodes) (fit : AllFit setup (members_of ms)) where
-  run_raised : (i j : ℕ) (q : Option Posted) → (kept_at ms i).slot.posted ≡ q → (kept_at (run_taken ms i q) j).generation ≡ (kept_at ms j).generation + raised (halts j (option_map (pending_of (kept_at ms i).generation) q))
+module _ (setup : Setup) (ms : List MemberState) (many : length ms ≡ setup.nodes) (fit : WorldInvariant setup (members_of ms)) where
+  run_raised : (i j : ℕ) (q : Option SlotCall) → (kept_at ms i).slot.content ≡ q → (kept_at (run_taken ms i q) j).generation ≡ (kept_at ms j).generation + raised (halts j (option_map (pending_of (kept_at ms i).generation) q))
   run_raised i j None e = unraised (kept_at ms j).generation (kept_at ms j).generation refl
   run_raised i j (Some p) e =
       let f = Phase.Ran (replied ms p) in
@@ -102,7 +102,7 @@ module _ (setup : Setup) (ms : List MemberState) (many : length ms ≡ setup.nod
       let is : pending (members_of ms) i ≡ Some (pending_of (kept_at ms i).generation p) = ap (λ (q : Member). q.pending) (member-members_of ms i) ∙ ap (option_map (pending_of (kept_at ms i).generation)) e in
       let node : IsNode setup k = (call_of_pending setup (members_of ms) i (pending_of (kept_at ms i).generation p) fit is).to_node in
       let within : k ≤ length answered = omega (arith, node.1, many, length-put_node ms i (phased_state f (kept_at ms i))) in
-      put_raised answered k j (heard_state i p (kept_at answered k)) (is_halt p.call.kind) node.0 within (heard_raised i p (kept_at answered k))
+      put_raised answered k j (callee_state_after i p (kept_at answered k)) (is_halt p.call.kind) node.0 within (callee_raised i p (kept_at answered k))
       ∙ ap (λ g. g + raised (is_halt p.call.kind && (k == j))) (put_same ms i j (phased_state f (kept_at ms i)) refl)
 
   generations : (count : ℕ) (e : Event) → cause setup (members_of ms) count e ≡ None → (j : ℕ) → (kept_at (taken setup ms e) j).generation ≡ (kept_at ms j).generation + (if raises (members_of ms) e j then 1 else 0)
@@ -114,14 +114,14 @@ module _ (setup : Setup) (ms : List MemberState) (many : length ms ≡ setup.nod
   generations count (Event.Timeout i) n j = unraised _ _ (put_same ms i j _ refl)
   generations count (Event.Start i) n j = unraised _ _ (put_same ms i j _ (started_same setup i (kept_at ms i)))
   generations count (Event.Run i) n j =
-      run_raised i j (kept_at ms i).slot.posted refl
+      run_raised i j (kept_at ms i).slot.content refl
       ∙ ap (λ (q : Member). (kept_at ms j).generation + raised (halts j q.pending)) (sym (member-members_of ms i))
   generations count (Event.Lose i) n j = unraised _ _ (put_same ms i j _ refl)
-  generations count (Event.Return i) n j = unraised _ _ (put_same ms i j _ (returned_same setup i (kept_at ms i) (kept_at ms i).slot.posted))
+  generations count (Event.Return i) n j = unraised _ _ (put_same ms i j _ (returned_same setup i (kept_at ms i) (kept_at ms i).slot.content))
   generations count (Event.Move i) n j = unraised _ _ (put_same ms i j _ refl)
   generations count (Event.Plan i table) n j = unraised _ _ (put_same ms i j _ refl)
 
 -- exactly the events that raise a node's generation raise what is kept of it, by one
-pub taken_generations : (setup : Setup) (count : ℕ) (ms : List MemberState) (e : Event) → length ms ≡ setup.nodes → AllFit setup (members_of ms) → cause setup (members_of ms) count e ≡ None
+pub taken_generations : (setup : Setup) (count : ℕ) (ms : List MemberState) (e : Event) → length ms ≡ setup.nodes → WorldInvariant setup (members_of ms) → cause setup (members_of ms) count e ≡ None
     → (j : ℕ) → (at_node (empty_state 0) (taken setup ms e) j).generation ≡ (at_node (empty_state 0) ms j).generation + (if raises (members_of ms) e j then 1 else 0)
 taken_generations setup count ms e many fit n j = generations setup ms many fit count e n j

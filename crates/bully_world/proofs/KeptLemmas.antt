@@ -11,8 +11,8 @@ use Rattle.bully_calls.specs.declared.call.CallKind.TheVariants.{AreYouUp, AreYo
 use Rattle.bully_calls.specs.declared.call.Outcome.{Outcome}
 use Rattle.bully_calls.specs.declared.call.Phase.{Phase}
 use Rattle.bully_calls.specs.Pending.{outcome_of}
-use Rattle.bully_calls.specs.Slot.{Posted, phased}
-use Rattle.bully_handlers.specs.Handler.{heard}
+use Rattle.bully_calls.specs.Slot.{SlotCall, phased}
+use Rattle.bully_handlers.specs.Handler.{callee_after}
 use Rattle.bully_handlers.specs.Vector.{Vector}
 use Rattle.bully_steps.specs.declared.point.Point.{Point}
 use Rattle.bully_steps.specs.declared.point.Point.TheVariants.{Idle}
@@ -20,16 +20,16 @@ use Rattle.bully_steps.specs.declared.point.Want.{Want}
 use Rattle.bully_steps.specs.Point.{offered}
 use Rattle.bully_world.specs.declared.event.Event.{Event}
 use Rattle.bully_world.specs.Cause.{cause}
-use Rattle.bully_world.specs.Shape.{AllFit}
+use Rattle.bully_world.specs.NodeInvariant.{WorldInvariant}
 use Rattle.bully_world.specs.State.{MemberState, empty_state, members_of, IsKept, AllKept}
-use Rattle.bully_world.specs.Taken.{taken, run_taken, return_taken, returned_state, proceeded_state, phased_state, started_state, heard_state, stopped_state_by, with_vector, with_posted, posted_state, replied}
+use Rattle.bully_world.specs.Taken.{taken, run_taken, return_taken, returned_state, proceeded_state, phased_state, started_state, callee_state_after, stopped_state_by, with_vector, with_content, opened_state, replied}
 use Rattle.bully_world.proofs.MembersOf.{kept_at, at_node-put_cases}
 
-run-length : (ms : List MemberState) (i : ℕ) (q : Option Posted) → length (run_taken ms i q) ≡ length ms
+run-length : (ms : List MemberState) (i : ℕ) (q : Option SlotCall) → length (run_taken ms i q) ≡ length ms
 run-length ms i None = refl
 run-length ms i (Some p) =
     let answered = put_node ms i (phased_state (Phase.Ran (replied ms p)) (kept_at ms i)) in
-    length-put_node answered p.call.callee (heard_state i p (kept_at answered p.call.callee)) ∙ length-put_node ms i (phased_state (Phase.Ran (replied ms p)) (kept_at ms i))
+    length-put_node answered p.call.callee (callee_state_after i p (kept_at answered p.call.callee)) ∙ length-put_node ms i (phased_state (Phase.Ran (replied ms p)) (kept_at ms i))
 
 -- no event changes how many nodes there are
 pub taken_length : (setup : Setup) (ms : List MemberState) (e : Event) → length (taken setup ms e) ≡ length ms
@@ -38,7 +38,7 @@ taken_length setup ms (Event.Crash i) = length-put_node ms i _
 taken_length setup ms (Event.Check i) = length-put_node ms i _
 taken_length setup ms (Event.Timeout i) = length-put_node ms i _
 taken_length setup ms (Event.Start i) = length-put_node ms i _
-taken_length setup ms (Event.Run i) = run-length ms i (kept_at ms i).slot.posted
+taken_length setup ms (Event.Run i) = run-length ms i (kept_at ms i).slot.content
 taken_length setup ms (Event.Lose i) = length-put_node ms i _
 taken_length setup ms (Event.Return i) = length-put_node ms i _
 taken_length setup ms (Event.Move i) = length-put_node ms i _
@@ -46,7 +46,7 @@ taken_length setup ms (Event.Plan i table) = length-put_node ms i _
 
 -- What each change keeps.
 
-tag_later : (q : Option Posted) (g h : ℕ) → g ≤ h → IfSome q (λ p. p.tag.generation ≤ g) → IfSome q (λ p. p.tag.generation ≤ h)
+tag_later : (q : Option SlotCall) (g h : ℕ) → g ≤ h → IfSome q (λ p. p.tag.generation ≤ g) → IfSome q (λ p. p.tag.generation ≤ h)
 tag_later None g h l t = tt
 tag_later (Some p) g h l t = omega arith
 
@@ -57,11 +57,11 @@ kept_with setup events i m v p g low high k = record {
   vector_room = k.vector_room;
   slot_room = k.slot_room;
   caller = k.caller;
-  tag = tag_later m.slot.posted m.generation g low k.tag;
+  tag = tag_later m.slot.content m.generation g low k.tag;
   generation = omega (arith, k.generation);
 }
 
-kept_empty : (setup : Setup) (events i : ℕ) (m : MemberState) → IsKept setup events i m → IsKept setup events i (with_posted None m)
+kept_empty : (setup : Setup) (events i : ℕ) (m : MemberState) → IsKept setup events i m → IsKept setup events i (with_content None m)
 kept_empty setup events i m k = record {
   vector_room = k.vector_room;
   slot_room = k.slot_room;
@@ -77,23 +77,23 @@ kept_phased : (setup : Setup) (events i : ℕ) (m : MemberState) (f : Phase) →
 kept_phased setup events i m f k = record {
   vector_room = k.vector_room;
   slot_room = k.slot_room;
-  caller = caller_same m.slot.posted k.caller;
-  tag = tag_same m.slot.posted k.tag;
+  caller = caller_same m.slot.content k.caller;
+  tag = tag_same m.slot.content k.tag;
   generation = k.generation;
 }
   where
-    caller_same : (q : Option Posted) → IfSome q (λ p. p.tag.caller ≡ i) → IfSome (option_map (phased f) q) (λ p. p.tag.caller ≡ i)
+    caller_same : (q : Option SlotCall) → IfSome q (λ p. p.tag.caller ≡ i) → IfSome (option_map (phased f) q) (λ p. p.tag.caller ≡ i)
     caller_same None h = tt
     caller_same (Some p) h = h
 
-    tag_same : (q : Option Posted) → IfSome q (λ p. p.tag.generation ≤ m.generation) → IfSome (option_map (phased f) q) (λ p. p.tag.generation ≤ m.generation)
+    tag_same : (q : Option SlotCall) → IfSome q (λ p. p.tag.generation ≤ m.generation) → IfSome (option_map (phased f) q) (λ p. p.tag.generation ≤ m.generation)
     tag_same None h = tt
     tag_same (Some p) h = h
 
 kept_started : (setup : Setup) (events i : ℕ) (m : MemberState) → IsKept setup events i m → IsKept setup events i (started_state setup i m)
 kept_started setup events i m k = by_want (offered setup m.vector.vector.coordinator m.point)
   where
-    by_want : (q : Want) → IsKept setup events i (elim q [ Want.Start call ↦ posted_state i call m | _ ↦ m ])
+    by_want : (q : Want) → IsKept setup events i (elim q [ Want.Start call ↦ opened_state i call m | _ ↦ m ])
     by_want (Want.Start call) = record { vector_room = k.vector_room; slot_room = k.slot_room; caller = refl; tag = omega arith; generation = k.generation }
     by_want Want.Nothing = k
     by_want Want.Move = k
@@ -103,20 +103,20 @@ kept_started setup events i m k = by_want (offered setup m.vector.vector.coordin
 kept_proceeded : (setup : Setup) (events i : ℕ) (o : Outcome) (m : MemberState) → IsKept setup events i m → IsKept setup (events + 1) i (proceeded_state setup i o m)
 kept_proceeded setup events i o m k = kept_with setup events i m _ _ m.generation (omega arith) (omega arith) k
 
-kept_returned : (setup : Setup) (events i : ℕ) (m : MemberState) (q : Option Posted) → IsKept setup events i m → IsKept setup (events + 1) i (return_taken setup i m q)
+kept_returned : (setup : Setup) (events i : ℕ) (m : MemberState) (q : Option SlotCall) → IsKept setup events i m → IsKept setup (events + 1) i (return_taken setup i m q)
 kept_returned setup events i m None k = kept_later setup events i m k
 kept_returned setup events i m (Some p) k = by_outcome (outcome_of p.phase)
   where
-    by_test : (b : Bool) (o : Outcome) → IsKept setup (events + 1) i (if b then proceeded_state setup i o (with_posted None m) else with_posted None m)
-    by_test true o = kept_proceeded setup events i o (with_posted None m) (kept_empty setup events i m k)
-    by_test false o = kept_later setup events i (with_posted None m) (kept_empty setup events i m k)
+    by_test : (b : Bool) (o : Outcome) → IsKept setup (events + 1) i (if b then proceeded_state setup i o (with_content None m) else with_content None m)
+    by_test true o = kept_proceeded setup events i o (with_content None m) (kept_empty setup events i m k)
+    by_test false o = kept_later setup events i (with_content None m) (kept_empty setup events i m k)
 
     by_outcome : (o : Option Outcome) → IsKept setup (events + 1) i (option_map_or (λ o. returned_state setup i p o m) o m)
     by_outcome None = kept_later setup events i m k
     by_outcome (Some o) = by_test (p.tag.generation == m.generation) o
 
-kept_heard : (setup : Setup) (events i j : ℕ) (p : Posted) (m : MemberState) → IsKept setup events j m → IsKept setup (events + 1) j (heard_state i p m)
-kept_heard setup events i j p m k = by_kind p.call.kind (heard i p.call.kind p.table m.vector.vector)
+kept_callee : (setup : Setup) (events i j : ℕ) (p : SlotCall) (m : MemberState) → IsKept setup events j m → IsKept setup (events + 1) j (callee_state_after i p m)
+kept_callee setup events i j p m k = by_kind p.call.kind (callee_after i p.call.kind p.table m.vector.vector)
   where
     by_kind : (kind : CallKind) (v : Vector) → IsKept setup (events + 1) j (stopped_state_by kind (with_vector v m))
     by_kind AreYouUp v = kept_with setup events j m v m.point m.generation (omega arith) (omega arith) k
@@ -140,29 +140,29 @@ module _ (setup : Setup) (events : ℕ) (ms : List MemberState) (kept : AllKept 
   written : (i : ℕ) (s : MemberState) → (IsKept setup events i (kept_at ms i) → IsKept setup (events + 1) i s) → AllKept setup (events + 1) (put_node ms i s)
   written i s next = put_kept setup (events + 1) ms i s (all_later setup events ms kept) (λ node. next (kept i node))
 
-  run_kept : (i : ℕ) (q : Option Posted) → AllKept setup (events + 1) (run_taken ms i q)
+  run_kept : (i : ℕ) (q : Option SlotCall) → AllKept setup (events + 1) (run_taken ms i q)
   run_kept i None = all_later setup events ms kept
   run_kept i (Some p) =
       let f = Phase.Ran (replied ms p) in
       let answered = put_node ms i (phased_state f (kept_at ms i)) in
       let first : AllKept setup events answered = put_kept setup events ms i (phased_state f (kept_at ms i)) kept (λ node. kept_phased setup events i (kept_at ms i) f (kept i node)) in
       let j = p.call.callee in
-      put_kept setup (events + 1) answered j (heard_state i p (kept_at answered j)) (all_later setup events answered first) (λ node. kept_heard setup events i j p (kept_at answered j) (first j node))
+      put_kept setup (events + 1) answered j (callee_state_after i p (kept_at answered j)) (all_later setup events answered first) (λ node. kept_callee setup events i j p (kept_at answered j) (first j node))
 
   kept_after : (e : Event) → AllKept setup (events + 1) (taken setup ms e)
   kept_after (Event.Recover i) = written i _ (kept_with setup events i (kept_at ms i) _ _ (kept_at ms i).generation (omega arith) (omega arith))
-  kept_after (Event.Crash i) = written i _ (λ k. kept_with setup events i (with_posted None (kept_at ms i)) _ _ ((kept_at ms i).generation + 1) (omega arith) (omega arith) (kept_empty setup events i (kept_at ms i) k))
+  kept_after (Event.Crash i) = written i _ (λ k. kept_with setup events i (with_content None (kept_at ms i)) _ _ ((kept_at ms i).generation + 1) (omega arith) (omega arith) (kept_empty setup events i (kept_at ms i) k))
   kept_after (Event.Check i) = written i _ (kept_with setup events i (kept_at ms i) _ _ (kept_at ms i).generation (omega arith) (omega arith))
   kept_after (Event.Timeout i) = written i _ (kept_with setup events i (kept_at ms i) _ _ (kept_at ms i).generation (omega arith) (omega arith))
   kept_after (Event.Start i) = written i _ (λ k. kept_later setup events i (started_state setup i (kept_at ms i)) (kept_started setup events i (kept_at ms i) k))
-  kept_after (Event.Run i) = run_kept i (kept_at ms i).slot.posted
+  kept_after (Event.Run i) = run_kept i (kept_at ms i).slot.content
   kept_after (Event.Lose i) = written i _ (λ k. kept_later setup events i (phased_state Phase.Failed (kept_at ms i)) (kept_phased setup events i (kept_at ms i) Phase.Failed k))
-  kept_after (Event.Return i) = written i _ (kept_returned setup events i (kept_at ms i) (kept_at ms i).slot.posted)
+  kept_after (Event.Return i) = written i _ (kept_returned setup events i (kept_at ms i) (kept_at ms i).slot.content)
   kept_after (Event.Move i) = written i _ (kept_proceeded setup events i Outcome.Moved (kept_at ms i))
   kept_after (Event.Plan i table) = written i _ (kept_with setup events i (kept_at ms i) _ _ (kept_at ms i).generation (omega arith) (omega arith))
 
 -- what is kept goes with the setup after the event too
-pub taken_kept : (setup : Setup) (events : ℕ) (ms : List MemberState) (e : Event) → length ms ≡ setup.nodes → AllFit setup (members_of ms) → AllKept setup events ms
+pub taken_kept : (setup : Setup) (events : ℕ) (ms : List MemberState) (e : Event) → length ms ≡ setup.nodes → WorldInvariant setup (members_of ms) → AllKept setup events ms
     → cause setup (members_of ms) events e ≡ None → AllKept setup (events + 1) (taken setup ms e)
 taken_kept setup events ms e count fit kept none = kept_after setup events ms kept e
 

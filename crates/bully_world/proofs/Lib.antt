@@ -1,9 +1,9 @@
 pub mod MemberLemmas
-pub mod QuietFits
-pub mod CallFits
-pub mod MoveFits
-pub mod RunFits
-pub mod ShapeLemmas
+pub mod QuietInvariant
+pub mod CallInvariant
+pub mod MoveInvariant
+pub mod RunInvariant
+pub mod NodeInvariantLemmas
 pub mod LawfulLemmas
 pub mod CauseLemmas
 pub mod MembersOf
@@ -20,5 +20,5 @@ pub mod SetLemmas
 pub mod AgreeLemmas
 pub mod TurnLemmas
 pub mod TurnSteps
-pub mod GoneOn
+pub mod ProcedureAfter
 pub mod TurnTaken

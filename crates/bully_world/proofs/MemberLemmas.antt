@@ -4,18 +4,18 @@ use Rattle.bully_base.specs.declared.node.Status.TheVariants.{Down}
 use Rattle.bully_base.specs.Setup.{Setup, IsNode}
 use Rattle.bully_base.proofs.PlaceLemmas.{at_node_same, at_node_other, length-put_node}
 use Rattle.bully_calls.specs.Pending.{Pending}
-use Rattle.bully_world.specs.Shape.{Fits, AllFit, SuitsCall}
+use Rattle.bully_world.specs.NodeInvariant.{NodeInvariant, WorldInvariant, SuitsCall}
 use Rattle.bully_world.specs.Step.{IsUp}
 use Rattle.bully_world.specs.World.{World, Member, member, vector, point, pending, with_member, empty_member}
 
-pub member_here : (setup : Setup) (w : World) (i : ℕ) (m : Member) → AllFit setup w → IsNode setup i → member (with_member w i m) i ≡ m
+pub member_here : (setup : Setup) (w : World) (i : ℕ) (m : Member) → WorldInvariant setup w → IsNode setup i → member (with_member w i m) i ≡ m
 member_here setup w i m all node = at_node_same empty_member w.members i m node.0 (omega (arith, all.count, node.1))
 
 pub member_other : (w : World) (i j : ℕ) (m : Member) → j ≢ i → member (with_member w i m) j ≡ member w j
 member_other w i j m d = at_node_other empty_member w.members i j m d
 
 -- what node j is, whichever it is
-pub member_cases : (setup : Setup) (w : World) (i j : ℕ) (m : Member) → AllFit setup w → IsNode setup i
+pub member_cases : (setup : Setup) (w : World) (i j : ℕ) (m : Member) → WorldInvariant setup w → IsNode setup i
     → ((j ≡ i) × (member (with_member w i m) j ≡ m)) ⊎ ((j ≢ i) × (member (with_member w i m) j ≡ member w j))
 member_cases setup w i j m all node = by_case (grind arith)
   where
@@ -24,7 +24,7 @@ member_cases setup w i j m all node = by_case (grind arith)
     by_case (inr d) = inr (d, member_other w i j m d)
 
 -- a node that isn't Down is one of the setup's
-pub node_of_fits : (setup : Setup) (i : ℕ) (m : Member) → Fits setup i m → m.vector.status ≢ Down → IsNode setup i
+pub node_of_fits : (setup : Setup) (i : ℕ) (m : Member) → NodeInvariant setup i m → m.vector.status ≢ Down → IsNode setup i
 node_of_fits setup i m fits up = by_case fits.a_node
   where
     by_case : (m.vector.status ≡ Down) ⊎ IsNode setup i → IsNode setup i
@@ -32,31 +32,31 @@ node_of_fits setup i m fits up = by_case fits.a_node
     by_case (inr node) = node
 
 -- a node with a call isn't Down
-pub up_of_fits : (setup : Setup) (i : ℕ) (m : Member) (c : Pending) → Fits setup i m → m.pending ≡ Some c → m.vector.status ≢ Down
+pub up_of_fits : (setup : Setup) (i : ℕ) (m : Member) (c : Pending) → NodeInvariant setup i m → m.pending ≡ Some c → m.vector.status ≢ Down
 up_of_fits setup i m c fits is e = grind (arith, is, fits.down_free e)
 
-pub node_of_up : (setup : Setup) (w : World) (i : ℕ) → AllFit setup w → IsUp w i → IsNode setup i
+pub node_of_up : (setup : Setup) (w : World) (i : ℕ) → WorldInvariant setup w → IsUp w i → IsNode setup i
 node_of_up setup w i all up = node_of_fits setup i (member w i) (all.fits i) up
 
-pub node_of_pending : (setup : Setup) (w : World) (i : ℕ) (c : Pending) → AllFit setup w → pending w i ≡ Some c → IsNode setup i × IsUp w i
+pub node_of_pending : (setup : Setup) (w : World) (i : ℕ) (c : Pending) → WorldInvariant setup w → pending w i ≡ Some c → IsNode setup i × IsUp w i
 node_of_pending setup w i c all is =
     let up : IsUp w i = up_of_fits setup i (member w i) c (all.fits i) is in
     (node_of_up setup w i all up, up)
 
 -- what a node's call goes with
-pub call_of_fits : (setup : Setup) (i : ℕ) (m : Member) (c : Pending) → Fits setup i m → m.pending ≡ Some c → SuitsCall setup i m.vector m.point c
+pub call_of_fits : (setup : Setup) (i : ℕ) (m : Member) (c : Pending) → NodeInvariant setup i m → m.pending ≡ Some c → SuitsCall setup i m.vector m.point c
 call_of_fits setup i m c fits is = rw is at fits.by_call
 
-pub call_of_pending : (setup : Setup) (w : World) (i : ℕ) (c : Pending) → AllFit setup w → pending w i ≡ Some c → SuitsCall setup i (vector w i) (point w i) c
+pub call_of_pending : (setup : Setup) (w : World) (i : ℕ) (c : Pending) → WorldInvariant setup w → pending w i ≡ Some c → SuitsCall setup i (vector w i) (point w i) c
 call_of_pending setup w i c all is = call_of_fits setup i (member w i) c (all.fits i) is
 
 -- all fit still where node i is a member that fits
-pub written_fits : (setup : Setup) (w : World) (i : ℕ) (m : Member) → AllFit setup w → IsNode setup i → Fits setup i m → AllFit setup (with_member w i m)
+pub written_fits : (setup : Setup) (w : World) (i : ℕ) (m : Member) → WorldInvariant setup w → IsNode setup i → NodeInvariant setup i m → WorldInvariant setup (with_member w i m)
 written_fits setup w i m all node fits = record {
   count = length-put_node w.members i m ∙ all.count;
   fits = λ j. fits_each j (member_cases setup w i j m all node);
 }
   where
-    fits_each : (j : ℕ) → ((j ≡ i) × (member (with_member w i m) j ≡ m)) ⊎ ((j ≢ i) × (member (with_member w i m) j ≡ member w j)) → Fits setup j (member (with_member w i m) j)
-    fits_each j (inl h) = subst (Fits setup j) (sym h.1) (rw h.0 fits)
-    fits_each j (inr h) = subst (Fits setup j) (sym h.1) (all.fits j)
+    fits_each : (j : ℕ) → ((j ≡ i) × (member (with_member w i m) j ≡ m)) ⊎ ((j ≢ i) × (member (with_member w i m) j ≡ member w j)) → NodeInvariant setup j (member (with_member w i m) j)
+    fits_each j (inl h) = subst (NodeInvariant setup j) (sym h.1) (rw h.0 fits)
+    fits_each j (inr h) = subst (NodeInvariant setup j) (sym h.1) (all.fits j)

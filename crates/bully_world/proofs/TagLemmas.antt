@@ -8,11 +8,11 @@ use Rattle.bully_base.specs.Setup.{Setup}
 use Rattle.bully_calls.specs.declared.call.CallKind.{CallKind}
 use Rattle.bully_calls.specs.declared.call.CallKind.TheVariants.{AreYouUp, AreYouNormal, Halt, NewCoordinator, Ready}
 use Rattle.bully_calls.specs.declared.call.Phase.{Phase}
-use Rattle.bully_calls.specs.Slot.{Posted, phased}
-use Rattle.bully_handlers.specs.Handler.{heard}
+use Rattle.bully_calls.specs.Slot.{SlotCall, phased}
+use Rattle.bully_handlers.specs.Handler.{callee_after}
 use Rattle.bully_world.specs.declared.event.Event.{Event}
-use Rattle.bully_world.specs.State.{MemberState, empty_state, changes_slot, tag_in, tag_of_posted}
-use Rattle.bully_world.specs.Taken.{taken, run_taken, phased_state, heard_state, stopped_state_by, with_vector, replied}
+use Rattle.bully_world.specs.State.{MemberState, empty_state, changes_slot, tag_in, tag_of_call}
+use Rattle.bully_world.specs.Taken.{taken, run_taken, phased_state, callee_state_after, stopped_state_by, with_vector, replied}
 use Rattle.bully_world.proofs.MembersOf.{kept_at, at_node-put_cases}
 
 -- a write that leaves node i's tag leaves all tags
@@ -30,27 +30,27 @@ differs i j e = λ same. absurd (grind (arith, nat_tests, e, same))
 put_elsewhere : (ms : List MemberState) (i j : ℕ) (s : MemberState) → (i == j) ≡ false → tag_in (kept_at (put_node ms i s) j) ≡ tag_in (kept_at ms j)
 put_elsewhere ms i j s e = ap tag_in (at_node_other (empty_state 0) ms i j s (differs i j e))
 
-phased_tag : (f : Phase) (q : Option Posted) → option_map tag_of_posted (option_map (phased f) q) ≡ option_map tag_of_posted q
+phased_tag : (f : Phase) (q : Option SlotCall) → option_map tag_of_call (option_map (phased f) q) ≡ option_map tag_of_call q
 phased_tag f None = refl
 phased_tag f (Some p) = refl
 
-heard_tag : (i : ℕ) (p : Posted) (m : MemberState) → tag_in (heard_state i p m) ≡ tag_in m
-heard_tag i p m = by_kind p.call.kind
+callee_tag : (i : ℕ) (p : SlotCall) (m : MemberState) → tag_in (callee_state_after i p m) ≡ tag_in m
+callee_tag i p m = by_kind p.call.kind
   where
-    by_kind : (kind : CallKind) → tag_in (stopped_state_by kind (with_vector (heard i p.call.kind p.table m.vector.vector) m)) ≡ tag_in m
+    by_kind : (kind : CallKind) → tag_in (stopped_state_by kind (with_vector (callee_after i p.call.kind p.table m.vector.vector) m)) ≡ tag_in m
     by_kind AreYouUp = refl
     by_kind AreYouNormal = refl
     by_kind Halt = refl
     by_kind NewCoordinator = refl
     by_kind Ready = refl
 
-run_tags : (ms : List MemberState) (i j : ℕ) (q : Option Posted) → tag_in (kept_at (run_taken ms i q) j) ≡ tag_in (kept_at ms j)
+run_tags : (ms : List MemberState) (i j : ℕ) (q : Option SlotCall) → tag_in (kept_at (run_taken ms i q) j) ≡ tag_in (kept_at ms j)
 run_tags ms i j None = refl
 run_tags ms i j (Some p) =
     let f = Phase.Ran (replied ms p) in
     let answered = put_node ms i (phased_state f (kept_at ms i)) in
-    put_tag answered p.call.callee j (heard_state i p (kept_at answered p.call.callee)) (heard_tag i p (kept_at answered p.call.callee))
-    ∙ put_tag ms i j (phased_state f (kept_at ms i)) (phased_tag f (kept_at ms i).slot.posted)
+    put_tag answered p.call.callee j (callee_state_after i p (kept_at answered p.call.callee)) (callee_tag i p (kept_at answered p.call.callee))
+    ∙ put_tag ms i j (phased_state f (kept_at ms i)) (phased_tag f (kept_at ms i).slot.content)
 
 -- an event leaves the tag in each slot that it neither fills nor empties
 pub taken_tags : (setup : Setup) (ms : List MemberState) (e : Event) (j : ℕ) → changes_slot e j ≡ false → tag_in (kept_at (taken setup ms e) j) ≡ tag_in (kept_at ms j)
@@ -59,8 +59,8 @@ taken_tags setup ms (Event.Crash i) j n = put_elsewhere ms i j _ n
 taken_tags setup ms (Event.Check i) j n = put_tag ms i j _ refl
 taken_tags setup ms (Event.Timeout i) j n = put_tag ms i j _ refl
 taken_tags setup ms (Event.Start i) j n = put_elsewhere ms i j _ n
-taken_tags setup ms (Event.Run i) j n = run_tags ms i j (kept_at ms i).slot.posted
-taken_tags setup ms (Event.Lose i) j n = put_tag ms i j _ (phased_tag Phase.Failed (kept_at ms i).slot.posted)
+taken_tags setup ms (Event.Run i) j n = run_tags ms i j (kept_at ms i).slot.content
+taken_tags setup ms (Event.Lose i) j n = put_tag ms i j _ (phased_tag Phase.Failed (kept_at ms i).slot.content)
 taken_tags setup ms (Event.Return i) j n = put_elsewhere ms i j _ n
 taken_tags setup ms (Event.Move i) j n = put_tag ms i j _ refl
 taken_tags setup ms (Event.Plan i table) j n = put_tag ms i j _ refl

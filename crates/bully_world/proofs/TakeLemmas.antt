@@ -11,7 +11,7 @@ use Rattle.bully_calls.specs.declared.call.CallKind.{CallKind}
 use Rattle.bully_calls.specs.declared.call.CallKind.TheVariants.{AreYouUp, AreYouNormal, Halt, NewCoordinator, Ready}
 use Rattle.bully_calls.specs.declared.call.Phase.{Phase}
 use Rattle.bully_calls.specs.Pending.{outcome_of, is_sent, is_failed}
-use Rattle.bully_calls.specs.Slot.{Posted, pending_of, CarriesFor}
+use Rattle.bully_calls.specs.Slot.{SlotCall, pending_of, CarriesFor}
 use Rattle.bully_handlers.specs.Vector.{Vector}
 use Rattle.bully_steps.specs.declared.point.Point.{Point}
 use Rattle.bully_steps.specs.declared.point.Point.TheVariants.{Idle, Asking, Halting, Announcing, Planning, Readying, Checking, Inquiring}
@@ -19,7 +19,7 @@ use Rattle.bully_steps.specs.declared.point.Want.{Want}
 use Rattle.bully_steps.specs.Point.{offered, IsPointOf}
 use Rattle.bully_world.specs.declared.event.Event.{Event}
 use Rattle.bully_world.specs.Cause.{cause, node_of, in_phase}
-use Rattle.bully_world.specs.Shape.{AllFit, Fits, SuitsPhase, SuitsPoint, SuitsPending}
+use Rattle.bully_world.specs.NodeInvariant.{WorldInvariant, NodeInvariant, SuitsPhase, SuitsPoint, SuitsPending}
 use Rattle.bully_world.specs.State.{MemberState, empty_state, member_of, members_of, AllKept, IsKept}
 use Rattle.bully_world.specs.Step.{carried}
 use Rattle.bully_world.specs.Taken.{taken, taken_here, answer_taken, answer_here, MayTake}
@@ -69,7 +69,7 @@ carries_task call None room k s l = absurd (cc s)
 carries_task call (Some table) room k s l = (k, l table refl)
 
 -- exactly a Ready carries a table, which fits in the slot
-pub carries : (setup : Setup) (i : ℕ) (m : MemberState) (call : Call) → Fits setup i (member_of m) → m.slot.room ≡ setup.partitions
+pub carries : (setup : Setup) (i : ℕ) (m : MemberState) (call : Call) → NodeInvariant setup i (member_of m) → m.slot.room ≡ setup.partitions
     → offered setup m.vector.vector.coordinator m.point ≡ Want.Start call → CarriesFor call (carried call.kind m.vector.vector) m.slot.room
 carries setup i m call fits room offers = by_kind call.kind refl
   where
@@ -80,16 +80,16 @@ carries setup i m call fits room offers = by_kind call.kind refl
     by_kind NewCoordinator e = λ r. cc (e, r)
     by_kind Ready e = carries_task call m.vector.vector.task m.slot.room e (has_task setup i m.vector.vector m.point call offers e fits.by_point) (λ table is. fits.by_setup.task table is ∙ sym room)
 
-none_posted : (g : ℕ) (q : Option Posted) → option_map (pending_of g) q ≡ None → q ≡ None
-none_posted g None e = refl
-none_posted g (Some p) e = absurd (cc e)
+none_content : (g : ℕ) (q : Option SlotCall) → option_map (pending_of g) q ≡ None → q ≡ None
+none_content g None e = refl
+none_content g (Some p) e = absurd (cc e)
 
--- a test of the phase, of the call that is posted
-pub posted_test : (test : Phase → Bool) (g : ℕ) (q : Option Posted) → in_phase test (option_map (pending_of g) q) ≡ true → option_map_or (λ p. test p.phase) q false ≡ true
-posted_test test g None t = absurd (cc t)
-posted_test test g (Some p) t = t
+-- a test of the phase, of the call in the slot
+pub content_test : (test : Phase → Bool) (g : ℕ) (q : Option SlotCall) → in_phase test (option_map (pending_of g) q) ≡ true → option_map_or (λ p. test p.phase) q false ≡ true
+content_test test g None t = absurd (cc t)
+content_test test g (Some p) t = t
 
-some_outcome : (setup : Setup) (i : ℕ) (v : Vector) (at : Point) (g : ℕ) (q : Option Posted) → SuitsPending setup i v at (option_map (pending_of g) q) → in_phase (λ f. not (is_sent f)) (option_map (pending_of g) q) ≡ true
+some_outcome : (setup : Setup) (i : ℕ) (v : Vector) (at : Point) (g : ℕ) (q : Option SlotCall) → SuitsPending setup i v at (option_map (pending_of g) q) → in_phase (λ f. not (is_sent f)) (option_map (pending_of g) q) ≡ true
     → IsSome (option_and_then (λ p. outcome_of p.phase) q)
 some_outcome setup i v at g None s t = absurd (cc t)
 some_outcome setup i v at g (Some p) s t = by_phase p.phase s.phase t
@@ -104,19 +104,19 @@ some_outcome setup i v at g (Some p) s t = by_phase p.phase s.phase t
     by_phase Phase.Failed s t = refl
 
 module _ (setup : Setup) (w : World) (count : ℕ) (m : MemberState) where
-  pub may_take : (e : Event) → member w (node_of e) ≡ member_of m → Fits setup (node_of e) (member_of m) → IsKept setup count (node_of e) m → cause setup w count e ≡ None → MayTake setup e m
+  pub may_take : (e : Event) → member w (node_of e) ≡ member_of m → NodeInvariant setup (node_of e) (member_of m) → IsKept setup count (node_of e) m → cause setup w count e ≡ None → MayTake setup e m
   may_take (Event.Recover i) here fits kept n = tt
   may_take (Event.Crash i) here fits kept n = tt
   may_take (Event.Check i) here fits kept n = tt
   may_take (Event.Timeout i) here fits kept n = tt
   may_take (Event.Start i) here fits kept n =
       let free = ap (λ (x : Member). x.pending) (sym here) ∙ (start_facts setup w count i n).1 in
-      (none_posted m.generation m.slot.posted free, λ call offers. carries setup i m call fits kept.slot_room offers)
+      (none_content m.generation m.slot.content free, λ call offers. carries setup i m call fits kept.slot_room offers)
   may_take (Event.Run i) here fits kept n = tt
   may_take (Event.Lose i) here fits kept n =
-      posted_test (λ f. not (is_failed f)) m.generation m.slot.posted (ap (λ (x : Member). in_phase (λ f. not (is_failed f)) x.pending) (sym here) ∙ (lose_facts setup w count i n).0)
+      content_test (λ f. not (is_failed f)) m.generation m.slot.content (ap (λ (x : Member). in_phase (λ f. not (is_failed f)) x.pending) (sym here) ∙ (lose_facts setup w count i n).0)
   may_take (Event.Return i) here fits kept n =
-      some_outcome setup i m.vector.vector m.point m.generation m.slot.posted fits.by_call (ap (λ (x : Member). in_phase (λ f. not (is_sent f)) x.pending) (sym here) ∙ return_facts setup w count i n)
+      some_outcome setup i m.vector.vector m.point m.generation m.slot.content fits.by_call (ap (λ (x : Member). in_phase (λ f. not (is_sent f)) x.pending) (sym here) ∙ return_facts setup w count i n)
   may_take (Event.Move i) here fits kept n = tt
   may_take (Event.Plan i table) here fits kept n = (plan_facts setup w count i table n).2 ∙ sym kept.vector_room
 
@@ -151,19 +151,19 @@ pub record Takes (setup : Setup) (e : Event) (m : MemberState) : Type 0 where
   pub room : m.generation + 1 < 2 ^ 32
   pub may : MayTake setup e m
 
-pub takes : (setup : Setup) (count : ℕ) (ms : List MemberState) → AllFit setup (members_of ms) → AllKept setup count ms → count + 1 < 2 ^ 32 → (e : Event) → cause setup (members_of ms) count e ≡ None → Takes setup e (kept_at ms (node_of e))
+pub takes : (setup : Setup) (count : ℕ) (ms : List MemberState) → WorldInvariant setup (members_of ms) → AllKept setup count ms → count + 1 < 2 ^ 32 → (e : Event) → cause setup (members_of ms) count e ≡ None → Takes setup e (kept_at ms (node_of e))
 takes setup count ms fit kept room e free = record { at = fits.is_point; room = omega (arith, here.generation, room); may = may_take setup (members_of ms) count (kept_at ms (node_of e)) e is fits here free }
   where
     is : member (members_of ms) (node_of e) ≡ member_of (kept_at ms (node_of e))
     is = member-members_of ms (node_of e)
 
-    fits : Fits setup (node_of e) (member_of (kept_at ms (node_of e)))
-    fits = subst (Fits setup (node_of e)) is (fit.fits (node_of e))
+    fits : NodeInvariant setup (node_of e) (member_of (kept_at ms (node_of e)))
+    fits = subst (NodeInvariant setup (node_of e)) is (fit.fits (node_of e))
 
     here : IsKept setup count (node_of e) (kept_at ms (node_of e))
     here = kept (node_of e) (node_in_setup setup (members_of ms) count e free)
 
 -- the place of the event's node, by its index
-pub place_of_node : (setup : Setup) (count : ℕ) (ms : List MemberState) → AllFit setup (members_of ms) → (e : Event) → cause setup (members_of ms) count e ≡ None → (k : ℕ) (m : MemberState) → k + 1 ≡ node_of e → kept_at ms (node_of e) ≡ slice_index_or ms k m
+pub place_of_node : (setup : Setup) (count : ℕ) (ms : List MemberState) → WorldInvariant setup (members_of ms) → (e : Event) → cause setup (members_of ms) count e ≡ None → (k : ℕ) (m : MemberState) → k + 1 ≡ node_of e → kept_at ms (node_of e) ≡ slice_index_or ms k m
 place_of_node setup count ms fit e free k m is =
     at_node-place (empty_state 0) m ms k (node_of e) is (omega (arith, members_of-length ms, fit.count, (node_in_setup setup (members_of ms) count e free).1, is))

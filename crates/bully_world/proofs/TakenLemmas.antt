@@ -16,8 +16,8 @@ use Rattle.bully_calls.specs.declared.call.CallKind.TheVariants.{AreYouUp, AreYo
 use Rattle.bully_calls.specs.declared.call.Outcome.{Outcome}
 use Rattle.bully_calls.specs.declared.call.Phase.{Phase}
 use Rattle.bully_calls.specs.Pending.{Pending, orphan_of, outcome_of, answer_of, is_sent, is_failed}
-use Rattle.bully_calls.specs.Slot.{Posted, pending_of, phased}
-use Rattle.bully_handlers.specs.Handler.{heard, reply}
+use Rattle.bully_calls.specs.Slot.{SlotCall, pending_of, phased}
+use Rattle.bully_handlers.specs.Handler.{callee_after, reply}
 use Rattle.bully_handlers.specs.Vector.{Vector}
 use Rattle.bully_steps.specs.declared.point.Point.{Point}
 use Rattle.bully_steps.specs.declared.point.Point.TheVariants.{Idle, Planning}
@@ -26,49 +26,49 @@ use Rattle.bully_steps.specs.NextPoint.{next_point, next_vector}
 use Rattle.bully_steps.specs.Point.{offered}
 use Rattle.bully_world.specs.declared.event.Event.{Event}
 use Rattle.bully_world.specs.Cause.{cause, is_call, in_phase, callee_is_down}
-use Rattle.bully_world.specs.Shape.{AllFit, SuitsCall, SuitsPhase}
+use Rattle.bully_world.specs.NodeInvariant.{WorldInvariant, SuitsCall, SuitsPhase}
 use Rattle.bully_world.specs.State.{MemberState, empty_state, member_of, members_of, AllKept}
 use Rattle.bully_world.specs.Step.{Step, IsUp, offer, sent, stopped_by, called, ran, with_phase, Returns}
-use Rattle.bully_world.specs.Taken.{taken, answer_taken, run_taken, run_answer, replied, return_taken, returned_state, return_answer, proceeded_state, with_vector, with_posted, phased_state, started_state, heard_state, stopped_state_by}
+use Rattle.bully_world.specs.Taken.{taken, answer_taken, run_taken, run_answer, replied, return_taken, returned_state, return_answer, proceeded_state, with_vector, with_content, phased_state, started_state, callee_state_after, stopped_state_by}
 use Rattle.bully_world.specs.World.{World, Member, member, vector, point, pending, with_member}
 use Rattle.bully_world.proofs.MemberLemmas.{call_of_pending}
 use Rattle.bully_world.proofs.MembersOf.{kept_at, at_node-put_cases, members_of-put_node, member-members_of}
 
 -- the tag in a node's slot is of a generation that the node has had
 abbrev IsTagged : MemberState → Type 0
-IsTagged m = IfSome m.slot.posted (λ p. p.tag.generation ≤ m.generation)
+IsTagged m = IfSome m.slot.content (λ p. p.tag.generation ≤ m.generation)
 
 -- The changes of one node, as its member has them.
 
-phased_is : (m : MemberState) (p : Posted) (f : Phase) → m.slot.posted ≡ Some p → member_of (phased_state f m) ≡ record (member_of m) { pending = Some (record (pending_of m.generation p) { phase = f }) }
+phased_is : (m : MemberState) (p : SlotCall) (f : Phase) → m.slot.content ≡ Some p → member_of (phased_state f m) ≡ record (member_of m) { pending = Some (record (pending_of m.generation p) { phase = f }) }
 phased_is m p f e = grind (arith, e)
 
 phased_tagged : (m : MemberState) (f : Phase) → IsTagged m → IsTagged (phased_state f m)
-phased_tagged m f h = by_posted m.slot.posted h
+phased_tagged m f h = by_content m.slot.content h
   where
-    by_posted : (q : Option Posted) → IfSome q (λ p. p.tag.generation ≤ m.generation) → IfSome (option_map (phased f) q) (λ p. p.tag.generation ≤ m.generation)
-    by_posted None h = tt
-    by_posted (Some p) h = h
+    by_content : (q : Option SlotCall) → IfSome q (λ p. p.tag.generation ≤ m.generation) → IfSome (option_map (phased f) q) (λ p. p.tag.generation ≤ m.generation)
+    by_content None h = tt
+    by_content (Some p) h = h
 
 -- a raised generation makes the call in the slot an orphan
-orphans : (q : Option Posted) (g : ℕ) → IfSome q (λ p. p.tag.generation ≤ g) → option_map (pending_of (g + 1)) q ≡ option_map orphan_of (option_map (pending_of g) q)
+orphans : (q : Option SlotCall) (g : ℕ) → IfSome q (λ p. p.tag.generation ≤ g) → option_map (pending_of (g + 1)) q ≡ option_map orphan_of (option_map (pending_of g) q)
 orphans None g h = refl
 orphans (Some p) g h = grind (arith, nat_tests, h)
 
-heard_is : (i : ℕ) (p : Posted) (g : ℕ) (m : MemberState) → IsTagged m → member_of (heard_state i p m) ≡ called i (pending_of g p) (member_of m)
-heard_is i p g m h = by_kind p.call.kind
+callee_after_is : (i : ℕ) (p : SlotCall) (g : ℕ) (m : MemberState) → IsTagged m → member_of (callee_state_after i p m) ≡ called i (pending_of g p) (member_of m)
+callee_after_is i p g m h = by_kind p.call.kind
   where
-    by_kind : (kind : CallKind) → member_of (stopped_state_by kind (with_vector (heard i kind p.table m.vector.vector) m)) ≡ stopped_by kind (record (member_of m) { vector = heard i kind p.table m.vector.vector })
+    by_kind : (kind : CallKind) → member_of (stopped_state_by kind (with_vector (callee_after i kind p.table m.vector.vector) m)) ≡ stopped_by kind (record (member_of m) { vector = callee_after i kind p.table m.vector.vector })
     by_kind AreYouUp = refl
     by_kind AreYouNormal = refl
-    by_kind Halt = ap (λ q. record { vector = heard i Halt p.table m.vector.vector; point = Idle; pending = q }) (orphans m.slot.posted m.generation h)
+    by_kind Halt = ap (λ q. record { vector = callee_after i Halt p.table m.vector.vector; point = Idle; pending = q }) (orphans m.slot.content m.generation h)
     by_kind NewCoordinator = refl
     by_kind Ready = refl
 
 -- a call that passes the test is in the slot
-posted_there : (test : Phase → Bool) (g : ℕ) (q : Option Posted) → in_phase test (option_map (pending_of g) q) ≡ true → (p : Posted) × (q ≡ Some p) × (test p.phase ≡ true)
-posted_there test g None t = absurd (grind arith)
-posted_there test g (Some p) t = (p, refl, t)
+content_there : (test : Phase → Bool) (g : ℕ) (q : Option SlotCall) → in_phase test (option_map (pending_of g) q) ≡ true → (p : SlotCall) × (q ≡ Some p) × (test p.phase ≡ true)
+content_there test g None t = absurd (grind arith)
+content_there test g (Some p) t = (p, refl, t)
 
 call_there : (q : Want) → is_call q ≡ true → (call : Call) × (q ≡ Want.Start call)
 call_there (Want.Start call) t = (call, refl)
@@ -90,7 +90,7 @@ proceeded_is : (setup : Setup) (i : ℕ) (o : Outcome) (m : MemberState) (q : Me
 proceeded_is setup i o m q p is free e = grind (arith, is, free, e)
 
 -- a call's return empties the slot
-returned_is : (setup : Setup) (i : ℕ) (o : Outcome) (m : MemberState) (q : Member) (p : Point) → q ≡ member_of m → next_point setup i q.vector.up q.point o ≡ Some p → member_of (proceeded_state setup i o (with_posted None m)) ≡ record { vector = next_vector i q.point o q.vector; point = p; pending = None }
+returned_is : (setup : Setup) (i : ℕ) (o : Outcome) (m : MemberState) (q : Member) (p : Point) → q ≡ member_of m → next_point setup i q.vector.up q.point o ≡ Some p → member_of (proceeded_state setup i o (with_content None m)) ≡ record { vector = next_vector i q.point o q.vector; point = p; pending = None }
 returned_is setup i o m q p is e = grind (arith, is, e)
 
 sent_is : (f : Phase) → is_sent f ≡ true → f ≡ Phase.Sent
@@ -160,21 +160,21 @@ put_tagged ms i j s ts tj = by_case (at_node-put_cases (empty_state 0) ms i j s)
     by_case (inl h) = subst IsTagged (sym h.1) ts
     by_case (inr h) = subst IsTagged (sym h) tj
 
-module _ (setup : Setup) (count : ℕ) (ms : List MemberState) (fit : AllFit setup (members_of ms)) (kept : AllKept setup count ms) where
+module _ (setup : Setup) (count : ℕ) (ms : List MemberState) (fit : WorldInvariant setup (members_of ms)) (kept : AllKept setup count ms) where
   abbrev w : World
   w = members_of ms
 
   here : (i : ℕ) → member w i ≡ member_of (kept_at ms i)
   here i = member-members_of ms i
 
-  pending_is : (i : ℕ) (p : Posted) → (kept_at ms i).slot.posted ≡ Some p → pending w i ≡ Some (pending_of (kept_at ms i).generation p)
+  pending_is : (i : ℕ) (p : SlotCall) → (kept_at ms i).slot.content ≡ Some p → pending w i ≡ Some (pending_of (kept_at ms i).generation p)
   pending_is i p e = ap (λ (q : Member). q.pending) (here i) ∙ ap (option_map (pending_of (kept_at ms i).generation)) e
 
-  in_slot : (test : Phase → Bool) (i : ℕ) → in_phase test (pending w i) ≡ true → (p : Posted) × ((kept_at ms i).slot.posted ≡ Some p) × (test p.phase ≡ true)
-  in_slot test i t = posted_there test (kept_at ms i).generation (kept_at ms i).slot.posted (ap (λ (q : Member). in_phase test q.pending) (sym (here i)) ∙ t)
+  in_slot : (test : Phase → Bool) (i : ℕ) → in_phase test (pending w i) ≡ true → (p : SlotCall) × ((kept_at ms i).slot.content ≡ Some p) × (test p.phase ≡ true)
+  in_slot test i t = content_there test (kept_at ms i).generation (kept_at ms i).slot.content (ap (λ (q : Member). in_phase test q.pending) (sym (here i)) ∙ t)
 
   -- the writing of a phase
-  phase_written : (i : ℕ) (p : Posted) (f : Phase) → (kept_at ms i).slot.posted ≡ Some p → members_of (put_node ms i (phased_state f (kept_at ms i))) ≡ with_phase w i (pending_of (kept_at ms i).generation p) f
+  phase_written : (i : ℕ) (p : SlotCall) (f : Phase) → (kept_at ms i).slot.content ≡ Some p → members_of (put_node ms i (phased_state f (kept_at ms i))) ≡ with_phase w i (pending_of (kept_at ms i).generation p) f
   phase_written i p f e =
       put_is ms i (phased_state f (kept_at ms i)) (record (member w i) { pending = Some (record (pending_of (kept_at ms i).generation p) { phase = f }) })
       (phased_is (kept_at ms i) p f e ∙ ap (λ (q : Member). record q { pending = Some (record (pending_of (kept_at ms i).generation p) { phase = f }) }) (sym (here i)))
@@ -183,12 +183,12 @@ module _ (setup : Setup) (count : ℕ) (ms : List MemberState) (fit : AllFit set
   start_with i call up free is =
       (up, free, call, is, put_is ms i (started_state setup i (kept_at ms i)) (record (member w i) { pending = Some (sent call (vector w i)) }) (started_is setup i (kept_at ms i) (member w i) call (here i) is), refl)
 
-  lose_with : (i : ℕ) (p : Posted) → (kept_at ms i).slot.posted ≡ Some p → not (is_failed p.phase) ≡ true → callee_is_down w (pending w i) ≡ true → Step setup w (Event.Lose i) (members_of (taken setup ms (Event.Lose i))) Answer.Done
+  lose_with : (i : ℕ) (p : SlotCall) → (kept_at ms i).slot.content ≡ Some p → not (is_failed p.phase) ≡ true → callee_is_down w (pending w i) ≡ true → Step setup w (Event.Lose i) (members_of (taken setup ms (Event.Lose i))) Answer.Done
   lose_with i p e phase down =
       let is = pending_is i p e in
       (pending_of (kept_at ms i).generation p, is, unfailed p.phase phase, callee_down w (pending w i) (pending_of (kept_at ms i).generation p) is down, phase_written i p Phase.Failed e, refl)
 
-  run_by : (i : ℕ) (p : Posted) → (kept_at ms i).slot.posted ≡ Some p → IsTagged (kept_at ms i) → IsTagged (kept_at ms p.call.callee) → members_of (run_taken ms i (Some p)) ≡ ran w i (pending_of (kept_at ms i).generation p)
+  run_by : (i : ℕ) (p : SlotCall) → (kept_at ms i).slot.content ≡ Some p → IsTagged (kept_at ms i) → IsTagged (kept_at ms p.call.callee) → members_of (run_taken ms i (Some p)) ≡ ran w i (pending_of (kept_at ms i).generation p)
   run_by i p e ti tj =
       let c = pending_of (kept_at ms i).generation p in
       let j = p.call.callee in
@@ -199,14 +199,14 @@ module _ (setup : Setup) (count : ℕ) (ms : List MemberState) (fit : AllFit set
       phase_written i p f e ∙ ap (λ a. with_phase w i c (Phase.Ran a)) said in
       let there : member (members_of answered) j ≡ member_of (kept_at answered j) = member-members_of answered j in
       let tagged = put_tagged ms i j (phased_state f (kept_at ms i)) (phased_tagged (kept_at ms i) f ti) tj in
-      let second = heard_is i p (kept_at ms i).generation (kept_at answered j) tagged in
-      put_is answered j (heard_state i p (kept_at answered j)) (called i c (member (members_of answered) j)) (second ∙ ap (called i c) (sym there))
+      let second = callee_after_is i p (kept_at ms i).generation (kept_at answered j) tagged in
+      put_is answered j (callee_state_after i p (kept_at answered j)) (called i c (member (members_of answered) j)) (second ∙ ap (called i c) (sym there))
       ∙ ap (λ q. with_member q j (called i c (member q j))) first
 
   is_tagged : (i : ℕ) → IsNode setup i → IsTagged (kept_at ms i)
   is_tagged i node = (kept i node).tag
 
-  run_with : (i : ℕ) (p : Posted) → (kept_at ms i).slot.posted ≡ Some p → IsNode setup i → is_sent p.phase ≡ true → callee_is_down w (pending w i) ≡ false → Step setup w (Event.Run i) (members_of (taken setup ms (Event.Run i))) (answer_taken ms (Event.Run i))
+  run_with : (i : ℕ) (p : SlotCall) → (kept_at ms i).slot.content ≡ Some p → IsNode setup i → is_sent p.phase ≡ true → callee_is_down w (pending w i) ≡ false → Step setup w (Event.Run i) (members_of (taken setup ms (Event.Run i))) (answer_taken ms (Event.Run i))
   run_with i p e node phase up =
       let c = pending_of (kept_at ms i).generation p in
       let is = pending_is i p e in
@@ -216,23 +216,23 @@ module _ (setup : Setup) (count : ℕ) (ms : List MemberState) (fit : AllFit set
       (c, is, sent_is p.phase phase, callee_is_up w (pending w i) c is up, world, answer)
 
   -- a live call's return moves node i on
-  returns_by : (i : ℕ) (p : Posted) (o : Outcome) → (kept_at ms i).slot.posted ≡ Some p → outcome_of p.phase ≡ Some o → (b : Bool) → p.tag.generation == (kept_at ms i).generation ≡ b
-      → Returns setup w i b o (members_of (put_node ms i (if b then proceeded_state setup i o (with_posted None (kept_at ms i)) else with_posted None (kept_at ms i)))) (if b then answer_of o else Answer.Discarded)
+  returns_by : (i : ℕ) (p : SlotCall) (o : Outcome) → (kept_at ms i).slot.content ≡ Some p → outcome_of p.phase ≡ Some o → (b : Bool) → p.tag.generation == (kept_at ms i).generation ≡ b
+      → Returns setup w i b o (members_of (put_node ms i (if b then proceeded_state setup i o (with_content None (kept_at ms i)) else with_content None (kept_at ms i)))) (if b then answer_of o else Answer.Discarded)
   returns_by i p o e done true live =
       let c = pending_of (kept_at ms i).generation p in
       let call = call_of_pending setup w i c fit (pending_is i p e) in
       let next = has_value (next_point setup i (vector w i).up (point w i) o) (leads_on setup i (vector w i) (point w i) c o call live done) in
       let state = returned_is setup i o (kept_at ms i) (member w i) next.0 (here i) next.1 in
-      ((next.0, next.1, put_is ms i (proceeded_state setup i o (with_posted None (kept_at ms i))) (record { vector = next_vector i (point w i) o (vector w i); point = next.0; pending = None }) state), refl)
+      ((next.0, next.1, put_is ms i (proceeded_state setup i o (with_content None (kept_at ms i))) (record { vector = next_vector i (point w i) o (vector w i); point = next.0; pending = None }) state), refl)
   returns_by i p o e done false live =
-      (put_is ms i (with_posted None (kept_at ms i)) (record (member w i) { pending = None }) (ap (λ (q : Member). record q { pending = None }) (sym (here i))), refl)
+      (put_is ms i (with_content None (kept_at ms i)) (record (member w i) { pending = None }) (ap (λ (q : Member). record q { pending = None }) (sym (here i))), refl)
 
-  return_with : (i : ℕ) (p : Posted) (o : Outcome) → (kept_at ms i).slot.posted ≡ Some p → outcome_of p.phase ≡ Some o → Step setup w (Event.Return i) (members_of (taken setup ms (Event.Return i))) (answer_taken ms (Event.Return i))
+  return_with : (i : ℕ) (p : SlotCall) (o : Outcome) → (kept_at ms i).slot.content ≡ Some p → outcome_of p.phase ≡ Some o → Step setup w (Event.Return i) (members_of (taken setup ms (Event.Return i))) (answer_taken ms (Event.Return i))
   return_with i p o e done =
       let c = pending_of (kept_at ms i).generation p in
       let by = returns_by i p o e done (p.tag.generation == (kept_at ms i).generation) refl in
-      let state : return_taken setup i (kept_at ms i) (kept_at ms i).slot.posted ≡ returned_state setup i p o (kept_at ms i) = ap (return_taken setup i (kept_at ms i)) e ∙ ap (λ q. option_map_or (λ o. returned_state setup i p o (kept_at ms i)) q (kept_at ms i)) done in
-      let answer : return_answer (kept_at ms i).generation (kept_at ms i).slot.posted ≡ (if p.tag.generation == (kept_at ms i).generation then answer_of o else Answer.Discarded) =
+      let state : return_taken setup i (kept_at ms i) (kept_at ms i).slot.content ≡ returned_state setup i p o (kept_at ms i) = ap (return_taken setup i (kept_at ms i)) e ∙ ap (λ q. option_map_or (λ o. returned_state setup i p o (kept_at ms i)) q (kept_at ms i)) done in
+      let answer : return_answer (kept_at ms i).generation (kept_at ms i).slot.content ≡ (if p.tag.generation == (kept_at ms i).generation then answer_of o else Answer.Discarded) =
       ap (return_answer (kept_at ms i).generation) e ∙ ap (λ q. if p.tag.generation == (kept_at ms i).generation then option_map_or answer_of q Answer.Done else Answer.Discarded) done in (
         c,
         o,
@@ -278,6 +278,6 @@ module _ (setup : Setup) (count : ℕ) (ms : List MemberState) (fit : AllFit set
       (facts.0, facts.1, facts.2, (is_balanced_decides setup table (with_node i (vector w i).up)).0 facts.3, grind (arith, facts.1, here i, members_of-put_node), refl)
 
 -- what an event that nothing refuses makes is a step, and its answer is the step's
-pub taken_steps : (setup : Setup) (count : ℕ) (ms : List MemberState) (e : Event) → AllFit setup (members_of ms) → AllKept setup count ms → cause setup (members_of ms) count e ≡ None
+pub taken_steps : (setup : Setup) (count : ℕ) (ms : List MemberState) (e : Event) → WorldInvariant setup (members_of ms) → AllKept setup count ms → cause setup (members_of ms) count e ≡ None
     → Step setup (members_of ms) e (members_of (taken setup ms e)) (answer_taken ms e)
 taken_steps setup count ms e fit kept n = steps setup count ms fit kept e n

@@ -4,24 +4,24 @@ use Rattle.std.specs.Prelude.{option_map}
 use Rattle.bully_base.specs.Setup.{Setup}
 use Rattle.bully_calls.specs.declared.call.Call.{Call}
 use Rattle.bully_calls.specs.Pending.{Pending}
-use Rattle.bully_calls.specs.Slot.{Posted, pending_of}
+use Rattle.bully_calls.specs.Slot.{SlotCall, pending_of}
 use Rattle.bully_handlers.specs.Vector.{Vector}
 use Rattle.bully_steps.specs.declared.point.Point.{Point}
 use Rattle.bully_steps.specs.declared.point.Point.TheVariants.{Idle, Asking, Halting, Announcing, Planning, Readying, Checking, Inquiring}
-use Rattle.bully_steps.specs.Held.{IsCall, SuitsInquiry}
+use Rattle.bully_steps.specs.ProcedureState.{IsCall, SuitsInquiry}
 use Rattle.bully_steps.specs.Point.{offered}
-use Rattle.bully_world.specs.Shape.{Fits, AllFit, SuitsSetup, SuitsPoint, SuitsPending}
+use Rattle.bully_world.specs.NodeInvariant.{NodeInvariant, WorldInvariant, SuitsSetup, SuitsPoint, SuitsPending}
 use Rattle.bully_world.specs.State.{WorldState, IsReached, state_at, member_of, world_of}
 use Rattle.bully_world.specs.Turn.{is_live_in}
 use Rattle.bully_world.proofs.MembersOf.{member-members_of}
-use Rattle.bully_world.proofs.ShapeLemmas.{lawful_fits}
+use Rattle.bully_world.proofs.NodeInvariantLemmas.{lawful_fits}
 
 -- what holds of every node of a world that is reached
-pub reached_fits : (w : WorldState) → IsReached w → AllFit w.setup (world_of w)
+pub reached_fits : (w : WorldState) → IsReached w → WorldInvariant w.setup (world_of w)
 reached_fits w is = lawful_fits w.setup is.applied is.answers (world_of w) is.lawful
 
-pub node_fits : (w : WorldState) → IsReached w → (i : ℕ) → Fits w.setup i (member_of (state_at w i))
-node_fits w is i = subst (Fits w.setup i) (member-members_of w.members i) ((reached_fits w is).fits i)
+pub node_fits : (w : WorldState) → IsReached w → (i : ℕ) → NodeInvariant w.setup i (member_of (state_at w i))
+node_fits w is i = subst (NodeInvariant w.setup i) (member-members_of w.members i) ((reached_fits w is).fits i)
 
 -- at Inquiring the coordinator is another node of the setup
 pub suits_inquiry : (setup : Setup) (i : ℕ) (v : Vector) (p : Point) → SuitsSetup setup i v → SuitsPoint i v p → SuitsInquiry setup i v.coordinator p
@@ -44,6 +44,6 @@ live_offered setup i v p None h live = absurd (grind (arith, live))
 live_offered setup i v p (Some c) h live = rw (h.live live) tt
 
 -- the call in a slot goes to a node of the setup
-pub call_within : (setup : Setup) (i g : ℕ) (v : Vector) (p : Point) (q : Option Posted) (call : Call) → SuitsPending setup i v p (option_map (pending_of g) q) → option_map (λ (x : Posted). x.call) q ≡ Some call → call.callee ≤ setup.nodes
+pub call_within : (setup : Setup) (i g : ℕ) (v : Vector) (p : Point) (q : Option SlotCall) (call : Call) → SuitsPending setup i v p (option_map (pending_of g) q) → option_map (λ (x : SlotCall). x.call) q ≡ Some call → call.callee ≤ setup.nodes
 call_within setup i g v p None call h e = absurd (grind (arith, e))
 call_within setup i g v p (Some x) call h e = grind (arith, e, h.to_node)

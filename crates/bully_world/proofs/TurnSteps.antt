@@ -13,13 +13,13 @@ use Rattle.bully_calls.specs.Pending.{Pending, is_sent}
 use Rattle.bully_steps.specs.declared.point.Point.{Point}
 use Rattle.bully_steps.specs.declared.point.Point.TheVariants.{Idle, Asking, Halting, Announcing, Planning, Readying, Checking, Inquiring}
 use Rattle.bully_steps.specs.declared.point.Want.{Want}
-use Rattle.bully_steps.specs.Held.{Held, IsHeld, SuitsPlan, IsPlannedOver, held_at, held_coordinator, want_of}
+use Rattle.bully_steps.specs.ProcedureState.{ProcedureState, IsProcedureState, SuitsPlan, IsPlannedOver, procedure_state, coordinator_at, want_of}
 use Rattle.bully_steps.specs.Point.{offered}
 use Rattle.bully_world.specs.declared.event.Event.{Event}
 use Rattle.bully_world.specs.declared.turn.Next.{Next}
 use Rattle.bully_world.specs.declared.turn.StepKind.{StepKind}
 use Rattle.bully_world.specs.Cause.{cause, is_call, is_down_at}
-use Rattle.bully_world.specs.Shape.{Fits, AllFit}
+use Rattle.bully_world.specs.NodeInvariant.{NodeInvariant, WorldInvariant}
 use Rattle.bully_world.specs.Step.{IsUp, offer}
 use Rattle.bully_world.specs.Turn.{is_live_in, turn_of_call, turn_of_want, turn_in_step, has_table, event_of}
 use Rattle.bully_world.specs.World.{World, Member, member, vector, pending}
@@ -27,8 +27,8 @@ use Rattle.bully_world.proofs.AgreeLemmas.{Agrees}
 use Rattle.bully_world.proofs.MemberLemmas.{node_of_up, node_of_pending}
 
 -- the procedure that the world shows of a node with this member
-abbrev pub shown : Setup → ℕ → ℕ → Member → Held
-shown setup i g m = held_at setup i g m.point m.vector.up m.vector.coordinator (is_live_in m.pending)
+abbrev pub shown : Setup → ℕ → ℕ → Member → ProcedureState
+shown setup i g m = procedure_state setup i g m.point m.vector.up m.vector.coordinator (is_live_in m.pending)
 
 -- What the turn rule offers.
 
@@ -41,15 +41,15 @@ move_wanted b q t = grind (arith, t)
 plan_wanted : (b : Bool) (q : Want) → turn_of_want b q ≡ Next.Take StepKind.Plan → (q ≡ Want.Plan) × (b ≡ true)
 plan_wanted b q t = (grind (arith, t), grind (arith, t))
 
-pub start_offered : (w : World) (q : Option Pending) (h : Held) → turn_in_step w q h ≡ Next.Take StepKind.Start → (q ≡ None) × (is_call (want_of h) ≡ true)
+pub start_offered : (w : World) (q : Option Pending) (h : ProcedureState) → turn_in_step w q h ≡ Next.Take StepKind.Start → (q ≡ None) × (is_call (want_of h) ≡ true)
 start_offered w None h t = (refl, call_wanted (has_table h) (want_of h) t)
 start_offered w (Some c) h t = absurd (grind (arith, t))
 
-pub move_offered : (w : World) (q : Option Pending) (h : Held) → turn_in_step w q h ≡ Next.Take StepKind.Move → (q ≡ None) × (want_of h ≡ Want.Move)
+pub move_offered : (w : World) (q : Option Pending) (h : ProcedureState) → turn_in_step w q h ≡ Next.Take StepKind.Move → (q ≡ None) × (want_of h ≡ Want.Move)
 move_offered w None h t = (refl, move_wanted (has_table h) (want_of h) t)
 move_offered w (Some c) h t = absurd (grind (arith, t))
 
-pub plan_offered : (w : World) (q : Option Pending) (h : Held) → turn_in_step w q h ≡ Next.Take StepKind.Plan → (q ≡ None) × (want_of h ≡ Want.Plan) × (has_table h ≡ true)
+pub plan_offered : (w : World) (q : Option Pending) (h : ProcedureState) → turn_in_step w q h ≡ Next.Take StepKind.Plan → (q ≡ None) × (want_of h ≡ Want.Plan) × (has_table h ≡ true)
 plan_offered w None h t = (refl, (plan_wanted (has_table h) (want_of h) t).0, (plan_wanted (has_table h) (want_of h) t).1)
 plan_offered w (Some c) h t = absurd (grind (arith, t))
 
@@ -62,38 +62,38 @@ lost b f t = (grind (arith, t), grind (arith, t))
 come : (b : Bool) (f : Phase) → turn_of_call b f ≡ Next.Take StepKind.Return → is_sent f ≡ false
 come b f t = grind (arith, t)
 
-pub lose_offered : (w : World) (q : Option Pending) (h : Held) → turn_in_step w q h ≡ Next.Take StepKind.Lose → (c : Pending) × (q ≡ Some c) × (c.phase ≡ Phase.Sent) × (is_down_at w c.call.callee ≡ true)
+pub lose_offered : (w : World) (q : Option Pending) (h : ProcedureState) → turn_in_step w q h ≡ Next.Take StepKind.Lose → (c : Pending) × (q ≡ Some c) × (c.phase ≡ Phase.Sent) × (is_down_at w c.call.callee ≡ true)
 lose_offered w None h t = absurd (never_full (has_table h) (want_of h) StepKind.Lose (inl refl) t)
 lose_offered w (Some c) h t = (c, refl, (lost (is_down_at w c.call.callee) c.phase t).0, (lost (is_down_at w c.call.callee) c.phase t).1)
 
-pub return_offered : (w : World) (q : Option Pending) (h : Held) → turn_in_step w q h ≡ Next.Take StepKind.Return → (c : Pending) × (q ≡ Some c) × (is_sent c.phase ≡ false)
+pub return_offered : (w : World) (q : Option Pending) (h : ProcedureState) → turn_in_step w q h ≡ Next.Take StepKind.Return → (c : Pending) × (q ≡ Some c) × (is_sent c.phase ≡ false)
 return_offered w None h t = absurd (never_full (has_table h) (want_of h) StepKind.Return (inr refl) t)
 return_offered w (Some c) h t = (c, refl, come (is_down_at w c.call.callee) c.phase t)
 
 -- What it needs.
 
-offered_held : (setup : Setup) (p : Point) (k : Option ℕ) → offered setup (held_coordinator p k) p ≡ offered setup k p
-offered_held setup Idle k = refl
-offered_held setup (Asking j) k = refl
-offered_held setup (Halting zero) k = refl
-offered_held setup (Halting (suc j)) k = refl
-offered_held setup (Announcing []) k = refl
-offered_held setup (Announcing (j ∷ rest)) k = refl
-offered_held setup Planning k = refl
-offered_held setup (Readying []) k = refl
-offered_held setup (Readying (j ∷ rest)) k = refl
-offered_held setup (Checking j) k = refl
-offered_held setup Inquiring k = refl
+offered_state : (setup : Setup) (p : Point) (k : Option ℕ) → offered setup (coordinator_at p k) p ≡ offered setup k p
+offered_state setup Idle k = refl
+offered_state setup (Asking j) k = refl
+offered_state setup (Halting zero) k = refl
+offered_state setup (Halting (suc j)) k = refl
+offered_state setup (Announcing []) k = refl
+offered_state setup (Announcing (j ∷ rest)) k = refl
+offered_state setup Planning k = refl
+offered_state setup (Readying []) k = refl
+offered_state setup (Readying (j ∷ rest)) k = refl
+offered_state setup (Checking j) k = refl
+offered_state setup Inquiring k = refl
 
 -- where no call is pending, a procedure that agrees with its node wants what the node's point offers
-pub wants : (setup : Setup) (i g : ℕ) (m : Member) (h : Held) → h.setup ≡ setup → Agrees h (shown setup i g m) → m.pending ≡ None → want_of h ≡ offered setup m.vector.coordinator m.point
-wants setup i g m h se a free = grind (arith, se, free, a.awaits, a.point, a.coordinator, offered_held setup m.point m.vector.coordinator)
+pub wants : (setup : Setup) (i g : ℕ) (m : Member) (h : ProcedureState) → h.setup ≡ setup → Agrees h (shown setup i g m) → m.pending ≡ None → want_of h ≡ offered setup m.vector.coordinator m.point
+wants setup i g m h se a free = grind (arith, se, free, a.awaits, a.point, a.coordinator, offered_state setup m.point m.vector.coordinator)
 
 -- a node that something is offered is up
-up_if : (setup : Setup) (i : ℕ) (m : Member) → Fits setup i m → offered setup m.vector.coordinator m.point ≢ Want.Nothing → m.vector.status ≢ Down
+up_if : (setup : Setup) (i : ℕ) (m : Member) → NodeInvariant setup i m → offered setup m.vector.coordinator m.point ≢ Want.Nothing → m.vector.status ≢ Down
 up_if setup i m fits offers down = offers (grind (arith, fits.down_idle down))
 
-up_if_call : (setup : Setup) (i : ℕ) (m : Member) (c : Pending) → Fits setup i m → m.pending ≡ Some c → m.vector.status ≢ Down
+up_if_call : (setup : Setup) (i : ℕ) (m : Member) (c : Pending) → NodeInvariant setup i m → m.pending ≡ Some c → m.vector.status ≢ Down
 up_if_call setup i m c fits is down = grind (arith, is, fits.down_free down)
 
 start_possible : (setup : Setup) (w : World) (count i : ℕ) → count < setup.events_max → IsNode setup i → IsUp w i → pending w i ≡ None → is_call (offer setup w i) ≡ true → cause setup w count (Event.Start i) ≡ None
@@ -113,7 +113,7 @@ return_possible : (setup : Setup) (w : World) (count i : ℕ) (c : Pending) → 
 return_possible setup w count i c room node up is come = grind (arith, nat_tests, room, node, up, is, come)
 
 -- the planned table is one that the node may take
-planned_suits : (h : Held) → IsHeld h → has_table h ≡ true → (h.point ≡ Planning) × IfSome h.up (λ up. IsPlannedOver h.setup h.node up (unwrap_or h.table []))
+planned_suits : (h : ProcedureState) → IsProcedureState h → has_table h ≡ true → (h.point ≡ Planning) × IfSome h.up (λ up. IsPlannedOver h.setup h.node up (unwrap_or h.table []))
 planned_suits h is there = by_table h.table is.plan there
   where
     by_table : (t : Option (List ℕ)) → SuitsPlan h t → option_map_or (λ (table : List ℕ). true) t false ≡ true → (h.point ≡ Planning) × IfSome h.up (λ up. IsPlannedOver h.setup h.node up (unwrap_or t []))
@@ -121,7 +121,7 @@ planned_suits h is there = by_table h.table is.plan there
     by_table (Some table) suits there = suits
 
 -- a step that the turn rule offers is refused only where the bound is reached
-pub offered_possible : (setup : Setup) (w : World) (count i g : ℕ) (h : Held) (kind : StepKind) → AllFit setup w → IsHeld h → h.setup ≡ setup → h.node ≡ i → Agrees h (shown setup i g (member w i))
+pub offered_possible : (setup : Setup) (w : World) (count i g : ℕ) (h : ProcedureState) (kind : StepKind) → WorldInvariant setup w → IsProcedureState h → h.setup ≡ setup → h.node ≡ i → Agrees h (shown setup i g (member w i))
     → turn_in_step w (pending w i) h ≡ Next.Take kind → count < setup.events_max → cause setup w count (event_of kind h) ≡ None
 offered_possible setup w count i g h StepKind.Start all is se ne a t room =
     let free = start_offered w (pending w i) h t in

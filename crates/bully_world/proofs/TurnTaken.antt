@@ -2,21 +2,21 @@
 use Rattle.std.proofs.Common.{◌≡◌, ℕ, ◌<◌, Bool, true, false, None, arith, refl, sym, ◌∙◌, ap, subst}
 use Rattle.std.specs.Prelude.{IfSome, if◌then◌else◌}
 use Rattle.bully_calls.specs.declared.call.Answer.{Answer}
-use Rattle.bully_steps.specs.Held.{Held, IsHeld, CanResume}
+use Rattle.bully_steps.specs.ProcedureState.{ProcedureState, IsProcedureState, CanResume}
 use Rattle.bully_world.specs.declared.turn.Next.{Next}
 use Rattle.bully_world.specs.declared.turn.StepKind.{StepKind}
 use Rattle.bully_world.specs.State.{WorldState, IsReached, state_at, member_of, world_of, cause_in}
 use Rattle.bully_world.specs.Step.{Step}
-use Rattle.bully_world.specs.Turn.{turn, turn_in_step, is_in_step, procedure_in, event_of, outcome_after, gone_on, agree, has_table}
+use Rattle.bully_world.specs.Turn.{turn, turn_in_step, is_in_step, procedure_in, event_of, outcome_after, procedure_after, agree, has_table}
 use Rattle.bully_world.specs.World.{Member, member, pending}
 use Rattle.bully_world.proofs.AgreeLemmas.{Agrees, agrees_of, agree_if}
-use Rattle.bully_world.proofs.GoneOn.{step_on, gone_owner}
+use Rattle.bully_world.proofs.ProcedureAfter.{step_on, identity_after}
 use Rattle.bully_world.proofs.MembersOf.{member-members_of}
 use Rattle.bully_world.proofs.TurnLemmas.{reached_fits}
 use Rattle.bully_world.proofs.TurnSteps.{shown, offered_possible, plan_offered}
 
 -- a step is offered only in step, by the call in the slot
-pub taken_in_step : (w : WorldState) (h : Held) (kind : StepKind) → turn w h ≡ Next.Take kind
+pub taken_in_step : (w : WorldState) (h : ProcedureState) (kind : StepKind) → turn w h ≡ Next.Take kind
     → Agrees h (shown w.setup h.node (state_at w h.node).generation (member (world_of w) h.node)) × (turn_in_step (world_of w) (pending (world_of w) h.node) h ≡ Next.Take kind)
 taken_in_step w h kind t = by_test (is_in_step w h) refl t
   where
@@ -31,23 +31,23 @@ taken_in_step w h kind t = by_test (is_in_step w h) refl t
     )
     by_test false e t = absurd (grind (arith, t))
 
-pub free_if_offered : (w : WorldState) (h : Held) (kind : StepKind) → IsReached w → IsHeld h → h.setup ≡ w.setup → turn w h ≡ Next.Take kind → w.events < w.setup.events_max → cause_in w (event_of kind h) ≡ None
+pub free_if_offered : (w : WorldState) (h : ProcedureState) (kind : StepKind) → IsReached w → IsProcedureState h → h.setup ≡ w.setup → turn w h ≡ Next.Take kind → w.events < w.setup.events_max → cause_in w (event_of kind h) ≡ None
 free_if_offered w h kind reached is se t room =
     let taken = taken_in_step w h kind t in
     offered_possible w.setup (world_of w) w.events h.node (state_at w h.node).generation h kind (reached_fits w reached) is se refl taken.0 taken.1 room
 
-pub table_if_planned : (w : WorldState) (h : Held) (kind : StepKind) → turn w h ≡ Next.Take kind → kind ≡ StepKind.Plan → has_table h ≡ true
+pub table_if_planned : (w : WorldState) (h : ProcedureState) (kind : StepKind) → turn w h ≡ Next.Take kind → kind ≡ StepKind.Plan → has_table h ≡ true
 table_if_planned w h kind t e = (plan_offered (world_of w) (pending (world_of w) h.node) h ((taken_in_step w h kind t).1 ∙ ap Next.Take e)).2
 
 -- the procedure goes on by the step, and is in step with the world after it
-pub goes_on_taken : (w w' : WorldState) (h : Held) (kind : StepKind) (answer : Answer) → IsReached w → h.setup ≡ w.setup → turn w h ≡ Next.Take kind → w'.setup ≡ w.setup
+pub goes_on_taken : (w w' : WorldState) (h : ProcedureState) (kind : StepKind) (answer : Answer) → IsReached w → h.setup ≡ w.setup → turn w h ≡ Next.Take kind → w'.setup ≡ w.setup
     → ((i : ℕ) → (state_at w' i).generation ≡ (state_at w i).generation) → Step w.setup (world_of w) (event_of kind h) (world_of w') answer
-    → (is_in_step w' (gone_on kind answer h) ≡ true) × IfSome (outcome_after kind answer) (CanResume h)
+    → (is_in_step w' (procedure_after kind answer h) ≡ true) × IfSome (outcome_after kind answer) (CanResume h)
 goes_on_taken w w' h kind answer reached se t same generation s =
     let taken = taken_in_step w h kind t in
     let on = step_on w.setup (world_of w) h.node (state_at w h.node).generation h (reached_fits w reached) se refl taken.0 kind (world_of w') answer s in
     let there = member-members_of w'.members h.node in
     let shows : shown w.setup h.node (state_at w h.node).generation (member (world_of w') h.node) ≡ procedure_in w' h.node =
     ap (shown w.setup h.node (state_at w h.node).generation) there ∙ (rw (← generation h.node, ← same) refl) in
-    let agrees : agree (gone_on kind answer h) (procedure_in w' h.node) ≡ true = agree_if (gone_on kind answer h) (procedure_in w' h.node) (subst (Agrees (gone_on kind answer h)) shows on.0) in
-    (ap (λ k. agree (gone_on kind answer h) (procedure_in w' k)) (gone_owner kind answer h).1 ∙ agrees, on.1)
+    let agrees : agree (procedure_after kind answer h) (procedure_in w' h.node) ≡ true = agree_if (procedure_after kind answer h) (procedure_in w' h.node) (subst (Agrees (procedure_after kind answer h)) shows on.0) in
+    (ap (λ k. agree (procedure_after kind answer h) (procedure_in w' k)) (identity_after kind answer h).1 ∙ agrees, on.1)

@@ -7,7 +7,7 @@ use Rattle.bully_base.specs.Places.{at_node}
 use Rattle.bully_base.specs.Setup.{Setup}
 use Rattle.bully_world.specs.declared.event.Event.{Event}
 use Rattle.bully_world.specs.Cause.{cause}
-use Rattle.bully_world.specs.Shape.{AllFit}
+use Rattle.bully_world.specs.NodeInvariant.{WorldInvariant}
 use Rattle.bully_world.specs.State.{MemberState, WorldState, empty_state, member_of, IsWorld, IsReached, members_of, first_state, new_members}
 use Rattle.bully_world.specs.Step.{Step}
 use Rattle.bully_world.specs.Taken.{taken, answer_taken}
@@ -15,14 +15,14 @@ use Rattle.bully_world.specs.World.{Member, empty_member, first_world, pending, 
 use Rattle.bully_world.proofs.KeptLemmas.{taken_kept, taken_length, new_kept}
 use Rattle.bully_world.proofs.LawfulLemmas.{lawful_more}
 use Rattle.bully_world.proofs.MembersOf.{member-members_of, members_of-length, members_of-new}
-use Rattle.bully_world.proofs.ShapeLemmas.{lawful_fits}
+use Rattle.bully_world.proofs.NodeInvariantLemmas.{lawful_fits}
 use Rattle.bully_world.proofs.TakeLemmas.{room_of}
 use Rattle.bully_world.proofs.TakenLemmas.{taken_steps}
 
 abbrev state : Setup → ℕ → List MemberState → WorldState
 state setup events ms = record { setup = setup; events = events; members = ms }
 
-pub world_fits : (setup : Setup) (events : ℕ) (ms : List MemberState) → IsWorld (state setup events ms) → AllFit setup (members_of ms)
+pub world_fits : (setup : Setup) (events : ℕ) (ms : List MemberState) → IsWorld (state setup events ms) → WorldInvariant setup (members_of ms)
 world_fits setup events ms is = lawful_fits setup is.reached.applied is.reached.answers (members_of ms) is.reached.lawful
 
 pub world_steps : (setup : Setup) (events : ℕ) (ms : List MemberState) (e : Event) → IsWorld (state setup events ms) → cause setup (members_of ms) events e ≡ None → Step setup (members_of ms) e (members_of (taken setup ms e)) (answer_taken ms e)

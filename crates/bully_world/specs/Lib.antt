@@ -2,7 +2,7 @@ pub mod World
 pub mod Step
 pub mod Lawful
 pub mod Cause
-pub mod Shape
+pub mod NodeInvariant
 pub mod State
 pub mod Taken
 pub mod Turn

@@ -7,8 +7,8 @@ use Rattle.bully_calls.specs.declared.call.CallKind.{CallKind}
 use Rattle.bully_calls.specs.declared.call.Tag.{Tag}
 use Rattle.bully_calls.specs.declared.call.CallKind.TheVariants.{AreYouUp, AreYouNormal, Halt, NewCoordinator, Ready}
 use Rattle.bully_calls.specs.Pending.{Pending}
-use Rattle.bully_calls.specs.Slot.{Posted, Slot, pending_in}
-use Rattle.bully_handlers.specs.Vector.{RoomyVector, empty_vector}
+use Rattle.bully_calls.specs.Slot.{SlotCall, Slot, pending_in}
+use Rattle.bully_handlers.specs.Vector.{StoredVector, empty_vector}
 use Rattle.bully_steps.specs.declared.point.Point.{Point}
 use Rattle.bully_steps.specs.declared.point.Point.TheVariants.{Idle}
 use Rattle.bully_world.specs.declared.event.Event.{Event}
@@ -19,7 +19,7 @@ use Rattle.bully_world.specs.World.{Member, World, pending}
 
 -- what is kept of one node: its generation tells a live call from an orphan
 pub record MemberState : Type 0 where
-  pub vector : RoomyVector
+  pub vector : StoredVector
   pub point : Point
   pub slot : Slot
   pub generation : ℕ
@@ -34,7 +34,7 @@ abbrev pub empty_state : ℕ → MemberState
 empty_state room = record {
   vector = record { vector = empty_vector; room = room };
   point = Idle;
-  slot = record { posted = None; room = room };
+  slot = record { content = None; room = room };
   generation = 0;
 }
 
@@ -67,8 +67,8 @@ pub record IsReached (w : WorldState) : Type 0 where
 pub record IsKept (setup : Setup) (events i : ℕ) (m : MemberState) : Type 0 where
   pub vector_room : m.vector.room ≡ setup.partitions
   pub slot_room : m.slot.room ≡ setup.partitions
-  pub caller : IfSome m.slot.posted (λ p. p.tag.caller ≡ i)
-  pub tag : IfSome m.slot.posted (λ p. p.tag.generation ≤ m.generation)
+  pub caller : IfSome m.slot.content (λ p. p.tag.caller ≡ i)
+  pub tag : IfSome m.slot.content (λ p. p.tag.generation ≤ m.generation)
   pub generation : m.generation ≤ events
 
 abbrev pub AllKept : Setup → ℕ → List MemberState → Type 0
@@ -99,11 +99,11 @@ raises w (Event.Run i) j = halts j (pending w i)
 raises w e j = false
 
 -- the tag of the call in the slot
-abbrev pub tag_of_posted : Posted → Tag
-tag_of_posted p = p.tag
+abbrev pub tag_of_call : SlotCall → Tag
+tag_of_call p = p.tag
 
 abbrev pub tag_in : MemberState → Option Tag
-tag_in m = option_map tag_of_posted m.slot.posted
+tag_in m = option_map tag_of_call m.slot.content
 
 -- the event fills or empties node j's slot: it is j's own Start, Return or Crash
 abbrev pub changes_slot : Event → ℕ → Bool

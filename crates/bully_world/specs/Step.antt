@@ -11,7 +11,7 @@ use Rattle.bully_calls.specs.declared.call.CallKind.TheVariants.{AreYouUp, AreYo
 use Rattle.bully_calls.specs.declared.call.Outcome.{Outcome}
 use Rattle.bully_calls.specs.declared.call.Phase.{Phase}
 use Rattle.bully_calls.specs.Pending.{Pending, outcome_of, answer_of}
-use Rattle.bully_handlers.specs.Handler.{heard, reply}
+use Rattle.bully_handlers.specs.Handler.{callee_after, reply}
 use Rattle.bully_handlers.specs.Vector.{Vector, crashed, recovered}
 use Rattle.bully_steps.specs.declared.point.Point.{Point}
 use Rattle.bully_steps.specs.declared.point.Point.TheVariants.{Idle, Planning, Readying}
@@ -51,7 +51,7 @@ stopped_by Ready m = m
 
 -- the callee after a call from node i
 abbrev pub called : ℕ → Pending → Member → Member
-called i c m = stopped_by c.call.kind (record m { vector = heard i c.call.kind c.table m.vector })
+called i c m = stopped_by c.call.kind (record m { vector = callee_after i c.call.kind c.table m.vector })
 
 -- node i's call has this phase from now on
 abbrev pub with_phase : World → ℕ → Pending → Phase → World

@@ -9,7 +9,7 @@ use Rattle.bully_calls.specs.Pending.{Pending}
 use Rattle.bully_steps.specs.declared.point.Point.{Point}
 use Rattle.bully_steps.specs.declared.point.Point.TheVariants.{Idle, Asking, Halting, Announcing, Planning, Readying, Checking, Inquiring}
 use Rattle.bully_steps.specs.declared.point.Want.{Want}
-use Rattle.bully_steps.specs.Held.{Held, held_at, want_of, resumed}
+use Rattle.bully_steps.specs.ProcedureState.{ProcedureState, procedure_state, want_of, resumed}
 use Rattle.bully_world.specs.declared.event.Event.{Event}
 use Rattle.bully_world.specs.declared.turn.Next.{Next}
 use Rattle.bully_world.specs.declared.turn.Next.TheVariants.{Resync, Rest, Take}
@@ -25,10 +25,10 @@ is_live_in None = false
 is_live_in (Some c) = c.is_live
 
 -- the procedure of node i that the world shows; it awaits exactly where a live call of i is pending
-abbrev pub procedure_in : WorldState → ℕ → Held
+abbrev pub procedure_in : WorldState → ℕ → ProcedureState
 procedure_in w i =
     let m = member_of (state_at w i) in
-    held_at w.setup i (state_at w i).generation m.point m.vector.up m.vector.coordinator (is_live_in m.pending)
+    procedure_state w.setup i (state_at w i).generation m.point m.vector.up m.vector.coordinator (is_live_in m.pending)
 
 abbrev pub same_flag : Bool → Bool → Bool
 same_flag true b = b
@@ -52,7 +52,7 @@ same_point Inquiring Inquiring = true
 same_point p q = false
 
 -- the procedures agree on generation, point and call, and on the up set or the coordinator that they hold
-abbrev pub agree : Held → Held → Bool
+abbrev pub agree : ProcedureState → ProcedureState → Bool
 agree h shown =
     (h.generation == shown.generation)
     && same_point h.point shown.point
@@ -61,7 +61,7 @@ agree h shown =
     && same_node h.coordinator shown.coordinator
 
 -- the procedure is in step with the world: it agrees with the one that the world shows of its node
-abbrev pub is_in_step : WorldState → Held → Bool
+abbrev pub is_in_step : WorldState → ProcedureState → Bool
 is_in_step w h = agree h (procedure_in w h.node)
 
 -- the turn where the slot is full: what ran or failed returns, and what was sent to a node that is Down is lost
@@ -78,20 +78,20 @@ turn_of_want has_table Want.Move = Take Move
 turn_of_want has_table Want.Plan = if has_table then Take Plan else Rest
 turn_of_want has_table Want.Await = Rest
 
-abbrev pub has_table : Held → Bool
+abbrev pub has_table : ProcedureState → Bool
 has_table h = option_map_or (λ table. true) h.table false
 
 -- the turn of a procedure that is in step, by the call in its node's slot
-abbrev pub turn_in_step : World → Option Pending → Held → Next
+abbrev pub turn_in_step : World → Option Pending → ProcedureState → Next
 turn_in_step w None h = turn_of_want (has_table h) (want_of h)
 turn_in_step w (Some c) h = turn_of_call (is_down_at w c.call.callee) c.phase
 
 -- the turn rule
-abbrev pub turn : WorldState → Held → Next
+abbrev pub turn : WorldState → ProcedureState → Next
 turn w h = if is_in_step w h then turn_in_step (world_of w) (member_of (state_at w h.node)).pending h else Resync
 
 -- the event of a step of the procedure; a plan has the procedure's table
-abbrev pub event_of : StepKind → Held → Event
+abbrev pub event_of : StepKind → ProcedureState → Event
 event_of Start h = Event.Start h.node
 event_of Lose h = Event.Lose h.node
 event_of Return h = Event.Return h.node
@@ -110,5 +110,5 @@ outcome_after Move answer = Some Outcome.Moved
 outcome_after Plan answer = Some Outcome.Planned
 
 -- the procedure after its step with this answer
-abbrev pub gone_on : StepKind → Answer → Held → Held
-gone_on kind answer h = option_map_or (resumed h) (outcome_after kind answer) h
+abbrev pub procedure_after : StepKind → Answer → ProcedureState → ProcedureState
+procedure_after kind answer h = option_map_or (resumed h) (outcome_after kind answer) h

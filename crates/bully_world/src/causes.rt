@@ -5,7 +5,7 @@ ghost use Rattle.bully_table.specs.Balance.{is_balanced};
 ghost use Rattle.bully_calls.specs.Pending.{is_sent, is_failed};
 ghost use Rattle.bully_steps.specs.Point.{offered, IsPointOf};
 ghost use Rattle.bully_world.specs.Cause.{refuses, first_of, later_refusals, cause, is_idle, is_call, is_move, is_plan, node_of, in_phase, is_pending, callee_is_down};
-ghost use Rattle.bully_world.specs.Shape.{AllFit};
+ghost use Rattle.bully_world.specs.NodeInvariant.{WorldInvariant};
 ghost use Rattle.bully_world.specs.State.{member_of, members_of};
 
 use crate::event::{Event, Refused};
@@ -24,7 +24,7 @@ pub fn place_of(node: Node) -> usize
 
 /// Why the event is refused with so many events applied, the first that holds; none where it isn't.
 pub fn cause_of(setup: Setup, events: u32, members: &[Member], event: &Event) -> Option<Refused>
-    requires { AllFit setup (members_of members.now) }
+    requires { WorldInvariant setup (members_of members.now) }
     ensures { result ≡ cause setup (members_of members.now) events event.now }
 {
     if events >= setup.events_max() {
@@ -44,7 +44,7 @@ pub fn cause_of(setup: Setup, events: u32, members: &[Member], event: &Event) ->
 
 // The same of a node that is up, from the refusals behind IsUp on.
 fn later_cause(setup: Setup, members: &[Member], event: &Event) -> Option<Refused>
-    requires fits { AllFit setup (members_of members.now) }
+    requires fits { WorldInvariant setup (members_of members.now) }
     requires node { IsNode setup (node_of event.now) }
     ensures { (count : ℕ) → result ≡ first_of (refuses setup (members_of members.now) count event.now) later_refusals }
 {
@@ -151,7 +151,7 @@ fn suits(setup: Setup, member: &Member, node: Node, table: &Table) -> bool
 
 // Whether the callee of the member's call is Down; no where there is no call.
 fn callee_down(members: &[Member], member: &Member) -> bool
-    requires { IfSome member.now.slot.posted (λ p. (0 < p.call.callee) × (p.call.callee ≤ length members.now)) }
+    requires { IfSome member.now.slot.content (λ p. (0 < p.call.callee) × (p.call.callee ≤ length members.now)) }
     ensures { result ≡ callee_is_down (members_of members.now) (member_of member.now).pending }
 {
     match member.slot().call() {
@@ -162,7 +162,7 @@ fn callee_down(members: &[Member], member: &Member) -> bool
 
 // Why a Run of the member's call is refused.
 fn run_cause(members: &[Member], member: &Member) -> Option<Refused>
-    requires { IfSome member.now.slot.posted (λ p. (0 < p.call.callee) × (p.call.callee ≤ length members.now)) }
+    requires { IfSome member.now.slot.content (λ p. (0 < p.call.callee) × (p.call.callee ≤ length members.now)) }
     ensures { result ≡ (if not (in_phase is_sent (member_of member.now).pending) then Some Refused.NoCall
         else if callee_is_down (members_of members.now) (member_of member.now).pending then Some Refused.CalleeDown else None) }
 {
@@ -174,7 +174,7 @@ fn run_cause(members: &[Member], member: &Member) -> Option<Refused>
 
 // Why a loss of the member's call is refused.
 fn lose_cause(members: &[Member], member: &Member) -> Option<Refused>
-    requires { IfSome member.now.slot.posted (λ p. (0 < p.call.callee) × (p.call.callee ≤ length members.now)) }
+    requires { IfSome member.now.slot.content (λ p. (0 < p.call.callee) × (p.call.callee ≤ length members.now)) }
     ensures { result ≡ (if not (in_phase (λ f. not (is_failed f)) (member_of member.now).pending) then Some Refused.NoCall
         else if not (callee_is_down (members_of members.now) (member_of member.now).pending) then Some Refused.CalleeUp else None) }
 {

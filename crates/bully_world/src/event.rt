@@ -16,7 +16,7 @@ pub enum Event {
     Plan(Node, Table),
 }
 
-/// Why an event is refused, in the one order of refusals. This project's profile.
+/// Why an event is refused, in the one order of refusals. The rule: docs/ALGORITHM.md.
 #[derive(Clone, Copy, PartialEq, Eq, Debug)]
 pub enum Refused {
     /// As many events as the setup bounds were applied.

@@ -3,7 +3,7 @@ ghost use Rattle.bully_base.specs.Setup.{Setup as SetupState};
 ghost use Rattle.std.specs.Option.{option_copied};
 ghost use Rattle.bully_base.specs.declared.TheConstants.{NODES_MAX};
 ghost use Rattle.bully_calls.specs.Pending.{is_sent, is_failed};
-ghost use Rattle.bully_calls.specs.Slot.{CarriesFor, is_posted, outcome_in};
+ghost use Rattle.bully_calls.specs.Slot.{CarriesFor, holds_call, outcome_in};
 ghost use Rattle.bully_handlers.specs.Handler.{reply};
 ghost use Rattle.bully_steps.specs.NextPoint.{next_vector};
 ghost use Rattle.bully_steps.specs.Point.{offered, IsPointOf};
@@ -11,7 +11,7 @@ ghost use Rattle.bully_world.specs.Cause.{node_of};
 ghost use Rattle.bully_world.specs.State.{empty_state, member_of};
 ghost use Rattle.bully_world.specs.Step.{carried};
 ghost use Rattle.bully_world.specs.World.{is_sent_to};
-ghost use Rattle.bully_world.specs.Taken.{with_vector, halted_number, is_readied, recovered_state, crashed_state, begun_state, posted_state, phased_state, heard_state, proceeded_state, return_taken, return_answer, planned_state, started_state, taken_here, answer_here, MayTake};
+ghost use Rattle.bully_world.specs.Taken.{with_vector, halted_number, is_readied, recovered_state, crashed_state, begun_state, opened_state, phased_state, callee_state_after, proceeded_state, return_taken, return_answer, planned_state, started_state, taken_here, answer_here, MayTake};
 
 use crate::event::Event;
 use bully_base::{Node, OutOfMemory, Setup, Status};
@@ -40,7 +40,7 @@ impl Model for Member {
 }
 
 impl Member {
-    /// A node before any event. Refused where a growth of memory is.
+    /// A node before any event. Refused where an allocation fails.
     pub fn new(alloc: Global, setup: Setup) -> Result<Member, OutOfMemory>
         ensures { IfOk result (λ m. m ≡ empty_state setup.partitions) }
     {
@@ -133,9 +133,9 @@ impl Member {
 
     /// The node starts this call. A Ready carries its task.
     pub fn start(&mut self, node: Node, call: Call)
-        requires empty { self.old.slot.posted ≡ None }
+        requires empty { self.old.slot.content ≡ None }
         requires carries { CarriesFor call (carried call.kind self.old.vector.vector) self.old.slot.room }
-        ensures { self.new ≡ posted_state node call self.old }
+        ensures { self.new ≡ opened_state node call self.old }
     {
         let tag = Tag {
             caller: node,
@@ -146,7 +146,7 @@ impl Member {
 
     /// The node's call ran and was answered so.
     pub fn ran(&mut self, answer: Answer)
-        requires sent { IsTrue (is_posted is_sent self.old.slot) }
+        requires sent { IsTrue (holds_call is_sent self.old.slot) }
         requires replied { (answer ≡ Answer.Yes) ⊎ (answer ≡ Answer.No) }
         ensures { self.new ≡ phased_state (Phase.Ran answer) self.old }
     {
@@ -155,20 +155,20 @@ impl Member {
 
     /// The node's call failed.
     pub fn lose(&mut self)
-        requires { IsTrue (is_posted (λ f. not (is_failed f)) self.old.slot) }
+        requires { IsTrue (holds_call (λ f. not (is_failed f)) self.old.slot) }
         ensures { self.new ≡ phased_state Phase.Failed self.old }
     {
         self.slot.fail();
     }
 
     /// The call in the caller's slot runs at this node, which isn't Down. A Halt stops its procedure.
-    pub fn hear(&mut self, caller: Node, slot: &Slot) -> Answer
+    pub fn receive(&mut self, caller: Node, slot: &Slot) -> Answer
         requires up { self.old.vector.vector.status ≢ Status.Down }
         requires room { self.old.generation + 1 < 2 ^ 32 }
-        requires posted { IsSome slot.now.posted }
-        requires carries { IfSome slot.now.posted (λ p. CarriesFor p.call p.table self.old.vector.room) }
-        ensures after { IfSome slot.now.posted (λ p. self.new ≡ heard_state caller p self.old) }
-        ensures answer { IfSome slot.now.posted (λ p. result ≡ reply p.call.kind self.old.vector.vector) }
+        requires content { IsSome slot.now.content }
+        requires carries { IfSome slot.now.content (λ p. CarriesFor p.call p.table self.old.vector.room) }
+        ensures after { IfSome slot.now.content (λ p. self.new ≡ callee_state_after caller p self.old) }
+        ensures answer { IfSome slot.now.content (λ p. result ≡ reply p.call.kind self.old.vector.vector) }
     {
         match slot.call().map(|call| call.kind) {
             Some(CallKind::AreYouUp) | None => self.vector.are_you_up(),
@@ -190,8 +190,8 @@ impl Member {
     pub fn take_back(&mut self, setup: Setup, node: Node) -> Answer
         requires at { IsPointOf setup node self.old.point }
         requires came { IsSome (outcome_in self.old.slot) }
-        ensures after { self.new ≡ return_taken setup node self.old self.old.slot.posted }
-        ensures answer { result ≡ return_answer self.old.generation self.old.slot.posted }
+        ensures after { self.new ≡ return_taken setup node self.old self.old.slot.content }
+        ensures answer { result ≡ return_answer self.old.generation self.old.slot.content }
     {
         let is_orphan = self.slot.is_orphan(self.generation);
         let outcome = self.slot.take();
@@ -228,8 +228,8 @@ impl Member {
         ensures { self.new ≡ with_vector (next_vector node self.old.point Outcome.Moved self.old.vector.vector) self.old }
     {
         match self.point {
-            Point::Asking(_) => self.vector.stand(node),
-            Point::Halting(0) => self.vector.lead(node),
+            Point::Asking(_) => self.vector.become_candidate(node),
+            Point::Halting(0) => self.vector.become_coordinator(node),
             Point::Readying(_) => {
                 if has_readied_all(&self.point) {
                     self.vector.finish();

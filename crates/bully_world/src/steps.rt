@@ -1,12 +1,12 @@
 ghost use Rattle.std.specs.Prelude.{◌≡◌, ◌≢◌, ◌⊎◌, ◌+◌, ◌<◌, ◌^◌, length, IfSome, IsSome, IsTrue, Some, None, slice_index_or, slice_set};
 ghost use Rattle.bully_base.specs.declared.node.Status.{Status};
 ghost use Rattle.bully_calls.specs.Pending.{is_sent};
-ghost use Rattle.bully_calls.specs.Slot.{CarriesFor, is_posted};
+ghost use Rattle.bully_calls.specs.Slot.{CarriesFor, holds_call};
 ghost use Rattle.bully_handlers.specs.Handler.{reply};
 ghost use Rattle.bully_world.specs.Cause.{cause};
-ghost use Rattle.bully_world.specs.Shape.{AllFit};
+ghost use Rattle.bully_world.specs.NodeInvariant.{WorldInvariant};
 ghost use Rattle.bully_world.specs.State.{AllKept, empty_state, members_of};
-ghost use Rattle.bully_world.specs.Taken.{CanExchange, heard_state, phased_state, taken, answer_taken};
+ghost use Rattle.bully_world.specs.Taken.{CanExchange, callee_state_after, phased_state, taken, answer_taken};
 
 use crate::causes::place_of;
 use crate::event::Event;
@@ -16,7 +16,7 @@ use bully_calls::{Answer, Phase};
 
 /// An event that nothing refuses is taken.
 pub fn take_event(setup: Setup, events: u32, members: &mut [Member], event: &Event) -> Answer
-    requires fits { AllFit setup (members_of members.old) }
+    requires fits { WorldInvariant setup (members_of members.old) }
     requires kept { AllKept setup events members.old }
     requires room { events + 1 < 2 ^ 32 }
     requires free { cause setup (members_of members.old) events event.now ≡ None }
@@ -34,7 +34,7 @@ pub fn take_event(setup: Setup, events: u32, members: &mut [Member], event: &Eve
 
 // The call of this caller runs at its callee.
 fn run_call(setup: Setup, _events: u32, members: &mut [Member], caller: Node) -> Answer
-    requires fits { AllFit setup (members_of members.old) }
+    requires fits { WorldInvariant setup (members_of members.old) }
     requires kept { AllKept setup _events members.old }
     requires room { _events + 1 < 2 ^ 32 }
     requires free { cause setup (members_of members.old) _events (Event.Run caller) ≡ None }
@@ -54,9 +54,9 @@ fn run_between(members: &mut [Member], caller: Node, here: usize, there: usize) 
     requires there { there < length members.old }
     requires apart { here ≢ there }
     requires can { CanExchange (slice_index_or members.old here (empty_state 0)) (slice_index_or members.old there (empty_state 0)) }
-    ensures answer { IfSome (slice_index_or members.old here (empty_state 0)).slot.posted (λ p. result ≡ reply p.call.kind (slice_index_or members.old there (empty_state 0)).vector.vector) }
-    ensures after { IfSome (slice_index_or members.old here (empty_state 0)).slot.posted (λ p. members.new
-        ≡ slice_set (slice_set members.old here (phased_state (Phase.Ran result) (slice_index_or members.old here (empty_state 0)))) there (heard_state caller p (slice_index_or members.old there (empty_state 0)))) }
+    ensures answer { IfSome (slice_index_or members.old here (empty_state 0)).slot.content (λ p. result ≡ reply p.call.kind (slice_index_or members.old there (empty_state 0)).vector.vector) }
+    ensures after { IfSome (slice_index_or members.old here (empty_state 0)).slot.content (λ p. members.new
+        ≡ slice_set (slice_set members.old here (phased_state (Phase.Ran result) (slice_index_or members.old here (empty_state 0)))) there (callee_state_after caller p (slice_index_or members.old there (empty_state 0)))) }
 {
     if there < here {
         let (lower, upper) = members.split_at_mut(here);
@@ -71,10 +71,10 @@ fn run_between(members: &mut [Member], caller: Node, here: usize, there: usize) 
 fn exchange(calling: &mut Member, called: &mut Member, caller: Node) -> Answer
     requires { CanExchange calling.old called.old }
     ensures calling { calling.new ≡ phased_state (Phase.Ran result) calling.old }
-    ensures called { IfSome calling.old.slot.posted (λ p. called.new ≡ heard_state caller p called.old) }
-    ensures answer { IfSome calling.old.slot.posted (λ p. result ≡ reply p.call.kind called.old.vector.vector) }
+    ensures called { IfSome calling.old.slot.content (λ p. called.new ≡ callee_state_after caller p called.old) }
+    ensures answer { IfSome calling.old.slot.content (λ p. result ≡ reply p.call.kind called.old.vector.vector) }
 {
-    let answer = called.hear(caller, calling.slot());
+    let answer = called.receive(caller, calling.slot());
     calling.ran(answer);
     answer
 }

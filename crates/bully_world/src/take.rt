@@ -1,9 +1,9 @@
 ghost use Rattle.std.specs.Prelude.{◌≡◌, ◌+◌, ◌≤◌, ◌<◌, ◌⊎◌, ℕ, IfOk, OnOk, IfErr, IfSome, true};
-ghost use Rattle.bully_steps.specs.Held.{CanResume};
-ghost use Rattle.bully_steps.specs.Procedure.{held};
+ghost use Rattle.bully_steps.specs.ProcedureState.{CanResume};
+ghost use Rattle.bully_steps.specs.Procedure.{state_of};
 ghost use Rattle.bully_world.specs.State.{state_at, world_of, IsReached};
 ghost use Rattle.bully_world.specs.Step.{Step};
-ghost use Rattle.bully_world.specs.Turn.{turn, has_table, event_of, outcome_after, gone_on, is_in_step};
+ghost use Rattle.bully_world.specs.Turn.{turn, has_table, event_of, outcome_after, procedure_after, is_in_step};
 ghost use Rattle.bully_world.specs.declared.turn.Next.{Next};
 
 use crate::World;
@@ -29,7 +29,7 @@ pub struct TakenStep {
 pub enum StepRefusal {
     /// The event is refused: always as Full, since the turn rule offered the step.
     Refused(Refused),
-    /// A growth of memory was refused; of a plan alone.
+    /// An allocation failed; of a plan alone.
     OutOfMemory,
 }
 
@@ -43,16 +43,16 @@ impl World {
         kind: StepKind,
         procedure: Procedure,
     ) -> Result<TakenStep, (Procedure, StepRefusal)>
-        requires setup { (held procedure).setup ≡ self.old.setup }
-        requires offered { turn self.old (held procedure) ≡ Next.Take kind }
+        requires setup { (state_of procedure).setup ≡ self.old.setup }
+        requires offered { turn self.old (state_of procedure) ≡ Next.Take kind }
         ensures step { IfOk result (λ taken. Step self.old.setup (world_of self.old) taken.event (world_of self.new) taken.answer) }
         ensures counted { OnOk result (self.new.events ≡ self.old.events + 1) }
         ensures generations { OnOk result ((i : ℕ) → (state_at self.new i).generation ≡ (state_at self.old i).generation) }
         ensures setup { self.new.setup ≡ self.old.setup }
-        ensures event { IfOk result (λ taken. taken.event ≡ event_of kind (held procedure)) }
-        ensures procedure { IfOk result (λ taken. held taken.procedure ≡ gone_on kind taken.answer (held procedure)) }
-        ensures in_step { IfOk result (λ taken. is_in_step self.new (held taken.procedure) ≡ true) }
-        ensures owner { IfOk result (λ taken. ((held taken.procedure).setup ≡ self.new.setup) × ((held taken.procedure).node ≡ (held procedure).node)) }
+        ensures event { IfOk result (λ taken. taken.event ≡ event_of kind (state_of procedure)) }
+        ensures procedure { IfOk result (λ taken. state_of taken.procedure ≡ procedure_after kind taken.answer (state_of procedure)) }
+        ensures in_step { IfOk result (λ taken. is_in_step self.new (state_of taken.procedure) ≡ true) }
+        ensures owner { IfOk result (λ taken. ((state_of taken.procedure).setup ≡ self.new.setup) × ((state_of taken.procedure).node ≡ (state_of procedure).node)) }
         ensures room { OnOk result (self.old.events < self.old.setup.events_max) }
         ensures refused { IfErr result (λ why. ((why.1 ≡ StepRefusal.Refused Refused.Full) × (self.old.setup.events_max ≤ self.old.events))
             ⊎ ((why.1 ≡ StepRefusal.OutOfMemory) × (kind ≡ StepKind.Plan) × (self.old.events < self.old.setup.events_max))) }
@@ -75,13 +75,13 @@ impl World {
         kind: StepKind,
         procedure: &Procedure,
     ) -> Result<(Event, Answer), StepRefusal>
-        requires setup { (held procedure.now).setup ≡ self.old.setup }
-        requires offered { turn self.old (held procedure.now) ≡ Next.Take kind }
+        requires setup { (state_of procedure.now).setup ≡ self.old.setup }
+        requires offered { turn self.old (state_of procedure.now) ≡ Next.Take kind }
         ensures step { IfOk result (λ applied. Step self.old.setup (world_of self.old) applied.0 (world_of self.new) applied.1) }
         ensures counted { OnOk result (self.new.events ≡ self.old.events + 1) }
         ensures generations { OnOk result ((i : ℕ) → (state_at self.new i).generation ≡ (state_at self.old i).generation) }
         ensures setup { self.new.setup ≡ self.old.setup }
-        ensures event { IfOk result (λ applied. applied.0 ≡ event_of kind (held procedure.now)) }
+        ensures event { IfOk result (λ applied. applied.0 ≡ event_of kind (state_of procedure.now)) }
         ensures reached { IsReached self.old }
         ensures room { OnOk result (self.old.events < self.old.setup.events_max) }
         ensures refused { IfErr result (λ why. ((why ≡ StepRefusal.Refused Refused.Full) × (self.old.setup.events_max ≤ self.old.events))
@@ -101,8 +101,8 @@ impl World {
 
 // The event of the procedure's step. A plan's table is copied, and refused where memory is.
 fn event_by(kind: StepKind, procedure: &Procedure) -> Result<Event, OutOfMemory>
-    requires { kind ≡ StepKind.Plan → has_table (held procedure.now) ≡ true }
-    ensures event { IfOk result (λ event. event ≡ event_of kind (held procedure.now)) }
+    requires { kind ≡ StepKind.Plan → has_table (state_of procedure.now) ≡ true }
+    ensures event { IfOk result (λ event. event ≡ event_of kind (state_of procedure.now)) }
     ensures memory { IfErr result (λ _. kind ≡ StepKind.Plan) }
 {
     let node = procedure.node();
@@ -135,8 +135,8 @@ fn outcome_by(kind: StepKind, answer: Answer) -> Option<Outcome>
 
 // The procedure after its step with this answer.
 fn go_on(procedure: Procedure, kind: StepKind, answer: Answer) -> Procedure
-    requires { IfSome (outcome_after kind answer) (CanResume (held procedure)) }
-    ensures { held result ≡ gone_on kind answer (held procedure) }
+    requires { IfSome (outcome_after kind answer) (CanResume (state_of procedure)) }
+    ensures { state_of result ≡ procedure_after kind answer (state_of procedure) }
 {
     match outcome_by(kind, answer) {
         Some(outcome) => procedure.resume(outcome),

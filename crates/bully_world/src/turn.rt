@@ -1,7 +1,7 @@
 ghost use Rattle.std.specs.Prelude.{◌≡◌, ◌≤◌, true, bytes_eq};
 ghost use Rattle.bully_calls.specs.Slot.{pending_in};
-ghost use Rattle.bully_steps.specs.Held.{want_of};
-ghost use Rattle.bully_steps.specs.Procedure.{held};
+ghost use Rattle.bully_steps.specs.ProcedureState.{want_of};
+ghost use Rattle.bully_steps.specs.Procedure.{state_of};
 ghost use Rattle.bully_world.specs.Turn.{is_live_in, procedure_in, is_in_step, agree, same_point, same_set, same_node, turn, turn_of_call, turn_of_want, has_table};
 
 use crate::World;
@@ -24,7 +24,7 @@ pub enum StepKind {
     Plan,
 }
 
-/// What the turn rule says. This project's profile.
+/// What the turn rule says. The rule: docs/ALGORITHM.md.
 #[derive(Clone, Copy, PartialEq, Eq, Debug)]
 pub enum Next {
     /// The procedure isn't in step with the world.
@@ -40,8 +40,8 @@ impl World {
     /// the node's slot holds a live call; at Planning it has no table.
     pub fn procedure(&self, node: Node) -> Procedure
         requires { node ≤ self.now.setup.nodes }
-        ensures held { held result ≡ procedure_in self.now node }
-        ensures in_step { is_in_step self.now (held result) ≡ true }
+        ensures state { state_of result ≡ procedure_in self.now node }
+        ensures in_step { is_in_step self.now (state_of result) ≡ true }
     {
         // Shows the proof what holds of every world.
         let _ = (self.events(), node.number());
@@ -62,8 +62,8 @@ impl World {
     /// its node's slot is full, Return for a call that ran or failed, Lose for a sent one whose callee is Down.
     /// Where the slot is empty, what the procedure wants, Plan only with its table. Else Rest.
     pub fn next(&self, procedure: &Procedure) -> Next
-        requires { (held procedure.now).setup ≡ self.now.setup }
-        ensures { result ≡ turn self.now (held procedure.now) }
+        requires { (state_of procedure.now).setup ≡ self.now.setup }
+        ensures { result ≡ turn self.now (state_of procedure.now) }
     {
         // Shows the proof what holds of every world and of every procedure.
         let _ = (self.events(), procedure.setup());
@@ -101,7 +101,7 @@ fn next_of_call(callee_is_down: bool, phase: Phase) -> Next
 
 // What the turn rule says where the slot is empty.
 fn next_of_want(procedure: &Procedure) -> Next
-    ensures { result ≡ turn_of_want (has_table (held procedure.now)) (want_of (held procedure.now)) }
+    ensures { result ≡ turn_of_want (has_table (state_of procedure.now)) (want_of (state_of procedure.now)) }
 {
     match procedure.want() {
         Want::Nothing | Want::Await => Next::Rest,
@@ -116,7 +116,7 @@ fn next_of_want(procedure: &Procedure) -> Next
 
 // Whether the procedures agree on generation, point and call, and on the up set or the coordinator that they hold.
 fn agree_on_all(procedure: &Procedure, shown: &Procedure) -> bool
-    ensures { result ≡ agree (held procedure.now) (held shown.now) }
+    ensures { result ≡ agree (state_of procedure.now) (state_of shown.now) }
 {
     procedure.generation() == shown.generation()
         && is_same_point(&procedure.point(), &shown.point())

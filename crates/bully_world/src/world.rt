@@ -33,7 +33,7 @@ impl Model for World {
 }
 
 impl World {
-    /// The world before any event. It reserves all memory that it will need. Refused where a growth of memory is.
+    /// The world before any event. It reserves all memory that it will need. Refused where an allocation fails.
     pub fn new(alloc: Global, setup: Setup) -> Result<World, OutOfMemory>
         ensures state { IfOk result (λ w. w ≡ first_state setup) }
         ensures first { IfOk result (λ w. world_of w ≡ first_world setup) }

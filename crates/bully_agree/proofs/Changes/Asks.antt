@@ -1,18 +1,18 @@
 -- Node c has asked past node d, which is Down.
 use Rattle.std.proofs.Common.{◌≡◌, ℕ, ◌+◌, arith, refl}
 use Rattle.bully_base.specs.declared.node.Status.TheVariants.{Down}
-use Rattle.bully_agree.proofs.Traits.{Traits, AllSound, Announces, Keeps, Turns}
+use Rattle.bully_agree.proofs.NodeSummary.{NodeSummary, AllLocal, Announces, GroupInvariant, Turns}
 use Rattle.bully_agree.proofs.Changes.Shrinks.{leads_alike, leaders_remain, agrees_remain}
 
-module _ {n : ℕ} {f g : ℕ → Traits} {c d : ℕ} (sound : AllSound n f) (kept : Keeps f) (turn : Turns f g c (record (f c) { asked = d + 1 }))
+module _ {n : ℕ} {f g : ℕ → NodeSummary} {c d : ℕ} (local : AllLocal n f) (kept : GroupInvariant f) (turn : Turns f g c (record (f c) { asked = d + 1 }))
     (down : (f d).status ≡ Down) (so_far : (f c).asked ≡ d) where
   announced : (m k : ℕ) → Announces g m k → Announces f m k
   announced m k a = grind (arith, turn.same m, turn.same k, a.sent, a.halter, a.status)
 
-  pub asks : Keeps g
+  pub asks : GroupInvariant g
   asks = record {
     elections = record {
-      asked_unpassed = λ i k l a. grind (arith, turn.same i, turn.same k, kept.elections.asked_unpassed i k, (sound d).down_passed_none);
+      asked_unpassed = λ i k l a. grind (arith, turn.same i, turn.same k, kept.elections.asked_unpassed i k, (local d).down_passed_none);
       asked_apart = λ i k l a. grind (arith, turn.same i, turn.same k, kept.elections.asked_apart i k);
       passed_apart = λ m k h l p. grind (arith, turn.same m, turn.same k, kept.elections.passed_apart m k);
       halted_unasked = λ i k m p l e h t. grind (arith, turn.same i, turn.same k, turn.same m, kept.elections.halted_unasked i k m);

@@ -1,19 +1,19 @@
 -- Node d has heard that node c is its coordinator.
 use Rattle.std.proofs.Common.{◌≢◌, ℕ, Some, arith}
 use Rattle.bully_base.specs.declared.node.Status.TheVariants.{Reorganization}
-use Rattle.bully_agree.proofs.Traits.{Traits, AllSound, Announces, Keeps, Turns}
+use Rattle.bully_agree.proofs.NodeSummary.{NodeSummary, AllLocal, Announces, GroupInvariant, Turns}
 
-module _ {n : ℕ} {f g : ℕ → Traits} {c d : ℕ} (sound : AllSound n f) (kept : Keeps f) (turn : Turns f g d (record (f d) { status = Reorganization; coordinator = Some c }))
+module _ {n : ℕ} {f g : ℕ → NodeSummary} {c d : ℕ} (local : AllLocal n f) (kept : GroupInvariant f) (turn : Turns f g d (record (f d) { status = Reorganization; coordinator = Some c }))
     (apart : c ≢ d) (will : Announces f c d) where
   announced : (m k : ℕ) → Announces g m k → Announces f m k
   announced m k a = grind (arith, turn.same m, turn.same k, a.sent, a.halter, a.status)
 
-  pub joins : Keeps g
+  pub joins : GroupInvariant g
   joins = record {
     elections = record {
       asked_unpassed = λ i k l a. grind (arith, turn.same i, turn.same k, kept.elections.asked_unpassed i k);
       asked_apart = λ i k l a. grind (arith, turn.same i, turn.same k, kept.elections.asked_apart i k, kept.announcements.unasked i c d will);
-      passed_apart = λ m k h l p. grind (arith, turn.same m, turn.same k, kept.elections.passed_apart m k, kept.announcements.unpassed m c d will, (sound c).announces_when d, will.sent);
+      passed_apart = λ m k h l p. grind (arith, turn.same m, turn.same k, kept.elections.passed_apart m k, kept.announcements.unpassed m c d will, (local c).announces_when d, will.sent);
       halted_unasked = λ i k m p l e h t. grind (arith, turn.same i, turn.same k, turn.same m, kept.elections.halted_unasked i k m);
     };
     announcements = record {
@@ -23,11 +23,11 @@ module _ {n : ℕ} {f g : ℕ → Traits} {c d : ℕ} (sound : AllSound n f) (ke
       single = λ m k m' k' a b. kept.announcements.single m k m' k' (announced m k a) (announced m' k' b);
     };
     leaders = record {
-      followed = λ m j l t. grind (arith, turn.same m, turn.same j, kept.announcements.followed c d m will, (sound m).leads_status, (sound m).leads_itself);
+      followed = λ m j l t. grind (arith, turn.same m, turn.same j, kept.announcements.followed c d m will, (local m).leads_status, (local m).leads_itself);
       calls_none_normal = λ m j l t. grind (arith, turn.same m, turn.same j, kept.leaders.calls_none_normal m j);
       hands_task = λ m j l t. grind (arith, turn.same m, turn.same j, kept.leaders.hands_task m j);
       hands_carries = λ m j l r. grind (arith, turn.same m, kept.leaders.hands_carries m j);
-      readied_task = λ m k j r t. grind (arith, turn.same j, turn.same m, turn.same k, r.sent, r.coordinator, r.status, kept.leaders.readied_task m k j, (sound c).announces_alone d, will.sent);
+      readied_task = λ m k j r t. grind (arith, turn.same j, turn.same m, turn.same k, r.sent, r.coordinator, r.status, kept.leaders.readied_task m k j, (local c).announces_alone d, will.sent);
     };
     agrees = record {
       has_coordinator = λ j t. grind (arith, turn.same j, kept.agrees.has_coordinator j);

@@ -1,33 +1,33 @@
 -- Node c, which asked past all above it and passed all below it, calls these to itself from now on.
 use Rattle.std.proofs.Common.{◌≡◌, ℕ, ◌<◌, true, Some, None, arith}
 use Rattle.bully_base.specs.declared.node.Status.TheVariants.{Election, Reorganization}
-use Rattle.bully_agree.proofs.Traits.{Halts, Calls, Traits, takes_part, leads, AllSound, Announces, Keeps, Turns, sole}
+use Rattle.bully_agree.proofs.NodeSummary.{Halts, Calls, NodeSummary, takes_part, leads, AllLocal, Announces, GroupInvariant, Turns, sole}
 
-module _ {n : ℕ} {f g : ℕ → Traits} {c : ℕ} (sound : AllSound n f) (kept : Keeps f) (turn : Turns f g c (record (f c) { passed = 0; stage = Calls; status = Reorganization; coordinator = Some c }))
-    (halts : (f c).stage ≡ Halts) (asked_all : n < (f c).asked) (passed_all : (f c).passed ≡ 1) (idle : (f c).announces ≡ None) (nobody : (f 0).asked ≡ 0) where
+module _ {n : ℕ} {f g : ℕ → NodeSummary} {c : ℕ} (local : AllLocal n f) (kept : GroupInvariant f) (turn : Turns f g c (record (f c) { passed = 0; activity = Calls; status = Reorganization; coordinator = Some c }))
+    (halts : (f c).activity ≡ Halts) (asked_all : n < (f c).asked) (passed_all : (f c).passed ≡ 1) (idle : (f c).announces ≡ None) (nobody : (f 0).asked ≡ 0) where
   -- nobody but c would announce
   alone : (m k : ℕ) → Announces f m k → m ≡ c
-  alone = sole n c f sound kept asked_all (omega arith) (λ _. (sound c).halts_itself halts)
+  alone = sole n c f local kept asked_all (omega arith) (λ _. (local c).halts_itself halts)
 
   -- and c announces nothing
   none_yet : (m k : ℕ) → Announces g m k → ⊥
   none_yet m k a =
       let before = λ (s : (f m).announces ≡ Some k) (h : (f k).halter ≡ Some m) (e : (f k).status ≡ Election). alone m k (record { sent = s; halter = h; status = e }) in
-      grind (arith, turn.same m, turn.same k, a.sent, a.status, a.halter, (sound c).halts_itself halts, before)
+      grind (arith, turn.same m, turn.same k, a.sent, a.status, a.halter, (local c).halts_itself halts, before)
 
   -- no other node takes part
   only : (j : ℕ) → takes_part (g j).status ≡ true → j ≡ c
-  only j t = grind (arith, turn.same j, kept.elections.asked_apart c j, kept.elections.passed_apart c j, (sound j).a_node)
+  only j t = grind (arith, turn.same j, kept.elections.asked_apart c j, kept.elections.passed_apart c j, (local j).a_node)
 
-  leading : (m : ℕ) → leads (g m).stage ≡ true → takes_part (g m).status ≡ true
-  leading m l = grind (arith, turn.same m, (sound m).leads_status)
+  leading : (m : ℕ) → leads (g m).activity ≡ true → takes_part (g m).status ≡ true
+  leading m l = grind (arith, turn.same m, (local m).leads_status)
 
-  pub leads_now : Keeps g
+  pub leads_now : GroupInvariant g
   leads_now = record {
     elections = record {
       asked_unpassed = λ i k l a. grind (arith, turn.same i, turn.same k, kept.elections.asked_unpassed i k);
       asked_apart = λ i k l a. grind (arith, turn.same i, turn.same k, kept.elections.asked_apart i k, kept.elections.asked_unpassed i c);
-      passed_apart = λ m k h l p. grind (arith, turn.same m, turn.same k, kept.elections.passed_apart m k, kept.elections.asked_unpassed c m, (sound m).a_node, (sound m).down_passed_none);
+      passed_apart = λ m k h l p. grind (arith, turn.same m, turn.same k, kept.elections.passed_apart m k, kept.elections.asked_unpassed c m, (local m).a_node, (local m).down_passed_none);
       halted_unasked = λ i k m p l e h t. grind (arith, turn.same i, turn.same k, turn.same m, kept.elections.halted_unasked i k m, nobody);
     };
     announcements = record {

@@ -1,33 +1,33 @@
--- Node c changes to traits of which less is to be said: what of the invariant is kept by that alone.
+-- Node c changes to summary of which less is to be said: what of the invariant is kept by that alone.
 use Rattle.std.proofs.Common.{◌≡◌, ℕ, ◌+◌, ◌<◌, ◌≤◌, true, false, Some, None, ◌⊎◌, arith, refl, inl}
 use Rattle.bully_base.specs.declared.node.Status.TheVariants.{Election, Reorganization, Normal}
-use Rattle.bully_agree.proofs.Traits.{Rests, Halts, Traits, takes_part, leads, Announces, Readies, Elections, Announcements, Leaders, Agrees, Keeps, Turns}
+use Rattle.bully_agree.proofs.NodeSummary.{Rests, Halts, NodeSummary, takes_part, leads, Announces, Readies, Elections, Announcements, Leaders, Agrees, GroupInvariant, Turns}
 
 -- c takes part in t only if it did, under the same coordinator
-abbrev pub FollowsOn : Traits → Traits → Type 0
+abbrev pub FollowsOn : NodeSummary → NodeSummary → Type 0
 FollowsOn s t = takes_part t.status ≡ true → (takes_part s.status ≡ true) × (s.coordinator ≡ t.coordinator)
 
 -- c is Normal in t only if it was, with the same task
-abbrev pub NormalOn : Traits → Traits → Type 0
+abbrev pub NormalOn : NodeSummary → NodeSummary → Type 0
 NormalOn s t = t.status ≡ Normal → (s.status ≡ Normal) × (s.task ≡ t.task)
 
 -- c asked past and passed no more nodes in t. It may have been halted by m, which passed nobody up to c
-pub record ElectsOn (f : ℕ → Traits) (c : ℕ) (t : Traits) : Type 0 where
+pub record ElectsOn (f : ℕ → NodeSummary) (c : ℕ) (t : NodeSummary) : Type 0 where
   pub asked : (k : ℕ) → c < k → k < t.asked → k < (f c).asked
   pub passed : (k : ℕ) → k < c → t.passed ≤ k → (f c).passed ≤ k
-  pub halts : t.stage ≡ Halts → ((f c).stage ≡ Halts) ⊎ (c ≤ t.passed)
+  pub halts : t.activity ≡ Halts → ((f c).activity ≡ Halts) ⊎ (c ≤ t.passed)
   pub follows : FollowsOn (f c) t
   pub halted : (m : ℕ) → t.halter ≡ Some m → t.status ≡ Election → (((f c).halter ≡ Some m) × ((f c).status ≡ Election)) ⊎ (((f m).announces ≡ None) × (c ≤ (f m).passed))
 
 -- c leads in t only if it did so, and sends and hears of the same Ready only
-pub record LeadsOn (s t : Traits) : Type 0 where
-  pub leads_on : leads t.stage ≡ true → (s.stage ≡ t.stage) × (s.task ≡ t.task)
+pub record LeadsOn (s t : NodeSummary) : Type 0 where
+  pub leads_on : leads t.activity ≡ true → (s.activity ≡ t.activity) × (s.task ≡ t.task)
   pub follows : FollowsOn s t
   pub normal : NormalOn s t
   pub reorganizes : t.status ≡ Reorganization → s.status ≡ Reorganization
   pub readies : (k : ℕ) → t.readies ≡ Some k → (s.readies ≡ Some k) × (s.carries ≡ t.carries)
 
-module _ {f g : ℕ → Traits} {c : ℕ} {t : Traits} (turn : Turns f g c t) where
+module _ {f g : ℕ → NodeSummary} {c : ℕ} {t : NodeSummary} (turn : Turns f g c t) where
   pub elections_remain : ElectsOn f c t → Elections f → Elections g
   elections_remain s kept = record {
     asked_unpassed = λ i k l a. grind (arith, turn.same i, turn.same k, s.asked k, s.passed i, kept.asked_unpassed i k);
@@ -68,7 +68,7 @@ module _ {f g : ℕ → Traits} {c : ℕ} {t : Traits} (turn : Turns f g c t) wh
   }
 
 -- elections remain where c differs in its calls, its task and the way that it leads alone
-pub elects_alike : {f : ℕ → Traits} {c : ℕ} {t : Traits} → t ≡ record (f c) { stage = t.stage; task = t.task; announces = t.announces; readies = t.readies; carries = t.carries } → (t.stage ≡ Halts → (f c).stage ≡ Halts) → ElectsOn f c t
+pub elects_alike : {f : ℕ → NodeSummary} {c : ℕ} {t : NodeSummary} → t ≡ record (f c) { activity = t.activity; task = t.task; announces = t.announces; readies = t.readies; carries = t.carries } → (t.activity ≡ Halts → (f c).activity ≡ Halts) → ElectsOn f c t
 elects_alike {f} {c} {t} e halts = record {
   asked = λ k l a. grind (arith, e);
   passed = λ k l a. grind (arith, e);
@@ -78,7 +78,7 @@ elects_alike {f} {c} {t} e halts = record {
 }
 
 -- leaders remain where c differs in how far its election has come, or in its NewCoordinator, alone
-pub leads_alike : {s t : Traits} → t ≡ record s { asked = t.asked; passed = t.passed; announces = t.announces } → LeadsOn s t
+pub leads_alike : {s t : NodeSummary} → t ≡ record s { asked = t.asked; passed = t.passed; announces = t.announces } → LeadsOn s t
 leads_alike {s} {t} e = record {
   leads_on = λ l. grind (arith, e);
   follows = λ p. grind (arith, e);
@@ -87,19 +87,19 @@ leads_alike {s} {t} e = record {
   readies = λ k r. grind (arith, e);
 }
 
--- all of it, from the traits s of c to t
-pub record Shrinks (f : ℕ → Traits) (c : ℕ) (s t : Traits) : Type 0 where
+-- all of it, from the summary s of c to t
+pub record Shrinks (f : ℕ → NodeSummary) (c : ℕ) (s t : NodeSummary) : Type 0 where
   pub asked : (k : ℕ) → c < k → k < t.asked → k < s.asked
   pub passed : (k : ℕ) → k < c → t.passed ≤ k → s.passed ≤ k
-  pub halts : t.stage ≡ Halts → (s.stage ≡ Halts) ⊎ (c ≤ t.passed)
+  pub halts : t.activity ≡ Halts → (s.activity ≡ Halts) ⊎ (c ≤ t.passed)
   pub halted : (m : ℕ) → t.halter ≡ Some m → t.status ≡ Election → ((s.halter ≡ Some m) × (s.status ≡ Election)) ⊎ (((f m).announces ≡ None) × (c ≤ (f m).passed))
   pub takes_part_on : takes_part t.status ≡ true → (s.status ≡ t.status) × (s.coordinator ≡ t.coordinator) × (s.task ≡ t.task)
-  pub leads_on : leads t.stage ≡ true → (s.stage ≡ t.stage) × (s.task ≡ t.task)
+  pub leads_on : leads t.activity ≡ true → (s.activity ≡ t.activity) × (s.task ≡ t.task)
   pub announces_on : (k : ℕ) → t.announces ≡ Some k → s.announces ≡ Some k
   pub readies_on : (k : ℕ) → t.readies ≡ Some k → (s.readies ≡ Some k) × (s.carries ≡ t.carries)
 
 -- c stays as it is
-pub unmoved : {f : ℕ → Traits} {c : ℕ} {s : Traits} → Shrinks f c s s
+pub unmoved : {f : ℕ → NodeSummary} {c : ℕ} {s : NodeSummary} → Shrinks f c s s
 unmoved {f} {c} {s} = record {
   asked = λ k l a. a;
   passed = λ k l a. a;
@@ -112,7 +112,7 @@ unmoved {f} {c} {s} = record {
 }
 
 -- c forgets all
-pub forgets : {f : ℕ → Traits} {c : ℕ} {s t : Traits} → t.asked ≤ c + 1 → c ≤ t.passed → t.stage ≡ Rests → takes_part t.status ≡ false
+pub forgets : {f : ℕ → NodeSummary} {c : ℕ} {s t : NodeSummary} → t.asked ≤ c + 1 → c ≤ t.passed → t.activity ≡ Rests → takes_part t.status ≡ false
     → t.halter ≡ None → t.announces ≡ None → t.readies ≡ None → Shrinks f c s t
 forgets {f} {c} {s} {t} asked passed rests apart unhalted silent unready = record {
   asked = λ k l a. absurd (omega arith);
@@ -126,7 +126,7 @@ forgets {f} {c} {s} {t} asked passed rests apart unhalted silent unready = recor
 }
 
 -- c's call alone changes, or goes
-pub calls_on : {f : ℕ → Traits} {c : ℕ} {s t : Traits}
+pub calls_on : {f : ℕ → NodeSummary} {c : ℕ} {s t : NodeSummary}
     → t ≡ record s { asked = t.asked; passed = t.passed; announces = t.announces; readies = t.readies; carries = t.carries }
     → t.asked ≤ s.asked → s.passed ≤ t.passed
     → ((k : ℕ) → t.announces ≡ Some k → s.announces ≡ Some k) → ((k : ℕ) → t.readies ≡ Some k → (s.readies ≡ Some k) × (s.carries ≡ t.carries)) → Shrinks f c s t
@@ -141,7 +141,7 @@ calls_on {f} {c} {s} {t} e asked passed announces readies = record {
   readies_on = readies;
 }
 
-pub shrinks : {f g : ℕ → Traits} {c : ℕ} {t : Traits} → Turns f g c t → Keeps f → Shrinks f c (f c) t → Keeps g
+pub shrinks : {f g : ℕ → NodeSummary} {c : ℕ} {t : NodeSummary} → Turns f g c t → GroupInvariant f → Shrinks f c (f c) t → GroupInvariant g
 shrinks {f} {g} {c} {t} turn kept s = record {
   elections = elections_remain turn elects kept.elections;
   announcements = announcements_remain turn elects s.announces_on kept.announcements;

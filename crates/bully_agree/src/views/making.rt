@@ -10,8 +10,8 @@ use bully_table::Table;
 use bully_world::World;
 use std::alloc::Global;
 
-/// The view of the world as it is now. Refused where a growth of memory is.
-/// Every `World` is reached by a lawful list, so there is no other condition. This project's profile.
+/// The view of the world as it is now. Refused where an allocation fails.
+/// Every `World` is reached by a lawful list, so there is no other condition. The rule: docs/ALGORITHM.md.
 pub fn view(alloc: Global, world: &World) -> Result<View, OutOfMemory>
     ensures view { IfOk result (λ v. v ≡ view_of world.now.setup world.now.events (world_of world.now)) }
     ensures agrees { IfOk result ViewAgrees }

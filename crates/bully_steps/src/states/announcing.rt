@@ -1,12 +1,12 @@
 ghost use Rattle.std.specs.Prelude.{◌≡◌};
 ghost use Rattle.bully_calls.specs.declared.call.Outcome.TheVariants.{Started, Moved, Yes, Failed};
-ghost use Rattle.bully_steps.specs.Held.{CanResume, resumed};
-ghost use Rattle.bully_steps.specs.Procedure.{held};
+ghost use Rattle.bully_steps.specs.ProcedureState.{CanResume, resumed};
+ghost use Rattle.bully_steps.specs.Procedure.{state_of};
 ghost use Rattle.bully_steps.specs.States.{announcing, asking, planning};
 
 use crate::Procedure;
 use crate::point::without_highest;
-use crate::states::{Asking, Owner, Planning};
+use crate::states::{Asking, Identity, Planning};
 use bully_base::NodeSet;
 use bully_calls::Outcome;
 use std::marker::Model;
@@ -15,28 +15,28 @@ use std::marker::Model;
 /// the 1982 paper. `rest` are those that are left of `up`.
 #[derive(Drop, Debug)]
 pub struct Announcing {
-    pub(crate) owner: Owner,
+    pub(crate) identity: Identity,
     pub(crate) rest: NodeSet,
     pub(crate) up: NodeSet,
     pub(crate) awaits: bool,
 }
 
 impl Model for Announcing {
-    ghost use Rattle.bully_steps.specs.Held.{IsHeld};
+    ghost use Rattle.bully_steps.specs.ProcedureState.{IsProcedureState};
     ghost use Rattle.bully_steps.specs.States.{AnnouncingState, announcing};
 
     ghost Value = { AnnouncingState };
 
-    ghost view = { λ s. record { owner = s.owner; rest = s.rest; up = s.up; awaits = s.awaits } };
+    ghost view = { λ s. record { identity = s.identity; rest = s.rest; up = s.up; awaits = s.awaits } };
 
-    ghost invariant = { λ s. IsHeld (announcing (record { owner = s.owner; rest = s.rest; up = s.up; awaits = s.awaits })) };
+    ghost invariant = { λ s. IsProcedureState (announcing (record { identity = s.identity; rest = s.rest; up = s.up; awaits = s.awaits })) };
 }
 
 impl Announcing {
     /// Goes on by the outcome, one that can come here.
     pub(crate) fn resume(self, outcome: Outcome) -> Procedure
         requires { CanResume (announcing self) outcome }
-        ensures { held result ≡ resumed (announcing self) outcome }
+        ensures { state_of result ≡ resumed (announcing self) outcome }
     {
         match outcome {
             Outcome::Started => Procedure::Announcing(self.started()),
@@ -64,13 +64,13 @@ impl Announcing {
         ensures { planning result ≡ resumed (announcing self) Moved }
     {
         Planning {
-            owner: self.owner,
+            identity: self.identity,
             up: self.up,
         }
     }
 
     // That node took the announcement, and the one below it in the set is next.
-    #[tactic(auto, using(crate::proofs::HeldLemmas::rest_falls))]
+    #[tactic(auto, using(crate::proofs::ProcedureStateLemmas::rest_falls))]
     fn answered(self) -> Announcing
         requires { CanResume (announcing self) Yes }
         ensures { announcing result ≡ resumed (announcing self) Yes }
@@ -87,6 +87,6 @@ impl Announcing {
         requires { CanResume (announcing self) Failed }
         ensures { asking result ≡ resumed (announcing self) Failed }
     {
-        self.owner.election()
+        self.identity.election()
     }
 }

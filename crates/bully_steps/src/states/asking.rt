@@ -1,11 +1,11 @@
 ghost use Rattle.std.specs.Prelude.{◌≡◌};
 ghost use Rattle.bully_calls.specs.declared.call.Outcome.TheVariants.{Started, Moved, Yes, Failed};
-ghost use Rattle.bully_steps.specs.Held.{CanResume, resumed};
-ghost use Rattle.bully_steps.specs.Procedure.{held};
+ghost use Rattle.bully_steps.specs.ProcedureState.{CanResume, resumed};
+ghost use Rattle.bully_steps.specs.Procedure.{state_of};
 ghost use Rattle.bully_steps.specs.States.{asking, halting, idle};
 
 use crate::Procedure;
-use crate::states::{Halting, Idle, Owner};
+use crate::states::{Halting, Idle, Identity};
 use bully_base::NodeSet;
 use bully_calls::Outcome;
 use std::marker::Model;
@@ -14,27 +14,27 @@ use std::marker::Model;
 /// `next` is the one that comes next, and one above the last where none is left.
 #[derive(Drop, Debug)]
 pub struct Asking {
-    pub(crate) owner: Owner,
+    pub(crate) identity: Identity,
     pub(crate) next: u16,
     pub(crate) awaits: bool,
 }
 
 impl Model for Asking {
-    ghost use Rattle.bully_steps.specs.Held.{IsHeld};
+    ghost use Rattle.bully_steps.specs.ProcedureState.{IsProcedureState};
     ghost use Rattle.bully_steps.specs.States.{AskingState, asking};
 
     ghost Value = { AskingState };
 
-    ghost view = { λ s. record { owner = s.owner; next = s.next; awaits = s.awaits } };
+    ghost view = { λ s. record { identity = s.identity; next = s.next; awaits = s.awaits } };
 
-    ghost invariant = { λ s. IsHeld (asking (record { owner = s.owner; next = s.next; awaits = s.awaits })) };
+    ghost invariant = { λ s. IsProcedureState (asking (record { identity = s.identity; next = s.next; awaits = s.awaits })) };
 }
 
 impl Asking {
     /// Goes on by the outcome, one that can come here.
     pub(crate) fn resume(self, outcome: Outcome) -> Procedure
         requires { CanResume (asking self) outcome }
-        ensures { held result ≡ resumed (asking self) outcome }
+        ensures { state_of result ≡ resumed (asking self) outcome }
     {
         match outcome {
             Outcome::Started => Procedure::Asking(self.started()),
@@ -62,8 +62,8 @@ impl Asking {
         ensures { halting result ≡ resumed (asking self) Moved }
     {
         Halting {
-            owner: self.owner,
-            next: self.owner.node.number() - 1,
+            identity: self.identity,
+            next: self.identity.node.number() - 1,
             up: NodeSet::new(),
             awaits: false,
         }
@@ -74,7 +74,7 @@ impl Asking {
         requires { CanResume (asking self) Yes }
         ensures { idle result ≡ resumed (asking self) Yes }
     {
-        Idle { owner: self.owner }
+        Idle { identity: self.identity }
     }
 
     // That node is down, and the one above it is next.

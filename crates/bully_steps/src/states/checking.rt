@@ -1,12 +1,12 @@
 ghost use Rattle.std.specs.Prelude.{◌≡◌};
 ghost use Rattle.bully_calls.specs.declared.call.Outcome.TheVariants.{Started, Yes, No, Failed};
-ghost use Rattle.bully_steps.specs.Held.{CanResume, resumed};
-ghost use Rattle.bully_steps.specs.Procedure.{held};
+ghost use Rattle.bully_steps.specs.ProcedureState.{CanResume, resumed};
+ghost use Rattle.bully_steps.specs.Procedure.{state_of};
 ghost use Rattle.bully_steps.specs.States.{asking, checking, idle};
 
 use crate::Procedure;
 use crate::point::next_checked;
-use crate::states::{Asking, Idle, Owner};
+use crate::states::{Asking, Idle, Identity};
 use bully_base::Node;
 use bully_calls::Outcome;
 use std::marker::Model;
@@ -15,27 +15,27 @@ use std::marker::Model;
 /// `callee` is the one that comes next.
 #[derive(Drop, Debug)]
 pub struct Checking {
-    pub(crate) owner: Owner,
+    pub(crate) identity: Identity,
     pub(crate) callee: Node,
     pub(crate) awaits: bool,
 }
 
 impl Model for Checking {
-    ghost use Rattle.bully_steps.specs.Held.{IsHeld};
+    ghost use Rattle.bully_steps.specs.ProcedureState.{IsProcedureState};
     ghost use Rattle.bully_steps.specs.States.{CheckingState, checking};
 
     ghost Value = { CheckingState };
 
-    ghost view = { λ s. record { owner = s.owner; callee = s.callee; awaits = s.awaits } };
+    ghost view = { λ s. record { identity = s.identity; callee = s.callee; awaits = s.awaits } };
 
-    ghost invariant = { λ s. IsHeld (checking (record { owner = s.owner; callee = s.callee; awaits = s.awaits })) };
+    ghost invariant = { λ s. IsProcedureState (checking (record { identity = s.identity; callee = s.callee; awaits = s.awaits })) };
 }
 
 impl Checking {
     /// Goes on by the outcome, one that can come here.
     pub(crate) fn resume(self, outcome: Outcome) -> Procedure
         requires { CanResume (checking self) outcome }
-        ensures { held result ≡ resumed (checking self) outcome }
+        ensures { state_of result ≡ resumed (checking self) outcome }
     {
         match outcome {
             Outcome::Started => Procedure::Checking(self.started()),
@@ -59,16 +59,16 @@ impl Checking {
     // That node is normal, or down: the next other node is next.
     fn passed(self) -> Procedure
         requires { CanResume (checking self) Yes }
-        ensures { held result ≡ resumed (checking self) Yes }
+        ensures { state_of result ≡ resumed (checking self) Yes }
     {
-        let owner = self.owner;
-        match next_checked(owner.setup, owner.node, self.callee.number() + 1) {
+        let identity = self.identity;
+        match next_checked(identity.setup, identity.node, self.callee.number() + 1) {
             Some(callee) => Procedure::Checking(Checking {
-                owner,
+                identity,
                 callee,
                 awaits: false,
             }),
-            None => Procedure::Idle(Idle { owner }),
+            None => Procedure::Idle(Idle { identity }),
         }
     }
 
@@ -77,6 +77,6 @@ impl Checking {
         requires { CanResume (checking self) No }
         ensures { asking result ≡ resumed (checking self) No }
     {
-        self.owner.election()
+        self.identity.election()
     }
 }

@@ -1,11 +1,11 @@
 ghost use Rattle.std.specs.Prelude.{◌≡◌};
 ghost use Rattle.bully_calls.specs.declared.call.Outcome.TheVariants.{Started, Moved, Yes, Failed};
-ghost use Rattle.bully_steps.specs.Held.{CanResume, resumed};
-ghost use Rattle.bully_steps.specs.Procedure.{held};
+ghost use Rattle.bully_steps.specs.ProcedureState.{CanResume, resumed};
+ghost use Rattle.bully_steps.specs.Procedure.{state_of};
 ghost use Rattle.bully_steps.specs.States.{announcing, halting};
 
 use crate::Procedure;
-use crate::states::{Announcing, Owner};
+use crate::states::{Announcing, Identity};
 use bully_base::{Node, NodeSet};
 use bully_calls::Outcome;
 use std::marker::Model;
@@ -14,28 +14,28 @@ use std::marker::Model;
 /// one that comes next, and 0 where none is left; `up` are those that answered.
 #[derive(Drop, Debug)]
 pub struct Halting {
-    pub(crate) owner: Owner,
+    pub(crate) identity: Identity,
     pub(crate) next: u16,
     pub(crate) up: NodeSet,
     pub(crate) awaits: bool,
 }
 
 impl Model for Halting {
-    ghost use Rattle.bully_steps.specs.Held.{IsHeld};
+    ghost use Rattle.bully_steps.specs.ProcedureState.{IsProcedureState};
     ghost use Rattle.bully_steps.specs.States.{HaltingState, halting};
 
     ghost Value = { HaltingState };
 
-    ghost view = { λ s. record { owner = s.owner; next = s.next; up = s.up; awaits = s.awaits } };
+    ghost view = { λ s. record { identity = s.identity; next = s.next; up = s.up; awaits = s.awaits } };
 
-    ghost invariant = { λ s. IsHeld (halting (record { owner = s.owner; next = s.next; up = s.up; awaits = s.awaits })) };
+    ghost invariant = { λ s. IsProcedureState (halting (record { identity = s.identity; next = s.next; up = s.up; awaits = s.awaits })) };
 }
 
 impl Halting {
     /// Goes on by the outcome, one that can come here.
     pub(crate) fn resume(self, outcome: Outcome) -> Procedure
         requires { CanResume (halting self) outcome }
-        ensures { held result ≡ resumed (halting self) outcome }
+        ensures { state_of result ≡ resumed (halting self) outcome }
     {
         match outcome {
             Outcome::Started => Procedure::Halting(self.started()),
@@ -63,7 +63,7 @@ impl Halting {
         ensures { announcing result ≡ resumed (halting self) Moved }
     {
         Announcing {
-            owner: self.owner,
+            identity: self.identity,
             rest: self.up,
             up: self.up,
             awaits: false,
@@ -71,7 +71,7 @@ impl Halting {
     }
 
     // That node halted, and is up; the one below it is next.
-    #[tactic(auto, using(crate::proofs::HeldLemmas::joined_falls))]
+    #[tactic(auto, using(crate::proofs::ProcedureStateLemmas::joined_falls))]
     fn answered(self) -> Halting
         requires { CanResume (halting self) Yes }
         ensures { halting result ≡ resumed (halting self) Yes }
@@ -79,7 +79,7 @@ impl Halting {
         let mut up = self.up;
         up.insert(Node::new(self.next).unwrap());
         Halting {
-            owner: self.owner,
+            identity: self.identity,
             next: self.next - 1,
             up,
             awaits: false,

@@ -1,19 +1,19 @@
-use crate::states::Owner;
+use crate::states::Identity;
 use std::marker::Model;
 
-/// No procedure runs at the node. This project's profile.
+/// No procedure runs at the node. The rule: docs/ALGORITHM.md.
 #[derive(Drop, Debug)]
 pub struct Idle {
-    pub(crate) owner: Owner,
+    pub(crate) identity: Identity,
 }
 
 impl Model for Idle {
-    ghost use Rattle.bully_steps.specs.Held.{IsHeld};
+    ghost use Rattle.bully_steps.specs.ProcedureState.{IsProcedureState};
     ghost use Rattle.bully_steps.specs.States.{IdleState, idle};
 
     ghost Value = { IdleState };
 
-    ghost view = { λ s. record { owner = s.owner } };
+    ghost view = { λ s. record { identity = s.identity } };
 
-    ghost invariant = { λ s. IsHeld (idle (record { owner = s.owner })) };
+    ghost invariant = { λ s. IsProcedureState (idle (record { identity = s.identity })) };
 }

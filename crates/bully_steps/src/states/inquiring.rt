@@ -1,11 +1,11 @@
 ghost use Rattle.std.specs.Prelude.{◌≡◌};
 ghost use Rattle.bully_calls.specs.declared.call.Outcome.TheVariants.{Started, Yes, Failed};
-ghost use Rattle.bully_steps.specs.Held.{CanResume, resumed};
-ghost use Rattle.bully_steps.specs.Procedure.{held};
+ghost use Rattle.bully_steps.specs.ProcedureState.{CanResume, resumed};
+ghost use Rattle.bully_steps.specs.Procedure.{state_of};
 ghost use Rattle.bully_steps.specs.States.{asking, idle, inquiring};
 
 use crate::Procedure;
-use crate::states::{Asking, Idle, Owner};
+use crate::states::{Asking, Idle, Identity};
 use bully_base::Node;
 use bully_calls::Outcome;
 use std::marker::Model;
@@ -13,27 +13,27 @@ use std::marker::Model;
 /// After a timeout the node asks its coordinator, which is another node, whether it is up, as in the 1982 paper.
 #[derive(Drop, Debug)]
 pub struct Inquiring {
-    pub(crate) owner: Owner,
+    pub(crate) identity: Identity,
     pub(crate) coordinator: Node,
     pub(crate) awaits: bool,
 }
 
 impl Model for Inquiring {
-    ghost use Rattle.bully_steps.specs.Held.{IsHeld};
+    ghost use Rattle.bully_steps.specs.ProcedureState.{IsProcedureState};
     ghost use Rattle.bully_steps.specs.States.{InquiringState, inquiring};
 
     ghost Value = { InquiringState };
 
-    ghost view = { λ s. record { owner = s.owner; coordinator = s.coordinator; awaits = s.awaits } };
+    ghost view = { λ s. record { identity = s.identity; coordinator = s.coordinator; awaits = s.awaits } };
 
-    ghost invariant = { λ s. IsHeld (inquiring (record { owner = s.owner; coordinator = s.coordinator; awaits = s.awaits })) };
+    ghost invariant = { λ s. IsProcedureState (inquiring (record { identity = s.identity; coordinator = s.coordinator; awaits = s.awaits })) };
 }
 
 impl Inquiring {
     /// Goes on by the outcome, one that can come here.
     pub(crate) fn resume(self, outcome: Outcome) -> Procedure
         requires { CanResume (inquiring self) outcome }
-        ensures { held result ≡ resumed (inquiring self) outcome }
+        ensures { state_of result ≡ resumed (inquiring self) outcome }
     {
         match outcome {
             Outcome::Started => Procedure::Inquiring(self.started()),
@@ -59,7 +59,7 @@ impl Inquiring {
         requires { CanResume (inquiring self) Yes }
         ensures { idle result ≡ resumed (inquiring self) Yes }
     {
-        Idle { owner: self.owner }
+        Idle { identity: self.identity }
     }
 
     // The coordinator is down, and an election begins.
@@ -67,6 +67,6 @@ impl Inquiring {
         requires { CanResume (inquiring self) Failed }
         ensures { asking result ≡ resumed (inquiring self) Failed }
     {
-        self.owner.election()
+        self.identity.election()
     }
 }

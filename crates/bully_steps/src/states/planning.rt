@@ -2,13 +2,13 @@ ghost use Rattle.std.specs.Prelude.{◌≡◌, length, IfOk, IfErr, IfSome, Some
 ghost use Rattle.std.specs.Option.{option_copied};
 ghost use Rattle.bully_base.specs.NodeSet.{with_node};
 ghost use Rattle.bully_calls.specs.declared.call.Outcome.{Outcome};
-ghost use Rattle.bully_steps.specs.Held.{CanResume, resumed};
-ghost use Rattle.bully_steps.specs.Procedure.{held};
+ghost use Rattle.bully_steps.specs.ProcedureState.{CanResume, resumed};
+ghost use Rattle.bully_steps.specs.Procedure.{state_of};
 ghost use Rattle.bully_steps.specs.States.{planning, planned, readying};
 ghost use Rattle.bully_table.specs.Planning.{planned as planned_table};
 
 use crate::Procedure;
-use crate::states::{Owner, Readying};
+use crate::states::{Identity, Readying};
 use bully_base::NodeSet;
 use bully_calls::Outcome;
 use bully_table::{PlanFault, Table, TablePlan, plan};
@@ -19,68 +19,68 @@ use std::marker::Model;
 /// it is planned, is this project's profile.
 #[derive(Drop, Debug)]
 pub struct Planning {
-    pub(crate) owner: Owner,
+    pub(crate) identity: Identity,
     pub(crate) up: NodeSet,
 }
 
 impl Model for Planning {
-    ghost use Rattle.bully_steps.specs.Held.{IsHeld};
+    ghost use Rattle.bully_steps.specs.ProcedureState.{IsProcedureState};
     ghost use Rattle.bully_steps.specs.States.{PlanningState, planning};
 
     ghost Value = { PlanningState };
 
-    ghost view = { λ s. record { owner = s.owner; up = s.up } };
+    ghost view = { λ s. record { identity = s.identity; up = s.up } };
 
-    ghost invariant = { λ s. IsHeld (planning (record { owner = s.owner; up = s.up })) };
+    ghost invariant = { λ s. IsProcedureState (planning (record { identity = s.identity; up = s.up })) };
 }
 
 /// The coordinator has a table that is balanced over itself and `up`, which it hasn't taken as its task yet.
-/// This project's profile.
+/// The rule: docs/ALGORITHM.md.
 #[derive(Drop, Debug)]
 pub struct Planned {
-    pub(crate) owner: Owner,
+    pub(crate) identity: Identity,
     pub(crate) up: NodeSet,
     pub(crate) table: Table,
 }
 
 impl Model for Planned {
-    ghost use Rattle.bully_steps.specs.Held.{IsHeld};
+    ghost use Rattle.bully_steps.specs.ProcedureState.{IsProcedureState};
     ghost use Rattle.bully_steps.specs.States.{PlannedState, planned};
 
     ghost Value = { PlannedState };
 
-    ghost view = { λ s. record { owner = s.owner; up = s.up; table = s.table } };
+    ghost view = { λ s. record { identity = s.identity; up = s.up; table = s.table } };
 
-    ghost invariant = { λ s. IsHeld (planned (record { owner = s.owner; up = s.up; table = s.table })) };
+    ghost invariant = { λ s. IsProcedureState (planned (record { identity = s.identity; up = s.up; table = s.table })) };
 }
 
 impl Planning {
     /// Plans the table over the node and those that are up, with the fewest moves from the old table, which has
     /// the setup's partitions. Refused as `OutOfMemory`, and then the planning is handed back as it was;
-    /// `NoMember` never comes, since the node is a member. This project's profile.
+    /// `NoMember` never comes, since the node is a member. The rule: docs/ALGORITHM.md.
     pub fn prepare(
         self,
         alloc: Global,
         old: Option<&Table>,
     ) -> Result<Planned, (Planning, PlanFault)>
-        requires { IfSome (option_copied old) (λ t. length t ≡ self.owner.setup.partitions) }
-        ensures prepared { IfOk result (λ p. planned p ≡ record (planning self) { table = Some (planned_table self.owner.setup (option_copied old.entry) (with_node self.owner.node self.up)) }) }
+        requires { IfSome (option_copied old) (λ t. length t ≡ self.identity.setup.partitions) }
+        ensures prepared { IfOk result (λ p. planned p ≡ record (planning self) { table = Some (planned_table self.identity.setup (option_copied old.entry) (with_node self.identity.node self.up)) }) }
         ensures same { IfErr result (λ back. back.0 ≡ self) }
         ensures fault { IfErr result (λ back. back.1 ≡ PlanFault.OutOfMemory) }
     {
-        let Planning { owner, up } = self;
+        let Planning { identity, up } = self;
         let mut members = up;
-        members.insert(owner.node);
-        match plan(alloc, owner.setup, &members, old) {
-            Ok(TablePlan { table, .. }) => Ok(Planned { owner, up, table }),
-            Err(fault) => Err((Planning { owner, up }, fault)),
+        members.insert(identity.node);
+        match plan(alloc, identity.setup, &members, old) {
+            Ok(TablePlan { table, .. }) => Ok(Planned { identity, up, table }),
+            Err(fault) => Err((Planning { identity, up }, fault)),
         }
     }
 
     /// Goes on by the outcome, which is that a table was taken.
     pub(crate) fn resume(self, outcome: Outcome) -> Procedure
         requires { CanResume (planning self) outcome }
-        ensures { held result ≡ resumed (planning self) outcome }
+        ensures { state_of result ≡ resumed (planning self) outcome }
     {
         match outcome {
             Outcome::Planned => Procedure::Readying(self.taken()),
@@ -94,7 +94,7 @@ impl Planning {
         ensures { readying result ≡ resumed (planning self) Outcome.Planned }
     {
         Readying {
-            owner: self.owner,
+            identity: self.identity,
             rest: self.up,
             awaits: false,
         }
@@ -105,7 +105,7 @@ impl Planned {
     /// Goes on by the outcome, which is that a table was taken.
     pub(crate) fn resume(self, outcome: Outcome) -> Procedure
         requires { CanResume (planned self) outcome }
-        ensures { held result ≡ resumed (planned self) outcome }
+        ensures { state_of result ≡ resumed (planned self) outcome }
     {
         match outcome {
             Outcome::Planned => Procedure::Readying(self.taken()),
@@ -119,7 +119,7 @@ impl Planned {
         ensures { readying result ≡ resumed (planned self) Outcome.Planned }
     {
         Readying {
-            owner: self.owner,
+            identity: self.identity,
             rest: self.up,
             awaits: false,
         }

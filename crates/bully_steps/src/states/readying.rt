@@ -1,12 +1,12 @@
 ghost use Rattle.std.specs.Prelude.{◌≡◌};
 ghost use Rattle.bully_calls.specs.declared.call.Outcome.TheVariants.{Started, Moved, Yes, Failed};
-ghost use Rattle.bully_steps.specs.Held.{CanResume, resumed};
-ghost use Rattle.bully_steps.specs.Procedure.{held};
+ghost use Rattle.bully_steps.specs.ProcedureState.{CanResume, resumed};
+ghost use Rattle.bully_steps.specs.Procedure.{state_of};
 ghost use Rattle.bully_steps.specs.States.{asking, idle, readying};
 
 use crate::Procedure;
 use crate::point::without_highest;
-use crate::states::{Asking, Idle, Owner};
+use crate::states::{Asking, Idle, Identity};
 use bully_base::NodeSet;
 use bully_calls::Outcome;
 use std::marker::Model;
@@ -15,27 +15,27 @@ use std::marker::Model;
 /// `rest` are those that are left.
 #[derive(Drop, Debug)]
 pub struct Readying {
-    pub(crate) owner: Owner,
+    pub(crate) identity: Identity,
     pub(crate) rest: NodeSet,
     pub(crate) awaits: bool,
 }
 
 impl Model for Readying {
-    ghost use Rattle.bully_steps.specs.Held.{IsHeld};
+    ghost use Rattle.bully_steps.specs.ProcedureState.{IsProcedureState};
     ghost use Rattle.bully_steps.specs.States.{ReadyingState, readying};
 
     ghost Value = { ReadyingState };
 
-    ghost view = { λ s. record { owner = s.owner; rest = s.rest; awaits = s.awaits } };
+    ghost view = { λ s. record { identity = s.identity; rest = s.rest; awaits = s.awaits } };
 
-    ghost invariant = { λ s. IsHeld (readying (record { owner = s.owner; rest = s.rest; awaits = s.awaits })) };
+    ghost invariant = { λ s. IsProcedureState (readying (record { identity = s.identity; rest = s.rest; awaits = s.awaits })) };
 }
 
 impl Readying {
     /// Goes on by the outcome, one that can come here.
     pub(crate) fn resume(self, outcome: Outcome) -> Procedure
         requires { CanResume (readying self) outcome }
-        ensures { held result ≡ resumed (readying self) outcome }
+        ensures { state_of result ≡ resumed (readying self) outcome }
     {
         match outcome {
             Outcome::Started => Procedure::Readying(self.started()),
@@ -62,11 +62,11 @@ impl Readying {
         requires { CanResume (readying self) Moved }
         ensures { idle result ≡ resumed (readying self) Moved }
     {
-        Idle { owner: self.owner }
+        Idle { identity: self.identity }
     }
 
     // That node has the task, and the one below it in the set is next.
-    #[tactic(auto, using(crate::proofs::HeldLemmas::rest_falls))]
+    #[tactic(auto, using(crate::proofs::ProcedureStateLemmas::rest_falls))]
     fn answered(self) -> Readying
         requires { CanResume (readying self) Yes }
         ensures { readying result ≡ resumed (readying self) Yes }
@@ -83,6 +83,6 @@ impl Readying {
         requires { CanResume (readying self) Failed }
         ensures { asking result ≡ resumed (readying self) Failed }
     {
-        self.owner.election()
+        self.identity.election()
     }
 }

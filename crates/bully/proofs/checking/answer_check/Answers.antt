@@ -1,5 +1,5 @@
 use Rattle.std.proofs.Common.{ap}
-use Rattle.bully.proofs.HeldLemmas.{keeps-same}
+use Rattle.bully.proofs.KnownBytesLemmas.{keeps-same}
 use Rattle.bully.proofs.AnswerLemmas.{judged-answer, fault-answer}
 use Rattle.bully.proofs.checking.answer_check.Goals as goal
 

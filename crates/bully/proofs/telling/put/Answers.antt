@@ -1,5 +1,5 @@
 use Rattle.std.proofs.Common.{◌-◌, length, drop, arith, length-take}
-use Rattle.bully.proofs.HeldLemmas.{appends-next}
+use Rattle.bully.proofs.KnownBytesLemmas.{appends-next}
 use Rattle.bully.proofs.telling.put.Goals as goal
 
 pub loop-written-preserved : goal.loop-written-preserved

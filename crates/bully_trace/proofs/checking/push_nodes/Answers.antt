@@ -1,6 +1,6 @@
 use Rattle.std.proofs.Common.{◌≡◌, ◌+◌, ap, arith}
 use Rattle.std.specs.String.{string_bytes}
-use Rattle.bully_handlers.specs.Vector.{RoomyVector}
+use Rattle.bully_handlers.specs.Vector.{StoredVector}
 use Rattle.bully_trace.specs.VerdictText.{node_line}
 use Rattle.bully_trace.proofs.TextLemmas.{node_lines-next}
 use Rattle.bully_trace.proofs.checking.push_nodes.Goals as goal
@@ -10,6 +10,6 @@ loop-before-preserved c =
     let number : c.loop-before.before + 1 ≡ c.unwrap-node.result = grind (arith, c.new.ensures, c.unwrap-node.ensures) in
     record {
       text = node_lines-next c.args.world.now.members (string_bytes c.args.text.now) (string_bytes c.loop-before.text) (string_bytes c.push_node_line.new.text) _ c.loop-before.before c.unwrap-node.result
-          number c.loop-before.invariant.text c.in_ok-push_node_line.ensures (ap (λ (v : RoomyVector). node_line c.unwrap-node.result v.vector) c.vector.ensures);
+          number c.loop-before.invariant.text c.in_ok-push_node_line.ensures (ap (λ (v : StoredVector). node_line c.unwrap-node.result v.vector) c.vector.ensures);
       end = c.loop-before.invariant.end;
     }

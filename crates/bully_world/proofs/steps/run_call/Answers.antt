@@ -17,11 +17,11 @@ pub returns-in-Some-clause-answer : goal.returns-in-Some-clause-answer
 returns-in-Some-clause-answer c =
     let from = (runs_between c.args.setup c.args._events c.args.members.now c.requires.fits c.requires.kept c.requires.room c.args.caller c.place_of-here.result c.place_of.result c.index-members-here.result c.in-Some.call c.place_of-here.ensures c.place_of.ensures c.index-members-here.is (grind (arith, c.slot.ensures, c.call.ensures, c.in-Some.is)) c.requires.free) in
     run-answer c.args.members.now c.args.caller c.place_of-here.result c.place_of.result c.run_between.result from c.run_between.ensures.answer
-    ∙ ap (run_answer c.args.members.now) (sym from.posted)
+    ∙ ap (run_answer c.args.members.now) (sym from.content)
 
 pub returns-in-Some-clause-after : goal.returns-in-Some-clause-after
 returns-in-Some-clause-after c =
     let from = (runs_between c.args.setup c.args._events c.args.members.now c.requires.fits c.requires.kept c.requires.room c.args.caller c.place_of-here.result c.place_of.result c.index-members-here.result c.in-Some.call c.place_of-here.ensures c.place_of.ensures c.index-members-here.is (grind (arith, c.slot.ensures, c.call.ensures, c.in-Some.is)) c.requires.free) in
     let answer = run-answer c.args.members.now c.args.caller c.place_of-here.result c.place_of.result c.run_between.result from c.run_between.ensures.answer in
     run-after c.args.members.now c.run_between.new.members c.args.caller c.place_of-here.result c.place_of.result c.run_between.result from answer c.run_between.ensures.after
-    ∙ ap (run_taken c.args.members.now c.args.caller) (sym from.posted)
+    ∙ ap (run_taken c.args.members.now c.args.caller) (sym from.content)

@@ -3,7 +3,7 @@ use Rattle.std.proofs.Common.{◌≡◌, ◌+◌, None, sym, ◌∙◌, ap, subs
 use Rattle.std.specs.Prelude.{if◌then◌else◌}
 use Rattle.bully_base.specs.Places.{at_node}
 use Rattle.bully_world.specs.Cause.{cause}
-use Rattle.bully_world.specs.Shape.{AllFit}
+use Rattle.bully_world.specs.NodeInvariant.{WorldInvariant}
 use Rattle.bully_world.specs.State.{IsWorld, members_of, state_at, world_of, cause_in, empty_state, raises, tag_in}
 use Rattle.bully_world.specs.Step.{Step}
 use Rattle.bully_world.specs.Taken.{taken, answer_taken}
@@ -15,7 +15,7 @@ use Rattle.bully_world.proofs.world.World.apply.Goals as goal
 
 pub take_event-answer-requires-clause-fits : goal.take_event-answer-requires-clause-fits
 take_event-answer-requires-clause-fits c =
-    subst (λ ms. AllFit c.self.inside.setup (members_of ms)) (sym c.as_mut_slice.ensures.value) (world_fits c.self.inside.setup c.self.inside.events c.self.inside.members.items c.self.invariant)
+    subst (λ ms. WorldInvariant c.self.inside.setup (members_of ms)) (sym c.as_mut_slice.ensures.value) (world_fits c.self.inside.setup c.self.inside.events c.self.inside.members.items c.self.invariant)
 
 pub invariant_of-self : goal.invariant_of-self
 invariant_of-self c =

@@ -14,7 +14,7 @@ use Rattle.bully_steps.specs.Point.{offered, IsPointOf}
 use Rattle.bully_table.specs.Balance.{IsBalanced}
 
 -- a procedure of a node: where it stands, and what it holds there
-pub record Held : Type 0 where
+pub record ProcedureState : Type 0 where
   pub setup : Setup
   pub node : ℕ
   pub generation : ℕ
@@ -29,26 +29,26 @@ pub record Held : Type 0 where
   pub awaits : Bool
 
 -- the up set is held at Halting, Announcing and Planning
-abbrev pub held_up : Point → List ℕ → Option (List ℕ)
-held_up (Halting k) up = Some up
-held_up (Announcing rest) up = Some up
-held_up Planning up = Some up
-held_up _ up = None
+abbrev pub up_at : Point → List ℕ → Option (List ℕ)
+up_at (Halting k) up = Some up
+up_at (Announcing rest) up = Some up
+up_at Planning up = Some up
+up_at _ up = None
 
 -- the coordinator is held at Inquiring
-abbrev pub held_coordinator : Point → Option ℕ → Option ℕ
-held_coordinator Inquiring coordinator = coordinator
-held_coordinator _ coordinator = None
+abbrev pub coordinator_at : Point → Option ℕ → Option ℕ
+coordinator_at Inquiring coordinator = coordinator
+coordinator_at _ coordinator = None
 
 -- the procedure there, without a planned table
-abbrev pub held_at : Setup → ℕ → ℕ → Point → List ℕ → Option ℕ → Bool → Held
-held_at setup node generation point up coordinator awaits = record {
+abbrev pub procedure_state : Setup → ℕ → ℕ → Point → List ℕ → Option ℕ → Bool → ProcedureState
+procedure_state setup node generation point up coordinator awaits = record {
   setup = setup;
   node = node;
   generation = generation;
   point = point;
-  up = held_up point up;
-  coordinator = held_coordinator point coordinator;
+  up = up_at point up;
+  coordinator = coordinator_at point coordinator;
   table = None;
   awaits = awaits;
 }
@@ -74,25 +74,25 @@ pub record IsPlannedOver (setup : Setup) (i : ℕ) (up table : List ℕ) : Type 
   pub balanced : IsBalanced setup table (with_node i up)
 
 -- a table is held at Planning alone
-abbrev pub SuitsPlan : Held → Option (List ℕ) → Type 0
+abbrev pub SuitsPlan : ProcedureState → Option (List ℕ) → Type 0
 SuitsPlan h None = Unit {0}
 SuitsPlan h (Some table) = (h.point ≡ Planning) × IfSome h.up (λ up. IsPlannedOver h.setup h.node up table)
 
 -- what holds of every procedure
-pub record IsHeld (h : Held) : Type 0 where
+pub record IsProcedureState (h : ProcedureState) : Type 0 where
   pub setup : IsSetup h.setup
   pub node : IsNode h.setup h.node
   pub point : IsPointOf h.setup h.node h.point
-  pub has_up : h.up ≡ held_up h.point (unwrap_or h.up [])
+  pub has_up : h.up ≡ up_at h.point (unwrap_or h.up [])
   pub up : IfSome h.up (IsFallingBelow h.node)
-  pub has_coordinator : h.coordinator ≡ held_coordinator h.point h.coordinator
+  pub has_coordinator : h.coordinator ≡ coordinator_at h.point h.coordinator
   pub inquiry : SuitsInquiry h.setup h.node h.coordinator h.point
   -- its call is one that the point offers
   pub call : h.awaits ≡ true → IsCall (offered h.setup h.coordinator h.point)
   pub plan : SuitsPlan h h.table
 
 -- what the procedure wants
-abbrev pub want_of : Held → Want
+abbrev pub want_of : ProcedureState → Want
 want_of h = if h.awaits then Await else offered h.setup h.coordinator h.point
 
 -- an outcome that a want can have at the point. No comes of AreYouNormal alone
@@ -105,7 +105,7 @@ CanCome Await p Failed = Unit {0}
 CanCome Await (Checking k) No = Unit {0}
 CanCome _ _ _ = ⊥
 
-abbrev pub CanResume : Held → Outcome → Type 0
+abbrev pub CanResume : ProcedureState → Outcome → Type 0
 CanResume h o = CanCome (want_of h) h.point o
 
 -- the up set that goes with the next point
@@ -118,10 +118,10 @@ is_started Started = true
 is_started _ = false
 
 -- where the procedure goes on by the outcome
-abbrev pub resumed_point : Held → Outcome → Point
+abbrev pub resumed_point : ProcedureState → Outcome → Point
 resumed_point h o = unwrap_or (next_point h.setup h.node (unwrap_or h.up []) h.point o) h.point
 
 -- the procedure that the outcome makes of it
-abbrev pub resumed : Held → Outcome → Held
+abbrev pub resumed : ProcedureState → Outcome → ProcedureState
 resumed h o =
-    held_at h.setup h.node h.generation (resumed_point h o) (next_up h.node h.point o (unwrap_or h.up [])) h.coordinator (is_started o)
+    procedure_state h.setup h.node h.generation (resumed_point h o) (next_up h.node h.point o (unwrap_or h.up [])) h.coordinator (is_started o)

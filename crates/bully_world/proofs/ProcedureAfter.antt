@@ -12,18 +12,18 @@ use Rattle.bully_handlers.specs.Vector.{Vector}
 use Rattle.bully_steps.specs.declared.point.Point.{Point}
 use Rattle.bully_steps.specs.declared.point.Point.TheVariants.{Idle, Asking, Halting, Announcing, Planning, Readying, Checking, Inquiring}
 use Rattle.bully_steps.specs.declared.point.Want.{Want}
-use Rattle.bully_steps.specs.Held.{Held, CanCome, CanResume, is_started, resumed, want_of}
+use Rattle.bully_steps.specs.ProcedureState.{ProcedureState, CanCome, CanResume, is_started, resumed, want_of}
 use Rattle.bully_steps.specs.NextPoint.{next_point, next_vector}
 use Rattle.bully_steps.specs.Point.{offered}
 use Rattle.bully_world.specs.declared.event.Event.{Event}
 use Rattle.bully_world.specs.declared.turn.StepKind.{StepKind}
-use Rattle.bully_world.specs.Shape.{AllFit, SuitsPhase}
+use Rattle.bully_world.specs.NodeInvariant.{WorldInvariant, SuitsPhase}
 use Rattle.bully_world.specs.Step.{Step, IsUp, Returns, sent}
-use Rattle.bully_world.specs.Turn.{is_live_in, event_of, outcome_after, gone_on}
+use Rattle.bully_world.specs.Turn.{is_live_in, event_of, outcome_after, procedure_after}
 use Rattle.bully_world.specs.World.{World, Member, member, vector, point, pending, with_member}
 use Rattle.bully_world.proofs.AgreeLemmas.{Agrees, resumed_agrees}
 use Rattle.bully_world.proofs.MemberLemmas.{member_here, node_of_up, node_of_pending, call_of_pending}
-use Rattle.bully_world.proofs.MoveFits.{planning_up}
+use Rattle.bully_world.proofs.MoveInvariant.{planning_up}
 use Rattle.bully_world.proofs.TurnSteps.{shown, wants}
 
 -- a call's start keeps the point and the vector
@@ -61,14 +61,14 @@ came_back : (f : Phase) (o : Outcome) → outcome_of f ≡ Some o → (is_starte
 came_back f o done = (grind (arith, done), grind (arith, done))
 
 -- the owner of the procedure stays
-pub gone_owner : (kind : StepKind) (a : Answer) (h : Held) → ((gone_on kind a h).setup ≡ h.setup) × ((gone_on kind a h).node ≡ h.node) × ((gone_on kind a h).generation ≡ h.generation)
-gone_owner kind a h = by_outcome (outcome_after kind a)
+pub identity_after : (kind : StepKind) (a : Answer) (h : ProcedureState) → ((procedure_after kind a h).setup ≡ h.setup) × ((procedure_after kind a h).node ≡ h.node) × ((procedure_after kind a h).generation ≡ h.generation)
+identity_after kind a h = by_outcome (outcome_after kind a)
   where
     by_outcome : (q : Option Outcome) → ((option_map_or (resumed h) q h).setup ≡ h.setup) × ((option_map_or (resumed h) q h).node ≡ h.node) × ((option_map_or (resumed h) q h).generation ≡ h.generation)
     by_outcome None = (refl, refl, refl)
     by_outcome (Some o) = (refl, refl, refl)
 
-module _ (setup : Setup) (w : World) (i g : ℕ) (h : Held) (all : AllFit setup w) (se : h.setup ≡ setup) (ne : h.node ≡ i) (a : Agrees h (shown setup i g (member w i))) where
+module _ (setup : Setup) (w : World) (i g : ℕ) (h : ProcedureState) (all : WorldInvariant setup w) (se : h.setup ≡ setup) (ne : h.node ≡ i) (a : Agrees h (shown setup i g (member w i))) where
   -- it goes on as its node does
   goes_on : (o : Outcome) (q : Point) (m : Member) → next_point setup i (vector w i).up (point w i) o ≡ Some q → m.point ≡ q → m.vector.up ≡ (next_vector i (point w i) o (vector w i)).up
       → m.vector.coordinator ≡ (next_vector i (point w i) o (vector w i)).coordinator → is_live_in m.pending ≡ is_started o → Agrees (resumed h o) (shown setup i g m)
@@ -93,7 +93,7 @@ module _ (setup : Setup) (w : World) (i g : ℕ) (h : Held) (all : AllFit setup 
   }
 
   abbrev GoesOn : StepKind → World → Answer → Type 0
-  GoesOn kind w' answer = Agrees (gone_on kind answer h) (shown setup i g (member w' i)) × IfSome (outcome_after kind answer) (CanResume h)
+  GoesOn kind w' answer = Agrees (procedure_after kind answer h) (shown setup i g (member w' i)) × IfSome (outcome_after kind answer) (CanResume h)
 
   here : (m : Member) → IsNode setup i → member (with_member w i m) i ≡ m
   here m node = member_here setup w i m all node

@@ -1,6 +1,6 @@
 ghost use Rattle.std.specs.Prelude.{◌≡◌};
 ghost use Rattle.bully_base.specs.Setup.{IsSetup, IsNode};
-ghost use Rattle.bully_steps.specs.Held.{held_at};
+ghost use Rattle.bully_steps.specs.ProcedureState.{procedure_state};
 ghost use Rattle.bully_steps.specs.NextPoint.{election};
 ghost use Rattle.bully_steps.specs.States.{asking};
 ghost use Rattle.std.specs.Prelude.{[], None, false};
@@ -11,31 +11,31 @@ use std::marker::Model;
 
 /// Whose procedure it is, and of which of its generations.
 #[derive(Clone, Copy, Debug)]
-pub struct Owner {
+pub struct Identity {
     pub setup: Setup,
     pub node: Node,
     pub generation: u32,
 }
 
-impl Model for Owner {
-    ghost use Rattle.bully_steps.specs.States.{Owner as OwnerState};
+impl Model for Identity {
+    ghost use Rattle.bully_steps.specs.States.{Identity as IdentityState};
 
-    ghost Value = { OwnerState };
+    ghost Value = { IdentityState };
 
     ghost view = { λ o. record { setup = o.setup; node = o.node; generation = o.generation } };
 
     ghost inverse = { λ v. record { setup = v.setup; node = v.node; generation = v.generation } };
 }
 
-impl Owner {
+impl Identity {
     /// An election of the node, which is one of the setup's, begins.
     pub(crate) fn election(self) -> Asking
         requires setup { IsSetup self.setup }
         requires node { IsNode self.setup self.node }
-        ensures { asking result ≡ held_at self.setup self.node self.generation (election self.node) [] None false }
+        ensures { asking result ≡ procedure_state self.setup self.node self.generation (election self.node) [] None false }
     {
         Asking {
-            owner: self,
+            identity: self,
             next: self.node.number() + 1,
             awaits: false,
         }

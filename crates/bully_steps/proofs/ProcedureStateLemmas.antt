@@ -8,7 +8,7 @@ use Rattle.bully_handlers.specs.Vector.{Vector}
 use Rattle.bully_steps.specs.declared.point.Point.{Point}
 use Rattle.bully_steps.specs.declared.point.Point.TheVariants.{Idle, Asking, Halting, Announcing, Planning, Readying, Checking, Inquiring}
 use Rattle.bully_steps.specs.declared.point.Want.TheVariants.{Await}
-use Rattle.bully_steps.specs.Held.{Held, want_of, next_up}
+use Rattle.bully_steps.specs.ProcedureState.{ProcedureState, want_of, next_up}
 use Rattle.bully_steps.specs.NextPoint.{next_vector, rest_of}
 use Rattle.bully_table.specs.declared.planning.PlanFault.{PlanFault}
 
@@ -37,7 +37,7 @@ next_up_is i (Checking k) o v = grind arith
 next_up_is i Inquiring o v = grind arith
 
 -- a procedure that wants to await awaits
-pub awaits_wanted : (h : Held) → want_of h ≡ Await → h.awaits ≡ true
+pub awaits_wanted : (h : ProcedureState) → want_of h ≡ Await → h.awaits ≡ true
 awaits_wanted h e = grind (arith, e)
 
 -- a plan over a node and others is refused for want of memory alone

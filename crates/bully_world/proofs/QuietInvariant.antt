@@ -8,10 +8,10 @@ use Rattle.bully_steps.specs.declared.point.Point.{Point}
 use Rattle.bully_steps.specs.declared.point.Point.TheVariants.{Idle}
 use Rattle.bully_steps.specs.NextPoint.{election, checking_from, checked, timed_out}
 use Rattle.bully_steps.specs.Point.{IsPointOf}
-use Rattle.bully_world.specs.Shape.{Fits, SuitsPoint, SuitsPending, IsBeginning}
+use Rattle.bully_world.specs.NodeInvariant.{NodeInvariant, SuitsPoint, SuitsPending, IsBeginning}
 use Rattle.bully_world.specs.World.{Member, empty_member}
 
-pub empty_fits : (setup : Setup) (i : ℕ) → Fits setup i empty_member
+pub empty_fits : (setup : Setup) (i : ℕ) → NodeInvariant setup i empty_member
 empty_fits setup i = record {
   a_node = inl refl;
   down_idle = λ d. refl;
@@ -22,10 +22,10 @@ empty_fits setup i = record {
   by_call = tt;
 }
 
-pub crash_fits : (setup : Setup) (i : ℕ) (v : Vector) → Fits setup i (record { vector = crashed setup v; point = Idle; pending = None })
+pub crash_fits : (setup : Setup) (i : ℕ) (v : Vector) → NodeInvariant setup i (record { vector = crashed setup v; point = Idle; pending = None })
 crash_fits setup i v = empty_fits setup i
 
-pub recover_fits : (setup : Setup) (i : ℕ) (m : Member) → Fits setup i m → IsNode setup i → m.vector.status ≡ Down → Fits setup i (record m { vector = recovered setup m.vector; point = election i })
+pub recover_fits : (setup : Setup) (i : ℕ) (m : Member) → NodeInvariant setup i m → IsNode setup i → m.vector.status ≡ Down → NodeInvariant setup i (record m { vector = recovered setup m.vector; point = election i })
 recover_fits setup i m fits node down = record {
   a_node = inr node;
   down_idle = λ d. absurd (grind arith);
@@ -37,7 +37,7 @@ recover_fits setup i m fits node down = record {
 }
 
 -- an idle node goes to a point where it has asked past nobody and passed nobody
-pub begin_fits : (setup : Setup) (i : ℕ) (m : Member) (p : Point) → Fits setup i m → m.vector.status ≢ Down → m.point ≡ Idle → IsBeginning i p → IsPointOf setup i p → SuitsPoint i m.vector p → Fits setup i (record m { point = p })
+pub begin_fits : (setup : Setup) (i : ℕ) (m : Member) (p : Point) → NodeInvariant setup i m → m.vector.status ≢ Down → m.point ≡ Idle → IsBeginning i p → IsPointOf setup i p → SuitsPoint i m.vector p → NodeInvariant setup i (record m { point = p })
 begin_fits setup i m p fits up idle begins is_point suits_point = record {
   a_node = fits.a_node;
   down_idle = λ d. absurd (up d);
@@ -61,8 +61,8 @@ checking_begins setup i k = grind arith
 pub checking_suits : (setup : Setup) (i k : ℕ) (v : Vector) → SuitsPoint i v (checking_from setup i k)
 checking_suits setup i k v = grind arith
 
-pub check_fits : (setup : Setup) (i : ℕ) (m : Member) → Fits setup i m → m.vector.status ≢ Down → m.point ≡ Idle → Fits setup i (record m { point = checked setup i m.vector.status m.vector.coordinator })
+pub check_fits : (setup : Setup) (i : ℕ) (m : Member) → NodeInvariant setup i m → m.vector.status ≢ Down → m.point ≡ Idle → NodeInvariant setup i (record m { point = checked setup i m.vector.status m.vector.coordinator })
 check_fits setup i m fits up idle = begin_fits setup i m _ fits up idle (grind arith) (grind arith) (grind arith)
 
-pub timeout_fits : (setup : Setup) (i : ℕ) (m : Member) → Fits setup i m → m.vector.status ≢ Down → m.point ≡ Idle → Fits setup i (record m { point = timed_out i m.vector.status m.vector.coordinator })
+pub timeout_fits : (setup : Setup) (i : ℕ) (m : Member) → NodeInvariant setup i m → m.vector.status ≢ Down → m.point ≡ Idle → NodeInvariant setup i (record m { point = timed_out i m.vector.status m.vector.coordinator })
 timeout_fits setup i m fits up idle = begin_fits setup i m _ fits up idle (grind arith) (grind (arith, fits.a_node, up)) (grind (arith, up))

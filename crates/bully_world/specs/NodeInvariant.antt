@@ -82,7 +82,7 @@ pub record SuitsSetup (setup : Setup) (i : ℕ) (v : Vector) : Type 0 where
   pub coordinator : (k : ℕ) → v.coordinator ≡ Some k → IsNode setup k
 
 -- what holds of one node
-pub record Fits (setup : Setup) (i : ℕ) (m : Member) : Type 0 where
+pub record NodeInvariant (setup : Setup) (i : ℕ) (m : Member) : Type 0 where
   pub a_node : (m.vector.status ≡ Down) ⊎ IsNode setup i
   pub down_idle : m.vector.status ≡ Down → m.point ≡ Idle
   pub down_free : m.vector.status ≡ Down → m.pending ≡ None
@@ -92,6 +92,6 @@ pub record Fits (setup : Setup) (i : ℕ) (m : Member) : Type 0 where
   pub by_call : SuitsPending setup i m.vector m.point m.pending
 
 -- what holds of every node
-pub record AllFit (setup : Setup) (w : World) : Type 0 where
+pub record WorldInvariant (setup : Setup) (w : World) : Type 0 where
   pub count : length w.members ≡ setup.nodes
-  pub fits : (i : ℕ) → Fits setup i (member w i)
+  pub fits : (i : ℕ) → NodeInvariant setup i (member w i)

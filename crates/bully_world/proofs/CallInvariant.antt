@@ -9,7 +9,7 @@ use Rattle.bully_handlers.specs.Vector.{Vector}
 use Rattle.bully_steps.specs.declared.point.Point.{Point}
 use Rattle.bully_steps.specs.declared.point.Want.{Want}
 use Rattle.bully_steps.specs.Point.{offered, IsPointOf}
-use Rattle.bully_world.specs.Shape.{Fits, SuitsSetup, SuitsPoint, SuitsCallee, SuitsTable, SuitsPhase}
+use Rattle.bully_world.specs.NodeInvariant.{NodeInvariant, SuitsSetup, SuitsPoint, SuitsCallee, SuitsTable, SuitsPhase}
 use Rattle.bully_world.specs.Step.{sent, carried}
 use Rattle.bully_world.specs.World.{Member}
 use Rattle.bully_world.proofs.MemberLemmas.{node_of_fits, up_of_fits, call_of_fits}
@@ -25,7 +25,7 @@ offered_callee setup i v p call is_point suits offers = grind (arith, is_point, 
 offered_table : (setup : Setup) (i : ℕ) (v : Vector) (p : Point) (call : Call) → SuitsSetup setup i v → SuitsPoint i v p → offered setup v.coordinator p ≡ Want.Start call → SuitsTable setup call.kind (carried call.kind v)
 offered_table setup i v p call by_setup suits offers = grind (arith, suits, offers, by_setup.task)
 
-pub start_fits : (setup : Setup) (i : ℕ) (m : Member) (call : Call) → Fits setup i m → m.vector.status ≢ Down → offered setup m.vector.coordinator m.point ≡ Want.Start call → Fits setup i (record m { pending = Some (sent call m.vector) })
+pub start_fits : (setup : Setup) (i : ℕ) (m : Member) (call : Call) → NodeInvariant setup i m → m.vector.status ≢ Down → offered setup m.vector.coordinator m.point ≡ Want.Start call → NodeInvariant setup i (record m { pending = Some (sent call m.vector) })
 start_fits setup i m call fits up offers = record {
   a_node = fits.a_node;
   down_idle = fits.down_idle;
@@ -44,7 +44,7 @@ start_fits setup i m call fits up offers = record {
 }
 
 -- the call comes to another phase
-pub phase_fits : (setup : Setup) (i : ℕ) (m : Member) (c : Pending) (f : Phase) → Fits setup i m → m.pending ≡ Some c → SuitsPhase c.call.kind f → Fits setup i (record m { pending = Some (record c { phase = f }) })
+pub phase_fits : (setup : Setup) (i : ℕ) (m : Member) (c : Pending) (f : Phase) → NodeInvariant setup i m → m.pending ≡ Some c → SuitsPhase c.call.kind f → NodeInvariant setup i (record m { pending = Some (record c { phase = f }) })
 phase_fits setup i m c f fits is suits =
     let s = call_of_fits setup i m c fits is in
     record {
@@ -58,7 +58,7 @@ phase_fits setup i m c f fits is suits =
     }
 
 -- an orphan's return
-pub free_fits : (setup : Setup) (i : ℕ) (m : Member) → Fits setup i m → Fits setup i (record m { pending = None })
+pub free_fits : (setup : Setup) (i : ℕ) (m : Member) → NodeInvariant setup i m → NodeInvariant setup i (record m { pending = None })
 free_fits setup i m fits = record {
   a_node = fits.a_node;
   down_idle = fits.down_idle;

@@ -7,11 +7,11 @@ use Rattle.bully_calls.specs.declared.call.CallKind.{CallKind}
 use Rattle.bully_calls.specs.declared.call.CallKind.TheVariants.{AreYouUp, AreYouNormal, Halt, NewCoordinator, Ready}
 use Rattle.bully_calls.specs.declared.call.Phase.{Phase}
 use Rattle.bully_calls.specs.Pending.{Pending, orphan_of}
-use Rattle.bully_handlers.specs.Handler.{heard, reply}
+use Rattle.bully_handlers.specs.Handler.{callee_after, reply}
 use Rattle.bully_handlers.specs.Vector.{Vector, names, is_election, is_reorganization}
 use Rattle.bully_steps.specs.declared.point.Point.{Point}
 use Rattle.bully_steps.specs.declared.point.Point.TheVariants.{Idle, Inquiring}
-use Rattle.bully_world.specs.Shape.{Fits, SuitsPhase, SuitsTable, SuitsCallee, SuitsPending}
+use Rattle.bully_world.specs.NodeInvariant.{NodeInvariant, SuitsPhase, SuitsTable, SuitsCallee, SuitsPending}
 use Rattle.bully_world.specs.Step.{stopped_by}
 use Rattle.bully_world.specs.World.{Member, stopped}
 use Rattle.bully_world.proofs.MemberLemmas.{node_of_fits}
@@ -21,7 +21,7 @@ pub reply_suits : (kind : CallKind) (v : Vector) → SuitsPhase kind (Phase.Ran 
 reply_suits kind v = grind arith
 
 -- node d, halted by node i
-pub halted_fits : (setup : Setup) (i d : ℕ) (m : Member) → Fits setup d m → m.vector.status ≢ Down → Fits setup d (stopped (record m { vector = record m.vector { status = Election; halter = Some i } }))
+pub halted_fits : (setup : Setup) (i d : ℕ) (m : Member) → NodeInvariant setup d m → m.vector.status ≢ Down → NodeInvariant setup d (stopped (record m { vector = record m.vector { status = Election; halter = Some i } }))
 halted_fits setup i d m fits up = record {
   a_node = inr (node_of_fits setup d m fits up);
   down_idle = λ e. refl;
@@ -42,7 +42,7 @@ suits_still setup d v1 v2 p None x s = tt
 suits_still setup d v1 v2 p (Some c) x s = record { live = λ l. grind (arith, s.live l, x); orphan = s.orphan; to_node = s.to_node; callee = s.callee; table = s.table; phase = s.phase }
 
 -- node d joins node i that halted it
-pub joined_fits : (setup : Setup) (i d : ℕ) (m : Member) → Fits setup d m → IsNode setup i → d < i → m.vector.status ≡ Election → m.vector.halter ≡ Some i → Fits setup d (record m { vector = record m.vector { status = Reorganization; coordinator = Some i } })
+pub joined_fits : (setup : Setup) (i d : ℕ) (m : Member) → NodeInvariant setup d m → IsNode setup i → d < i → m.vector.status ≡ Election → m.vector.halter ≡ Some i → NodeInvariant setup d (record m { vector = record m.vector { status = Reorganization; coordinator = Some i } })
 joined_fits setup i d m fits node below status halter = record {
   a_node = inr (node_of_fits setup d m fits (λ e. grind (arith, e, status)));
   down_idle = λ e. absurd (grind arith);
@@ -54,7 +54,7 @@ joined_fits setup i d m fits node below status halter = record {
 }
 
 -- node d is normal under node i
-pub readied_fits : (setup : Setup) (i d : ℕ) (m : Member) (table : Option (List ℕ)) → Fits setup d m → d < i → m.vector.status ≡ Reorganization → m.vector.coordinator ≡ Some i → SuitsTable setup Ready table → Fits setup d (record m { vector = record m.vector { status = Normal; task = table } })
+pub readied_fits : (setup : Setup) (i d : ℕ) (m : Member) (table : Option (List ℕ)) → NodeInvariant setup d m → d < i → m.vector.status ≡ Reorganization → m.vector.coordinator ≡ Some i → SuitsTable setup Ready table → NodeInvariant setup d (record m { vector = record m.vector { status = Normal; task = table } })
 readied_fits setup i d m table fits below status coordinator suits = record {
   a_node = inr (node_of_fits setup d m fits (λ e. grind (arith, e, status)));
   down_idle = λ e. absurd (grind arith);
@@ -65,18 +65,18 @@ readied_fits setup i d m table fits below status coordinator suits = record {
   by_call = suits_still setup d m.vector (record m.vector { status = Normal; task = table }) m.point m.pending (inl refl) fits.by_call;
 }
 
-joins : (setup : Setup) (i d : ℕ) (m : Member) (b : Bool) → names m.vector.halter i && is_election m.vector.status ≡ b → Fits setup d m → IsNode setup i → d < i → Fits setup d (record m { vector = if b then record m.vector { status = Reorganization; coordinator = Some i } else m.vector })
+joins : (setup : Setup) (i d : ℕ) (m : Member) (b : Bool) → names m.vector.halter i && is_election m.vector.status ≡ b → NodeInvariant setup d m → IsNode setup i → d < i → NodeInvariant setup d (record m { vector = if b then record m.vector { status = Reorganization; coordinator = Some i } else m.vector })
 joins setup i d m true t fits node below = joined_fits setup i d m fits node below (grind (arith, t)) (grind (arith, t))
 joins setup i d m false t fits node below = fits
 
-follows : (setup : Setup) (i d : ℕ) (m : Member) (table : Option (List ℕ)) (b : Bool) → names m.vector.coordinator i && is_reorganization m.vector.status ≡ b → Fits setup d m → d < i → SuitsTable setup Ready table → Fits setup d (record m { vector = if b then record m.vector { status = Normal; task = table } else m.vector })
+follows : (setup : Setup) (i d : ℕ) (m : Member) (table : Option (List ℕ)) (b : Bool) → names m.vector.coordinator i && is_reorganization m.vector.status ≡ b → NodeInvariant setup d m → d < i → SuitsTable setup Ready table → NodeInvariant setup d (record m { vector = if b then record m.vector { status = Normal; task = table } else m.vector })
 follows setup i d m table true t fits below suits = readied_fits setup i d m table fits below (grind (arith, t)) (grind (arith, t)) suits
 follows setup i d m table false t fits below suits = fits
 
 -- node d after it heard a call from node i
-pub heard_fits : (setup : Setup) (i d : ℕ) (kind : CallKind) (table : Option (List ℕ)) (m : Member) → Fits setup d m → m.vector.status ≢ Down → IsNode setup i → SuitsCallee i kind d → SuitsTable setup kind table → Fits setup d (stopped_by kind (record m { vector = heard i kind table m.vector }))
-heard_fits setup i d AreYouUp table m fits up node callee suits = fits
-heard_fits setup i d AreYouNormal table m fits up node callee suits = fits
-heard_fits setup i d Halt table m fits up node callee suits = halted_fits setup i d m fits up
-heard_fits setup i d NewCoordinator table m fits up node callee suits = joins setup i d m _ refl fits node callee
-heard_fits setup i d Ready table m fits up node callee suits = follows setup i d m table _ refl fits callee suits
+pub callee_fits_after : (setup : Setup) (i d : ℕ) (kind : CallKind) (table : Option (List ℕ)) (m : Member) → NodeInvariant setup d m → m.vector.status ≢ Down → IsNode setup i → SuitsCallee i kind d → SuitsTable setup kind table → NodeInvariant setup d (stopped_by kind (record m { vector = callee_after i kind table m.vector }))
+callee_fits_after setup i d AreYouUp table m fits up node callee suits = fits
+callee_fits_after setup i d AreYouNormal table m fits up node callee suits = fits
+callee_fits_after setup i d Halt table m fits up node callee suits = halted_fits setup i d m fits up
+callee_fits_after setup i d NewCoordinator table m fits up node callee suits = joins setup i d m _ refl fits node callee
+callee_fits_after setup i d Ready table m fits up node callee suits = follows setup i d m table _ refl fits callee suits

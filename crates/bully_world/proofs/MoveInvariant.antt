@@ -10,7 +10,7 @@ use Rattle.bully_steps.specs.declared.point.Point.{Point}
 use Rattle.bully_steps.specs.declared.point.Point.TheVariants.{Idle, Asking, Halting, Announcing, Planning, Readying, Checking, Inquiring}
 use Rattle.bully_steps.specs.NextPoint.{next_point, next_vector, election}
 use Rattle.bully_steps.specs.Point.{IsPointOf}
-use Rattle.bully_world.specs.Shape.{Fits, SuitsSetup, SuitsPoint}
+use Rattle.bully_world.specs.NodeInvariant.{NodeInvariant, SuitsSetup, SuitsPoint}
 use Rattle.bully_world.specs.World.{Member}
 use Rattle.bully_world.proofs.MemberLemmas.{node_of_fits}
 
@@ -62,7 +62,7 @@ module _ (setup : Setup) (i : ℕ) (v : Vector) (p : Point) (o : Outcome) (q : P
   next_by_point ne = grind (arith, by_point, next, ne)
 
 -- a procedure's node after any outcome but a plan
-pub proceed_fits : (setup : Setup) (i : ℕ) (m : Member) (o : Outcome) (q : Point) → Fits setup i m → m.vector.status ≢ Down → o ≢ Outcome.Planned → next_point setup i m.vector.up m.point o ≡ Some q → Fits setup i (record { vector = next_vector i m.point o m.vector; point = q; pending = None })
+pub proceed_fits : (setup : Setup) (i : ℕ) (m : Member) (o : Outcome) (q : Point) → NodeInvariant setup i m → m.vector.status ≢ Down → o ≢ Outcome.Planned → next_point setup i m.vector.up m.point o ≡ Some q → NodeInvariant setup i (record { vector = next_vector i m.point o m.vector; point = q; pending = None })
 proceed_fits setup i m o q fits up ne next =
     let node = node_of_fits setup i m fits up in
     record {
@@ -76,10 +76,10 @@ proceed_fits setup i m o q fits up ne next =
     }
 
 -- a planning node is up
-pub planning_up : (setup : Setup) (i : ℕ) (m : Member) → Fits setup i m → m.point ≡ Planning → m.vector.status ≢ Down
+pub planning_up : (setup : Setup) (i : ℕ) (m : Member) → NodeInvariant setup i m → m.point ≡ Planning → m.vector.status ≢ Down
 planning_up setup i m fits planning d = grind (arith, planning, fits.down_idle d)
 
-pub plan_fits : (setup : Setup) (i : ℕ) (m : Member) (table : List ℕ) → Fits setup i m → m.point ≡ Planning → length table ≡ setup.partitions → Fits setup i (record { vector = record m.vector { task = Some table }; point = Readying m.vector.up; pending = None })
+pub plan_fits : (setup : Setup) (i : ℕ) (m : Member) (table : List ℕ) → NodeInvariant setup i m → m.point ≡ Planning → length table ≡ setup.partitions → NodeInvariant setup i (record { vector = record m.vector { task = Some table }; point = Readying m.vector.up; pending = None })
 plan_fits setup i m table fits planning size = record {
   a_node = fits.a_node;
   down_idle = λ d. absurd (planning_up setup i m fits planning d);
