@@ -16,7 +16,7 @@ use Rattle.bully_world.specs.Step.{Step}
 use Rattle.bully_world.specs.World.{World, first_world}
 use Rattle.bully_world.specs.declared.event.Event.{Event}
 use Rattle.bully_world.specs.declared.event.Refused.{Refused}
-use Rattle.bully_agree.specs.Runs.{StopsAt}
+use Rattle.bully_agree.specs.Runs.{RunsTo, StopsAt}
 
 pub take-more : {A : Type 0} (xs : List A) (k : ℕ) (x : A) → slice_get xs k ≡ Some x → take (k + 1) xs ≡ take k xs ++ x ∷ []
 take-more xs k x there =
@@ -29,7 +29,7 @@ part xs k x there =
 
 -- an event that isn't refused
 pub run-more : (setup : Setup) (events : List Event) (index count : ℕ) (e : Event) (w w' : World) (a : Answer) → slice_get events index ≡ Some e → count ≡ index → cause setup w count e ≡ None → Step setup w e w' a
-    → (answers : List Answer) × IsLawful setup (take index events) answers w → (answers : List Answer) × IsLawful setup (take (index + 1) events) answers w'
+    → RunsTo setup (take index events) w → RunsTo setup (take (index + 1) events) w'
 run-more setup events index count e w w' a there same none step so_far =
     let within : index < length events = slice_get_within events index e there in
     let size : length (take index events) ≡ index = length-take-le index events (omega (arith, within)) in
@@ -38,7 +38,7 @@ run-more setup events index count e w w' a there same none step so_far =
 
 -- an event that is refused
 pub run-stops : (setup : Setup) (events : List Event) (index count : ℕ) (e : Event) (w : World) (why : Refused) → slice_get events index ≡ Some e → count ≡ index → cause setup w count e ≡ Some why
-    → (answers : List Answer) × IsLawful setup (take index events) answers w → StopsAt setup events index why
+    → RunsTo setup (take index events) w → StopsAt setup events index why
 run-stops setup events index count e w why there same refused so_far = record {
   event = e;
   answers = so_far.0;

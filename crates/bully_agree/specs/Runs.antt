@@ -11,6 +11,14 @@ use Rattle.bully_agree.specs.declared.runs.RunFault.{RunFault}
 use Rattle.bully_agree.specs.declared.whole_calls.WholeFault.{WholeFault}
 use Rattle.bully_agree.specs.WholeCalls.{is_whole, BreaksAt}
 
+-- the events are lawful, and lead to w
+abbrev pub RunsTo : Setup → List Event → World → Type 0
+RunsTo setup events w = (answers : List Answer) × IsLawful setup events answers w
+
+-- the events are lawful
+abbrev pub CanRun : Setup → List Event → Type 0
+CanRun setup events = (w : World) × RunsTo setup events w
+
 -- the events before the index are lawful, so that none of them has a cause, and in the world that they lead to the
 -- event at the index has this one
 pub record StopsAt (setup : Setup) (events : List Event) (index : ℕ) (why : Refused) : Type 0 where

@@ -5,6 +5,7 @@ use Rattle.bully_base.specs.Setup.{Setup}
 use Rattle.bully_base.specs.declared.node.Status.{Status}
 use Rattle.bully_base.specs.declared.node.Status.TheVariants.{Down, Reorganization, Normal}
 use Rattle.bully_calls.specs.declared.call.Answer.{Answer}
+use Rattle.bully_handlers.specs.Vector.{Vector}
 use Rattle.bully_world.specs.declared.event.Event.{Event}
 use Rattle.bully_world.specs.Lawful.{IsLawful}
 use Rattle.bully_world.specs.World.{World, Member}
@@ -28,8 +29,11 @@ nothing_shown = record { status = Down; coordinator = None; task = None }
 abbrev pub shown : View → ℕ → Shown
 shown v i = at_node nothing_shown v.nodes i
 
+abbrev pub shown_by : Vector → Shown
+shown_by v = record { status = v.status; coordinator = v.coordinator; task = v.task }
+
 abbrev pub shown_of : Member → Shown
-shown_of m = record { status = m.vector.status; coordinator = m.vector.coordinator; task = m.vector.task }
+shown_of m = shown_by m.vector
 
 -- the view of a world in which so many events were applied
 abbrev pub view_of : Setup → ℕ → World → View

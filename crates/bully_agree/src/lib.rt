@@ -27,12 +27,14 @@ pub use whole_calls::{WholeFault, run_whole};
 /// Reorganization or Normal have one coordinator, and all that are Normal have one task. Halts, crashes and
 /// recoveries may stand between the start, the run and the return of any call, and orphans may run late.
 pub fn agreement()
-    ensures { (setup : Setup) (events : List Event) (answers : List Answer) (w : World) → IsLawful setup events answers w → Agreement w }
+    ensures { (setup : Setup) (events : List Event) (answers : List Answer) (w : World)
+        → IsLawful setup events answers w → Agreement w }
 {}
 
 /// The law of causes. In a world that a lawful list leads to, an event has no cause exactly where it is
 /// possible there and fewer events than the bound were applied.
 pub fn causes()
-    ensures { (setup : Setup) (events : List Event) (answers : List Answer) (w : World) (count : ℕ) (e : Event) → IsLawful setup events answers w
+    ensures { (setup : Setup) (events : List Event) (answers : List Answer) (w : World) (count : ℕ) (e : Event)
+        → IsLawful setup events answers w
         → ((cause setup w count e ≡ None) ↔ ((count < setup.events_max) × (w' : World) × (a : Answer) × Step setup w e w' a)) }
 {}

@@ -1,10 +1,7 @@
-ghost use Rattle.std.specs.Prelude.{◌≡◌, List, length, IfErr, IfOk};
-ghost use Rattle.bully_agree.specs.Runs.{IsRunFault};
+ghost use Rattle.std.specs.Prelude.{◌≡◌, length, IfErr, IfOk};
+ghost use Rattle.bully_agree.specs.Runs.{CanRun, IsRunFault, RunsTo};
 ghost use Rattle.bully_agree.specs.View.{ViewAgrees, view_of};
-ghost use Rattle.bully_calls.specs.declared.call.Answer.{Answer};
-ghost use Rattle.bully_world.specs.Lawful.{IsLawful};
 ghost use Rattle.bully_world.specs.State.{world_of};
-ghost use Rattle.bully_world.specs.World.{World as WorldState};
 
 use crate::views::View;
 use crate::views::making::view;
@@ -21,31 +18,34 @@ pub enum RunFault {
     OutOfMemory,
 }
 
+impl From<OutOfMemory> for RunFault {
+    ghost use Rattle.bully_agree.specs.declared.runs.RunFault.{RunFault};
+
+    ghost from_gives = { λ _ fault. fault ≡ RunFault.OutOfMemory };
+
+    fn from(_: OutOfMemory) -> RunFault {
+        RunFault::OutOfMemory
+    }
+}
+
 /// Applies the events in order to a new world, and gives that world and its view.
 /// Refused, in this order, as `Stop` at the first event that has a cause, and as `OutOfMemory`. A world that
 /// can't be made is told at once, whatever the events are. The rule: docs/ALGORITHM.md.
 pub fn run(alloc: Global, setup: Setup, events: &[Event]) -> Result<(World, View), RunFault>
-    ensures lawful { IfOk result (λ done. (answers : List Answer) × IsLawful setup events.now answers (world_of done.0)) }
+    ensures lawful { IfOk result (λ done. RunsTo setup events.now (world_of done.0)) }
     ensures setup { IfOk result (λ done. done.0.setup ≡ setup) }
     ensures counted { IfOk result (λ done. done.0.events ≡ length events.now) }
     ensures view { IfOk result (λ done. done.1 ≡ view_of setup (length events.now) (world_of done.0)) }
     ensures agrees { IfOk result (λ done. ViewAgrees done.1) }
     ensures stop { IfErr result (IsRunFault setup events.now) }
-    ensures lawful_runs { IfErr result (λ fault. (answers : List Answer) (w : WorldState) → IsLawful setup events.now answers w → fault ≡ RunFault.OutOfMemory) }
+    ensures lawful_runs { IfErr result (λ why. CanRun setup events.now → why ≡ RunFault.OutOfMemory) }
 {
-    let mut world = World::new(alloc, setup).map_err(no_memory)?;
+    let mut world = World::new(alloc, setup)?;
     for (index, event) in events.iter().enumerate() {
         if let Err(cause) = world.apply(event) {
             return Err(RunFault::Stop { index, cause });
         }
     }
-    let shown = view(alloc, &world).map_err(no_memory)?;
+    let shown = view(alloc, &world)?;
     Ok((world, shown))
-}
-
-// The fault of memory that was refused.
-fn no_memory(_: OutOfMemory) -> RunFault
-    ensures { result ≡ RunFault.OutOfMemory }
-{
-    RunFault::OutOfMemory
 }

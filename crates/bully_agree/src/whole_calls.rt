@@ -1,12 +1,9 @@
-ghost use Rattle.std.specs.Prelude.{◌≡◌, List, Some, None, length, true, false, IfErr, IfOk, IfNone, IfSome, OnOk, if◌then◌else◌};
-ghost use Rattle.bully_agree.specs.Runs.{IsWholeFault};
+ghost use Rattle.std.specs.Prelude.{◌≡◌, Some, None, length, true, false, IfErr, IfOk, IfNone, IfSome, OnOk, if◌then◌else◌};
+ghost use Rattle.bully_agree.specs.Runs.{CanRun, IsWholeFault, RunsTo};
 ghost use Rattle.bully_agree.specs.Stages.{may_stand, stage_after, whole_fault};
 ghost use Rattle.bully_agree.specs.View.{ViewAgrees, view_of};
 ghost use Rattle.bully_agree.specs.WholeCalls.{BreaksAt, is_whole, settles, gives_back};
-ghost use Rattle.bully_calls.specs.declared.call.Answer.{Answer};
-ghost use Rattle.bully_world.specs.Lawful.{IsLawful};
 ghost use Rattle.bully_world.specs.State.{world_of};
-ghost use Rattle.bully_world.specs.World.{World as WorldState};
 
 use crate::runs::{RunFault, run};
 use crate::views::View;
@@ -26,6 +23,17 @@ pub enum WholeFault {
     OutOfMemory,
 }
 
+impl From<RunFault> for WholeFault {
+    ghost from_gives = { λ fault whole. whole ≡ whole_fault fault };
+
+    fn from(fault: RunFault) -> WholeFault {
+        match fault {
+            RunFault::Stop { index, cause } => WholeFault::Stop { index, cause },
+            RunFault::OutOfMemory => WholeFault::OutOfMemory,
+        }
+    }
+}
+
 /// How far the call at hand has come: there is none, the node's was started, or the node's ran or was lost.
 #[derive(Clone, Copy, Debug)]
 enum Stage {
@@ -40,28 +48,19 @@ enum Stage {
 /// world that can't be made is told before any `Stop`. The rule: docs/ALGORITHM.md.
 pub fn run_whole(alloc: Global, setup: Setup, events: &[Event]) -> Result<(World, View), WholeFault>
     ensures whole { OnOk result (is_whole events.now ≡ true) }
-    ensures lawful { IfOk result (λ done. (answers : List Answer) × IsLawful setup events.now answers (world_of done.0)) }
+    ensures lawful { IfOk result (λ done. RunsTo setup events.now (world_of done.0)) }
     ensures setup { IfOk result (λ done. done.0.setup ≡ setup) }
     ensures counted { IfOk result (λ done. done.0.events ≡ length events.now) }
     ensures view { IfOk result (λ done. done.1 ≡ view_of setup (length events.now) (world_of done.0)) }
     ensures agrees { IfOk result (λ done. ViewAgrees done.1) }
     ensures fault { IfErr result (IsWholeFault setup events.now) }
-    ensures lawful_runs { IfErr result (λ fault. is_whole events.now ≡ true → (answers : List Answer) (w : WorldState) → IsLawful setup events.now answers w → fault ≡ WholeFault.OutOfMemory) }
+    ensures lawful_runs { is_whole events.now ≡ true → CanRun setup events.now
+        → IfErr result (λ why. why ≡ WholeFault.OutOfMemory) }
 {
     if let Some(index) = first_break(events) {
         return Err(WholeFault::NotWhole { index });
     }
-    run(alloc, setup, events).map_err(as_whole)
-}
-
-// The fault of a run, where each call is whole.
-fn as_whole(fault: RunFault) -> WholeFault
-    ensures { result ≡ whole_fault fault }
-{
-    match fault {
-        RunFault::Stop { index, cause } => WholeFault::Stop { index, cause },
-        RunFault::OutOfMemory => WholeFault::OutOfMemory,
-    }
+    Ok(run(alloc, setup, events)?)
 }
 
 // The index of the first event that breaks the rule of whole calls, or the length of a list that ends in the

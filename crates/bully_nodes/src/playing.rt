@@ -25,6 +25,27 @@ pub enum PlayFault {
     OutOfMemory,
 }
 
+impl From<OutOfMemory> for PlayFault {
+    ghost use Rattle.bully_nodes.specs.declared.playing.PlayFault.{PlayFault};
+
+    ghost from_gives = { λ _ fault. fault ≡ PlayFault.OutOfMemory };
+
+    fn from(_: OutOfMemory) -> PlayFault {
+        PlayFault::OutOfMemory
+    }
+}
+
+impl From<TraceFault> for PlayFault {
+    ghost from_gives = { λ trace fault. fault ≡ fault_of trace.cause };
+
+    fn from(fault: TraceFault) -> PlayFault {
+        match fault.cause {
+            TraceCause::OutOfMemory => PlayFault::OutOfMemory,
+            _ => PlayFault::Write,
+        }
+    }
+}
+
 /// Plays the configuration on one thread, and writes the trace of what happened. In each of the configuration's
 /// turns the operator comes first, and then the nodes in rising order. Refused as `OutOfMemory` where an
 /// allocation fails, and then nothing was written; as `Write` where the writer fails, and then a prefix of the
@@ -33,8 +54,8 @@ pub fn play<W: Write>(alloc: Global, config: &Config, writer: &mut W) -> Result<
     ensures played { OnOk result ((events : List Event) × IsPlay config.now events × IsScheduled config.now events × Appends (W.contents writer.old) (W.contents writer.new) (trace_text (trace_with config.now.setup events))) }
     ensures memory { result ≡ Err PlayFault.OutOfMemory → writer.new ≡ writer.old }
 {
-    let trace = trace_of(alloc, config).map_err(no_memory)?;
-    write_trace(alloc, writer, &trace).map_err(not_written)
+    let trace = trace_of(alloc, config)?;
+    Ok(write_trace(alloc, writer, &trace)?)
 }
 
 // The trace of a play.
@@ -82,21 +103,4 @@ fn take_round(
         take_turn(recording, alloc, turn, procedure)?;
     }
     Ok(())
-}
-
-// The fault of a trace that isn't written.
-fn not_written(fault: TraceFault) -> PlayFault
-    ensures { result ≡ fault_of fault.cause }
-{
-    match fault.cause {
-        TraceCause::OutOfMemory => PlayFault::OutOfMemory,
-        _ => PlayFault::Write,
-    }
-}
-
-// The fault of memory that was refused.
-fn no_memory(_: OutOfMemory) -> PlayFault
-    ensures { result ≡ PlayFault.OutOfMemory }
-{
-    PlayFault::OutOfMemory
 }

@@ -1,6 +1,6 @@
 ghost use Rattle.std.specs.Prelude.{◌≡◌, map, IfOk};
 ghost use Rattle.std.specs.Option.{option_copied};
-ghost use Rattle.bully_agree.specs.View.{IsViewed, ViewAgrees, shown_of, view_of};
+ghost use Rattle.bully_agree.specs.View.{IsViewed, ViewAgrees, shown_by, shown_of, view_of};
 ghost use Rattle.bully_world.specs.State.{IsReached, world_of};
 
 use super::{Shown, View};
@@ -40,7 +40,7 @@ fn shown_nodes(alloc: Global, world: &World) -> Result<Vec<Shown>, OutOfMemory>
 
 // What is shown of a node with this vector.
 fn shown_by(vector: &Vector) -> Result<Shown, OutOfMemory>
-    ensures { IfOk result (λ s. s ≡ record { status = vector.now.vector.status; coordinator = vector.now.vector.coordinator; task = vector.now.vector.task }) }
+    ensures { IfOk result (λ s. s ≡ shown_by vector.now.vector) }
 {
     Ok(Shown {
         status: vector.status(),

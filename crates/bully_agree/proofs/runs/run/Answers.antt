@@ -34,4 +34,4 @@ pub returns-in-Err-clause-stop : goal.returns-in-Err-clause-stop
 returns-in-Err-clause-stop c = stopped c
 
 pub returns-in-Err-clause-lawful_runs : goal.returns-in-Err-clause-lawful_runs
-returns-in-Err-clause-lawful_runs c = λ answers w lawful. absurd (never_stops c.args.setup c.args.events.now c.loop-index.index c.in-Err.cause answers w (stopped c) lawful)
+returns-in-Err-clause-lawful_runs c = λ can. absurd (never_stops c.args.setup c.args.events.now c.loop-index.index c.in-Err.cause can.1.0 can.0 (stopped c) can.1.1)

@@ -1,6 +1,5 @@
-use Rattle.std.proofs.Common.{◌≡◌, List, take, length}
-use Rattle.bully_calls.specs.declared.call.Answer.{Answer}
-use Rattle.bully_world.specs.Lawful.{IsLawful}
+use Rattle.std.proofs.Common.{◌≡◌, take, length}
+use Rattle.bully_agree.specs.Runs.{RunsTo}
 use Rattle.bully_world.specs.State.{world_of}
 use Rattle.bully_agree.proofs.runs.run.Given as goal
 
@@ -9,6 +8,6 @@ abbrev pub invariant-loop-index : goal.invariant-loop-index
 invariant-loop-index l = record {
   setup : l.world.setup ≡ l.fn.setup;
   counted : l.world.events ≡ l.index;
-  lawful : (answers : List Answer) × IsLawful l.fn.setup (take l.index l.events) answers (world_of l.world);
+  lawful : RunsTo l.fn.setup (take l.index l.events) (world_of l.world);
   end : l.index-end ≡ length l.events;
 }
