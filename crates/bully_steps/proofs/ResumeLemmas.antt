@@ -7,7 +7,7 @@ use Rattle.bully_base.specs.Setup.{Setup, IsNode}
 use Rattle.bully_calls.specs.declared.call.Outcome.{Outcome}
 use Rattle.bully_steps.specs.declared.point.Point.{Point}
 use Rattle.bully_steps.specs.declared.point.Point.TheVariants.{Idle, Asking, Halting, Announcing, Planning, Readying, Checking, Inquiring}
-use Rattle.bully_steps.specs.ProcedureState.{ProcedureState, IsProcedureState, procedure_state, next_up, is_started, resumed, resumed_point, resumed_up}
+use Rattle.bully_steps.specs.ProcedureState.{ProcedureState, IsProcedureState, procedure_state, next_of, next_up, is_started, resumed, resumed_point, resumed_up}
 use Rattle.bully_steps.specs.NextPoint.{next_point, election}
 use Rattle.bully_steps.specs.Point.{IsPointOf}
 
@@ -53,7 +53,7 @@ up_follows : (setup : Setup) (i : ℕ) (up : List ℕ) (p : Point) (o : Outcome)
 up_follows setup i up p o falls at = grind (arith, falls, at, with_node-falling)
 
 -- the procedure's next point is one of its node's
-pub next_is_point : (h : ProcedureState) (o : Outcome) (q : Point) → IsProcedureState h → next_point h.setup h.node (unwrap_or h.up []) h.point o ≡ Some q → IsPointOf h.setup h.node q
+pub next_is_point : (h : ProcedureState) (o : Outcome) (q : Point) → IsProcedureState h → next_of h o ≡ Some q → IsPointOf h.setup h.node q
 next_is_point h o q is next = point_follows h.setup h.node (unwrap_or h.up []) h.point o q is.node (held_falls h.node h.up is.up) is.point next
 
 -- and its next up set has lower nodes alone
@@ -62,7 +62,7 @@ resumed_up_falls h o is = up_follows h.setup h.node (unwrap_or h.up []) h.point 
 
 -- what is made of these is the procedure that the outcome makes
 pub resumed_is : (h s : ProcedureState) (o : Outcome) (q : Point) (up : List ℕ) (k : Option ℕ) (b : Bool) → s ≡ procedure_state h.setup h.node h.generation q up k b
-    → next_point h.setup h.node (unwrap_or h.up []) h.point o ≡ Some q → up ≡ resumed_up h o → k ≡ h.coordinator → b ≡ is_started o → s ≡ resumed h o
+    → next_of h o ≡ Some q → up ≡ resumed_up h o → k ≡ h.coordinator → b ≡ is_started o → s ≡ resumed h o
 resumed_is h s o q up k b is next joined same started =
     let at : resumed_point h o ≡ q = grind (arith, next) in
     rw (is, at, ← joined, ← same, ← started) refl

@@ -117,9 +117,13 @@ abbrev pub is_started : Outcome → Bool
 is_started Started = true
 is_started _ = false
 
+-- the point to which the outcome leads the procedure, if it can come there
+abbrev pub next_of : ProcedureState → Outcome → Option Point
+next_of h o = next_point h.setup h.node (unwrap_or h.up []) h.point o
+
 -- where the procedure goes on by the outcome
 abbrev pub resumed_point : ProcedureState → Outcome → Point
-resumed_point h o = unwrap_or (next_point h.setup h.node (unwrap_or h.up []) h.point o) h.point
+resumed_point h o = unwrap_or (next_of h o) h.point
 
 -- and the up set with which it does
 abbrev pub resumed_up : ProcedureState → Outcome → List ℕ

@@ -1,8 +1,7 @@
-ghost use Rattle.std.specs.Prelude.{◌≡◌, ◌≤◌, [], None, Some, true, false, unwrap_or};
+ghost use Rattle.std.specs.Prelude.{◌≡◌, ◌≤◌, [], None, Some, true, false};
 ghost use Rattle.std.specs.Option.{option_copied};
 ghost use Rattle.bully_base.specs.NodeSet.{IsFallingBelow};
-ghost use Rattle.bully_steps.specs.ProcedureState.{IsProcedureState, IsCall, SuitsInquiry, CanResume, procedure_state, want_of, resumed, resumed_up, is_started as started};
-ghost use Rattle.bully_steps.specs.NextPoint.{next_point};
+ghost use Rattle.bully_steps.specs.ProcedureState.{IsProcedureState, IsCall, SuitsInquiry, CanResume, procedure_state, want_of, next_of, resumed, resumed_up, is_started as started};
 ghost use Rattle.bully_steps.specs.Point.{offered, IsPointOf};
 ghost use Rattle.bully_steps.specs.Procedure.{state_of};
 
@@ -202,7 +201,7 @@ impl Procedure {
     pub fn resume(self, outcome: Outcome) -> Procedure
         requires { CanResume (state_of self) outcome }
         ensures state { state_of result ≡ resumed (state_of self) outcome }
-        ensures point { next_point (state_of self).setup (state_of self).node (unwrap_or (state_of self).up []) (state_of self).point outcome ≡ Some (state_of result).point }
+        ensures point { next_of (state_of self) outcome ≡ Some (state_of result).point }
     {
         let Identity {
             setup,
