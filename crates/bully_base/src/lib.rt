@@ -4,6 +4,9 @@
 //! and a set of nodes as its members in falling order.
 #![tactic(auto)]
 
+ghost use Rattle.std.specs.Prelude.{◌≡◌};
+ghost use Rattle.bully_base.specs.declared.TheConstants.{NODES_MAX, PARTITIONS_MAX, EVENTS_MAX};
+
 mod node;
 mod node_set;
 mod setup;
@@ -16,11 +19,18 @@ use std::alloc::AllocError;
 /// An allocation failed.
 pub type OutOfMemory = AllocError;
 
-/// The most nodes of a group. The profile's limit.
+/// The most nodes of a group. The rule: docs/ALGORITHM.md.
 pub const NODES_MAX: u16 = 64;
 
-/// The most partitions of a group's task. The profile's limit.
+/// The most partitions of a group's task. The rule: docs/ALGORITHM.md.
 pub const PARTITIONS_MAX: u16 = 256;
 
-/// The most events that a group may be bounded to. The profile's limit.
+/// The most events that a group may be bounded to. The rule: docs/ALGORITHM.md.
 pub const EVENTS_MAX: u32 = 1_000_000;
+
+/// The law of the limits, which says their numbers. Every other contract and definition cites them by name.
+pub fn limits()
+    ensures nodes { NODES_MAX ≡ 64 }
+    ensures partitions { PARTITIONS_MAX ≡ 256 }
+    ensures events { EVENTS_MAX ≡ 1000000 }
+{}

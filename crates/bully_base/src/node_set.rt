@@ -71,8 +71,6 @@ impl NodeSet {
         ensures falling { IsFallingBelow (NODES_MAX + 1) self.now }
         ensures largest { IfSome result (λ m. (Contains self.now m) × All (λ j. j ≤ m) self.now) }
     {
-        // Shows the proof that the members fall.
-        let _ = &self.marks;
         self.highest_among(NODES_MAX)
     }
 
@@ -107,7 +105,8 @@ impl NodeSet {
     // The highest member up to this number.
     fn highest_among(&self, number: u16) -> Option<Node>
         requires { number ≤ NODES_MAX }
-        ensures { result ≡ highest_of (below_node (number + 1) self.now) }
+        ensures highest { result ≡ highest_of (below_node (number + 1) self.now) }
+        ensures falling { IsFallingBelow (NODES_MAX + 1) self.now }
     {
         let mut last = number;
         while last > 0 {

@@ -9,7 +9,7 @@ use bully_table::{Table, TableRoom};
 use std::alloc::Global;
 use std::marker::Model;
 
-/// A call as it was posted, but for its table.
+/// The call in a slot, but for its table.
 #[derive(Clone, Copy, Debug)]
 struct Content {
     tag: Tag,
@@ -44,7 +44,7 @@ impl Slot {
         })
     }
 
-    /// Posts a call as sent. Exactly a Ready carries a table.
+    /// Puts a call into the slot, as sent. Exactly a Ready carries a table.
     pub fn open(&mut self, tag: Tag, call: Call, table: Option<&Table>)
         requires empty { self.old.content ≡ None }
         requires carries { CarriesFor call (option_copied table) self.old.room }

@@ -12,7 +12,7 @@ use std::alloc::Global;
 use std::marker::Model;
 
 /// What a node believes: its status, its coordinator, who halted it last, which lower nodes answered its
-/// halts, and its task. The fields are those of the 1982 paper's state vector, in this project's profile.
+/// halts, and its task. The fields are those of the 1982 paper's state vector, as docs/ALGORITHM.md has it.
 #[derive(Drop, Debug)]
 pub struct Vector {
     status: Status,
@@ -160,7 +160,7 @@ impl Vector {
         self.status = Status::Election;
     }
 
-    /// The node, which this is, halts itself to stand for election; nobody is up yet.
+    /// The node, which this is, halts itself as a candidate; nobody is up yet.
     pub fn become_candidate(&mut self, node: Node)
         ensures { self.new ≡ record self.old { vector = record self.old.vector { status = Status.Election; halter = Some node; up = [] } } }
     {
@@ -176,7 +176,7 @@ impl Vector {
         self.up.insert(node);
     }
 
-    /// The node, which this is, leads from now on.
+    /// The node, which this is, is the coordinator from now on.
     pub fn become_coordinator(&mut self, node: Node)
         ensures { self.new ≡ record self.old { vector = record self.old.vector { status = Status.Reorganization; coordinator = Some node } } }
     {

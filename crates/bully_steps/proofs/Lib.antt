@@ -1,1 +1,1 @@
-pub mod ProcedureStateLemmas
+pub mod ResumeLemmas

@@ -1,4 +1,4 @@
--- What the owner of a procedure holds, and when it may hold it.
+-- What a procedure holds, when it may hold it, and where it goes on.
 use Rattle.std.specs.Prelude.{◌≡◌, ◌≢◌, ℕ, Bool, true, false, [], length, List, Option, Some, None, IfSome, unwrap_or, if◌then◌else◌}
 use Rattle.bully_base.specs.NodeSet.{with_node, IsFallingBelow}
 use Rattle.bully_base.specs.Setup.{Setup, IsSetup, IsNode}
@@ -117,11 +117,19 @@ abbrev pub is_started : Outcome → Bool
 is_started Started = true
 is_started _ = false
 
+-- the point to which the outcome leads the procedure, if it can come there
+abbrev pub next_of : ProcedureState → Outcome → Option Point
+next_of h o = next_point h.setup h.node (unwrap_or h.up []) h.point o
+
 -- where the procedure goes on by the outcome
 abbrev pub resumed_point : ProcedureState → Outcome → Point
-resumed_point h o = unwrap_or (next_point h.setup h.node (unwrap_or h.up []) h.point o) h.point
+resumed_point h o = unwrap_or (next_of h o) h.point
+
+-- and the up set with which it does
+abbrev pub resumed_up : ProcedureState → Outcome → List ℕ
+resumed_up h o = next_up h.node h.point o (unwrap_or h.up [])
 
 -- the procedure that the outcome makes of it
 abbrev pub resumed : ProcedureState → Outcome → ProcedureState
 resumed h o =
-    procedure_state h.setup h.node h.generation (resumed_point h o) (next_up h.node h.point o (unwrap_or h.up [])) h.coordinator (is_started o)
+    procedure_state h.setup h.node h.generation (resumed_point h o) (resumed_up h o) h.coordinator (is_started o)

@@ -1,5 +1,5 @@
 //! The procedures of a node: the points where one may stand, what each offers, and where it goes on; and a
-//! procedure as a value that its owner resumes, outcome by outcome.
+//! procedure as a value that is resumed, outcome by outcome.
 //!
 //! It stands on bully_base, bully_table, bully_calls and bully_handlers. The crates above rely on `next`, the
 //! three first points, and what a procedure wants and where it is resumed being those of the definitions.

@@ -1,5 +1,5 @@
-ghost use Rattle.std.specs.Prelude.{◌≡◌, ◌≢◌, IfSome, ◌<◌, ◌≤◌, ◌+◌, ℕ, List, [], Some, None, nat_le, unwrap_or, option_map, if◌then◌else◌};
-ghost use Rattle.bully_base.specs.Setup.{Setup as SetupState, IsNode};
+ghost use Rattle.std.specs.Prelude.{◌≡◌, ◌<◌, ◌≤◌, ◌+◌, ℕ, List, [], Some, None, nat_le, unwrap_or, option_map, if◌then◌else◌};
+ghost use Rattle.bully_base.specs.Setup.{Setup as SetupState};
 ghost use Rattle.bully_base.specs.declared.TheConstants.{NODES_MAX};
 ghost use Rattle.bully_steps.specs.NextPoint.{next_point, election, checked, timed_out, checking_from, rest_of};
 ghost use Rattle.bully_steps.specs.Point.{offered, start, IsPointOf};
@@ -65,8 +65,8 @@ impl Point {
         }
     }
 
-    /// The point that follows this one at the node, whose up set is `up`, by the outcome. `Started` keeps a
-    /// point that offers a call. None for each outcome that the profile doesn't list at the point.
+    /// The point that follows this one at the node, whose up set is `up`, by the outcome. `Started` keeps a point
+    /// that offers a call. None for each outcome that docs/ALGORITHM.md doesn't list at the point.
     pub fn next(self, setup: Setup, node: Node, up: &NodeSet, outcome: Outcome) -> Option<Point>
         ensures { result ≡ next_point setup node up.now self outcome }
     {
@@ -158,31 +158,21 @@ fn next_asked(setup: Setup, number: u16) -> Option<Node>
     }
 }
 
-// The check of the node goes on at this number, or behind it where it is the node's own.
+// The check of the node goes on at this number, or behind it where it is the node's own; it ends above the last.
 fn checking_at(setup: Setup, node: Node, number: u16) -> Point
     requires positive { 0 < number }
     requires small { number ≤ NODES_MAX + 1 }
     ensures { result ≡ checking_from setup node number }
-{
-    match next_checked(setup, node, number) {
-        Some(callee) => Point::Checking(callee),
-        None => Point::Idle,
-    }
-}
-
-/// The node whom a check asks at this number, or behind it where it is the node's own; none above the last.
-pub(crate) fn next_checked(setup: Setup, node: Node, number: u16) -> Option<Node>
-    requires positive { 0 < number }
-    requires small { number ≤ NODES_MAX + 1 }
-    ensures point { unwrap_or (option_map Point.Checking result) Point.Idle ≡ checking_from setup node number }
-    ensures other { IfSome result (λ k. IsNode setup k × (k ≢ node)) }
 {
     let other = if number == node.number() {
         number + 1
     } else {
         number
     };
-    next_asked(setup, other)
+    match next_asked(setup, other) {
+        Some(callee) => Point::Checking(callee),
+        None => Point::Idle,
+    }
 }
 
 fn after_asking(setup: Setup, node: Node, number: u16, outcome: Outcome) -> Option<Point>
@@ -247,8 +237,8 @@ fn after_checking(setup: Setup, node: Node, callee: Node, outcome: Outcome) -> O
     }
 }
 
-/// The set without its highest member, where it has one.
-pub(crate) fn without_highest(rest: &NodeSet) -> Option<NodeSet>
+// The set without its highest member, where it has one.
+fn without_highest(rest: &NodeSet) -> Option<NodeSet>
     ensures { result ≡ rest_of rest.now }
 {
     match rest.highest() {

@@ -1,22 +1,20 @@
-ghost use Rattle.std.specs.Prelude.{◌≡◌, ◌≤◌, [], None, Some, true, false, unwrap_or};
+ghost use Rattle.std.specs.Prelude.{◌≡◌, ◌≤◌, [], None, Some, true, false};
 ghost use Rattle.std.specs.Option.{option_copied};
 ghost use Rattle.bully_base.specs.NodeSet.{IsFallingBelow};
-ghost use Rattle.bully_base.specs.Setup.{IsSetup, IsNode};
-ghost use Rattle.bully_steps.specs.ProcedureState.{IsProcedureState, IsCall, SuitsInquiry, CanResume, procedure_state, want_of, resumed};
-ghost use Rattle.bully_steps.specs.NextPoint.{next_point};
+ghost use Rattle.bully_steps.specs.ProcedureState.{IsProcedureState, IsCall, SuitsInquiry, CanResume, procedure_state, want_of, next_of, resumed, resumed_up, is_started as started};
 ghost use Rattle.bully_steps.specs.Point.{offered, IsPointOf};
 ghost use Rattle.bully_steps.specs.Procedure.{state_of};
 
 use crate::states::{
-    Announcing, Asking, Checking, Halting, Idle, Inquiring, Identity, Planned, Planning, Readying,
+    Announcing, Asking, Checking, Halting, Identity, Idle, Inquiring, Planned, Planning, Readying,
 };
 use crate::{Point, Want};
 use bully_base::{Node, NodeSet, Setup};
 use bully_calls::Outcome;
 use bully_table::Table;
 
-/// The procedure of a node, as a value that its owner resumes: a state of the 1982 paper's procedures in this
-/// project's profile, with what it holds there and no more.
+/// The procedure of a node, as a value that is resumed: a state of the 1982 paper's procedures, as
+/// docs/ALGORITHM.md has them, with what it holds there and no more.
 #[derive(Drop, Debug)]
 pub enum Procedure {
     Idle(Idle),
@@ -37,7 +35,7 @@ impl Procedure {
         ensures { state_of result ≡ procedure_state setup node generation Point.Idle [] None false }
     {
         Procedure::Idle(Idle {
-            identity: identity_of(setup, node, generation),
+            identity: Identity::new(setup, node, generation),
         })
     }
 
@@ -61,7 +59,7 @@ impl Procedure {
         ensures { state_of result ≡ procedure_state setup node generation point up.now coordinator awaits }
     {
         let up = *up;
-        let identity = identity_of(setup, node, generation);
+        let identity = Identity::new(setup, node, generation);
         match point {
             Point::Idle => Procedure::Idle(Idle { identity }),
             Point::Asking(next) => Procedure::Asking(Asking {
@@ -203,18 +201,29 @@ impl Procedure {
     pub fn resume(self, outcome: Outcome) -> Procedure
         requires { CanResume (state_of self) outcome }
         ensures state { state_of result ≡ resumed (state_of self) outcome }
-        ensures point { next_point (state_of self).setup (state_of self).node (unwrap_or (state_of self).up []) (state_of self).point outcome ≡ Some (state_of result).point }
+        ensures point { next_of (state_of self) outcome ≡ Some (state_of result).point }
+    {
+        let Identity {
+            setup,
+            node,
+            generation,
+        } = self.identity();
+        let up = self.up().unwrap_or(NodeSet::new());
+        let next = self.point().next(setup, node, &up, outcome).unwrap();
+        let next_up = self.up_after(outcome);
+        let coordinator = self.coordinator();
+        let awaits = is_started(outcome);
+        Procedure::at(setup, node, generation, next, &next_up, coordinator, awaits)
+    }
+
+    // The up set that goes with the point to which the outcome leads: a node that answered its halt joins it.
+    fn up_after(&self, outcome: Outcome) -> NodeSet
+        requires { CanResume (state_of self.now) outcome }
+        ensures { result ≡ resumed_up (state_of self.now) outcome }
     {
         match self {
-            Procedure::Idle(_) => unreachable!(),
-            Procedure::Asking(asking) => asking.resume(outcome),
-            Procedure::Halting(halting) => halting.resume(outcome),
-            Procedure::Announcing(announcing) => announcing.resume(outcome),
-            Procedure::Planning(planning) => planning.resume(outcome),
-            Procedure::Planned(planned) => planned.resume(outcome),
-            Procedure::Readying(readying) => readying.resume(outcome),
-            Procedure::Checking(checking) => checking.resume(outcome),
-            Procedure::Inquiring(inquiring) => inquiring.resume(outcome),
+            Procedure::Halting(halting) if outcome == Outcome::Yes => halting.joined(),
+            _ => self.up().unwrap_or(NodeSet::new()),
         }
     }
 
@@ -239,18 +248,9 @@ impl Procedure {
     }
 }
 
-// The owner of the node's procedure, which is one of the setup's.
-fn identity_of(setup: Setup, node: Node, generation: u32) -> Identity
-    requires { node ≤ setup.nodes }
-    ensures identity { result ≡ record { setup = setup; node = node; generation = generation } }
-    ensures setup { IsSetup setup }
-    ensures node { IsNode setup node }
+// A call is under way from its start on.
+fn is_started(outcome: Outcome) -> bool
+    ensures { result ≡ started outcome }
 {
-    // Shows the proof that the setup is within the limits.
-    let _ = (setup.nodes(), node.number());
-    Identity {
-        setup,
-        node,
-        generation,
-    }
+    matches!(outcome, Outcome::Started)
 }

@@ -1,11 +1,6 @@
-ghost use Rattle.std.specs.Prelude.{◌≡◌};
-ghost use Rattle.bully_base.specs.Setup.{IsSetup, IsNode};
-ghost use Rattle.bully_steps.specs.ProcedureState.{procedure_state};
-ghost use Rattle.bully_steps.specs.NextPoint.{election};
-ghost use Rattle.bully_steps.specs.States.{asking};
-ghost use Rattle.std.specs.Prelude.{[], None, false};
+ghost use Rattle.std.specs.Prelude.{◌≡◌, ◌≤◌};
+ghost use Rattle.bully_base.specs.Setup.{IsSetup, IsNode, IsNodeNumber};
 
-use crate::states::Asking;
 use bully_base::{Node, Setup};
 use std::marker::Model;
 
@@ -22,22 +17,32 @@ impl Model for Identity {
 
     ghost Value = { IdentityState };
 
-    ghost view = { λ o. record { setup = o.setup; node = o.node; generation = o.generation } };
+    ghost view = { λ s. record { setup = s.setup; node = s.node; generation = s.generation } };
 
     ghost inverse = { λ v. record { setup = v.setup; node = v.node; generation = v.generation } };
 }
 
 impl Identity {
-    /// An election of the node, which is one of the setup's, begins.
-    pub(crate) fn election(self) -> Asking
-        requires setup { IsSetup self.setup }
-        requires node { IsNode self.setup self.node }
-        ensures { asking result ≡ procedure_state self.setup self.node self.generation (election self.node) [] None false }
+    /// The identity of a procedure of the node, which is at most the setup's last, in this of its generations.
+    pub(crate) fn new(setup: Setup, node: Node, generation: u32) -> Identity
+        requires { node ≤ setup.nodes }
+        ensures identity { result ≡ record { setup = setup; node = node; generation = generation } }
+        ensures setup { IsSetup setup }
+        ensures node { IsNode setup node }
     {
-        Asking {
-            identity: self,
-            next: self.node.number() + 1,
-            awaits: false,
+        within_limits(setup, node);
+        Identity {
+            setup,
+            node,
+            generation,
         }
     }
+}
+
+// What the types of the two say of them: a proof learns it of their readers alone.
+fn within_limits(setup: Setup, node: Node)
+    ensures setup { IsSetup setup }
+    ensures node { IsNodeNumber node }
+{
+    let _ = (setup.nodes(), node.number());
 }

@@ -1,22 +1,17 @@
 ghost use Rattle.std.specs.Prelude.{◌≡◌, length, IfOk, IfErr, IfSome, Some};
 ghost use Rattle.std.specs.Option.{option_copied};
 ghost use Rattle.bully_base.specs.NodeSet.{with_node};
-ghost use Rattle.bully_calls.specs.declared.call.Outcome.{Outcome};
-ghost use Rattle.bully_steps.specs.ProcedureState.{CanResume, resumed};
-ghost use Rattle.bully_steps.specs.Procedure.{state_of};
-ghost use Rattle.bully_steps.specs.States.{planning, planned, readying};
+ghost use Rattle.bully_steps.specs.States.{planning, planned};
 ghost use Rattle.bully_table.specs.Planning.{planned as planned_table};
 
-use crate::Procedure;
-use crate::states::{Identity, Readying};
+use crate::states::Identity;
 use bully_base::NodeSet;
-use bully_calls::Outcome;
 use bully_table::{PlanFault, Table, TablePlan, plan};
 use std::alloc::Global;
 use std::marker::Model;
 
 /// The coordinator knows who takes part, itself and `up`, and has no table for them yet. What a table is, and how
-/// it is planned, is this project's profile.
+/// it is planned: docs/ALGORITHM.md.
 #[derive(Drop, Debug)]
 pub struct Planning {
     pub(crate) identity: Identity,
@@ -72,56 +67,12 @@ impl Planning {
         let mut members = up;
         members.insert(identity.node);
         match plan(alloc, identity.setup, &members, old) {
-            Ok(TablePlan { table, .. }) => Ok(Planned { identity, up, table }),
+            Ok(TablePlan { table, .. }) => Ok(Planned {
+                identity,
+                up,
+                table,
+            }),
             Err(fault) => Err((Planning { identity, up }, fault)),
-        }
-    }
-
-    /// Goes on by the outcome, which is that a table was taken.
-    pub(crate) fn resume(self, outcome: Outcome) -> Procedure
-        requires { CanResume (planning self) outcome }
-        ensures { state_of result ≡ resumed (planning self) outcome }
-    {
-        match outcome {
-            Outcome::Planned => Procedure::Readying(self.taken()),
-            _ => unreachable!(),
-        }
-    }
-
-    // The table became the task: it is handed to those that are up.
-    fn taken(self) -> Readying
-        requires { CanResume (planning self) Outcome.Planned }
-        ensures { readying result ≡ resumed (planning self) Outcome.Planned }
-    {
-        Readying {
-            identity: self.identity,
-            rest: self.up,
-            awaits: false,
-        }
-    }
-}
-
-impl Planned {
-    /// Goes on by the outcome, which is that a table was taken.
-    pub(crate) fn resume(self, outcome: Outcome) -> Procedure
-        requires { CanResume (planned self) outcome }
-        ensures { state_of result ≡ resumed (planned self) outcome }
-    {
-        match outcome {
-            Outcome::Planned => Procedure::Readying(self.taken()),
-            _ => unreachable!(),
-        }
-    }
-
-    // The table became the task: it is handed to those that are up.
-    fn taken(self) -> Readying
-        requires { CanResume (planned self) Outcome.Planned }
-        ensures { readying result ≡ resumed (planned self) Outcome.Planned }
-    {
-        Readying {
-            identity: self.identity,
-            rest: self.up,
-            awaits: false,
         }
     }
 }

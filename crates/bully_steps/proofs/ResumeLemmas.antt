@@ -1,0 +1,73 @@
+-- Where a procedure goes on: to one of its node's points, with an up set of lower nodes.
+use Rattle.std.proofs.Common.{◌≡◌, ◌⊎◌, inl, inr, ℕ, zero, suc, Bool, List, [], ◌∷◌, Option, Some, None, arith, refl}
+use Rattle.std.specs.Prelude.{unwrap_or, ◌<◌, IfSome}
+use Rattle.bully_base.proofs.NodeSetLemmas.{with_node-falling, IsFallingBelow-more}
+use Rattle.bully_base.specs.NodeSet.{IsFallingBelow, with_node}
+use Rattle.bully_base.specs.Setup.{Setup, IsNode}
+use Rattle.bully_calls.specs.declared.call.Outcome.{Outcome}
+use Rattle.bully_steps.specs.declared.point.Point.{Point}
+use Rattle.bully_steps.specs.declared.point.Point.TheVariants.{Idle, Asking, Halting, Announcing, Planning, Readying, Checking, Inquiring}
+use Rattle.bully_steps.specs.ProcedureState.{ProcedureState, IsProcedureState, procedure_state, next_of, next_up, is_started, resumed, resumed_point, resumed_up}
+use Rattle.bully_steps.specs.NextPoint.{next_point, election}
+use Rattle.bully_steps.specs.Point.{IsPointOf}
+
+-- what is left of a falling set falls
+rest_falls : (b k : ℕ) (rest : List ℕ) → IsFallingBelow b (k ∷ rest) → IsFallingBelow b rest
+rest_falls b k rest h = IsFallingBelow-more k b rest (omega (arith, h.1)) h.2
+
+-- the point that follows is one of node i's
+pub point_follows : (setup : Setup) (i : ℕ) (up : List ℕ) (p : Point) (o : Outcome) (q : Point) → IsNode setup i → IsFallingBelow i up → IsPointOf setup i p → next_point setup i up p o ≡ Some q → IsPointOf setup i q
+point_follows setup i up Idle o q node falls at next = absurd (grind (arith, next))
+point_follows setup i up (Asking k) o q node falls at next = grind (arith, next, node, at)
+point_follows setup i up (Halting zero) o q node falls at next =
+    let h : Announcing up ≡ q = grind (arith, next) in
+    rw (← h) falls
+point_follows setup i up (Halting (suc k)) o q node falls at next = grind (arith, next, node, at)
+point_follows setup i up (Announcing []) o q node falls at next = grind (arith, next)
+point_follows setup i up (Announcing (k ∷ rest)) o q node falls at next = by_case (grind (arith, next))
+  where
+    by_case : (q ≡ Announcing (k ∷ rest)) ⊎ ((q ≡ Announcing rest) ⊎ (q ≡ election i)) → IsPointOf setup i q
+    by_case (inl e) = rw e at
+    by_case (inr (inl e)) = rw e (rest_falls i k rest at)
+    by_case (inr (inr e)) = rw e (omega arith, omega (arith, node.1))
+point_follows setup i up Planning o q node falls at next =
+    let h : Readying up ≡ q = grind (arith, next) in
+    rw (← h) falls
+point_follows setup i up (Readying []) o q node falls at next = grind (arith, next)
+point_follows setup i up (Readying (k ∷ rest)) o q node falls at next = by_case (grind (arith, next))
+  where
+    by_case : (q ≡ Readying (k ∷ rest)) ⊎ ((q ≡ Readying rest) ⊎ (q ≡ election i)) → IsPointOf setup i q
+    by_case (inl e) = rw e at
+    by_case (inr (inl e)) = rw e (rest_falls i k rest at)
+    by_case (inr (inr e)) = rw e (omega arith, omega (arith, node.1))
+point_follows setup i up (Checking k) o q node falls at next = grind (arith, next, node, at)
+point_follows setup i up Inquiring o q node falls at next = grind (arith, next, node)
+
+-- an up set that is held has lower nodes alone, and so has none
+held_falls : (i : ℕ) (up : Option (List ℕ)) → IfSome up (IsFallingBelow i) → IsFallingBelow i (unwrap_or up [])
+held_falls i None h = tt
+held_falls i (Some up) h = h
+
+-- the up set that goes with it has lower nodes alone
+up_follows : (setup : Setup) (i : ℕ) (up : List ℕ) (p : Point) (o : Outcome) → IsFallingBelow i up → IsPointOf setup i p → IsFallingBelow i (next_up i p o up)
+up_follows setup i up p o falls at = grind (arith, falls, at, with_node-falling)
+
+-- the procedure's next point is one of its node's
+pub next_is_point : (h : ProcedureState) (o : Outcome) (q : Point) → IsProcedureState h → next_of h o ≡ Some q → IsPointOf h.setup h.node q
+next_is_point h o q is next = point_follows h.setup h.node (unwrap_or h.up []) h.point o q is.node (held_falls h.node h.up is.up) is.point next
+
+-- and its next up set has lower nodes alone
+pub resumed_up_falls : (h : ProcedureState) (o : Outcome) → IsProcedureState h → IsFallingBelow h.node (resumed_up h o)
+resumed_up_falls h o is = up_follows h.setup h.node (unwrap_or h.up []) h.point o (held_falls h.node h.up is.up) is.point
+
+-- what is made of these is the procedure that the outcome makes
+pub resumed_is : (h s : ProcedureState) (o : Outcome) (q : Point) (up : List ℕ) (k : Option ℕ) (b : Bool) → s ≡ procedure_state h.setup h.node h.generation q up k b
+    → next_of h o ≡ Some q → up ≡ resumed_up h o → k ≡ h.coordinator → b ≡ is_started o → s ≡ resumed h o
+resumed_is h s o q up k b is next joined same started =
+    let at : resumed_point h o ≡ q = grind (arith, next) in
+    rw (is, at, ← joined, ← same, ← started) refl
+
+-- a node that is halted joins the up set
+pub joined_is : (i n : ℕ) (up : List ℕ) → 0 < n → with_node n up ≡ next_up i (Halting n) Outcome.Yes up
+joined_is i zero up pos = absurd (omega arith)
+joined_is i (suc n) up pos = refl
