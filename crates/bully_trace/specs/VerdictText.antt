@@ -1,10 +1,10 @@
 -- The text of a verdict.
-use Rattle.std.specs.Prelude.{ℕ, zero, suc, ◌+◌, List, [], ◌++◌, Option, Some, None, codes, map}
-use Rattle.std.specs.List.{join_with_byte}
+use Rattle.std.specs.Prelude.{ℕ, zero, suc, ◌+◌, List, [], ◌++◌, Option, Some, None, codes}
 use Rattle.std.specs.Fmt.{decimal}
 use Rattle.bully_base.specs.declared.node.Status.{Status}
 use Rattle.bully_base.specs.declared.node.Status.TheVariants.{Down, Election, Reorganization, Normal}
 use Rattle.bully_base.specs.Setup.{Setup}
+use Rattle.bully_table.specs.TableText.{owners_text}
 use Rattle.bully_handlers.specs.Vector.{Vector}
 use Rattle.bully_world.specs.declared.event.Refused.{Refused}
 use Rattle.bully_world.specs.declared.event.Refused.TheVariants.{Full, BadNode, IsDown, IsUp, Busy, NoStep, SlotBusy, NoCall, CalleeDown, CalleeUp, BadTable}
@@ -38,7 +38,7 @@ node_text (Some i) = decimal i
 -- the owners with commas, or a dash
 abbrev pub task_text : Option (List ℕ) → List ℕ
 task_text None = codes "-"
-task_text (Some owners) = join_with_byte 44 (map decimal owners)
+task_text (Some owners) = owners_text 44 owners
 
 abbrev pub node_line : ℕ → Vector → List ℕ
 node_line i v =

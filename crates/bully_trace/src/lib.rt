@@ -15,7 +15,6 @@ mod writing;
 
 pub use checking::check;
 pub use reading::read_trace;
-pub use text::push_owners;
 pub use trace::{Claim, Row, Rows, Trace, TraceCause, TraceFault};
 pub use verdict::Verdict;
 pub use writing::write_trace;
