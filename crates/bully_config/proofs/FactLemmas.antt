@@ -1,7 +1,7 @@
 -- What is known of a document that nothing refuses.
 use Rattle.std.proofs.Common.{[], option_and_then, ◌≡◌, subst, ℕ, ◌<◌, ◌≤◌, Bool, true, false, List, length, refl, sym, ap, arith, ◌∙◌, Option, Some, None, option_map, if◌then◌else◌}
 use Rattle.std.specs.Option.{option_or, is_some, unwrap_or}
-use Rattle.std.specs.List.{list_any}
+use Rattle.std.specs.List.{list_all, list_any}
 use Rattle.std.proofs.lemmas.Grind.{common_steps}
 use Rattle.toml.specs.Data.{as_array, Items, Data, Members, no_members}
 use Rattle.toml.specs.Errors.{IsBlank}
@@ -14,7 +14,7 @@ use Rattle.bully_config.specs.declared.TheConstants.{TURNS_MAX, FAULTS_MAX}
 use Rattle.bully_config.specs.Answers.{refusal_of}
 use Rattle.bully_config.specs.Configuration.{Configuration, has_double, is_empty, IsConfiguration}
 use Rattle.bully_config.specs.Document.{list_of, value_at, items_at}
-use Rattle.bully_config.specs.Refusals.{are_names, first_in, fits, are_all, is_table, fault_out_of_range, out_of_range_in, missing_in, misfit_in, has_double_in, has_unlisted_in}
+use Rattle.bully_config.specs.Refusals.{are_names, first_in, fits, is_table, fault_out_of_range, out_of_range_in, missing_in, misfit_in, has_double_in, has_unlisted_in}
 use Rattle.std.specs.Prelude.{map, Result, Ok, Err, ◌↔◌}
 use Rattle.std.specs.Result.{IsOk}
 use Rattle.std.proofs.lemmas.List.{length-map}
@@ -141,12 +141,12 @@ not_blank text ms told none blank =
     no_keys (subst (λ (m : Members). refusal_of m ≡ None) (sym same) none)
 
 -- the faults of a document that nothing refuses are all told
-items_fit : (o : Option Items) → (elim o [ None ↦ false | Some items ↦ are_all is_table (list_of items) ]) ≡ true
-    → are_all is_table (unwrap_or (option_map list_of o) []) ≡ true
+items_fit : (o : Option Items) → (elim o [ None ↦ false | Some items ↦ list_all is_table (list_of items) ]) ≡ true
+    → list_all is_table (unwrap_or (option_map list_of o) []) ≡ true
 items_fit None h = absurd (false≢true h)
 items_fit (Some items) h = h
 
-value_fits : (o : Option Data) → fits Key.Fault o ≡ true → are_all is_table (unwrap_or (option_map list_of (option_and_then as_array o)) []) ≡ true
+value_fits : (o : Option Data) → fits Key.Fault o ≡ true → list_all is_table (unwrap_or (option_map list_of (option_and_then as_array o)) []) ≡ true
 value_fits None h = refl
 value_fits (Some d) h = items_fit (as_array d) h
 
@@ -162,7 +162,7 @@ last_fits true true false d e f rest h = grind (arith, h)
 last_fits true false c d e f rest h = grind (arith, h)
 last_fits false b c d e f rest h = grind (arith, h)
 
-tables_there : (ms : Members) → misfit_in ms ≡ None → are_all is_table (items_at Key.Fault ms) ≡ true
+tables_there : (ms : Members) → misfit_in ms ≡ None → list_all is_table (items_at Key.Fault ms) ≡ true
 unfolding items_at
 tables_there ms e =
     value_fits (value_at Key.Fault ms)

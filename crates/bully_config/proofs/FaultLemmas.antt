@@ -1,6 +1,6 @@
 -- The faults that a document tells are within the limits.
 use Rattle.std.proofs.Common.{◌≡◌, ℕ, ℤ, pos, negsuc, suc, ◌+◌, ◌<◌, ◌≤◌, Bool, true, false, List, [], ◌∷◌, length, refl, ap, arith, Option, Some, None, option_map, option_and_then}
-use Rattle.std.specs.List.{position_from, AllByRecursion}
+use Rattle.std.specs.List.{list_all, position_from, AllByRecursion}
 use Rattle.std.proofs.lemmas.Grind.{common_steps}
 use Rattle.toml.specs.Data.{Data, Members, as_table}
 use Rattle.std.specs.Str.{bytes_eq}
@@ -13,7 +13,7 @@ use Rattle.bully_config.specs.Configuration.{IsFaultOf, node_named}
 use Rattle.std.specs.Prelude.{not, if◌then◌else◌}
 use Rattle.std.specs.Option.{is_some, option_or}
 use Rattle.std.proofs.lemmas.Bool.{false≢true, and_parts}
-use Rattle.bully_config.specs.Refusals.{first_in, is_table, are_all, fault_out_of_range}
+use Rattle.bully_config.specs.Refusals.{first_in, is_table, fault_out_of_range}
 use Rattle.bully_config.specs.Document.{integer_at, string_at}
 use Rattle.bully_config.specs.Values.{within, number_at, turn_in, node_in, kind_in, fault_in, faults_in}
 
@@ -109,12 +109,12 @@ one_more None more n there e = absurd (false≢true there)
 one_more (Some f) more n there e = ap suc e
 
 -- where none is out of its range, each table tells a fault
-pub faults_all : (turns : ℕ) (names : List (List ℕ)) (ds : List Data) → are_all is_table ds ≡ true → first_in (fault_out_of_range turns names) ds ≡ None
+pub faults_all : (turns : ℕ) (names : List (List ℕ)) (ds : List Data) → list_all is_table ds ≡ true → first_in (fault_out_of_range turns names) ds ≡ None
     → length (faults_in turns names ds) ≡ length ds
 faults_all turns names [] tables none = refl
 faults_all turns names (d ∷ ds) tables none =
     let (here, later) = none_of (option_and_then (fault_out_of_range turns names) (as_table d)) (first_in (fault_out_of_range turns names) ds) none in
-    let (table, others) = and_parts (is_table d) (are_all is_table ds) tables in
+    let (table, others) = and_parts (is_table d) (list_all is_table ds) tables in
     one_more (option_and_then (fault_in turns names) (as_table d)) (faults_in turns names ds) (length ds) (by_table (as_table d) table here)
     (faults_all turns names ds others later)
   where

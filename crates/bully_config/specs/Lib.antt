@@ -4,3 +4,4 @@ pub mod Configuration
 pub mod Values
 pub mod Refusals
 pub mod Answers
+pub mod Searches

@@ -1,7 +1,7 @@
 -- The refusals of a document. Each is looked for over the whole document.
 use Rattle.std.specs.Prelude.{ℕ, Bool, true, false, not, ◌||◌, ◌&&◌, ◌==◌, nat_lt, List, [], ◌∷◌, length, Option, Some, None, is_some, option_and_then, if◌then◌else◌}
 use Rattle.std.specs.Option.{option_or, unwrap_or}
-use Rattle.std.specs.List.{list_any}
+use Rattle.std.specs.List.{list_all, list_any}
 use Rattle.std.specs.Str.{bytes_eq}
 use Rattle.toml.specs.Data.{Data, Members, no_members, member, as_str, as_integer, as_array, as_table}
 use Rattle.bully_config.specs.declared.TheConstants.{FAULTS_MAX}
@@ -10,6 +10,11 @@ use Rattle.bully_config.specs.Configuration.{has_double, is_empty}
 use Rattle.bully_config.specs.Document.{list_of, value_at, items_at}
 use Rattle.bully_config.specs.Keys.{word_of, required_keys, top_keys, fault_keys}
 use Rattle.bully_config.specs.Values.{nodes_in, partitions_in, events_in, turns_in, or_zero, names_of, turn_in, node_in, kind_in}
+
+-- the first of the keys that fails the test
+abbrev pub first_failing : (Key → Bool) → List Key → Option Key
+first_failing test [] = None
+first_failing test (key ∷ keys) = if test key then first_failing test keys else Some key
 
 -- the key at fault in the first table that has one
 abbrev pub first_in : (Members → Option Key) → List Data → Option Key
@@ -20,8 +25,7 @@ first_in test (d ∷ ds) = option_or (option_and_then test (as_table d)) (first_
 
 -- the first of the keys that isn't there
 abbrev pub first_absent : List Key → Members → Option Key
-first_absent [] ms = None
-first_absent (key ∷ keys) ms = if is_some (value_at key ms) then first_absent keys ms else Some key
+first_absent keys ms = first_failing (λ key. is_some (value_at key ms)) keys
 
 abbrev pub is_table : Data → Bool
 is_table d = is_some (as_table d)
@@ -29,21 +33,17 @@ is_table d = is_some (as_table d)
 abbrev pub is_string : Data → Bool
 is_string d = is_some (as_str d)
 
-abbrev pub are_all : (Data → Bool) → List Data → Bool
-are_all test [] = true
-are_all test (d ∷ ds) = test d && are_all test ds
-
 -- faults that aren't all tables are passed over here
 abbrev pub missing_in : Members → Option Key
 missing_in ms = option_or (first_absent required_keys ms)
-    (if are_all is_table (items_at Key.Fault ms) then first_in (first_absent fault_keys) (items_at Key.Fault ms) else None)
+    (if list_all is_table (items_at Key.Fault ms) then first_in (first_absent fault_keys) (items_at Key.Fault ms) else None)
 
 -- ---- a value has another kind
 
 abbrev pub is_array_of : (Data → Bool) → Data → Bool
 is_array_of test d = elim (as_array d) [
   | None ↦ false
-  | Some items ↦ are_all test (list_of items)
+  | Some items ↦ list_all test (list_of items)
 ]
 
 -- the value is of the key's kind
@@ -65,8 +65,7 @@ fits key (Some d) = has_kind key d
 
 -- the first of the keys whose value has another kind
 abbrev pub first_misfit : List Key → Members → Option Key
-first_misfit [] ms = None
-first_misfit (key ∷ keys) ms = if fits key (value_at key ms) then first_misfit keys ms else Some key
+first_misfit keys ms = first_failing (λ key. fits key (value_at key ms)) keys
 
 abbrev pub misfit_in : Members → Option Key
 misfit_in ms = option_or (first_misfit top_keys ms) (first_in (first_misfit fault_keys) (items_at Key.Fault ms))

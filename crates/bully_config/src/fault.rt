@@ -1,6 +1,7 @@
 ghost use Rattle.std.specs.Prelude.{◌≡◌};
 ghost use Rattle.bully_config.specs.Keys.{word_of, name_of, key_of};
 
+use std::alloc::AllocError;
 use std::fmt;
 
 /// A key of a configuration. The first six stand at the top, the last three in a fault.
@@ -123,3 +124,27 @@ impl fmt::Display for ConfigFault {
 }
 
 impl std::error::Error for ConfigFault {}
+
+impl From<AllocError> for ConfigFault {
+    ghost use Rattle.bully_config.specs.declared.fault.ConfigFault.{ConfigFault};
+
+    ghost from_gives = { λ _ fault. fault ≡ ConfigFault.OutOfMemory };
+
+    fn from(_: AllocError) -> ConfigFault {
+        ConfigFault::OutOfMemory
+    }
+}
+
+impl From<toml::de::Error> for ConfigFault {
+    ghost use Rattle.bully_config.specs.Answers.{IsToldAs};
+
+    ghost from_gives = { IsToldAs };
+
+    fn from(error: toml::de::Error) -> ConfigFault {
+        if error.is_memory() {
+            ConfigFault::OutOfMemory
+        } else {
+            ConfigFault::Toml
+        }
+    }
+}

@@ -4,6 +4,9 @@
 //! and on the answer to a document being its first refusal in the written order, else its values.
 #![tactic(auto)]
 
+ghost use Rattle.std.specs.Prelude.{◌≡◌};
+ghost use Rattle.bully_config.specs.declared.TheConstants.{FAULTS_MAX, TURNS_MAX};
+
 mod config;
 mod fault;
 mod lookup;
@@ -20,3 +23,9 @@ pub const TURNS_MAX: u32 = 1_000_000;
 
 /// The most faults of a configuration. The profile's limit.
 pub const FAULTS_MAX: usize = 10_000;
+
+/// The limits in numbers. The definitions cite the constants, and so say as much as these numbers.
+pub fn limits()
+    ensures turns { TURNS_MAX ≡ 1000000 }
+    ensures faults { FAULTS_MAX ≡ 10000 }
+{}

@@ -4,7 +4,7 @@ ghost use Rattle.toml.specs.Errors.{IsBlank};
 ghost use Rattle.toml.specs.Parse.{parse_document};
 ghost use Rattle.toml.specs.View.{view, table_view};
 ghost use Rattle.bully_base.specs.declared.TheConstants.{NODES_MAX};
-ghost use Rattle.bully_config.specs.Answers.{answer_of, refusal_of};
+ghost use Rattle.bully_config.specs.Answers.{TellsEachFault, answer_of, refusal_of};
 ghost use Rattle.toml.specs.Data.{Members, as_table};
 ghost use Rattle.bully_config.specs.Document.{items_at};
 ghost use Rattle.bully_config.specs.Configuration.{has_double};
@@ -25,23 +25,17 @@ impl Config {
     /// answered at once, whatever stands behind. The rule: docs/FORMATS.md.
     pub fn read(alloc: Global, text: &str) -> Result<Config, ConfigFault>
         ensures ok { IfOk result (λ config. answer_of text.now ≡ Ok config) }
-        ensures whole { IfOk result (λ config. (document : Members) × (parse_document text.now ≡ Some document) × (length config.faults ≡ length (items_at Key.Fault document))) }
-        ensures fault { IfErr result (λ fault. fault ≢ ConfigFault.OutOfMemory → answer_of text.now ≡ Err fault) }
+        ensures whole { IfOk result (TellsEachFault text.now) }
+        ensures fault { IfErr result (λ fault.
+            fault ≢ ConfigFault.OutOfMemory → answer_of text.now ≡ Err fault) }
         ensures toml { result ≡ Err ConfigFault.Toml → parse_document text.now ≡ None }
         ensures memory { result ≡ Err ConfigFault.OutOfMemory → ¬ IsBlank text.now }
     {
-        let document = match toml::table_from_str(alloc, text) {
-            Ok(document) => document,
-            Err(error) if error.is_memory() => return Err(ConfigFault::OutOfMemory),
-            Err(_) => return Err(ConfigFault::Toml),
-        };
+        let document = toml::table_from_str(alloc, text)?;
         if let Some(fault) = first_refusal(&document) {
             return Err(fault);
         }
-        match config_of(alloc, &document) {
-            Ok(config) => Ok(config),
-            Err(_) => Err(ConfigFault::OutOfMemory),
-        }
+        Ok(config_of(alloc, &document)?)
     }
 }
 

@@ -1,6 +1,6 @@
 //! The refusals of a document. None of them takes memory.
 ghost use Rattle.std.specs.Prelude.{◌≡◌, ◌≤◌, map, length};
-ghost use Rattle.std.specs.List.{list_any};
+ghost use Rattle.std.specs.List.{list_all, list_any};
 ghost use Rattle.toml.specs.View.{view, table_view, members_view};
 ghost use Rattle.bully_base.specs.declared.TheConstants.{NODES_MAX};
 ghost use Rattle.bully_config.specs.Answers.{refusal_of};
@@ -8,8 +8,12 @@ ghost use Rattle.std.specs.Str.{bytes_eq};
 ghost use Rattle.bully_config.specs.Configuration.{has_double, is_empty};
 ghost use Rattle.bully_config.specs.Document.{text_of};
 ghost use Rattle.bully_config.specs.Keys.{fault_keys};
-ghost use Rattle.bully_config.specs.Refusals.{first_in, first_absent, missing_in, is_table, is_string, are_all, has_kind, is_array_of, first_misfit, misfit_in, are_names, fault_out_of_range, out_of_range_in, is_listed, has_unlisted, fault_has_unlisted, has_unlisted_in};
+ghost use Rattle.bully_config.specs.Refusals.{first_failing, first_in, first_absent, missing_in, is_table, is_string, has_kind, is_array_of, first_misfit, misfit_in, are_names, fault_out_of_range, out_of_range_in, is_listed, has_unlisted, fault_has_unlisted, has_unlisted_in};
 ghost use Rattle.bully_config.specs.Values.{names_of};
+ghost use Rattle.bully_config.specs.Searches.{Computes};
+ghost use Rattle.std.specs.Fn.{FnReturnsAt};
+ghost use Rattle.bully_config.specs.Refusals.{fits};
+ghost use Rattle.bully_config.specs.Document.{value_at};
 
 use crate::fault::{ConfigFault, Key};
 use crate::lookup::{items_at, kind_at, node_at, number_at, text_of, value_at};
@@ -70,7 +74,7 @@ fn missing_key(document: &Table) -> Option<Key>
     }
     let faults = items_at(document, Key::Fault);
     if are_tables(faults) {
-        missing_key_of_faults(faults)
+        first_key_in(faults, |fault| first_absent(fault, &FAULT_KEYS))
     } else {
         None
     }
@@ -80,28 +84,7 @@ fn missing_key(document: &Table) -> Option<Key>
 fn first_absent(table: &Table, keys: &[Key]) -> Option<Key>
     ensures { result ≡ first_absent keys.now (table_view table.now) }
 {
-    for key in keys {
-        if value_at(table, *key).is_none() {
-            return Some(*key);
-        }
-    }
-    None
-}
-
-// The key that isn't there in the first fault that lacks one.
-#[tactic(auto, using(crate::proofs::ItemLemmas::items_next, crate::proofs::ItemLemmas::items_end))]
-fn missing_key_of_faults(faults: &[Value]) -> Option<Key>
-    ensures { result ≡ first_in (first_absent fault_keys) (map view faults.now) }
-{
-    for item in faults {
-        if let Some(fault) = item.as_table() {
-            let missing = first_absent(fault, &FAULT_KEYS);
-            if missing.is_some() {
-                return missing;
-            }
-        }
-    }
-    None
+    first_failing(keys, |key| value_at(table, key).is_some())
 }
 
 // The first key whose value has another kind.
@@ -111,37 +94,26 @@ fn misfit_key(document: &Table) -> Option<Key>
     if let Some(key) = first_misfit(document, &TOP_KEYS) {
         return Some(key);
     }
-    misfit_key_of_faults(items_at(document, Key::Fault))
+    first_key_in(items_at(document, Key::Fault), |fault| {
+        first_misfit(fault, &FAULT_KEYS)
+    })
 }
 
 // The first of the keys whose value has another kind.
 fn first_misfit(table: &Table, keys: &[Key]) -> Option<Key>
     ensures { result ≡ first_misfit keys.now (table_view table.now) }
 {
-    for key in keys {
-        if let Some(value) = value_at(table, *key) {
-            if !has_kind(*key, value) {
-                return Some(*key);
-            }
-        }
-    }
-    None
+    first_failing(keys, |key| fits(table, key))
 }
 
-// The key whose value has another kind, in the first fault that has one.
-#[tactic(auto, using(crate::proofs::ItemLemmas::items_next, crate::proofs::ItemLemmas::items_end))]
-fn misfit_key_of_faults(faults: &[Value]) -> Option<Key>
-    ensures { result ≡ first_in (first_misfit fault_keys) (map view faults.now) }
+// Whether the value at the key, where there is one, is of the key's kind.
+fn fits(table: &Table, key: Key) -> bool
+    ensures { result ≡ fits key (value_at key (table_view table.now)) }
 {
-    for item in faults {
-        if let Some(fault) = item.as_table() {
-            let misfit = first_misfit(fault, &FAULT_KEYS);
-            if misfit.is_some() {
-                return misfit;
-            }
-        }
+    match value_at(table, key) {
+        Some(value) => has_kind(key, value),
+        None => true,
     }
-    None
 }
 
 // Whether the value is of the key's kind.
@@ -164,29 +136,17 @@ fn has_kind(key: Key, value: &Value) -> bool
 }
 
 // Whether each item is a string.
-#[tactic(auto, using(crate::proofs::ItemLemmas::items_next, crate::proofs::ItemLemmas::items_end))]
 fn are_strings(items: &[Value]) -> bool
-    ensures { result ≡ are_all is_string (map view items.now) }
+    ensures { result ≡ list_all is_string (map view items.now) }
 {
-    for item in items {
-        if !item.is_str() {
-            return false;
-        }
-    }
-    true
+    items.iter().all(|item| item.is_str())
 }
 
 // Whether each item is a table.
-#[tactic(auto, using(crate::proofs::ItemLemmas::items_next, crate::proofs::ItemLemmas::items_end))]
 fn are_tables(items: &[Value]) -> bool
-    ensures { result ≡ are_all is_table (map view items.now) }
+    ensures { result ≡ list_all is_table (map view items.now) }
 {
-    for item in items {
-        if !item.is_table() {
-            return false;
-        }
-    }
-    true
+    items.iter().all(|item| item.is_table())
 }
 
 // The first key whose value is out of its range.
@@ -214,7 +174,10 @@ fn key_out_of_range(document: &Table) -> Option<Key>
     if faults.len() > FAULTS_MAX {
         return Some(Key::Fault);
     }
-    key_of_faults_out_of_range(faults, turns, names)
+    first_key_in(
+        faults,
+        |fault| key_of_fault_out_of_range(fault, turns, names),
+    )
 }
 
 // Whether the names are as many as the nodes, and none is empty.
@@ -225,33 +188,10 @@ fn are_names(names: &[Value], nodes: u32) -> bool
 }
 
 // Whether a name is empty.
-#[tactic(auto, using(crate::proofs::ItemLemmas::items_next, crate::proofs::ItemLemmas::items_end))]
 fn has_empty(names: &[Value]) -> bool
     ensures { result ≡ list_any is_empty (names_of (map view names.now)) }
 {
-    for item in names {
-        if text_of(item).is_empty() {
-            return true;
-        }
-    }
-    false
-}
-
-// The key whose value is out of its range, in the first fault that has one.
-#[tactic(auto, using(crate::proofs::ItemLemmas::items_next, crate::proofs::ItemLemmas::items_end))]
-fn key_of_faults_out_of_range(faults: &[Value], turns: u32, names: &[Value]) -> Option<Key>
-    requires { length names.now ≤ NODES_MAX }
-    ensures { result ≡ first_in (fault_out_of_range turns (names_of (map view names.now))) (map view faults.now) }
-{
-    for item in faults {
-        if let Some(fault) = item.as_table() {
-            let outside = key_of_fault_out_of_range(fault, turns, names);
-            if outside.is_some() {
-                return outside;
-            }
-        }
-    }
-    None
+    names.iter().any(|item| text_of(item).is_empty())
 }
 
 // The first key of a fault whose value is out of its range.
@@ -286,16 +226,10 @@ fn has_double(names: &[Value]) -> bool
 }
 
 // Whether one of the names is this one.
-#[tactic(auto, using(crate::proofs::ItemLemmas::items_next, crate::proofs::ItemLemmas::items_end))]
 fn has_name(names: &[Value], name: &str) -> bool
     ensures { result ≡ list_any (bytes_eq name.now) (names_of (map view names.now)) }
 {
-    for item in names {
-        if name == text_of(item) {
-            return true;
-        }
-    }
-    false
+    names.iter().any(|item| name == text_of(item))
 }
 
 // Whether there is a key that isn't listed, at the top or in a fault.
@@ -306,18 +240,20 @@ fn has_unknown_key(document: &Table) -> bool
 }
 
 // Whether a fault has a key that isn't listed.
-#[tactic(auto, using(crate::proofs::ItemLemmas::items_next, crate::proofs::ItemLemmas::items_end))]
 fn has_unknown_key_in_faults(faults: &[Value]) -> bool
     ensures { result ≡ list_any fault_has_unlisted (map view faults.now) }
 {
-    for item in faults {
-        if let Some(fault) = item.as_table() {
-            if has_unlisted(fault, &FAULT_KEYS) {
-                return true;
-            }
-        }
+    faults.iter().any(|item| fault_has_unlisted(item))
+}
+
+// Whether the fault has a key that isn't listed.
+fn fault_has_unlisted(item: &Value) -> bool
+    ensures { result ≡ fault_has_unlisted (view item.now) }
+{
+    match item.as_table() {
+        Some(fault) => has_unlisted(fault, &FAULT_KEYS),
+        None => false,
     }
-    false
 }
 
 // Whether the table has a key that isn't one of these.
@@ -336,10 +272,35 @@ fn has_unlisted(table: &Table, keys: &[Key]) -> bool
 fn is_listed(word: &str, keys: &[Key]) -> bool
     ensures { result ≡ is_listed keys.now word.now }
 {
+    keys.iter().any(|key| word == key.word())
+}
+
+// The first of the keys that fails the test.
+fn first_failing<F: Fn(Key) -> bool>(keys: &[Key], test: F) -> Option<Key>
+    requires { F.IsAlwaysCallable test }
+    ensures { (passes : _) → Computes (λ key. key) (F.post test) passes → result ≡ first_failing passes keys.now }
+{
     for key in keys {
-        if word == key.word() {
-            return true;
+        if !test(*key) {
+            return Some(*key);
         }
     }
-    false
+    None
+}
+
+// The key at fault in the first table in which one is found.
+#[tactic(auto, using(crate::proofs::ItemLemmas::items_next, crate::proofs::ItemLemmas::items_end))]
+fn first_key_in<F: Fn(&Table) -> Option<Key>>(faults: &[Value], find: F) -> Option<Key>
+    requires { F.IsAlwaysCallable find }
+    ensures { (fault : _) → Computes table_view (FnReturnsAt F.Fn find) fault → result ≡ first_in fault (map view faults.now) }
+{
+    for item in faults {
+        if let Some(fault) = item.as_table() {
+            let found = find(fault);
+            if found.is_some() {
+                return found;
+            }
+        }
+    }
+    None
 }

@@ -8,3 +8,4 @@ pub mod ShareLemmas
 pub mod StayLemmas
 pub mod PlannedLemmas
 pub mod PlanSteps
+pub mod OwnerTexts

@@ -13,11 +13,13 @@ mod quotas;
 mod reading;
 mod room;
 mod table;
+mod text;
 
 pub use numeral::read_number;
 pub use planning::{PlanFault, TablePlan, plan};
 pub use room::TableRoom;
 pub use table::{Table, TableFault};
+pub use text::push_owners;
 
 #[cfg(test)]
 mod tests;

@@ -11,7 +11,7 @@ use crate::balance::{PLACES, count_at, counts_of};
 use crate::quotas::quotas_of;
 use crate::table::Table;
 use bully_base::{NODES_MAX, Node, NodeSet, OutOfMemory, Setup};
-use std::alloc::Global;
+use std::alloc::{AllocError, Global};
 
 /// A planned table, with the certificate that no balanced table keeps more partitions where they are.
 #[derive(Drop, Debug)]
@@ -32,6 +32,16 @@ pub enum PlanFault {
     OutOfMemory,
 }
 
+impl From<AllocError> for PlanFault {
+    ghost use Rattle.bully_table.specs.declared.planning.PlanFault.{PlanFault};
+
+    ghost from_gives = { λ _ fault. fault ≡ PlanFault.OutOfMemory };
+
+    fn from(_: AllocError) -> PlanFault {
+        PlanFault::OutOfMemory
+    }
+}
+
 /// Plans a table that is balanced over the members and has the fewest moves from the old table, if there is one. The old
 /// table has the setup's partitions. Refused, in this order, as `NoMember`, `OutOfMemory`. The rule: docs/ALGORITHM.md.
 ///
@@ -48,10 +58,14 @@ pub fn plan(
     requires { IfSome (option_copied old) (λ t. length t ≡ setup.partitions) }
     ensures member { IfOk result (λ _. members.now ≢ []) }
     ensures no_member { IfErr result (λ fault. (fault ≡ PlanFault.NoMember) ↔ (members.now ≡ [])) }
-    ensures planned { IfOk result (λ plan. plan.table ≡ planned setup (option_copied old.entry) members.now) }
-    ensures fewest { IfOk result (λ plan. IsFewest setup (option_copied old.entry) plan.table members.now) }
-    ensures bound { IfOk result (λ plan. IsMostKept setup (option_copied old.entry) members.now plan.bound) }
-    ensures moves { IfOk result (λ plan. plan.moves ≡ moves_from setup (option_copied old.entry) plan.table) }
+    ensures planned { IfOk result (λ plan.
+        plan.table ≡ planned setup (option_copied old.entry) members.now) }
+    ensures fewest { IfOk result (λ plan.
+        IsFewest setup (option_copied old.entry) plan.table members.now) }
+    ensures bound { IfOk result (λ plan.
+        IsMostKept setup (option_copied old.entry) members.now plan.bound) }
+    ensures moves { IfOk result (λ plan.
+        plan.moves ≡ moves_from setup (option_copied old.entry) plan.table) }
     ensures certificate { IfOk result (λ plan. plan.moves ≡ setup.partitions - plan.bound) }
 {
     // `highest` also shows the proof that the members fall.
@@ -60,10 +74,7 @@ pub fn plan(
     }
     let partitions = setup.partitions();
     let quotas = quotas_of(setup, members, owners_before(old));
-    let owners = match planned_owners(alloc, setup, members, owners_before(old), &quotas) {
-        Ok(owners) => owners,
-        Err(_) => return Err(PlanFault::OutOfMemory),
-    };
+    let owners = planned_owners(alloc, setup, members, owners_before(old), &quotas)?;
     let table = Table::of(owners);
     let moves = moves_from(setup, old, &table);
     Ok(TablePlan {

@@ -1,17 +1,18 @@
-ghost use Rattle.std.specs.Prelude.{◌≡◌, ◌↔◌, ◌<◌, ◌≤◌, ◌⊎◌, length, slice_get, bytes_eq, IsTrue, IsOk, IfOk, IfErr, Ok, Err, Some};
+ghost use Rattle.std.specs.Prelude.{◌≡◌, ◌↔◌, ◌<◌, ◌≤◌, length, slice_get, bytes_eq, IsTrue, IfOk, IfErr, Ok, Some};
 ghost use Rattle.std.specs.Cmp.{partial_equiv_from_equiv};
 ghost use Rattle.std.specs.Cmp.Lexicographic.{nat_list_eq_equiv};
 ghost use Rattle.bully_base.specs.Setup.{Setup as SetupState};
 ghost use Rattle.bully_base.specs.declared.TheConstants.{PARTITIONS_MAX};
 ghost use Rattle.bully_table.specs.Balance.{IsBalanced};
 ghost use Rattle.bully_table.specs.Planning.{moves};
-ghost use Rattle.bully_table.specs.TableText.{table_of_text};
+ghost use Rattle.bully_table.specs.TableText.{IsRefusedFor, table_of_text};
 
 use crate::balance::{are_even, are_members};
 use crate::moving::count_moves;
 use crate::reading::{look_through, read_owners};
 use bully_base::{Node, NodeSet, OutOfMemory, Setup};
-use std::alloc::Global;
+use std::alloc::{AllocError, Global};
+use std::fmt;
 use std::marker::Model;
 
 /// The owner of each partition, from partition 0 on.
@@ -59,13 +60,42 @@ pub enum TableFault {
     OutOfMemory,
 }
 
+impl From<AllocError> for TableFault {
+    ghost use Rattle.bully_table.specs.declared.table.TableFault.{TableFault};
+
+    ghost from_gives = { λ _ fault. fault ≡ TableFault.OutOfMemory };
+
+    fn from(_: AllocError) -> TableFault {
+        TableFault::OutOfMemory
+    }
+}
+
+/// The fault's name.
+impl fmt::Display for TableFault {
+    ghost use Rattle.std.specs.Prelude.{Some};
+    ghost use Rattle.bully_table.specs.TableText.{table_fault_text};
+
+    ghost output = { λ fault. Some (table_fault_text fault) };
+
+    fn fmt<W: fmt::Write>(&self, f: &mut fmt::Formatter<W>) -> fmt::Result {
+        f.write_str(match self {
+            TableFault::Length => "Length",
+            TableFault::Owner => "Owner",
+            TableFault::Syntax => "Syntax",
+            TableFault::OutOfMemory => "OutOfMemory",
+        })
+    }
+}
+
+impl std::error::Error for TableFault {}
+
 impl Table {
     /// Reads the owners of the setup's partitions, parted by single spaces.
     /// Refused, in this order, as `Length`, `Owner`, `Syntax`, `OutOfMemory`. The rule: docs/ALGORITHM.md.
     pub fn read(alloc: Global, setup: Setup, text: &str) -> Result<Table, TableFault>
         ensures ok { IfOk result (λ t. table_of_text setup text.now ≡ Ok t) }
         ensures length { IfOk result (λ t. length t ≡ setup.partitions) }
-        ensures err { IfErr result (λ fault. (table_of_text setup text.now ≡ Err fault) ⊎ ((fault ≡ TableFault.OutOfMemory) × IsOk (table_of_text setup text.now))) }
+        ensures err { IfErr result (IsRefusedFor setup text.now) }
     {
         Table::read_bytes(alloc, setup, text.as_bytes())
     }
@@ -74,7 +104,7 @@ impl Table {
     pub fn read_bytes(alloc: Global, setup: Setup, text: &[u8]) -> Result<Table, TableFault>
         ensures ok { IfOk result (λ t. table_of_text setup text.now ≡ Ok t) }
         ensures length { IfOk result (λ t. length t ≡ setup.partitions) }
-        ensures err { IfErr result (λ fault. (table_of_text setup text.now ≡ Err fault) ⊎ ((fault ≡ TableFault.OutOfMemory) × IsOk (table_of_text setup text.now))) }
+        ensures err { IfErr result (IsRefusedFor setup text.now) }
     {
         let found = look_through(setup, text);
         if found.count != setup.partitions() {
@@ -86,10 +116,8 @@ impl Table {
         if found.has_no_number {
             return Err(TableFault::Syntax);
         }
-        match read_owners(alloc, setup, text) {
-            Ok(owners) => Ok(Table { owners }),
-            Err(_) => Err(TableFault::OutOfMemory),
-        }
+        let owners = read_owners(alloc, setup, text)?;
+        Ok(Table { owners })
     }
 
     // A table of the setup's partitions, each owned by node 1.

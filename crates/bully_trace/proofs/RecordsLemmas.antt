@@ -1,10 +1,9 @@
 -- The records that a reader still gives, against the reads that it makes.
-use Rattle.std.proofs.Common.{◌≡◌, ◌⊎◌, inl, inr, ◌+◌, ◌<◌, ◌∙◌, Bool, true, false, ℕ, zero, suc, List, [], ◌∷◌, ◌++◌, length, Option, Some, None, arith, refl, sym, ap, add-one}
+use Rattle.std.proofs.Common.{◌≡◌, ◌⊎◌, inl, inr, ◌+◌, ◌<◌, ◌∙◌, Bool, true, false, ℕ, zero, suc, List, [], ◌∷◌, length, Option, Some, None, arith, refl, sym, ap, add-one}
 use Rattle.std.specs.Option.{option_map}
 use Rattle.std.proofs.lemmas.Bool.{cases_Bool}
-use Rattle.std.proofs.lemmas.List.{append-nil}
 use Rattle.csv.specs.Machine.{Read, ends_at_end, field_after, fields_after, is_end, next_record, step}
-use Rattle.csv.specs.Reading.{AreRecords, Reached, ReadRecord, default_config, records, records_from, source_of}
+use Rattle.csv.specs.Reading.{Reached, ReadRecord, default_config, records_from, source_of}
 use Rattle.csv.specs.declared.parser.Config.{Config}
 use Rattle.csv.specs.declared.parser.State.{State}
 use Rattle.csv.specs.declared.parser.State.TheVariants as st
@@ -70,21 +69,6 @@ records-first cfg s xs p e = rw (add-one (length xs), e) (ap (λ rest. p.0 ∷ r
 records-none : (cfg : Config) (s : State) (xs : List ℕ) → next_record cfg s [] [] xs ≡ None → records_from cfg (length xs + 1) s xs ≡ []
 unfolding records_from
 records-none cfg s xs e = rw (add-one (length xs), e) refl
-
--- the records of a text are those in front of a place, and then those behind it
-pub reached-records : (cfg : Config) (s s2 : State) (xs ys : List ℕ) (front : List (List (List ℕ))) → Reached cfg s xs front s2 ys
-    → records_from cfg (length xs + 1) s xs ≡ front ++ records_from cfg (length ys + 1) s2 ys
-unfolding Reached
-reached-records cfg s s2 xs ys [] h = rw (h.0, h.1) refl
-reached-records cfg s s2 xs ys (r ∷ rs) h =
-    let (p, next, is, more) = h in
-    records-first cfg s xs p next ∙ rw is (ap (λ rest. p.0 ∷ rest) (reached-records cfg p.1 s2 p.2 ys rs more))
-
--- where nothing comes behind them, they are all
-pub are-records : (cfg : Config) (xs : List ℕ) (rows : List (List (List ℕ))) → AreRecords cfg st.StartRecord xs rows → records cfg xs ≡ rows
-are-records cfg xs rows h =
-    let (s2, ys, reached, end) = h in
-    reached-records cfg st.StartRecord s2 xs ys rows reached ∙ rw (records-none cfg s2 ys end) (append-nil rows)
 
 -- the first of the records of a text is the one that a read took
 first-taken : (cfg : Config) (s s2 : State) (y z : List ℕ) (fields : List (List ℕ)) (after : Option (List ℕ)) → after ≡ Some z → Reached cfg s y (fields ∷ []) s2 z

@@ -1,14 +1,15 @@
 -- The rows that were read, and those that the records behind them tell.
 use Rattle.std.proofs.Common.{◌≡◌, ◌⊎◌, inl, inr, ◌+◌, ◌<◌, ◌≤◌, ◌∙◌, Bool, true, false, ℕ, List, [], ◌∷◌, ◌++◌, Option, Some, None, Result, Ok, Err, arith, refl, sym, ap, append_assoc}
-use Rattle.std.specs.Prelude.{IfSome, nat_lt}
-use Rattle.std.proofs.lemmas.List.{append-nil}
+use Rattle.std.specs.Prelude.{IfSome, IsOk, length, nat_lt}
+use Rattle.std.proofs.lemmas.Bool.{false≢true}
+use Rattle.std.proofs.lemmas.List.{append-nil, length-append}
 use Rattle.bully_base.specs.Setup.{Setup}
 use Rattle.bully_trace.specs.declared.TheConstants.{ROWS_MAX}
 use Rattle.bully_trace.specs.declared.trace.Row.{Row}
 use Rattle.bully_trace.specs.declared.trace.TraceCause.{TraceCause}
 use Rattle.bully_trace.specs.declared.trace.TraceFault.{TraceFault}
-use Rattle.bully_trace.specs.Rows.{Record, fault_at, is_of_form, read_as, row_of, rows_from}
-use Rattle.bully_trace.specs.RecordsLeft.{HasRows, IsOutside, Takes}
+use Rattle.bully_trace.specs.Rows.{IsBehindRows, Record, fault_at, is_of_form, read_as, row_of, rows_from}
+use Rattle.bully_trace.specs.RecordsLeft.{HasRows, IsOutside, Takes, TookRows}
 
 -- rows behind rows
 read-append : (rows : List Row) (row : Row) (more : Result (List Row) TraceFault)
@@ -33,15 +34,6 @@ late-first : (setup : Setup) (number : ℕ) (fields : Record) (rest : List Recor
 late-first setup number fields rest beyond =
     let high : nat_lt (ROWS_MAX + 1) number ≡ true = grind (arith, beyond) in
     rw high refl
-
--- nothing is read yet
-pub rows-none : (setup : Setup) (before : Option (List Record)) → HasRows setup 2 [] before before
-rows-none setup None = tt
-rows-none setup (Some before) = none (rows_from setup 2 before)
-  where
-    none : (r : Result (List Row) TraceFault) → r ≡ read_as (λ xs. [] ++ xs) r
-    none (Ok xs) = refl
-    none (Err f) = refl
 
 -- one more row
 pub rows-step : (setup : Setup) (number : ℕ) (rows : List Row) (row : Row) (before now after : Option (List Record)) (found : Bool) (fields : Record)
@@ -90,3 +82,54 @@ pub rows-fault : (setup : Setup) (number : ℕ) (rows : List Row) (before now af
 rows-fault setup number rows before now after found fields fault within has takes is (inl outside) = inl outside
 rows-fault setup number rows before now after found fields fault within has takes is (inr bad) =
     inr (rw bad.1 (refl, rows-bad setup number rows before now after found fields within has takes is bad.0))
+
+-- the records that were taken, where each means a row without a fault
+ok-under : {A B : Type 0} (f : A → B) (r : Result A TraceFault) → IsOk (read_as f r) → IsOk r
+ok-under f (Ok x) h = refl
+ok-under f (Err e) h = h
+
+pub ok-over : {A B : Type 0} (f : A → B) (r : Result A TraceFault) → IsOk r → IsOk (read_as f r)
+ok-over f (Ok x) h = refl
+ok-over f (Err e) h = h
+
+rows-more : (setup : Setup) (number last : ℕ) (taken : List Record) (fields : Record) (row : Row) → length taken + number ≡ last → last ≤ ROWS_MAX + 1
+    → IsOk (rows_from setup number taken) → row_of setup fields ≡ Some row → IsOk (rows_from setup number (taken ++ (fields ∷ [])))
+rows-more setup number last [] fields row e within ok told =
+    rw (good-first setup number fields [] row (omega (arith, e, within)) told) refl
+rows-more setup number last (first ∷ taken) fields row e within ok told =
+    by_row (row_of setup first) refl (λ rest. rows-more setup (number + 1) last taken fields row (omega (arith, e)) within rest told)
+  where
+    low : number ≤ ROWS_MAX + 1
+    low = omega (arith, e, within)
+
+    by_row : (o : Option Row) → row_of setup first ≡ o
+        → (IsOk (rows_from setup (number + 1) taken) → IsOk (rows_from setup (number + 1) (taken ++ (fields ∷ []))))
+        → IsOk (rows_from setup number (first ∷ (taken ++ (fields ∷ []))))
+    by_row None is more = absurd (false≢true (rw (bad-first setup number first taken low is) at ok))
+    by_row (Some told_first) is more =
+        let rest = ok-under (λ xs. told_first ∷ xs) (rows_from setup (number + 1) taken) (rw (good-first setup number first taken told_first low is) at ok) in
+        rw (good-first setup number first (taken ++ (fields ∷ [])) told_first low is) (ok-over (λ xs. told_first ∷ xs) _ (more rest))
+
+pub took-step : (setup : Setup) (number : ℕ) (row : Row) (before now after : Option (List Record)) (found : Bool) (fields : Record)
+    → number ≤ ROWS_MAX + 1 → TookRows setup number before now → Takes now after found fields → found ≡ true → row_of setup fields ≡ Some row
+    → TookRows setup (number + 1) before after
+took-step setup number row None now after found fields within took takes is e = tt
+took-step setup number row (Some before) None after found fields within took takes is e = absurd took
+took-step setup number row (Some before) (Some []) after found fields within took takes is e = cc (takes, is)
+took-step setup number row (Some before) (Some (first ∷ rest)) after found fields within took takes is e =
+    let (taken, all, count, ok) = took in
+    rw takes.2 (
+      taken ++ (first ∷ []),
+      all ∙ sym (append_assoc taken (first ∷ []) rest),
+      omega (arith, count, length-append taken (first ∷ [])),
+      rows-more setup 2 number taken first row count within ok (ap (row_of setup) (sym takes.1) ∙ e),
+    )
+
+-- a read that failed is at the row behind those that were taken
+pub took-failed : (setup : Setup) (number row : ℕ) (before now : Option (List Record)) → TookRows setup number before now → row ≡ number
+    → IfSome before (IsBehindRows setup row)
+took-failed setup number row None now took is = tt
+took-failed setup number row (Some before) None took is = absurd took
+took-failed setup number row (Some before) (Some now) took is =
+    let (taken, all, count, ok) = took in
+    (taken, now, all, omega (arith, is, count), ok)

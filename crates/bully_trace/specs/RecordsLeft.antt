@@ -1,5 +1,5 @@
 -- The records that a reader still gives.
-use Rattle.std.specs.Prelude.{◌≡◌, ◌≢◌, ℕ, ◌+◌, Bool, true, false, List, [], ◌∷◌, ◌++◌, length, Option, Some, None, ⊤, option_map}
+use Rattle.std.specs.Prelude.{◌≡◌, ◌≢◌, ℕ, ◌+◌, Bool, true, false, List, [], ◌∷◌, ◌++◌, length, Option, Some, None, IsOk, ⊤, option_map}
 use Rattle.csv.specs.Reading.{Ready, default_config, is_flexible, reader_config, reader_state, reader_trim, records_from, source_of}
 use Rattle.csv.specs.declared.reader.Reader.{Reader}
 use Rattle.csv.specs.declared.reader.Trim.TheVariants as trim
@@ -30,6 +30,13 @@ HasRows setup number rows None now = ⊤
 HasRows setup number rows (Some before) None = ⊥
 HasRows setup number rows (Some before) (Some now) =
     rows_from setup 2 before ≡ read_as (λ more. rows ++ more) (rows_from setup number now)
+
+-- the records before are those that were taken, which mean rows without a fault, and then those of now, from this number on
+abbrev pub TookRows : Setup → ℕ → Option (List Record) → Option (List Record) → Type 0
+TookRows setup number None now = ⊤
+TookRows setup number (Some before) None = ⊥
+TookRows setup number (Some before) (Some now) =
+    (taken : List Record) × (before ≡ taken ++ now) × (length taken + 2 ≡ number) × IsOk (rows_from setup 2 taken)
 
 -- a fault of reading or of memory
 abbrev pub IsOutside : TraceFault → Type 0

@@ -1,5 +1,5 @@
 -- The rows of a trace: what the records of its text mean, or the first faulty row.
-use Rattle.std.specs.Prelude.{ℕ, ◌+◌, Bool, true, false, List, [], ◌∷◌, Option, Some, None, Result, Ok, Err, ◌&&◌, nat_lt, nat_le, codes, option_map, option_and_then, if◌then◌else◌}
+use Rattle.std.specs.Prelude.{◌≡◌, ◌⊎◌, ℕ, ◌+◌, ◌++◌, length, ⊤, IfSome, IsOk, IsTrue, Bool, true, false, List, [], ◌∷◌, Option, Some, None, Result, Ok, Err, ◌&&◌, nat_lt, nat_le, codes, option_map, option_and_then, if◌then◌else◌}
 use Rattle.std.specs.Result.{result_ok}
 use Rattle.std.specs.Str.{bytes_eq}
 use Rattle.csv.specs.Reading.{records, default_config, strip_bom}
@@ -127,3 +127,48 @@ is_of_form TraceCause.TooManyRows = true
 is_of_form TraceCause.Read = false
 is_of_form TraceCause.Write = false
 is_of_form TraceCause.OutOfMemory = false
+
+-- want of memory, which is told at row 0
+abbrev pub no_memory : TraceFault
+no_memory = fault_at 0 TraceCause.OutOfMemory
+
+-- a fault of writing or of memory, at row 0
+abbrev pub IsOfWriting : TraceFault → Type 0
+IsOfWriting fault = (fault.row ≡ 0) × ((fault.cause ≡ TraceCause.Write) ⊎ (fault.cause ≡ TraceCause.OutOfMemory))
+
+-- none of these records, from the header on, is at fault
+abbrev pub AreFaultless : List Record → Type 0
+AreFaultless [] = ⊤
+AreFaultless (first ∷ rest) = IsOk (trace_of (first ∷ rest))
+
+-- the row is one more than those before it, which the first records mean without a fault
+abbrev pub IsBehind : ℕ → List Record → Type 0
+IsBehind row records =
+    (before : List Record) × (rest : List Record) × (records ≡ before ++ rest) × (row ≡ length before + 1) × AreFaultless before
+
+-- the same of records behind the header, the first of which is row 2
+abbrev pub IsBehindRows : Setup → ℕ → List Record → Type 0
+IsBehindRows setup row records =
+    (before : List Record) × (rest : List Record) × (records ≡ before ++ rest) × (row ≡ length before + 2) × IsOk (rows_from setup 2 before)
+
+-- what is said of a text holds where the bytes of a reader are known
+
+-- the text means the trace
+abbrev pub IsTraceOf : Option (List ℕ) → Trace → Type 0
+IsTraceOf known trace = IfSome known (λ bytes. trace_of (records_of bytes) ≡ Ok trace)
+
+-- the text means a trace of which this is so
+abbrev pub OfTrace : Option (List ℕ) → (Trace → Type 0) → Type 0
+OfTrace known P = IfSome known (λ bytes. (trace : Trace) × (trace_of (records_of bytes) ≡ Ok trace) × P trace)
+
+-- the text has no fault of form
+abbrev pub HasNoFault : Option (List ℕ) → Type 0
+HasNoFault known = IfSome known (λ bytes. IsOk (trace_of (records_of bytes)))
+
+-- a fault of form is the text's first one
+abbrev pub IsFirstFault : Option (List ℕ) → TraceFault → Type 0
+IsFirstFault known fault = IsTrue (is_of_form fault.cause) → IfSome known (λ bytes. trace_of (records_of bytes) ≡ Err fault)
+
+-- a failed read is told at the row behind those that were read
+abbrev pub IsReadAtItsRow : Option (List ℕ) → TraceFault → Type 0
+IsReadAtItsRow known fault = fault.cause ≡ TraceCause.Read → IfSome known (λ bytes. IsBehind fault.row (records_of bytes))

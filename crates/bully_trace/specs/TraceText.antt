@@ -1,8 +1,9 @@
 -- The text of a trace: its header and its rows, a line each.
-use Rattle.std.specs.Prelude.{ℕ, List, [], ◌∷◌, ◌++◌, codes, map}
+use Rattle.std.specs.Prelude.{ℕ, List, [], ◌∷◌, ◌++◌, codes}
 use Rattle.std.specs.List.{join_with_byte}
 use Rattle.std.specs.Fmt.{decimal}
 use Rattle.bully_base.specs.Setup.{Setup}
+use Rattle.bully_table.specs.TableText.{owners_text}
 use Rattle.bully_world.specs.declared.event.Event.{Event}
 use Rattle.bully_trace.specs.declared.trace.Row.{Row}
 use Rattle.bully_trace.specs.declared.trace.Trace.{Trace}
@@ -11,10 +12,7 @@ use Rattle.bully_trace.specs.VerdictText.{status_text, node_text}
 abbrev pub line_of : List (List ℕ) → List ℕ
 line_of fields = join_with_byte 44 fields ++ codes "\n"
 
--- the owners, parted by single spaces
-abbrev pub owners_text : List ℕ → List ℕ
-owners_text owners = join_with_byte 32 (map decimal owners)
-
+-- the owners of a Plan are parted by spaces
 abbrev pub event_fields : Event → List (List ℕ)
 event_fields (Event.Recover i) = codes "recover" ∷ decimal i ∷ []
 event_fields (Event.Crash i) = codes "crash" ∷ decimal i ∷ []
@@ -25,7 +23,7 @@ event_fields (Event.Run i) = codes "run" ∷ decimal i ∷ []
 event_fields (Event.Lose i) = codes "lose" ∷ decimal i ∷ []
 event_fields (Event.Return i) = codes "return" ∷ decimal i ∷ []
 event_fields (Event.Move i) = codes "move" ∷ decimal i ∷ []
-event_fields (Event.Plan i table) = codes "plan" ∷ decimal i ∷ owners_text table ∷ []
+event_fields (Event.Plan i table) = codes "plan" ∷ decimal i ∷ owners_text 32 table ∷ []
 
 abbrev pub row_fields : Row → List (List ℕ)
 row_fields (Row.Event e) = event_fields e

@@ -1,21 +1,34 @@
 -- The text of a verdict.
-use Rattle.std.specs.Prelude.{ℕ, zero, suc, ◌+◌, List, [], ◌++◌, Option, Some, None, codes, map}
-use Rattle.std.specs.List.{join_with_byte}
+use Rattle.std.specs.Prelude.{◌≡◌, ℕ, zero, suc, ◌+◌, List, [], ◌++◌, Option, Some, None, Ok, IfSome, codes}
 use Rattle.std.specs.Fmt.{decimal}
 use Rattle.bully_base.specs.declared.node.Status.{Status}
 use Rattle.bully_base.specs.declared.node.Status.TheVariants.{Down, Election, Reorganization, Normal}
 use Rattle.bully_base.specs.Setup.{Setup}
+use Rattle.bully_table.specs.TableText.{owners_text}
 use Rattle.bully_handlers.specs.Vector.{Vector}
 use Rattle.bully_world.specs.declared.event.Refused.{Refused}
 use Rattle.bully_world.specs.declared.event.Refused.TheVariants.{Full, BadNode, IsDown, IsUp, Busy, NoStep, SlotBusy, NoCall, CalleeDown, CalleeUp, BadTable}
 use Rattle.bully_world.specs.World.{World, vector}
+use Rattle.bully_trace.specs.declared.trace.Trace.{Trace}
+use Rattle.bully_trace.specs.declared.trace.TraceCause.{TraceCause}
 use Rattle.bully_trace.specs.declared.verdict.Verdict.{Verdict}
+use Rattle.bully_trace.specs.Rows.{records_of, trace_of}
+use Rattle.bully_trace.specs.Verdict.{IsVerdict}
 
 abbrev pub status_text : Status → List ℕ
 status_text Down = codes "down"
 status_text Election = codes "election"
 status_text Reorganization = codes "reorganization"
 status_text Normal = codes "normal"
+
+-- the cause of a trace's fault as the program tells it
+abbrev pub trace_cause_text : TraceCause → List ℕ
+trace_cause_text TraceCause.BadHeader = codes "BadHeader"
+trace_cause_text TraceCause.BadRow = codes "BadRow"
+trace_cause_text TraceCause.TooManyRows = codes "TooManyRows"
+trace_cause_text TraceCause.Read = codes "Read"
+trace_cause_text TraceCause.Write = codes "Write"
+trace_cause_text TraceCause.OutOfMemory = codes "OutOfMemory"
 
 abbrev pub cause_text : Refused → List ℕ
 cause_text Full = codes "Full"
@@ -38,7 +51,7 @@ node_text (Some i) = decimal i
 -- the owners with commas, or a dash
 abbrev pub task_text : Option (List ℕ) → List ℕ
 task_text None = codes "-"
-task_text (Some owners) = join_with_byte 44 (map decimal owners)
+task_text (Some owners) = owners_text 44 owners
 
 abbrev pub node_line : ℕ → Vector → List ℕ
 node_line i v =
@@ -61,3 +74,8 @@ abbrev pub verdict_text : Setup → Verdict → World → List ℕ
 verdict_text setup (Verdict.Lawful count) w = verdict_head (Verdict.Lawful count) ++ node_lines w setup.nodes
 verdict_text setup (Verdict.Refused row why) w = verdict_head (Verdict.Refused row why)
 verdict_text setup (Verdict.Differs row) w = verdict_head (Verdict.Differs row)
+
+-- where the bytes of a reader are known, they mean a trace with this verdict, whose text is written
+abbrev pub IsJudgedAs : Option (List ℕ) → Verdict → (List ℕ → Type 0) → Type 0
+IsJudgedAs known verdict Writes =
+    IfSome known (λ bytes. (trace : Trace) × (w : World) × (trace_of (records_of bytes) ≡ Ok trace) × IsVerdict trace verdict w × Writes (verdict_text trace.setup verdict w))

@@ -1,17 +1,15 @@
 ghost use Rattle.std.specs.Prelude.{◌≡◌, ◌≢◌, ◌⊎◌, ◌++◌, Ok, Err, IfOk, IfErr, IfSome, IsOk, IsTrue, OnOk};
 ghost use Rattle.std.specs.Io.KnownBytes.{Appends};
 ghost use Rattle.std.specs.String.{string_bytes};
-ghost use Rattle.bully_trace.specs.Rows.{records_of, trace_of, is_of_form};
-ghost use Rattle.bully_trace.specs.Verdict.{IsVerdict, IsLawfulCount, AgreesAfterEachRow};
-ghost use Rattle.bully_trace.specs.VerdictText.{verdict_text, node_lines};
-ghost use Rattle.bully_trace.specs.declared.trace.Trace.{Trace};
+ghost use Rattle.bully_trace.specs.Rows.{HasNoFault, IsFirstFault, IsReadAtItsRow, OfTrace};
+ghost use Rattle.bully_trace.specs.Verdict.{IsLawfulCount, AgreesAfterEachRow};
+ghost use Rattle.bully_trace.specs.VerdictText.{IsJudgedAs, verdict_text, node_lines};
 ghost use Rattle.bully_world.specs.State.{world_of};
-ghost use Rattle.bully_world.specs.World.{World as WorldState};
 
 use crate::judging::judge;
 use crate::reading::read_trace;
 use crate::text::{push_node_line, push_verdict_head};
-use crate::writing::{no_memory, not_written};
+use crate::writing::not_written;
 use crate::{TraceCause, TraceFault, Verdict};
 use bully_base::{Node, OutOfMemory};
 use bully_world::World;
@@ -27,19 +25,25 @@ pub fn check<R: Read + Drop, W: Write>(
     reader: R,
     writer: &mut W,
 ) -> Result<Verdict, TraceFault>
-    ensures verdict { IfOk result (λ verdict. IfSome (R.remaining reader) (λ bytes. (trace : Trace) × (w : WorldState) × (trace_of (records_of bytes) ≡ Ok trace)
-        × IsVerdict trace verdict w × Appends (W.contents writer.old) (W.contents writer.new) (verdict_text trace.setup verdict w))) }
-    ensures lawful { IfOk result (λ verdict. IfSome (R.remaining reader) (λ bytes. (trace : Trace) × (trace_of (records_of bytes) ≡ Ok trace) × IsLawfulCount trace verdict)) }
-    ensures agreement { IfOk result (λ verdict. IfSome (R.remaining reader) (λ bytes. (trace : Trace) × (trace_of (records_of bytes) ≡ Ok trace) × AgreesAfterEachRow trace verdict)) }
-    ensures fault { IfErr result (λ fault. IsTrue (is_of_form fault.cause) → IfSome (R.remaining reader) (λ bytes. trace_of (records_of bytes) ≡ Err fault)) }
-    ensures silent { IfErr result (λ fault. fault.cause ≢ TraceCause.Write → writer.new ≡ writer.old) }
-    ensures read { IfErr result (λ fault. fault.cause ≡ TraceCause.Write → IfSome (R.remaining reader) (λ bytes. IsOk (trace_of (records_of bytes)))) }
-    ensures row { IfErr result (λ fault. (fault.cause ≡ TraceCause.Write) ⊎ (fault.cause ≡ TraceCause.OutOfMemory) → fault.row ≡ 0) }
+    ensures verdict { IfOk result (λ verdict. IsJudgedAs (R.remaining reader) verdict
+        (Appends (W.contents writer.old) (W.contents writer.new))) }
+    ensures lawful { IfOk result (λ verdict. OfTrace (R.remaining reader)
+        (λ trace. IsLawfulCount trace verdict)) }
+    ensures agreement { IfOk result (λ verdict. OfTrace (R.remaining reader)
+        (λ trace. AgreesAfterEachRow trace verdict)) }
+    ensures fault { IfErr result (IsFirstFault (R.remaining reader)) }
+    ensures behind { IfErr result (IsReadAtItsRow (R.remaining reader)) }
+    ensures silent { IfErr result (λ fault.
+        fault.cause ≢ TraceCause.Write → writer.new ≡ writer.old) }
+    ensures read { IfErr result (λ fault.
+        fault.cause ≡ TraceCause.Write → HasNoFault (R.remaining reader)) }
+    ensures row { IfErr result (λ fault.
+        (fault.cause ≡ TraceCause.Write) ⊎ (fault.cause ≡ TraceCause.OutOfMemory) → fault.row ≡ 0) }
 {
     let trace = read_trace(alloc, reader)?;
-    let mut world = World::new(alloc, trace.setup).map_err(no_memory)?;
+    let mut world = World::new(alloc, trace.setup)?;
     let verdict = judge(&mut world, trace.rows.as_slice());
-    let text = text_of(alloc, verdict, &world).map_err(no_memory)?;
+    let text = text_of(alloc, verdict, &world)?;
     writer.write_all(text.as_bytes()).map_err(not_written)?;
     Ok(verdict)
 }

@@ -4,6 +4,9 @@
 //! being that of the rows that the text means, and on the nodes agreeing after each row of a lawful trace.
 #![tactic(auto)]
 
+ghost use Rattle.std.specs.Prelude.{◌≡◌};
+ghost use Rattle.bully_trace.specs.declared.TheConstants.{ROWS_MAX};
+
 mod checking;
 mod judging;
 mod reading;
@@ -15,10 +18,14 @@ mod writing;
 
 pub use checking::check;
 pub use reading::read_trace;
-pub use text::push_owners;
 pub use trace::{Claim, Row, Rows, Trace, TraceCause, TraceFault};
 pub use verdict::Verdict;
 pub use writing::write_trace;
 
 /// The most rows of a trace after its header. The profile's limit.
 pub const ROWS_MAX: u32 = 1_000_000;
+
+/// The limit in numbers. The definitions cite the constant, and so say as much as this number.
+pub fn limits()
+    ensures rows { ROWS_MAX ≡ 1000000 }
+{}

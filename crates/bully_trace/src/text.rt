@@ -1,14 +1,14 @@
-ghost use Rattle.std.specs.Prelude.{◌≡◌, ◌<◌, ◌∷◌, ◌++◌, [], codes, map, OnOk, string_bytes};
+ghost use Rattle.std.specs.Prelude.{◌≡◌, ◌∷◌, ◌++◌, [], codes, OnOk, string_bytes};
 ghost use Rattle.std.specs.Fmt.{decimal};
-ghost use Rattle.std.specs.List.{join_with_byte};
 ghost use Rattle.std.specs.Option.{option_copied};
+ghost use Rattle.bully_table.specs.TableText.{owners_text};
 ghost use Rattle.bully_trace.specs.TraceText.{line_of, event_fields, row_fields, header_fields};
 ghost use Rattle.bully_trace.specs.VerdictText.{status_text, cause_text, node_text, task_text, node_line, verdict_head};
 
 use crate::{Claim, Row, Verdict};
 use bully_base::{Node, OutOfMemory, Setup, Status};
 use bully_handlers::Vector;
-use bully_table::Table;
+use bully_table::{Table, push_owners};
 use bully_world::{Event, Refused};
 
 /// The status as a trace and a verdict spell it.
@@ -53,21 +53,6 @@ pub fn push_node(text: &mut String, node: Option<Node>) -> Result<(), OutOfMemor
             write!(text, "{number}")
         }
     }
-}
-
-/// Appends the table's owners, with the separator, an ASCII character, between each two.
-pub fn push_owners(text: &mut String, table: &Table, separator: char) -> Result<(), OutOfMemory>
-    requires { separator < 128 }
-    ensures { OnOk result (string_bytes text.new ≡ string_bytes text.old ++ join_with_byte separator (map decimal table.now)) }
-{
-    for place in 0..table.len() {
-        if place > 0 {
-            text.push(separator)?;
-        }
-        let owner = table.owner(place).number();
-        write!(text, "{owner}")?;
-    }
-    Ok(())
 }
 
 /// Appends the owners of a task, parted by commas, or a dash for none.
@@ -156,7 +141,7 @@ fn push_named(text: &mut String, word: &str, node: Node) -> Result<(), OutOfMemo
 
 // Appends the line of a Plan.
 fn push_plan(text: &mut String, node: Node, table: &Table) -> Result<(), OutOfMemory>
-    ensures { OnOk result (string_bytes text.new ≡ string_bytes text.old ++ line_of (codes "plan" ∷ decimal node ∷ join_with_byte 32 (map decimal table.now) ∷ [])) }
+    ensures { OnOk result (string_bytes text.new ≡ string_bytes text.old ++ line_of (codes "plan" ∷ decimal node ∷ owners_text 32 table.now ∷ [])) }
 {
     let number = node.number();
     write!(text, "plan,{number},")?;

@@ -1,5 +1,7 @@
 use bully_base::{Node, Setup, Status};
 use bully_world::Event;
+use std::alloc::{AllocError, AllocFailed};
+use std::fmt;
 use std::marker::Model;
 
 /// A claim: at this place of the trace the node's vector shows this status and this coordinator.
@@ -87,10 +89,54 @@ pub enum TraceCause {
     OutOfMemory,
 }
 
+/// The cause's name.
+impl fmt::Display for TraceCause {
+    ghost use Rattle.std.specs.Prelude.{Some};
+    ghost use Rattle.bully_trace.specs.VerdictText.{trace_cause_text};
+
+    ghost output = { λ cause. Some (trace_cause_text cause) };
+
+    fn fmt<W: fmt::Write>(&self, f: &mut fmt::Formatter<W>) -> fmt::Result {
+        f.write_str(match self {
+            TraceCause::BadHeader => "BadHeader",
+            TraceCause::BadRow => "BadRow",
+            TraceCause::TooManyRows => "TooManyRows",
+            TraceCause::Read => "Read",
+            TraceCause::Write => "Write",
+            TraceCause::OutOfMemory => "OutOfMemory",
+        })
+    }
+}
+
 /// The row at which a trace is at fault, counted from 1, and why. A failed read has the row behind those that
 /// were read; a failed write and want of memory have row 0.
 #[derive(Clone, Copy, PartialEq, Eq, Debug)]
 pub struct TraceFault {
     pub row: u32,
     pub cause: TraceCause,
+}
+
+impl From<AllocError> for TraceFault {
+    ghost use Rattle.std.specs.Prelude.{◌≡◌};
+    ghost use Rattle.bully_trace.specs.Rows.{no_memory};
+
+    ghost from_gives = { λ _ fault. fault ≡ no_memory };
+
+    fn from(_: AllocError) -> TraceFault {
+        TraceFault {
+            row: 0,
+            cause: TraceCause::OutOfMemory,
+        }
+    }
+}
+
+impl<T: Drop> From<AllocFailed<T>> for TraceFault {
+    ghost use Rattle.std.specs.Prelude.{◌≡◌};
+    ghost use Rattle.bully_trace.specs.Rows.{no_memory};
+
+    ghost from_gives = { λ _ fault. fault ≡ no_memory };
+
+    fn from(_: AllocFailed<T>) -> TraceFault {
+        TraceFault::from(AllocError)
+    }
 }

@@ -1,6 +1,7 @@
-ghost use Rattle.std.specs.Prelude.{◌≡◌, ◌⊎◌, IfErr, IfOk, OnOk};
+ghost use Rattle.std.specs.Prelude.{◌≡◌, IfErr, IfOk, OnOk};
 ghost use Rattle.std.specs.Io.KnownBytes.{Appends};
 ghost use Rattle.std.specs.String.{string_bytes};
+ghost use Rattle.bully_trace.specs.Rows.{IsOfWriting};
 ghost use Rattle.bully_trace.specs.TraceText.{trace_text};
 
 use crate::text::{push_header, push_row};
@@ -14,11 +15,13 @@ use std::io::Write;
 /// Refused as `Write` where the writer fails, and then a prefix of the text may have been written; as
 /// `OutOfMemory` where an allocation fails, and then nothing was written. Each is at row 0.
 pub fn write_trace<W: Write>(alloc: Global, writer: &mut W, trace: &Trace) -> Result<(), TraceFault>
-    ensures ok { OnOk result (Appends (W.contents writer.old) (W.contents writer.new) (trace_text trace.now)) }
-    ensures err { IfErr result (λ fault. (fault.row ≡ 0) × ((fault.cause ≡ TraceCause.Write) ⊎ (fault.cause ≡ TraceCause.OutOfMemory))) }
-    ensures memory { IfErr result (λ fault. fault.cause ≡ TraceCause.OutOfMemory → writer.new ≡ writer.old) }
+    ensures ok { OnOk result
+        (Appends (W.contents writer.old) (W.contents writer.new) (trace_text trace.now)) }
+    ensures err { IfErr result IsOfWriting }
+    ensures memory { IfErr result (λ fault.
+        fault.cause ≡ TraceCause.OutOfMemory → writer.new ≡ writer.old) }
 {
-    let text = text_of(alloc, trace).map_err(no_memory)?;
+    let text = text_of(alloc, trace)?;
     writer.write_all(text.as_bytes()).map_err(not_written)
 }
 
@@ -41,15 +44,5 @@ pub fn not_written(_: io::Error) -> TraceFault
     TraceFault {
         row: 0,
         cause: TraceCause::Write,
-    }
-}
-
-/// The fault of memory that was refused.
-pub fn no_memory(_: OutOfMemory) -> TraceFault
-    ensures { result ≡ record { row = 0; cause = TraceCause.OutOfMemory } }
-{
-    TraceFault {
-        row: 0,
-        cause: TraceCause::OutOfMemory,
     }
 }

@@ -1,7 +1,7 @@
 use Rattle.std.proofs.Common.{string_bytes, slice_get, Some, ◌≡◌, arith}
-use Rattle.bully_trace.proofs.TextLemmas.{owner-first, owner-next}
-use Rattle.bully_trace.proofs.text.push_owners.Goals as goal
-use Rattle.bully_trace.proofs.text.push_owners.Goals.{then-place-gt0+in_ok-push, else-place-gt0}
+use Rattle.bully_table.proofs.OwnerTexts.{owner-first, owner-next}
+use Rattle.bully_table.proofs.text.push_owners.Goals as goal
+use Rattle.bully_table.proofs.text.push_owners.Goals.{then-place-gt0+in_ok-push, else-place-gt0}
 
 pub loop-place-preserved : goal.loop-place-preserved
 loop-place-preserved c =

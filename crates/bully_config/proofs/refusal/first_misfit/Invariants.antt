@@ -1,7 +1,0 @@
-use Rattle.std.proofs.Common.{◌≡◌, drop}
-use Rattle.toml.specs.View.{table_view}
-use Rattle.bully_config.specs.Refusals.{first_misfit}
-use Rattle.bully_config.proofs.refusal.first_misfit.Given as goal
-
-abbrev pub invariant-loop-key : goal.invariant-loop-key
-invariant-loop-key l = first_misfit (drop l.key-index l.keys) (table_view l.table) ≡ first_misfit l.keys (table_view l.table)
