@@ -1,14 +1,14 @@
 -- What every world keeps, from the first one on.
-use Rattle.std.proofs.Common.{◌≡◌, ℕ, zero, suc, ◌+◌, ◌<◌, ◌≤◌, ◌⊎◌, inl, inr, false, List, [], ◌∷◌, ◌++◌, Option, Some, None, refl, ◌∙◌, ap, arith, length, take, drop, length-append}
+use Rattle.std.proofs.Common.{◌≡◌, ℕ, zero, suc, ◌+◌, ◌<◌, ◌≤◌, ◌⊎◌, inl, inr, false, List, [], ◌∷◌, ◌++◌, Option, Some, None, refl, sym, ◌∙◌, ap, arith, length, take, drop, length-append}
 use Rattle.std.proofs.lemmas.Grind.{common_steps}
-use Rattle.std.specs.Prelude.{replicate}
-use Rattle.bully_base.proofs.PlaceLemmas.{at_node_past}
+use Rattle.std.specs.Prelude.{replicate, slice_index_or}
+use Rattle.bully_base.proofs.PlaceLemmas.{at_node_past, at_node-place}
 use Rattle.bully_base.specs.Places.{at_node}
 use Rattle.bully_base.specs.Setup.{Setup}
 use Rattle.bully_world.specs.declared.event.Event.{Event}
 use Rattle.bully_world.specs.Cause.{cause}
 use Rattle.bully_world.specs.NodeInvariant.{WorldInvariant}
-use Rattle.bully_world.specs.State.{MemberState, WorldState, empty_state, member_of, IsWorld, IsReached, members_of, first_state, new_members}
+use Rattle.bully_world.specs.State.{MemberState, WorldState, empty_state, state_at, member_of, IsWorld, IsReached, members_of, first_state, new_members}
 use Rattle.bully_world.specs.Step.{Step}
 use Rattle.bully_world.specs.Taken.{taken, answer_taken}
 use Rattle.bully_world.specs.World.{Member, empty_member, first_world, pending, is_sent_to}
@@ -36,6 +36,10 @@ reached_next setup events ms e is free = record {
       (omega (arith, is.reached.counted, room_of setup (members_of ms) events e free)) (world_steps setup events ms e is free);
   counted = omega (arith, is.reached.counted, length-append is.reached.applied (e ∷ []));
 }
+
+-- what stands at a node's place is what is kept of it
+pub member_there : (w : WorldState) (k i : ℕ) (m : MemberState) → IsWorld w → k + 1 ≡ i → i ≤ w.setup.nodes → m ≡ slice_index_or w.members k m → state_at w i ≡ m
+member_there w k i m is e l there = at_node-place (empty_state 0) m w.members k i e (omega (arith, is.count, e, l)) ∙ sym there
 
 -- an event that nothing refuses leads from a world to a world
 pub next_world : (setup : Setup) (events : ℕ) (ms : List MemberState) (e : Event) → IsWorld (state setup events ms) → cause setup (members_of ms) events e ≡ None → IsWorld (state setup (events + 1) (taken setup ms e))

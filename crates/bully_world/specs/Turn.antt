@@ -112,3 +112,20 @@ outcome_after Plan answer = Some Outcome.Planned
 -- the procedure after its step with this answer
 abbrev pub procedure_after : StepKind → Answer → ProcedureState → ProcedureState
 procedure_after kind answer h = option_map_or (resumed h) (outcome_after kind answer) h
+
+-- The same in two parts: what the step's event takes from the procedure, and how it goes on afterwards.
+
+-- a plan takes the table, and the procedure goes on by that
+abbrev pub procedure_left : StepKind → ProcedureState → ProcedureState
+procedure_left Start h = h
+procedure_left Lose h = h
+procedure_left Return h = h
+procedure_left Move h = h
+procedure_left Plan h = resumed h Outcome.Planned
+
+abbrev pub outcome_left : StepKind → Answer → Option Outcome
+outcome_left Start answer = outcome_after Start answer
+outcome_left Lose answer = None
+outcome_left Return answer = outcome_after Return answer
+outcome_left Move answer = outcome_after Move answer
+outcome_left Plan answer = None

@@ -13,6 +13,6 @@ mod turn;
 mod world;
 
 pub use event::{Event, Refused};
-pub use take::{StepRefusal, TakenStep};
+pub use take::TakenStep;
 pub use turn::{Next, StepKind};
 pub use world::World;

@@ -1,5 +1,6 @@
 ghost use Rattle.std.specs.Prelude.{◌≡◌, ◌↔◌, ◌+◌, ◌<◌, ◌≤◌, ℕ, IfOk, OnOk, IfErr, IfSome, IfNone, IsOk, true, false, None, Some, if◌then◌else◌};
-ghost use Rattle.bully_world.specs.State.{state_at, world_of, cause_in, raises, changes_slot, tag_in, first_state, new_members, IsReached};
+ghost use Rattle.bully_world.specs.State.{state_at, world_of, cause_in, raises, changes_slot, tag_in, first_state, new_members, member_of, IsKept, IsReached};
+ghost use Rattle.bully_world.specs.NodeInvariant.{NodeInvariant};
 ghost use Rattle.bully_world.specs.Step.{Step};
 ghost use Rattle.bully_world.specs.World.{first_world, pending, is_sent_to};
 
@@ -103,10 +104,11 @@ impl World {
         self.member(node).point()
     }
 
-    /// The node's call slot. The node is at most the setup's last.
+    /// The node's call slot; a call in it is tagged with the node as its caller. The node is at most the setup's last.
     pub fn slot(&self, node: Node) -> &Slot
         requires { node ≤ self.now.setup.nodes }
-        ensures { result.now ≡ (state_at self.now node).slot }
+        ensures slot { result.now ≡ (state_at self.now node).slot }
+        ensures tag { IfSome result.now.content (λ p. p.tag.caller ≡ node) }
     {
         self.member(node).slot()
     }
@@ -134,10 +136,12 @@ impl World {
         None
     }
 
-    // What is kept of the node.
-    fn member(&self, node: Node) -> &Member
+    /// What is kept of the node. The node is at most the setup's last.
+    pub(crate) fn member(&self, node: Node) -> &Member
         requires { node ≤ self.now.setup.nodes }
-        ensures { result.now ≡ state_at self.now node }
+        ensures member { result.now ≡ state_at self.now node }
+        ensures kept { IsKept self.now.setup self.now.events node result.now }
+        ensures fits { NodeInvariant self.now.setup node (member_of result.now) }
     {
         &self.members[place_of(node)]
     }
