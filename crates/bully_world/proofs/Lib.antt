@@ -7,13 +7,13 @@ pub mod NodeInvariantLemmas
 pub mod LawfulLemmas
 pub mod CauseLemmas
 pub mod MembersOf
-pub mod TakenLemmas
+pub mod StateAfterLemmas
 pub mod KeptLemmas
 pub mod GenerationLemmas
 pub mod TagLemmas
 pub mod CauseAt
 pub mod SplitLemmas
-pub mod TakeLemmas
+pub mod ApplyLemmas
 pub mod ExchangeLemmas
 pub mod WorldLemmas
 pub mod SetLemmas

@@ -4,5 +4,5 @@ pub mod Lawful
 pub mod Cause
 pub mod NodeInvariant
 pub mod State
-pub mod Taken
+pub mod StateAfter
 pub mod Turn

@@ -39,8 +39,11 @@ empty_state room = record {
 }
 
 -- what is kept of node i
+abbrev pub kept_of : List MemberState → ℕ → MemberState
+kept_of members i = at_node (empty_state 0) members i
+
 abbrev pub state_at : WorldState → ℕ → MemberState
-state_at w i = at_node (empty_state 0) w.members i
+state_at w i = kept_of w.members i
 
 abbrev pub member_of : MemberState → Member
 member_of m = record { vector = m.vector.vector; point = m.point; pending = pending_in m.generation m.slot }
@@ -72,7 +75,7 @@ pub record IsKept (setup : Setup) (events i : ℕ) (m : MemberState) : Type 0 wh
   pub generation : m.generation ≤ events
 
 abbrev pub AllKept : Setup → ℕ → List MemberState → Type 0
-AllKept setup events members = (i : ℕ) → IsNode setup i → IsKept setup events i (at_node (empty_state 0) members i)
+AllKept setup events members = (i : ℕ) → IsNode setup i → IsKept setup events i (kept_of members i)
 
 -- what every world keeps
 pub record IsWorld (w : WorldState) : Type 0 where

@@ -7,7 +7,7 @@ ghost use Rattle.bully_world.specs.World.{first_world, pending, is_sent_to};
 use crate::causes::{cause_of, place_of};
 use crate::event::{Event, Refused};
 use crate::member::Member;
-use crate::steps::take_event;
+use crate::steps::apply_event;
 use bully_base::{Node, OutOfMemory, Setup};
 use bully_calls::{Answer, Slot};
 use bully_handlers::Vector;
@@ -83,7 +83,7 @@ impl World {
         if let Some(why) = self.cause(event) {
             return Err(why);
         }
-        let answer = take_event(self.setup, self.events, self.members.as_mut_slice(), event);
+        let answer = apply_event(self.setup, self.events, self.members.as_mut_slice(), event);
         self.events += 1;
         Ok(answer)
     }
