@@ -5,6 +5,7 @@ pub mod MoveInvariant
 pub mod RunInvariant
 pub mod NodeInvariantLemmas
 pub mod LawfulLemmas
+pub mod StepOfLemmas
 pub mod CauseLemmas
 pub mod MembersOf
 pub mod StateAfterLemmas

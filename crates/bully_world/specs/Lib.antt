@@ -2,6 +2,7 @@ pub mod World
 pub mod Step
 pub mod Lawful
 pub mod Cause
+pub mod StepOf
 pub mod NodeInvariant
 pub mod State
 pub mod StateAfter

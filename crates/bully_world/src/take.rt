@@ -1,10 +1,9 @@
-ghost use Rattle.std.specs.Prelude.{◌≡◌, ◌+◌, ◌≤◌, ◌<◌, ℕ, IfOk, OnOk, IfErr, IfSome, true};
+ghost use Rattle.std.specs.Prelude.{◌≡◌, ◌+◌, ◌<◌, IfOk, OnOk, IfErr, IfSome, true};
 ghost use Rattle.std.specs.Option.{option_map_or};
 ghost use Rattle.bully_steps.specs.ProcedureState.{IsProcedureState, CanResume, resumed};
 ghost use Rattle.bully_steps.specs.Procedure.{state_of};
-ghost use Rattle.bully_world.specs.State.{state_at, world_of};
-ghost use Rattle.bully_world.specs.Step.{Step};
-ghost use Rattle.bully_world.specs.Turn.{turn, has_table, event_of, procedure_left, outcome_left, procedure_after, is_in_step};
+ghost use Rattle.bully_world.specs.State.{StepsTo, KeepsGenerations, IsFull};
+ghost use Rattle.bully_world.specs.Turn.{turn, has_table, event_of, procedure_left, outcome_left, GoesOnBy, EndsInStep, HasOwner};
 ghost use Rattle.bully_world.specs.declared.turn.Next.{Next};
 
 use crate::World;
@@ -36,16 +35,16 @@ impl World {
     ) -> Result<TakenStep, (Procedure, Refused)>
         requires setup { (state_of procedure).setup ≡ self.old.setup }
         requires offered { turn self.old (state_of procedure) ≡ Next.Take kind }
-        ensures step { IfOk result (λ taken. Step self.old.setup (world_of self.old) taken.event (world_of self.new) taken.answer) }
+        ensures step { IfOk result (λ taken. StepsTo self.old taken.event self.new taken.answer) }
         ensures counted { OnOk result (self.new.events ≡ self.old.events + 1) }
-        ensures generations { OnOk result ((i : ℕ) → (state_at self.new i).generation ≡ (state_at self.old i).generation) }
+        ensures generations { OnOk result (KeepsGenerations self.old self.new) }
         ensures setup { self.new.setup ≡ self.old.setup }
         ensures event { IfOk result (λ taken. taken.event ≡ event_of kind (state_of procedure)) }
-        ensures procedure { IfOk result (λ taken. state_of taken.procedure ≡ procedure_after kind taken.answer (state_of procedure)) }
-        ensures in_step { IfOk result (λ taken. is_in_step self.new (state_of taken.procedure) ≡ true) }
-        ensures owner { IfOk result (λ taken. ((state_of taken.procedure).setup ≡ self.new.setup) × ((state_of taken.procedure).node ≡ (state_of procedure).node)) }
+        ensures procedure { IfOk result (GoesOnBy kind (state_of procedure)) }
+        ensures in_step { IfOk result (EndsInStep self.new) }
+        ensures owner { IfOk result (HasOwner self.new.setup (state_of procedure).node) }
         ensures room { OnOk result (self.old.events < self.old.setup.events_max) }
-        ensures refused { IfErr result (λ why. (why.1 ≡ Refused.Full) × (self.old.setup.events_max ≤ self.old.events)) }
+        ensures refused { IfErr result (λ why. (why.1 ≡ Refused.Full) × IsFull self.old) }
         ensures handed_back { IfErr result (λ why. why.0 ≡ procedure) }
         ensures unchanged { IfErr result (λ _. self.new ≡ self.old) }
     {
