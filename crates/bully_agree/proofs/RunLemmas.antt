@@ -7,9 +7,10 @@ use Rattle.std.proofs.lemmas.Option.{slice_get_within, get_or_from_slice_get}
 use Rattle.bully_base.specs.Setup.{Setup}
 use Rattle.bully_calls.specs.declared.call.Answer.{Answer}
 use Rattle.bully_world.proofs.CauseLemmas.{no_cause_if_step}
-use Rattle.bully_world.proofs.LawfulLemmas.{lawful_more, lead_one, lead_split}
+use Rattle.bully_world.proofs.LawfulLemmas.{lawful_more, lead_split}
+use Rattle.bully_world.proofs.StepOfLemmas.{lead_one}
 use Rattle.bully_world.proofs.NodeInvariantLemmas.{lawful_fits}
-use Rattle.bully_world.proofs.TakeLemmas.{room_of}
+use Rattle.bully_world.proofs.ApplyLemmas.{room_of}
 use Rattle.bully_world.specs.Cause.{cause}
 use Rattle.bully_world.specs.Lawful.{IsLawful, LeadTo}
 use Rattle.bully_world.specs.Step.{Step}

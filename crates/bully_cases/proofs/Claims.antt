@@ -12,9 +12,11 @@ use Rattle.bully_world.specs.Cause.{cause}
 use Rattle.bully_world.specs.Lawful.{LeadTo}
 use Rattle.bully_world.specs.World.{World, first_world}
 use Rattle.bully_cases.specs.Claims.{Shown, ShowsAs, After, NoneIsRefused, EndsAs, IsRefusedAt, IsAnsweredAt, Goes}
-use Rattle.bully_cases.specs.Trial.{Tried, tried, tried_all, is_lawful, last_world, all_answers, passes_from, passes}
+use Rattle.bully_cases.specs.Trial.{is_lawful, last_world, all_answers, passes_from, passes}
 use Rattle.bully_cases.proofs.BothLemmas.{both}
-use Rattle.bully_cases.proofs.Trial.{tried_steps, lawful_by}
+use Rattle.bully_world.specs.StepOf.{StepResult, step_of, steps_of}
+use Rattle.bully_world.proofs.StepOfLemmas.{computed_steps}
+use Rattle.bully_cases.proofs.Trial.{lawful_by}
 
 -- behind the first k, the next event isn't refused
 abbrev Unrefused : Setup → World → ℕ → List Event → ℕ → Event → Type 0
@@ -27,11 +29,11 @@ unrefused_first setup w count x e p g = grind (arith, none (cause setup w count 
     none : (o : Option Refused) → is_none o ≡ true → o ≡ None
     none o q = grind (arith, q)
 
-unrefused_rest : (setup : Setup) (w : World) (count : ℕ) (x : Event) (events : List Event) (k : ℕ) (e : Event) (t : Tried) → tried setup w x ≡ t → option_map_or (λ r. passes_from setup r.0 (count + 1) events) t false ≡ true → ((v : World) → passes_from setup v (count + 1) events ≡ true → Unrefused setup v (count + 1) events k e) → Unrefused setup w count (x ∷ events) (suc k) e
+unrefused_rest : (setup : Setup) (w : World) (count : ℕ) (x : Event) (events : List Event) (k : ℕ) (e : Event) (t : StepResult) → step_of setup w x ≡ t → option_map_or (λ r. passes_from setup r.0 (count + 1) events) t false ≡ true → ((v : World) → passes_from setup v (count + 1) events ≡ true → Unrefused setup v (count + 1) events k e) → Unrefused setup w count (x ∷ events) (suc k) e
 unrefused_rest setup w count x events k e None q h more = grind (arith, h)
 unrefused_rest setup w count x events k e (Some t) q h more =
     let rest = more t.0 h in
-    (t.1 ∷ rest.0, rest.1, (t.0, tried_steps setup w x t.0 t.1 q, rest.2), further rest.1 rest.3)
+    (t.1 ∷ rest.0, rest.1, (t.0, computed_steps setup w x t.0 t.1 q, rest.2), further rest.1 rest.3)
   where
     further : (v : World) → cause setup v (count + 1 + k) e ≡ None → cause setup v (count + suc k) e ≡ None
     further v c = subst (λ n. cause setup v n e ≡ None) (omega arith) c
@@ -42,10 +44,10 @@ unrefused_from setup w count [] k e p g = absurd (apart g)
     apart : None ≡ Some e → ⊥
     apart h = cc
 unrefused_from setup w count (x ∷ events) zero e p g =
-    ([], w, refl, unrefused_first setup w count x e (both (is_none (cause setup w count x)) (option_map_or (λ t. passes_from setup t.0 (count + 1) events) (tried setup w x) false) p).0 g)
+    ([], w, refl, unrefused_first setup w count x e (both (is_none (cause setup w count x)) (option_map_or (λ t. passes_from setup t.0 (count + 1) events) (step_of setup w x) false) p).0 g)
 unrefused_from setup w count (x ∷ events) (suc k) e p g =
-    unrefused_rest setup w count x events k e (tried setup w x) refl
-    (both (is_none (cause setup w count x)) (option_map_or (λ t. passes_from setup t.0 (count + 1) events) (tried setup w x) false) p).1
+    unrefused_rest setup w count x events k e (step_of setup w x) refl
+    (both (is_none (cause setup w count x)) (option_map_or (λ t. passes_from setup t.0 (count + 1) events) (step_of setup w x) false) p).1
     (λ v h. unrefused_from setup v (count + 1) events k e h g)
 
 -- none of the events of a list that passes the test is refused
@@ -69,7 +71,7 @@ after setup events k P l h = (all_answers setup (take k events), last_world setu
 
 pub ends : (setup : Setup) (events : List Event) (rows : List Shown) → is_lawful setup events ≡ true → passes setup events ≡ true → ShowsAs (last_world setup events) rows → EndsAs setup events (length events) rows
 ends setup events rows l p s =
-    (refl, unrefused setup events p (both (is_some (tried_all setup events)) (nat_le (length events) setup.events_max) l).1, all_answers setup events, last_world setup events, lawful_by setup events l, s)
+    (refl, unrefused setup events p (both (is_some (steps_of setup events)) (nat_le (length events) setup.events_max) l).1, all_answers setup events, last_world setup events, lawful_by setup events l, s)
 
 pub refused_at : (setup : Setup) (events : List Event) (k : ℕ) (e : Event) (refused : Refused) → slice_get events k ≡ Some e → is_lawful setup (take k events) ≡ true → cause setup (last_world setup (take k events)) k e ≡ Some refused → IsRefusedAt setup events k refused
 refused_at setup events k e refused g l c = (e, g, after setup events k (λ w. cause setup w k e ≡ Some refused) l c)

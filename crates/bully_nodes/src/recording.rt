@@ -10,8 +10,8 @@ ghost use Rattle.bully_world.specs.declared.turn.Next.{Next};
 use bully_base::{EVENTS_MAX, OutOfMemory, Setup};
 use bully_steps::Procedure;
 use bully_trace::{Row, Rows, Trace};
-use bully_world::{Event, StepKind, StepRefusal, World};
-use std::alloc::{AllocError, Global};
+use bully_world::{Event, StepKind, World};
+use std::alloc::Global;
 use std::marker::Model;
 
 /// A world, and a row of a trace for each event that led to it, in order.
@@ -71,8 +71,7 @@ impl Recording {
                 self.record(step.event)?;
                 Ok(step.procedure)
             }
-            Err((procedure, StepRefusal::Refused(_))) => Ok(procedure),
-            Err((_, StepRefusal::OutOfMemory)) => Err(AllocError),
+            Err((procedure, _)) => Ok(procedure),
         }
     }
 

@@ -6,6 +6,7 @@
 #![tactic(auto)]
 
 mod driver;
+mod plan_taking;
 mod point;
 mod procedure;
 mod states;

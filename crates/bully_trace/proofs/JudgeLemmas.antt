@@ -11,7 +11,7 @@ use Rattle.bully_world.specs.Lawful.{IsLawful, LeadTo}
 use Rattle.bully_world.specs.Step.{Step}
 use Rattle.bully_world.specs.World.{World, first_world}
 use Rattle.bully_world.proofs.LawfulLemmas.{lead_split}
-use Rattle.bully_world.proofs.TakeLemmas.{room_of}
+use Rattle.bully_world.proofs.ApplyLemmas.{room_of}
 use Rattle.bully_agree.proofs.Law.{agreement_lem}
 use Rattle.bully_agree.specs.Agreement.{Agreement}
 use Rattle.bully_trace.specs.declared.trace.Row.{Row}

@@ -19,37 +19,37 @@ use Rattle.bully_steps.specs.Point.{offered}
 use Rattle.bully_world.specs.declared.event.Event.{Event}
 use Rattle.bully_world.specs.Cause.{cause}
 use Rattle.bully_world.specs.NodeInvariant.{WorldInvariant}
-use Rattle.bully_world.specs.State.{MemberState, empty_state, members_of, is_halt, halts, raises}
-use Rattle.bully_world.specs.Taken.{taken, run_taken, return_taken, returned_state, proceeded_state, opened_state, crashed_state, phased_state, started_state, callee_state_after, stopped_state_by, with_vector, with_content, replied}
+use Rattle.bully_world.specs.State.{kept_of, MemberState, empty_state, members_of, is_halt, halts, raises}
+use Rattle.bully_world.specs.StateAfter.{state_after, state_after_run, node_after_return, returned_state, proceeded_state, opened_state, crashed_state, phased_state, started_state, callee_state_after, stopped_state_by, with_vector, with_content, replied}
 use Rattle.bully_world.specs.World.{World, Member, pending}
 use Rattle.bully_world.proofs.MemberLemmas.{call_of_pending}
-use Rattle.bully_world.proofs.MembersOf.{kept_at, at_node-put_cases, member-members_of}
+use Rattle.bully_world.proofs.MembersOf.{at_node-put_cases, member-members_of}
 
 -- one more where the test holds
 abbrev raised : Bool → ℕ
 raised b = if b then 1 else 0
 
 -- a write that leaves node i's generation leaves all generations
-put_same : (ms : List MemberState) (i j : ℕ) (s : MemberState) → s.generation ≡ (kept_at ms i).generation → (kept_at (put_node ms i s) j).generation ≡ (kept_at ms j).generation
+put_same : (ms : List MemberState) (i j : ℕ) (s : MemberState) → s.generation ≡ (kept_of ms i).generation → (kept_of (put_node ms i s) j).generation ≡ (kept_of ms j).generation
 put_same ms i j s e = by_case (at_node-put_cases (empty_state 0) ms i j s)
   where
-    by_case : ((j ≡ i) × (kept_at (put_node ms i s) j ≡ s)) ⊎ (kept_at (put_node ms i s) j ≡ kept_at ms j) → (kept_at (put_node ms i s) j).generation ≡ (kept_at ms j).generation
-    by_case (inl h) = ap (λ (m : MemberState). m.generation) h.1 ∙ (e ∙ ap (λ k. (kept_at ms k).generation) (sym h.0))
+    by_case : ((j ≡ i) × (kept_of (put_node ms i s) j ≡ s)) ⊎ (kept_of (put_node ms i s) j ≡ kept_of ms j) → (kept_of (put_node ms i s) j).generation ≡ (kept_of ms j).generation
+    by_case (inl h) = ap (λ (m : MemberState). m.generation) h.1 ∙ (e ∙ ap (λ k. (kept_of ms k).generation) (sym h.0))
     by_case (inr h) = ap (λ (m : MemberState). m.generation) h
 
 -- a write that raises node i's generation where the test holds
-put_raised : (ms : List MemberState) (i j : ℕ) (s : MemberState) (b : Bool) → 0 < i → i ≤ length ms → s.generation ≡ (kept_at ms i).generation + raised b → (kept_at (put_node ms i s) j).generation ≡ (kept_at ms j).generation + raised (b && (i == j))
+put_raised : (ms : List MemberState) (i j : ℕ) (s : MemberState) (b : Bool) → 0 < i → i ≤ length ms → s.generation ≡ (kept_of ms i).generation + raised b → (kept_of (put_node ms i s) j).generation ≡ (kept_of ms j).generation + raised (b && (i == j))
 put_raised ms i j s b pos l e = by_case (grind arith)
   where
-    by_case : (j ≡ i) ⊎ (j ≢ i) → (kept_at (put_node ms i s) j).generation ≡ (kept_at ms j).generation + raised (b && (i == j))
+    by_case : (j ≡ i) ⊎ (j ≢ i) → (kept_of (put_node ms i s) j).generation ≡ (kept_of ms j).generation + raised (b && (i == j))
     by_case (inl h) =
-        let here : kept_at (put_node ms i s) i ≡ s = at_node_same (empty_state 0) ms i s pos l in
-        subst (λ k. (kept_at (put_node ms i s) k).generation ≡ (kept_at ms k).generation + raised (b && (i == k))) (sym h)
+        let here : kept_of (put_node ms i s) i ≡ s = at_node_same (empty_state 0) ms i s pos l in
+        subst (λ k. (kept_of (put_node ms i s) k).generation ≡ (kept_of ms k).generation + raised (b && (i == k))) (sym h)
         (ap (λ (m : MemberState). m.generation) here ∙ (e ∙ same_test b i))
       where
-        same_test : (b : Bool) (i : ℕ) → (kept_at ms i).generation + raised b ≡ (kept_at ms i).generation + raised (b && (i == i))
+        same_test : (b : Bool) (i : ℕ) → (kept_of ms i).generation + raised b ≡ (kept_of ms i).generation + raised (b && (i == i))
         same_test b i = grind (arith, nat_tests)
-    by_case (inr h) = ap (λ (m : MemberState). m.generation) (at_node_other (empty_state 0) ms i j s h) ∙ not_here b (kept_at ms j).generation i j h
+    by_case (inr h) = ap (λ (m : MemberState). m.generation) (at_node_other (empty_state 0) ms i j s h) ∙ not_here b (kept_of ms j).generation i j h
       where
         not_here : (b : Bool) (g i j : ℕ) → j ≢ i → g ≡ g + raised (b && (i == j))
         not_here b g i j n = grind (arith, nat_tests, n)
@@ -64,7 +64,7 @@ started_same setup i m = by_want (offered setup m.vector.vector.coordinator m.po
     by_want Want.Plan = refl
     by_want Want.Await = refl
 
-returned_same : (setup : Setup) (i : ℕ) (m : MemberState) (q : Option SlotCall) → (return_taken setup i m q).generation ≡ m.generation
+returned_same : (setup : Setup) (i : ℕ) (m : MemberState) (q : Option SlotCall) → (node_after_return setup i m q).generation ≡ m.generation
 returned_same setup i m None = refl
 returned_same setup i m (Some p) = by_outcome (outcome_of p.phase)
   where
@@ -93,35 +93,35 @@ node_of_crash : (setup : Setup) (w : World) (count i : ℕ) → cause setup w co
 node_of_crash setup w count i n = grind (arith, n)
 
 module _ (setup : Setup) (ms : List MemberState) (many : length ms ≡ setup.nodes) (fit : WorldInvariant setup (members_of ms)) where
-  run_raised : (i j : ℕ) (q : Option SlotCall) → (kept_at ms i).slot.content ≡ q → (kept_at (run_taken ms i q) j).generation ≡ (kept_at ms j).generation + raised (halts j (option_map (pending_of (kept_at ms i).generation) q))
-  run_raised i j None e = unraised (kept_at ms j).generation (kept_at ms j).generation refl
+  run_raised : (i j : ℕ) (q : Option SlotCall) → (kept_of ms i).slot.content ≡ q → (kept_of (state_after_run ms i q) j).generation ≡ (kept_of ms j).generation + raised (halts j (option_map (pending_of (kept_of ms i).generation) q))
+  run_raised i j None e = unraised (kept_of ms j).generation (kept_of ms j).generation refl
   run_raised i j (Some p) e =
       let f = Phase.Ran (replied ms p) in
-      let answered = put_node ms i (phased_state f (kept_at ms i)) in
+      let answered = put_node ms i (phased_state f (kept_of ms i)) in
       let k = p.call.callee in
-      let is : pending (members_of ms) i ≡ Some (pending_of (kept_at ms i).generation p) = ap (λ (q : Member). q.pending) (member-members_of ms i) ∙ ap (option_map (pending_of (kept_at ms i).generation)) e in
-      let node : IsNode setup k = (call_of_pending setup (members_of ms) i (pending_of (kept_at ms i).generation p) fit is).to_node in
-      let within : k ≤ length answered = omega (arith, node.1, many, length-put_node ms i (phased_state f (kept_at ms i))) in
-      put_raised answered k j (callee_state_after i p (kept_at answered k)) (is_halt p.call.kind) node.0 within (callee_raised i p (kept_at answered k))
-      ∙ ap (λ g. g + raised (is_halt p.call.kind && (k == j))) (put_same ms i j (phased_state f (kept_at ms i)) refl)
+      let is : pending (members_of ms) i ≡ Some (pending_of (kept_of ms i).generation p) = ap (λ (q : Member). q.pending) (member-members_of ms i) ∙ ap (option_map (pending_of (kept_of ms i).generation)) e in
+      let node : IsNode setup k = (call_of_pending setup (members_of ms) i (pending_of (kept_of ms i).generation p) fit is).to_node in
+      let within : k ≤ length answered = omega (arith, node.1, many, length-put_node ms i (phased_state f (kept_of ms i))) in
+      put_raised answered k j (callee_state_after i p (kept_of answered k)) (is_halt p.call.kind) node.0 within (callee_raised i p (kept_of answered k))
+      ∙ ap (λ g. g + raised (is_halt p.call.kind && (k == j))) (put_same ms i j (phased_state f (kept_of ms i)) refl)
 
-  generations : (count : ℕ) (e : Event) → cause setup (members_of ms) count e ≡ None → (j : ℕ) → (kept_at (taken setup ms e) j).generation ≡ (kept_at ms j).generation + (if raises (members_of ms) e j then 1 else 0)
+  generations : (count : ℕ) (e : Event) → cause setup (members_of ms) count e ≡ None → (j : ℕ) → (kept_of (state_after setup ms e) j).generation ≡ (kept_of ms j).generation + (if raises (members_of ms) e j then 1 else 0)
   generations count (Event.Recover i) n j = unraised _ _ (put_same ms i j _ refl)
   generations count (Event.Crash i) n j =
       let node = node_of_crash setup (members_of ms) count i n in
-      put_raised ms i j (crashed_state setup (kept_at ms i)) true node.0 (omega (arith, node.1, many)) refl
+      put_raised ms i j (crashed_state setup (kept_of ms i)) true node.0 (omega (arith, node.1, many)) refl
   generations count (Event.Check i) n j = unraised _ _ (put_same ms i j _ refl)
   generations count (Event.Timeout i) n j = unraised _ _ (put_same ms i j _ refl)
-  generations count (Event.Start i) n j = unraised _ _ (put_same ms i j _ (started_same setup i (kept_at ms i)))
+  generations count (Event.Start i) n j = unraised _ _ (put_same ms i j _ (started_same setup i (kept_of ms i)))
   generations count (Event.Run i) n j =
-      run_raised i j (kept_at ms i).slot.content refl
-      ∙ ap (λ (q : Member). (kept_at ms j).generation + raised (halts j q.pending)) (sym (member-members_of ms i))
+      run_raised i j (kept_of ms i).slot.content refl
+      ∙ ap (λ (q : Member). (kept_of ms j).generation + raised (halts j q.pending)) (sym (member-members_of ms i))
   generations count (Event.Lose i) n j = unraised _ _ (put_same ms i j _ refl)
-  generations count (Event.Return i) n j = unraised _ _ (put_same ms i j _ (returned_same setup i (kept_at ms i) (kept_at ms i).slot.content))
+  generations count (Event.Return i) n j = unraised _ _ (put_same ms i j _ (returned_same setup i (kept_of ms i) (kept_of ms i).slot.content))
   generations count (Event.Move i) n j = unraised _ _ (put_same ms i j _ refl)
   generations count (Event.Plan i table) n j = unraised _ _ (put_same ms i j _ refl)
 
 -- exactly the events that raise a node's generation raise what is kept of it, by one
-pub taken_generations : (setup : Setup) (count : ℕ) (ms : List MemberState) (e : Event) → length ms ≡ setup.nodes → WorldInvariant setup (members_of ms) → cause setup (members_of ms) count e ≡ None
-    → (j : ℕ) → (at_node (empty_state 0) (taken setup ms e) j).generation ≡ (at_node (empty_state 0) ms j).generation + (if raises (members_of ms) e j then 1 else 0)
-taken_generations setup count ms e many fit n j = generations setup ms many fit count e n j
+pub state_after_generations : (setup : Setup) (count : ℕ) (ms : List MemberState) (e : Event) → length ms ≡ setup.nodes → WorldInvariant setup (members_of ms) → cause setup (members_of ms) count e ≡ None
+    → (j : ℕ) → (at_node (empty_state 0) (state_after setup ms e) j).generation ≡ (at_node (empty_state 0) ms j).generation + (if raises (members_of ms) e j then 1 else 0)
+state_after_generations setup count ms e many fit n j = generations setup ms many fit count e n j

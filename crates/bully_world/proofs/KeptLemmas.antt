@@ -21,28 +21,28 @@ use Rattle.bully_steps.specs.Point.{offered}
 use Rattle.bully_world.specs.declared.event.Event.{Event}
 use Rattle.bully_world.specs.Cause.{cause}
 use Rattle.bully_world.specs.NodeInvariant.{WorldInvariant}
-use Rattle.bully_world.specs.State.{MemberState, empty_state, members_of, IsKept, AllKept}
-use Rattle.bully_world.specs.Taken.{taken, run_taken, return_taken, returned_state, proceeded_state, phased_state, started_state, callee_state_after, stopped_state_by, with_vector, with_content, opened_state, replied}
-use Rattle.bully_world.proofs.MembersOf.{kept_at, at_node-put_cases}
+use Rattle.bully_world.specs.State.{kept_of, MemberState, empty_state, members_of, IsKept, AllKept}
+use Rattle.bully_world.specs.StateAfter.{state_after, state_after_run, node_after_return, returned_state, proceeded_state, phased_state, started_state, callee_state_after, stopped_state_by, with_vector, with_content, opened_state, replied}
+use Rattle.bully_world.proofs.MembersOf.{at_node-put_cases}
 
-run-length : (ms : List MemberState) (i : ℕ) (q : Option SlotCall) → length (run_taken ms i q) ≡ length ms
+run-length : (ms : List MemberState) (i : ℕ) (q : Option SlotCall) → length (state_after_run ms i q) ≡ length ms
 run-length ms i None = refl
 run-length ms i (Some p) =
-    let answered = put_node ms i (phased_state (Phase.Ran (replied ms p)) (kept_at ms i)) in
-    length-put_node answered p.call.callee (callee_state_after i p (kept_at answered p.call.callee)) ∙ length-put_node ms i (phased_state (Phase.Ran (replied ms p)) (kept_at ms i))
+    let answered = put_node ms i (phased_state (Phase.Ran (replied ms p)) (kept_of ms i)) in
+    length-put_node answered p.call.callee (callee_state_after i p (kept_of answered p.call.callee)) ∙ length-put_node ms i (phased_state (Phase.Ran (replied ms p)) (kept_of ms i))
 
 -- no event changes how many nodes there are
-pub taken_length : (setup : Setup) (ms : List MemberState) (e : Event) → length (taken setup ms e) ≡ length ms
-taken_length setup ms (Event.Recover i) = length-put_node ms i _
-taken_length setup ms (Event.Crash i) = length-put_node ms i _
-taken_length setup ms (Event.Check i) = length-put_node ms i _
-taken_length setup ms (Event.Timeout i) = length-put_node ms i _
-taken_length setup ms (Event.Start i) = length-put_node ms i _
-taken_length setup ms (Event.Run i) = run-length ms i (kept_at ms i).slot.content
-taken_length setup ms (Event.Lose i) = length-put_node ms i _
-taken_length setup ms (Event.Return i) = length-put_node ms i _
-taken_length setup ms (Event.Move i) = length-put_node ms i _
-taken_length setup ms (Event.Plan i table) = length-put_node ms i _
+pub state_after_length : (setup : Setup) (ms : List MemberState) (e : Event) → length (state_after setup ms e) ≡ length ms
+state_after_length setup ms (Event.Recover i) = length-put_node ms i _
+state_after_length setup ms (Event.Crash i) = length-put_node ms i _
+state_after_length setup ms (Event.Check i) = length-put_node ms i _
+state_after_length setup ms (Event.Timeout i) = length-put_node ms i _
+state_after_length setup ms (Event.Start i) = length-put_node ms i _
+state_after_length setup ms (Event.Run i) = run-length ms i (kept_of ms i).slot.content
+state_after_length setup ms (Event.Lose i) = length-put_node ms i _
+state_after_length setup ms (Event.Return i) = length-put_node ms i _
+state_after_length setup ms (Event.Move i) = length-put_node ms i _
+state_after_length setup ms (Event.Plan i table) = length-put_node ms i _
 
 -- What each change keeps.
 
@@ -103,7 +103,7 @@ kept_started setup events i m k = by_want (offered setup m.vector.vector.coordin
 kept_proceeded : (setup : Setup) (events i : ℕ) (o : Outcome) (m : MemberState) → IsKept setup events i m → IsKept setup (events + 1) i (proceeded_state setup i o m)
 kept_proceeded setup events i o m k = kept_with setup events i m _ _ m.generation (omega arith) (omega arith) k
 
-kept_returned : (setup : Setup) (events i : ℕ) (m : MemberState) (q : Option SlotCall) → IsKept setup events i m → IsKept setup (events + 1) i (return_taken setup i m q)
+kept_returned : (setup : Setup) (events i : ℕ) (m : MemberState) (q : Option SlotCall) → IsKept setup events i m → IsKept setup (events + 1) i (node_after_return setup i m q)
 kept_returned setup events i m None k = kept_later setup events i m k
 kept_returned setup events i m (Some p) k = by_outcome (outcome_of p.phase)
   where
@@ -126,45 +126,45 @@ kept_callee setup events i j p m k = by_kind p.call.kind (callee_after i p.call.
     by_kind Ready v = kept_with setup events j m v m.point m.generation (omega arith) (omega arith) k
 
 all_later : (setup : Setup) (events : ℕ) (ms : List MemberState) → AllKept setup events ms → AllKept setup (events + 1) ms
-all_later setup events ms kept j node = kept_later setup events j (kept_at ms j) (kept j node)
+all_later setup events ms kept j node = kept_later setup events j (kept_of ms j) (kept j node)
 
 -- one place is written anew, with a state that is kept there
 put_kept : (setup : Setup) (events : ℕ) (ms : List MemberState) (i : ℕ) (s : MemberState) → AllKept setup events ms → (IsNode setup i → IsKept setup events i s) → AllKept setup events (put_node ms i s)
 put_kept setup events ms i s kept new j node = by_case (at_node-put_cases (empty_state 0) ms i j s)
   where
-    by_case : ((j ≡ i) × (kept_at (put_node ms i s) j ≡ s)) ⊎ (kept_at (put_node ms i s) j ≡ kept_at ms j) → IsKept setup events j (kept_at (put_node ms i s) j)
+    by_case : ((j ≡ i) × (kept_of (put_node ms i s) j ≡ s)) ⊎ (kept_of (put_node ms i s) j ≡ kept_of ms j) → IsKept setup events j (kept_of (put_node ms i s) j)
     by_case (inl h) = subst (IsKept setup events j) (sym h.1) (subst (λ k. IsKept setup events k s) (sym h.0) (new (subst (IsNode setup) h.0 node)))
     by_case (inr h) = subst (IsKept setup events j) (sym h) (kept j node)
 
 module _ (setup : Setup) (events : ℕ) (ms : List MemberState) (kept : AllKept setup events ms) where
-  written : (i : ℕ) (s : MemberState) → (IsKept setup events i (kept_at ms i) → IsKept setup (events + 1) i s) → AllKept setup (events + 1) (put_node ms i s)
+  written : (i : ℕ) (s : MemberState) → (IsKept setup events i (kept_of ms i) → IsKept setup (events + 1) i s) → AllKept setup (events + 1) (put_node ms i s)
   written i s next = put_kept setup (events + 1) ms i s (all_later setup events ms kept) (λ node. next (kept i node))
 
-  run_kept : (i : ℕ) (q : Option SlotCall) → AllKept setup (events + 1) (run_taken ms i q)
+  run_kept : (i : ℕ) (q : Option SlotCall) → AllKept setup (events + 1) (state_after_run ms i q)
   run_kept i None = all_later setup events ms kept
   run_kept i (Some p) =
       let f = Phase.Ran (replied ms p) in
-      let answered = put_node ms i (phased_state f (kept_at ms i)) in
-      let first : AllKept setup events answered = put_kept setup events ms i (phased_state f (kept_at ms i)) kept (λ node. kept_phased setup events i (kept_at ms i) f (kept i node)) in
+      let answered = put_node ms i (phased_state f (kept_of ms i)) in
+      let first : AllKept setup events answered = put_kept setup events ms i (phased_state f (kept_of ms i)) kept (λ node. kept_phased setup events i (kept_of ms i) f (kept i node)) in
       let j = p.call.callee in
-      put_kept setup (events + 1) answered j (callee_state_after i p (kept_at answered j)) (all_later setup events answered first) (λ node. kept_callee setup events i j p (kept_at answered j) (first j node))
+      put_kept setup (events + 1) answered j (callee_state_after i p (kept_of answered j)) (all_later setup events answered first) (λ node. kept_callee setup events i j p (kept_of answered j) (first j node))
 
-  kept_after : (e : Event) → AllKept setup (events + 1) (taken setup ms e)
-  kept_after (Event.Recover i) = written i _ (kept_with setup events i (kept_at ms i) _ _ (kept_at ms i).generation (omega arith) (omega arith))
-  kept_after (Event.Crash i) = written i _ (λ k. kept_with setup events i (with_content None (kept_at ms i)) _ _ ((kept_at ms i).generation + 1) (omega arith) (omega arith) (kept_empty setup events i (kept_at ms i) k))
-  kept_after (Event.Check i) = written i _ (kept_with setup events i (kept_at ms i) _ _ (kept_at ms i).generation (omega arith) (omega arith))
-  kept_after (Event.Timeout i) = written i _ (kept_with setup events i (kept_at ms i) _ _ (kept_at ms i).generation (omega arith) (omega arith))
-  kept_after (Event.Start i) = written i _ (λ k. kept_later setup events i (started_state setup i (kept_at ms i)) (kept_started setup events i (kept_at ms i) k))
-  kept_after (Event.Run i) = run_kept i (kept_at ms i).slot.content
-  kept_after (Event.Lose i) = written i _ (λ k. kept_later setup events i (phased_state Phase.Failed (kept_at ms i)) (kept_phased setup events i (kept_at ms i) Phase.Failed k))
-  kept_after (Event.Return i) = written i _ (kept_returned setup events i (kept_at ms i) (kept_at ms i).slot.content)
-  kept_after (Event.Move i) = written i _ (kept_proceeded setup events i Outcome.Moved (kept_at ms i))
-  kept_after (Event.Plan i table) = written i _ (kept_with setup events i (kept_at ms i) _ _ (kept_at ms i).generation (omega arith) (omega arith))
+  kept_after : (e : Event) → AllKept setup (events + 1) (state_after setup ms e)
+  kept_after (Event.Recover i) = written i _ (kept_with setup events i (kept_of ms i) _ _ (kept_of ms i).generation (omega arith) (omega arith))
+  kept_after (Event.Crash i) = written i _ (λ k. kept_with setup events i (with_content None (kept_of ms i)) _ _ ((kept_of ms i).generation + 1) (omega arith) (omega arith) (kept_empty setup events i (kept_of ms i) k))
+  kept_after (Event.Check i) = written i _ (kept_with setup events i (kept_of ms i) _ _ (kept_of ms i).generation (omega arith) (omega arith))
+  kept_after (Event.Timeout i) = written i _ (kept_with setup events i (kept_of ms i) _ _ (kept_of ms i).generation (omega arith) (omega arith))
+  kept_after (Event.Start i) = written i _ (λ k. kept_later setup events i (started_state setup i (kept_of ms i)) (kept_started setup events i (kept_of ms i) k))
+  kept_after (Event.Run i) = run_kept i (kept_of ms i).slot.content
+  kept_after (Event.Lose i) = written i _ (λ k. kept_later setup events i (phased_state Phase.Failed (kept_of ms i)) (kept_phased setup events i (kept_of ms i) Phase.Failed k))
+  kept_after (Event.Return i) = written i _ (kept_returned setup events i (kept_of ms i) (kept_of ms i).slot.content)
+  kept_after (Event.Move i) = written i _ (kept_proceeded setup events i Outcome.Moved (kept_of ms i))
+  kept_after (Event.Plan i table) = written i _ (kept_with setup events i (kept_of ms i) _ _ (kept_of ms i).generation (omega arith) (omega arith))
 
 -- what is kept goes with the setup after the event too
-pub taken_kept : (setup : Setup) (events : ℕ) (ms : List MemberState) (e : Event) → length ms ≡ setup.nodes → WorldInvariant setup (members_of ms) → AllKept setup events ms
-    → cause setup (members_of ms) events e ≡ None → AllKept setup (events + 1) (taken setup ms e)
-taken_kept setup events ms e count fit kept none = kept_after setup events ms kept e
+pub state_after_kept : (setup : Setup) (events : ℕ) (ms : List MemberState) (e : Event) → length ms ≡ setup.nodes → WorldInvariant setup (members_of ms) → AllKept setup events ms
+    → cause setup (members_of ms) events e ≡ None → AllKept setup (events + 1) (state_after setup ms e)
+state_after_kept setup events ms e count fit kept none = kept_after setup events ms kept e
 
 pub at_node-replicate : {A : Type 0} (d x : A) (n i : ℕ) → 0 < i → i ≤ n → at_node d (replicate n x) i ≡ x
 at_node-replicate {A = A} d x n zero pos l = absurd (omega arith)

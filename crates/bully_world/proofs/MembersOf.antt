@@ -23,10 +23,6 @@ at_node-put_cases {A = A} d xs (suc k) (suc j) x = over_places xs k j
     over_places (y ∷ ys) (suc k) zero = inr refl
     over_places (y ∷ ys) (suc k) (suc j) = one_on k j (slice_index_or (slice_set ys k x) j d) (slice_index_or ys j d) (over_places ys k j)
 
--- what is kept of node i
-abbrev pub kept_at : List MemberState → ℕ → MemberState
-kept_at ms i = at_node (empty_state 0) ms i
-
 pub members_of-length : (ms : List MemberState) → length (members_of ms).members ≡ length ms
 members_of-length [] = refl
 members_of-length (m ∷ ms) = ap suc (members_of-length ms)

@@ -1,5 +1,5 @@
 -- Two sets of nodes are the same list where they have the same marks.
-use Rattle.std.proofs.Common.{◌≡◌, ℕ, zero, suc, ◌+◌, ◌<◌, ◌≤◌, ◌⊎◌, inl, inr, Bool, true, false, List, [], ◌∷◌, arith, refl, sym, ◌∙◌, ap}
+use Rattle.std.proofs.Common.{◌≡◌, ◌≢◌, ℕ, zero, suc, ◌+◌, ◌<◌, ◌≤◌, ◌⊎◌, inl, inr, Bool, true, false, List, [], ◌∷◌, arith, refl, sym, ◌∙◌, ap, length}
 use Rattle.std.specs.Prelude.{bytes_eq}
 use Rattle.std.specs.Bool.{Decides}
 use Rattle.std.specs.Cmp.{booleans_Decides}
@@ -47,6 +47,14 @@ marks_same k (suc n) ms ns e j l u = by_case (grind arith) (marks_same (k + 1) n
     by_case : (j ≡ k + 1) ⊎ (k + 1 < j) → (k + 1 < j → j < k + 1 + n + 1 → has_node j ms ≡ has_node j ns) → has_node j ms ≡ has_node j ns
     by_case (inl same) rest = grind (arith, e, same)
     by_case (inr more) rest = rest more (omega (arith, u))
+
+-- lists of different lengths are not the same
+pub sizes_differ : (ms ns : List ℕ) → length ms ≢ length ns → false ≡ bytes_eq ms ns
+sizes_differ ms ns n = by_test (bytes_eq ms ns) (bytes_eq-Decides ms ns)
+  where
+    by_test : (t : Bool) → Decides t (ms ≡ ns) → false ≡ t
+    by_test false d = refl
+    by_test true d = absurd (n (ap length (d.0 refl)))
 
 -- sets of nodes are the same exactly where their marks are
 pub same_set_test : (n : ℕ) (ms ns : List ℕ) (b : Bool) → IsFallingBelow (n + 1) ms → IsFallingBelow (n + 1) ns → b ≡ pointwise beq (marks_from 0 n ms) (marks_from 0 n ns) → b ≡ bytes_eq ms ns

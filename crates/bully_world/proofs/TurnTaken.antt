@@ -1,14 +1,17 @@
 -- The steps of a world's turns, as its readers have them.
-use Rattle.std.proofs.Common.{◌≡◌, ℕ, ◌<◌, Bool, true, false, None, arith, refl, sym, ◌∙◌, ap, subst}
+use Rattle.std.proofs.Common.{◌≡◌, ℕ, ◌+◌, ◌<◌, Bool, true, false, None, Result, Ok, IfOk, OnOk, arith, refl, sym, ◌∙◌, ap, subst}
 use Rattle.std.specs.Prelude.{IfSome, if◌then◌else◌}
+use Rattle.std.specs.Option.{option_map_or}
 use Rattle.bully_calls.specs.declared.call.Answer.{Answer}
-use Rattle.bully_steps.specs.ProcedureState.{ProcedureState, IsProcedureState, CanResume}
+use Rattle.bully_steps.specs.ProcedureState.{ProcedureState, IsProcedureState, CanResume, resumed}
+use Rattle.bully_world.specs.declared.event.Event.{Event}
+use Rattle.bully_world.specs.declared.event.Refused.{Refused}
 use Rattle.bully_world.specs.declared.turn.Next.{Next}
 use Rattle.bully_world.specs.declared.turn.StepKind.{StepKind}
-use Rattle.bully_world.specs.State.{WorldState, IsReached, state_at, member_of, world_of, cause_in}
+use Rattle.bully_world.specs.State.{WorldState, IsReached, state_at, member_of, world_of, cause_in, raises}
 use Rattle.bully_world.specs.Step.{Step}
-use Rattle.bully_world.specs.Turn.{turn, turn_in_step, is_in_step, procedure_in, event_of, outcome_after, procedure_after, agree, has_table}
-use Rattle.bully_world.specs.World.{Member, member, pending}
+use Rattle.bully_world.specs.Turn.{turn, turn_in_step, is_in_step, procedure_in, event_of, outcome_after, procedure_after, procedure_left, outcome_left, agree, has_table}
+use Rattle.bully_world.specs.World.{World, Member, member, pending}
 use Rattle.bully_world.proofs.AgreeLemmas.{Agrees, agrees_of, agree_if}
 use Rattle.bully_world.proofs.ProcedureAfter.{step_on, identity_after}
 use Rattle.bully_world.proofs.MembersOf.{member-members_of}
@@ -51,3 +54,40 @@ goes_on_taken w w' h kind answer reached se t same generation s =
     ap (shown w.setup h.node (state_at w h.node).generation) there ∙ (rw (← generation h.node, ← same) refl) in
     let agrees : agree (procedure_after kind answer h) (procedure_in w' h.node) ≡ true = agree_if (procedure_after kind answer h) (procedure_in w' h.node) (subst (Agrees (procedure_after kind answer h)) shows on.0) in
     (ap (λ k. agree (procedure_after kind answer h) (procedure_in w' k)) (identity_after kind answer h).1 ∙ agrees, on.1)
+
+-- the procedure that the event leaves goes on as the whole step says
+pub can_go_on : (kind : StepKind) (answer : Answer) (h left : ProcedureState) → left ≡ procedure_left kind h → IfSome (outcome_after kind answer) (CanResume h) → IfSome (outcome_left kind answer) (CanResume left)
+can_go_on StepKind.Start answer h left e can = subst (λ x. IfSome (outcome_after StepKind.Start answer) (CanResume x)) (sym e) can
+can_go_on StepKind.Lose answer h left e can = tt
+can_go_on StepKind.Return answer h left e can = subst (λ x. IfSome (outcome_after StepKind.Return answer) (CanResume x)) (sym e) can
+can_go_on StepKind.Move answer h left e can = subst (λ x. IfSome (outcome_after StepKind.Move answer) (CanResume x)) (sym e) can
+can_go_on StepKind.Plan answer h left e can = tt
+
+pub gone_on : (kind : StepKind) (answer : Answer) (h left : ProcedureState) → left ≡ procedure_left kind h → option_map_or (resumed left) (outcome_left kind answer) left ≡ procedure_after kind answer h
+gone_on StepKind.Start answer h left e = ap (λ x. option_map_or (resumed x) (outcome_after StepKind.Start answer) x) e
+gone_on StepKind.Lose answer h left e = e
+gone_on StepKind.Return answer h left e = ap (λ x. option_map_or (resumed x) (outcome_after StepKind.Return answer) x) e
+gone_on StepKind.Move answer h left e = ap (λ x. option_map_or (resumed x) (outcome_after StepKind.Move answer) x) e
+gone_on StepKind.Plan answer h left e = e
+
+-- a node's own step raises no generation
+pub own_generation : (kind : StepKind) (w : World) (h : ProcedureState) (i g k : ℕ) → g ≡ k + (if raises w (event_of kind h) i then 1 else 0) → g ≡ k
+own_generation StepKind.Start w h i g k e = omega (arith, e)
+own_generation StepKind.Lose w h i g k e = omega (arith, e)
+own_generation StepKind.Return w h i g k e = omega (arith, e)
+own_generation StepKind.Move w h i g k e = omega (arith, e)
+own_generation StepKind.Plan w h i g k e = omega (arith, e)
+
+-- the same, of an event that `apply` applied
+pub applied_goes_on : (w w' : WorldState) (h : ProcedureState) (kind : StepKind) (e : Event) (result : Result Answer Refused) (answer : Answer) → IsReached w → h.setup ≡ w.setup → turn w h ≡ Next.Take kind → e ≡ event_of kind h → w'.setup ≡ w.setup
+    → result ≡ Ok answer → IfOk result (λ a. Step w.setup (world_of w) e (world_of w') a)
+    → OnOk result ((i : ℕ) → (state_at w' i).generation ≡ (state_at w i).generation + (if raises (world_of w) e i then 1 else 0))
+    → (is_in_step w' (procedure_after kind answer h) ≡ true) × IfSome (outcome_after kind answer) (CanResume h)
+applied_goes_on w w' h kind e result answer reached se t named same ok step raised =
+    let s : Step w.setup (world_of w) e (world_of w') answer = subst (λ r. IfOk r (λ a. Step w.setup (world_of w) e (world_of w') a)) ok step in
+    let g : (i : ℕ) → (state_at w' i).generation ≡ (state_at w i).generation + (if raises (world_of w) e i then 1 else 0) =
+    subst (λ r. OnOk r ((i : ℕ) → (state_at w' i).generation ≡ (state_at w i).generation + (if raises (world_of w) e i then 1 else 0))) ok raised in
+    goes_on_taken w w' h kind answer reached se t same
+    (λ i. own_generation kind (world_of w) h i (state_at w' i).generation (state_at w i).generation
+    (subst (λ x. (state_at w' i).generation ≡ (state_at w i).generation + (if raises (world_of w) x i then 1 else 0)) named (g i)))
+    (subst (λ x. Step w.setup (world_of w) x (world_of w') answer) named s)

@@ -1,23 +1,23 @@
 -- What every world keeps, from the first one on.
-use Rattle.std.proofs.Common.{◌≡◌, ℕ, zero, suc, ◌+◌, ◌<◌, ◌≤◌, ◌⊎◌, inl, inr, false, List, [], ◌∷◌, ◌++◌, Option, Some, None, refl, ◌∙◌, ap, arith, length, take, drop, length-append}
+use Rattle.std.proofs.Common.{◌≡◌, ℕ, zero, suc, ◌+◌, ◌<◌, ◌≤◌, ◌⊎◌, inl, inr, false, List, [], ◌∷◌, ◌++◌, Option, Some, None, refl, sym, ◌∙◌, ap, arith, length, take, drop, length-append}
 use Rattle.std.proofs.lemmas.Grind.{common_steps}
-use Rattle.std.specs.Prelude.{replicate}
-use Rattle.bully_base.proofs.PlaceLemmas.{at_node_past}
+use Rattle.std.specs.Prelude.{replicate, slice_index_or}
+use Rattle.bully_base.proofs.PlaceLemmas.{at_node_past, at_node-place}
 use Rattle.bully_base.specs.Places.{at_node}
 use Rattle.bully_base.specs.Setup.{Setup}
 use Rattle.bully_world.specs.declared.event.Event.{Event}
 use Rattle.bully_world.specs.Cause.{cause}
 use Rattle.bully_world.specs.NodeInvariant.{WorldInvariant}
-use Rattle.bully_world.specs.State.{MemberState, WorldState, empty_state, member_of, IsWorld, IsReached, members_of, first_state, new_members}
+use Rattle.bully_world.specs.State.{MemberState, WorldState, empty_state, state_at, member_of, IsWorld, IsReached, members_of, first_state, new_members}
 use Rattle.bully_world.specs.Step.{Step}
-use Rattle.bully_world.specs.Taken.{taken, answer_taken}
+use Rattle.bully_world.specs.StateAfter.{state_after, answer_after}
 use Rattle.bully_world.specs.World.{Member, empty_member, first_world, pending, is_sent_to}
-use Rattle.bully_world.proofs.KeptLemmas.{taken_kept, taken_length, new_kept}
+use Rattle.bully_world.proofs.KeptLemmas.{state_after_kept, state_after_length, new_kept}
 use Rattle.bully_world.proofs.LawfulLemmas.{lawful_more}
 use Rattle.bully_world.proofs.MembersOf.{member-members_of, members_of-length, members_of-new}
 use Rattle.bully_world.proofs.NodeInvariantLemmas.{lawful_fits}
-use Rattle.bully_world.proofs.TakeLemmas.{room_of}
-use Rattle.bully_world.proofs.TakenLemmas.{taken_steps}
+use Rattle.bully_world.proofs.ApplyLemmas.{room_of}
+use Rattle.bully_world.proofs.StateAfterLemmas.{state_after_steps}
 
 abbrev state : Setup → ℕ → List MemberState → WorldState
 state setup events ms = record { setup = setup; events = events; members = ms }
@@ -25,23 +25,27 @@ state setup events ms = record { setup = setup; events = events; members = ms }
 pub world_fits : (setup : Setup) (events : ℕ) (ms : List MemberState) → IsWorld (state setup events ms) → WorldInvariant setup (members_of ms)
 world_fits setup events ms is = lawful_fits setup is.reached.applied is.reached.answers (members_of ms) is.reached.lawful
 
-pub world_steps : (setup : Setup) (events : ℕ) (ms : List MemberState) (e : Event) → IsWorld (state setup events ms) → cause setup (members_of ms) events e ≡ None → Step setup (members_of ms) e (members_of (taken setup ms e)) (answer_taken ms e)
-world_steps setup events ms e is free = taken_steps setup events ms e (world_fits setup events ms is) is.kept free
+pub world_steps : (setup : Setup) (events : ℕ) (ms : List MemberState) (e : Event) → IsWorld (state setup events ms) → cause setup (members_of ms) events e ≡ None → Step setup (members_of ms) e (members_of (state_after setup ms e)) (answer_after ms e)
+world_steps setup events ms e is free = state_after_steps setup events ms e (world_fits setup events ms is) is.kept free
 
-reached_next : (setup : Setup) (events : ℕ) (ms : List MemberState) (e : Event) → IsWorld (state setup events ms) → cause setup (members_of ms) events e ≡ None → IsReached (state setup (events + 1) (taken setup ms e))
+reached_next : (setup : Setup) (events : ℕ) (ms : List MemberState) (e : Event) → IsWorld (state setup events ms) → cause setup (members_of ms) events e ≡ None → IsReached (state setup (events + 1) (state_after setup ms e))
 reached_next setup events ms e is free = record {
   applied = is.reached.applied ++ e ∷ [];
-  answers = is.reached.answers ++ answer_taken ms e ∷ [];
-  lawful = lawful_more setup is.reached.applied is.reached.answers (members_of ms) e (answer_taken ms e) (members_of (taken setup ms e)) is.reached.lawful
+  answers = is.reached.answers ++ answer_after ms e ∷ [];
+  lawful = lawful_more setup is.reached.applied is.reached.answers (members_of ms) e (answer_after ms e) (members_of (state_after setup ms e)) is.reached.lawful
       (omega (arith, is.reached.counted, room_of setup (members_of ms) events e free)) (world_steps setup events ms e is free);
   counted = omega (arith, is.reached.counted, length-append is.reached.applied (e ∷ []));
 }
 
+-- what stands at a node's place is what is kept of it
+pub member_there : (w : WorldState) (k i : ℕ) (m : MemberState) → IsWorld w → k + 1 ≡ i → i ≤ w.setup.nodes → m ≡ slice_index_or w.members k m → state_at w i ≡ m
+member_there w k i m is e l there = at_node-place (empty_state 0) m w.members k i e (omega (arith, is.count, e, l)) ∙ sym there
+
 -- an event that nothing refuses leads from a world to a world
-pub next_world : (setup : Setup) (events : ℕ) (ms : List MemberState) (e : Event) → IsWorld (state setup events ms) → cause setup (members_of ms) events e ≡ None → IsWorld (state setup (events + 1) (taken setup ms e))
+pub next_world : (setup : Setup) (events : ℕ) (ms : List MemberState) (e : Event) → IsWorld (state setup events ms) → cause setup (members_of ms) events e ≡ None → IsWorld (state setup (events + 1) (state_after setup ms e))
 next_world setup events ms e is free = record {
-  count = taken_length setup ms e ∙ is.count;
-  kept = taken_kept setup events ms e is.count (world_fits setup events ms is) is.kept free;
+  count = state_after_length setup ms e ∙ is.count;
+  kept = state_after_kept setup events ms e is.count (world_fits setup events ms is) is.kept free;
   reached = reached_next setup events ms e is free;
 }
 

@@ -2,7 +2,8 @@ pub mod World
 pub mod Step
 pub mod Lawful
 pub mod Cause
+pub mod StepOf
 pub mod NodeInvariant
 pub mod State
-pub mod Taken
+pub mod StateAfter
 pub mod Turn

@@ -1,5 +1,5 @@
 -- What callers see of a group's world, and the world of the definitions that it stands for.
-use Rattle.std.specs.Prelude.{◌≡◌, ◌≤◌, ◌==◌, ◌&&◌, ℕ, Bool, true, false, List, map, length, Option, Some, None, IfSome, option_map, replicate}
+use Rattle.std.specs.Prelude.{◌≡◌, ◌≤◌, ◌<◌, ◌+◌, ◌==◌, ◌&&◌, if◌then◌else◌, ℕ, Bool, true, false, List, map, length, Option, Some, None, IfSome, option_map, replicate}
 use Rattle.bully_base.specs.Places.{at_node}
 use Rattle.bully_base.specs.Setup.{Setup, IsNode}
 use Rattle.bully_calls.specs.declared.call.Answer.{Answer}
@@ -15,7 +15,8 @@ use Rattle.bully_world.specs.declared.event.Event.{Event}
 use Rattle.bully_world.specs.declared.event.Refused.{Refused}
 use Rattle.bully_world.specs.Cause.{cause}
 use Rattle.bully_world.specs.Lawful.{IsLawful}
-use Rattle.bully_world.specs.World.{Member, World, pending}
+use Rattle.bully_world.specs.Step.{Step}
+use Rattle.bully_world.specs.World.{Member, World, pending, is_sent_to}
 
 -- what is kept of one node: its generation tells a live call from an orphan
 pub record MemberState : Type 0 where
@@ -39,8 +40,11 @@ empty_state room = record {
 }
 
 -- what is kept of node i
+abbrev pub kept_of : List MemberState → ℕ → MemberState
+kept_of members i = at_node (empty_state 0) members i
+
 abbrev pub state_at : WorldState → ℕ → MemberState
-state_at w i = at_node (empty_state 0) w.members i
+state_at w i = kept_of w.members i
 
 abbrev pub member_of : MemberState → Member
 member_of m = record { vector = m.vector.vector; point = m.point; pending = pending_in m.generation m.slot }
@@ -72,7 +76,7 @@ pub record IsKept (setup : Setup) (events i : ℕ) (m : MemberState) : Type 0 wh
   pub generation : m.generation ≤ events
 
 abbrev pub AllKept : Setup → ℕ → List MemberState → Type 0
-AllKept setup events members = (i : ℕ) → IsNode setup i → IsKept setup events i (at_node (empty_state 0) members i)
+AllKept setup events members = (i : ℕ) → IsNode setup i → IsKept setup events i (kept_of members i)
 
 -- what every world keeps
 pub record IsWorld (w : WorldState) : Type 0 where
@@ -111,6 +115,37 @@ changes_slot (Event.Start i) j = i == j
 changes_slot (Event.Return i) j = i == j
 changes_slot (Event.Crash i) j = i == j
 changes_slot e j = false
+
+-- the event is one step, from the world that is stood for before to the one after
+abbrev pub StepsTo : WorldState → Event → WorldState → Answer → Type 0
+StepsTo before e after answer = Step before.setup (world_of before) e (world_of after) answer
+
+-- each node's generation rises by one where the event raises it, and else stays
+abbrev pub RaisesGenerations : Event → WorldState → WorldState → Type 0
+RaisesGenerations e before after =
+    (i : ℕ) → (state_at after i).generation ≡ (state_at before i).generation + (if raises (world_of before) e i then 1 else 0)
+
+abbrev pub KeepsGenerations : WorldState → WorldState → Type 0
+KeepsGenerations before after = (i : ℕ) → (state_at after i).generation ≡ (state_at before i).generation
+
+-- the tag in each slot that the event neither fills nor empties stays
+abbrev pub KeepsTags : Event → WorldState → WorldState → Type 0
+KeepsTags e before after = (i : ℕ) → changes_slot e i ≡ false → tag_in (state_at after i) ≡ tag_in (state_at before i)
+
+-- as many events as the setup bounds were applied
+abbrev pub IsFull : WorldState → Type 0
+IsFull w = w.setup.events_max ≤ w.events
+
+-- node i's call waits for node j: it was sent there and didn't run yet
+abbrev pub waits_for : WorldState → ℕ → ℕ → Bool
+waits_for w i j = is_sent_to j (pending (world_of w) i)
+
+abbrev pub NobodyWaits : WorldState → ℕ → Type 0
+NobodyWaits w j = (i : ℕ) → waits_for w i j ≡ false
+
+-- nobody below the caller waits for node j
+abbrev pub NobodyWaitsBelow : WorldState → ℕ → ℕ → Type 0
+NobodyWaitsBelow w j caller = (i : ℕ) → i < caller → waits_for w i j ≡ false
 
 -- what a new world keeps
 abbrev pub new_members : Setup → List MemberState

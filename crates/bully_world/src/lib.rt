@@ -4,6 +4,8 @@
 //! `apply` being one step of the definitions, and on every world being reached by a lawful list of events.
 #![tactic(auto)]
 
+ghost use Rattle.bully_world.specs.StepOf.{StepIsComputed, LeadIsComputed, StepIsOne, LawfulIsOne};
+
 mod causes;
 mod event;
 mod member;
@@ -13,6 +15,15 @@ mod turn;
 mod world;
 
 pub use event::{Event, Refused};
-pub use take::{StepRefusal, TakenStep};
+pub use take::TakenStep;
 pub use turn::{Next, StepKind};
 pub use world::World;
+
+/// The laws of steps. The function of the definitions computes exactly the steps, and where a list of events leads.
+/// So an event leads from a world to one world with one answer, and a lawful list to one world.
+pub fn step_laws()
+    ensures step { StepIsComputed }
+    ensures lead { LeadIsComputed }
+    ensures one_step { StepIsOne }
+    ensures one_world { LawfulIsOne }
+{}

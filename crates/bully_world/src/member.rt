@@ -11,7 +11,7 @@ ghost use Rattle.bully_world.specs.Cause.{node_of};
 ghost use Rattle.bully_world.specs.State.{empty_state, member_of};
 ghost use Rattle.bully_world.specs.Step.{carried};
 ghost use Rattle.bully_world.specs.World.{is_sent_to};
-ghost use Rattle.bully_world.specs.Taken.{with_vector, halted_number, is_readied, recovered_state, crashed_state, begun_state, opened_state, phased_state, callee_state_after, proceeded_state, return_taken, return_answer, planned_state, started_state, taken_here, answer_here, MayTake};
+ghost use Rattle.bully_world.specs.StateAfter.{with_vector, halted_number, is_readied, recovered_state, crashed_state, begun_state, opened_state, phased_state, callee_state_after, proceeded_state, node_after_return, return_answer, planned_state, started_state, node_after, node_answer, MayApply};
 
 use crate::event::Event;
 use bully_base::{Node, OutOfMemory, Setup, Status};
@@ -170,19 +170,16 @@ impl Member {
         ensures after { IfSome slot.now.content (λ p. self.new ≡ callee_state_after caller p self.old) }
         ensures answer { IfSome slot.now.content (λ p. result ≡ reply p.call.kind self.old.vector.vector) }
     {
-        match slot.call().map(|call| call.kind) {
-            Some(CallKind::AreYouUp) | None => self.vector.are_you_up(),
-            Some(CallKind::AreYouNormal) => self.vector.are_you_normal(),
-            Some(CallKind::Halt) => {
+        match slot.call().unwrap().kind {
+            CallKind::AreYouUp => self.vector.are_you_up(),
+            CallKind::AreYouNormal => self.vector.are_you_normal(),
+            CallKind::Halt => {
                 self.point = Point::Idle;
                 self.generation += 1;
                 self.vector.halt(caller)
             }
-            Some(CallKind::NewCoordinator) => self.vector.new_coordinator(caller),
-            Some(CallKind::Ready) => match slot.table() {
-                Some(table) => self.vector.ready(caller, table),
-                None => Answer::Yes,
-            },
+            CallKind::NewCoordinator => self.vector.new_coordinator(caller),
+            CallKind::Ready => self.vector.ready(caller, slot.table().unwrap()),
         }
     }
 
@@ -190,7 +187,7 @@ impl Member {
     pub fn take_back(&mut self, setup: Setup, node: Node) -> Answer
         requires at { IsPointOf setup node self.old.point }
         requires came { IsSome (outcome_in self.old.slot) }
-        ensures after { self.new ≡ return_taken setup node self.old self.old.slot.content }
+        ensures after { self.new ≡ node_after_return setup node self.old self.old.slot.content }
         ensures answer { result ≡ return_answer self.old.generation self.old.slot.content }
     {
         let is_orphan = self.slot.is_orphan(self.generation);
@@ -203,7 +200,7 @@ impl Member {
             Outcome::Yes => Answer::Yes,
             Outcome::No => Answer::No,
             Outcome::Failed => Answer::Failed,
-            _ => Answer::Done,
+            Outcome::Started | Outcome::Moved | Outcome::Planned => unreachable!(),
         }
     }
 
@@ -252,12 +249,12 @@ impl Member {
     }
 
     /// An event of this node, other than a Run, that nothing refuses.
-    pub fn take(&mut self, setup: Setup, event: &Event) -> Answer
+    pub fn apply(&mut self, setup: Setup, event: &Event) -> Answer
         requires at { IsPointOf setup (node_of event.now) self.old.point }
         requires room { self.old.generation + 1 < 2 ^ 32 }
-        requires may { MayTake setup event.now self.old }
-        ensures after { self.new ≡ taken_here setup event.now self.old }
-        ensures answer { result ≡ answer_here event.now self.old }
+        requires may { MayApply setup event.now self.old }
+        ensures after { self.new ≡ node_after setup event.now self.old }
+        ensures answer { result ≡ node_answer event.now self.old }
     {
         let status = self.vector.status();
         let coordinator = self.vector.coordinator();
@@ -267,7 +264,7 @@ impl Member {
             Event::Check(node) => self.begin(begin_check(setup, *node, status, coordinator)),
             Event::Timeout(node) => self.begin(begin_timeout(setup, *node, status, coordinator)),
             Event::Start(node) => self.start_offered(setup, *node),
-            Event::Run(_) => {}
+            Event::Run(_) => unreachable!(),
             Event::Lose(_) => self.lose(),
             Event::Return(node) => return self.take_back(setup, *node),
             Event::Move(node) => self.proceed(setup, *node, Outcome::Moved),
@@ -279,11 +276,12 @@ impl Member {
     // The node starts the call that its point offers.
     fn start_offered(&mut self, setup: Setup, node: Node)
         requires at { IsPointOf setup node self.old.point }
-        requires may { MayTake setup (Event.Start node) self.old }
+        requires may { MayApply setup (Event.Start node) self.old }
         ensures { self.new ≡ started_state setup node self.old }
     {
-        if let Want::Start(call) = self.offer(setup, node) {
-            self.start(node, call);
+        match self.offer(setup, node) {
+            Want::Start(call) => self.start(node, call),
+            _ => unreachable!(),
         }
     }
 

@@ -1,12 +1,11 @@
 ghost use Rattle.std.specs.Prelude.{◌≡◌, ◌≢◌, ◌⊎◌, ◌+◌, ◌<◌, ◌^◌, length, IfSome, IsSome, IsTrue, Some, None, slice_index_or, slice_set};
-ghost use Rattle.bully_base.specs.declared.node.Status.{Status};
 ghost use Rattle.bully_calls.specs.Pending.{is_sent};
 ghost use Rattle.bully_calls.specs.Slot.{CarriesFor, holds_call};
 ghost use Rattle.bully_handlers.specs.Handler.{reply};
 ghost use Rattle.bully_world.specs.Cause.{cause};
 ghost use Rattle.bully_world.specs.NodeInvariant.{WorldInvariant};
-ghost use Rattle.bully_world.specs.State.{AllKept, empty_state, members_of};
-ghost use Rattle.bully_world.specs.Taken.{CanExchange, callee_state_after, phased_state, taken, answer_taken};
+ghost use Rattle.bully_world.specs.State.{AllKept, empty_state, kept_of, members_of};
+ghost use Rattle.bully_world.specs.StateAfter.{CanExchange, CanRun, callee_state_after, phased_state, state_after, state_after_run, answer_after, run_answer};
 
 use crate::causes::place_of;
 use crate::event::Event;
@@ -14,38 +13,33 @@ use crate::member::Member;
 use bully_base::{Node, Setup};
 use bully_calls::{Answer, Phase};
 
-/// An event that nothing refuses is taken.
-pub fn take_event(setup: Setup, events: u32, members: &mut [Member], event: &Event) -> Answer
+/// An event that nothing refuses is applied.
+pub fn apply_event(setup: Setup, events: u32, members: &mut [Member], event: &Event) -> Answer
     requires fits { WorldInvariant setup (members_of members.old) }
     requires kept { AllKept setup events members.old }
     requires room { events + 1 < 2 ^ 32 }
     requires free { cause setup (members_of members.old) events event.now ≡ None }
-    ensures after { members.new ≡ taken setup members.old event.now }
-    ensures answer { result ≡ answer_taken members.old event.now }
+    ensures after { members.new ≡ state_after setup members.old event.now }
+    ensures answer { result ≡ answer_after members.old event.now }
 {
     match event {
-        Event::Run(node) => run_call(setup, events, members, *node),
+        Event::Run(node) => run_call(members, *node),
         _ => {
             let member = &mut members[place_of(event.node())];
-            member.take(setup, event)
+            member.apply(setup, event)
         }
     }
 }
 
 // The call of this caller runs at its callee.
-fn run_call(setup: Setup, _events: u32, members: &mut [Member], caller: Node) -> Answer
-    requires fits { WorldInvariant setup (members_of members.old) }
-    requires kept { AllKept setup _events members.old }
-    requires room { _events + 1 < 2 ^ 32 }
-    requires free { cause setup (members_of members.old) _events (Event.Run caller) ≡ None }
-    ensures after { members.new ≡ taken setup members.old (Event.Run caller) }
-    ensures answer { result ≡ answer_taken members.old (Event.Run caller) }
+fn run_call(members: &mut [Member], caller: Node) -> Answer
+    requires { CanRun members.old caller }
+    ensures after { members.new ≡ state_after_run members.old caller (kept_of members.old caller).slot.content }
+    ensures answer { result ≡ run_answer members.old (kept_of members.old caller).slot.content }
 {
     let here = place_of(caller);
-    match members[here].slot().call() {
-        Some(call) => run_between(members, caller, here, place_of(call.callee)),
-        None => Answer::Done,
-    }
+    let call = members[here].slot().call().unwrap();
+    run_between(members, caller, here, place_of(call.callee))
 }
 
 // The call in the slot of the member at `here` runs at the member at `there`.

@@ -1,6 +1,6 @@
 ghost use Rattle.std.specs.Prelude.{◌≡◌, ◌≤◌, true, bytes_eq};
 ghost use Rattle.bully_calls.specs.Slot.{pending_in};
-ghost use Rattle.bully_steps.specs.ProcedureState.{want_of};
+ghost use Rattle.bully_steps.specs.ProcedureState.{IsProcedureState, want_of};
 ghost use Rattle.bully_steps.specs.Procedure.{state_of};
 ghost use Rattle.bully_world.specs.Turn.{is_live_in, procedure_in, is_in_step, agree, same_point, same_set, same_node, turn, turn_of_call, turn_of_want, has_table};
 
@@ -43,18 +43,17 @@ impl World {
         ensures state { state_of result ≡ procedure_in self.now node }
         ensures in_step { is_in_step self.now (state_of result) ≡ true }
     {
-        // Shows the proof what holds of every world.
-        let _ = (self.events(), node.number());
-        let vector = self.vector(node);
-        let generation = self.generation(node);
+        let member = self.member(node);
+        let vector = member.vector();
+        let generation = member.generation();
         Procedure::at(
             self.setup(),
             node,
             generation,
-            self.point(node),
+            member.point(),
             vector.up(),
             vector.coordinator(),
-            holds_live_call(self.slot(node), generation),
+            holds_live_call(member.slot(), generation),
         )
     }
 
@@ -65,13 +64,11 @@ impl World {
         requires { (state_of procedure.now).setup ≡ self.now.setup }
         ensures { result ≡ turn self.now (state_of procedure.now) }
     {
-        // Shows the proof what holds of every world and of every procedure.
-        let _ = (self.events(), procedure.setup());
-        let node = procedure.node();
+        let node = node_of(procedure);
         if !agree_on_all(procedure, &self.procedure(node)) {
             return Next::Resync;
         }
-        let slot = self.slot(node);
+        let slot = self.member(node).slot();
         match (slot.call(), slot.phase()) {
             (Some(call), Some(phase)) => {
                 next_of_call(self.vector(call.callee).status() == Status::Down, phase)
@@ -79,6 +76,15 @@ impl World {
             _ => next_of_want(procedure),
         }
     }
+}
+
+/// The node of the procedure. It tells proofs what holds of every procedure, which they learn from `setup` alone.
+pub(crate) fn node_of(procedure: &Procedure) -> Node
+    ensures node { result ≡ (state_of procedure.now).node }
+    ensures state { IsProcedureState (state_of procedure.now) }
+{
+    let _ = procedure.setup();
+    procedure.node()
 }
 
 // Whether the slot holds a call of this generation of its caller.
@@ -157,9 +163,7 @@ fn is_same_set(up: Option<NodeSet>, shown: Option<NodeSet>) -> bool
 fn are_same_nodes(set: &NodeSet, other: &NodeSet) -> bool
     ensures { result ≡ bytes_eq set.now other.now }
 {
-    // Shows the proof that the members fall.
-    let _ = (set.len(), other.len());
-    set == other
+    set.len() == other.len() && set == other
 }
 
 fn is_same_node(coordinator: Option<Node>, shown: Option<Node>) -> bool

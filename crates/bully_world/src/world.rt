@@ -1,12 +1,12 @@
 ghost use Rattle.std.specs.Prelude.{◌≡◌, ◌↔◌, ◌+◌, ◌<◌, ◌≤◌, ℕ, IfOk, OnOk, IfErr, IfSome, IfNone, IsOk, true, false, None, Some, if◌then◌else◌};
-ghost use Rattle.bully_world.specs.State.{state_at, world_of, cause_in, raises, changes_slot, tag_in, first_state, new_members, IsReached};
-ghost use Rattle.bully_world.specs.Step.{Step};
-ghost use Rattle.bully_world.specs.World.{first_world, pending, is_sent_to};
+ghost use Rattle.bully_world.specs.State.{state_at, world_of, cause_in, waits_for, first_state, new_members, member_of, StepsTo, RaisesGenerations, KeepsTags, NobodyWaits, NobodyWaitsBelow, IsKept, IsReached};
+ghost use Rattle.bully_world.specs.NodeInvariant.{NodeInvariant};
+ghost use Rattle.bully_world.specs.World.{first_world};
 
 use crate::causes::{cause_of, place_of};
 use crate::event::{Event, Refused};
 use crate::member::Member;
-use crate::steps::take_event;
+use crate::steps::apply_event;
 use bully_base::{Node, OutOfMemory, Setup};
 use bully_calls::{Answer, Slot};
 use bully_handlers::Vector;
@@ -70,11 +70,11 @@ impl World {
     /// Applies the event and answers it. Refused with its cause, and then nothing changes.
     /// The refusals come in the one order of [`Refused`]. Takes no memory.
     pub fn apply(&mut self, event: &Event) -> Result<Answer, Refused>
-        ensures step { IfOk result (λ answer. Step self.old.setup (world_of self.old) event.now (world_of self.new) answer) }
+        ensures step { IfOk result (StepsTo self.old event.now self.new) }
         ensures exact { IsOk result ↔ (cause_in self.old event.now ≡ None) }
         ensures counted { OnOk result (self.new.events ≡ self.old.events + 1) }
-        ensures generations { OnOk result ((i : ℕ) → (state_at self.new i).generation ≡ (state_at self.old i).generation + (if raises (world_of self.old) event.now i then 1 else 0)) }
-        ensures tags { OnOk result ((i : ℕ) → changes_slot event.now i ≡ false → tag_in (state_at self.new i) ≡ tag_in (state_at self.old i)) }
+        ensures generations { OnOk result (RaisesGenerations event.now self.old self.new) }
+        ensures tags { OnOk result (KeepsTags event.now self.old self.new) }
         ensures setup { self.new.setup ≡ self.old.setup }
         ensures why { IfErr result (λ why. cause_in self.old event.now ≡ Some why) }
         ensures unchanged { IfErr result (λ _. self.new ≡ self.old) }
@@ -82,7 +82,7 @@ impl World {
         if let Some(why) = self.cause(event) {
             return Err(why);
         }
-        let answer = take_event(self.setup, self.events, self.members.as_mut_slice(), event);
+        let answer = apply_event(self.setup, self.events, self.members.as_mut_slice(), event);
         self.events += 1;
         Ok(answer)
     }
@@ -103,10 +103,12 @@ impl World {
         self.member(node).point()
     }
 
-    /// The node's call slot. The node is at most the setup's last.
+    /// The node's call slot. A call in it is tagged with the node as its caller. The node is at most the setup's
+    /// last.
     pub fn slot(&self, node: Node) -> &Slot
         requires { node ≤ self.now.setup.nodes }
-        ensures { result.now ≡ (state_at self.now node).slot }
+        ensures slot { result.now ≡ (state_at self.now node).slot }
+        ensures tag { IfSome result.now.content (λ p. p.tag.caller ≡ node) }
     {
         self.member(node).slot()
     }
@@ -121,9 +123,9 @@ impl World {
 
     /// The lowest caller with a sent call to this node; none where no call waits for it.
     pub fn waiting_for(&self, callee: Node) -> Option<Node>
-        ensures waits { IfSome result (λ caller. is_sent_to callee (pending (world_of self.now) caller) ≡ true) }
-        ensures lowest { IfSome result (λ caller. (i : ℕ) → i < caller → is_sent_to callee (pending (world_of self.now) i) ≡ false) }
-        ensures none { IfNone result ((i : ℕ) → is_sent_to callee (pending (world_of self.now) i) ≡ false) }
+        ensures waits { IfSome result (λ caller. waits_for self.now caller callee ≡ true) }
+        ensures lowest { IfSome result (NobodyWaitsBelow self.now callee) }
+        ensures none { IfNone result (NobodyWaits self.now callee) }
     {
         for before in 0..self.setup.nodes() {
             let caller = Node::new(before + 1).unwrap();
@@ -134,10 +136,12 @@ impl World {
         None
     }
 
-    // What is kept of the node.
-    fn member(&self, node: Node) -> &Member
+    /// What is kept of the node. The node is at most the setup's last.
+    pub(crate) fn member(&self, node: Node) -> &Member
         requires { node ≤ self.now.setup.nodes }
-        ensures { result.now ≡ state_at self.now node }
+        ensures member { result.now ≡ state_at self.now node }
+        ensures kept { IsKept self.now.setup self.now.events node result.now }
+        ensures fits { NodeInvariant self.now.setup node (member_of result.now) }
     {
         &self.members[place_of(node)]
     }

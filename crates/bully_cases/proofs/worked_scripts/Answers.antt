@@ -1,10 +1,10 @@
 -- Each clause is a computed script.
 use Rattle.bully_cases.proofs.Scripts as scripts
-use Rattle.bully_cases.proofs.Trial.{one_world}
+use Rattle.bully_world.proofs.StepOfLemmas.{lawful_is_one}
 use Rattle.bully_cases.proofs.worked_scripts.Goals as goal
 
 pub returns-clause-one_world : goal.returns-clause-one_world
-returns-clause-one_world c = one_world
+returns-clause-one_world c = lawful_is_one
 
 pub returns-clause-header_alone : goal.returns-clause-header_alone
 returns-clause-header_alone c = scripts.header_alone

@@ -1,27 +1,25 @@
 -- The call in the caller's slot goes to another node of the setup, at which it may run.
-use Rattle.std.proofs.Common.{◌+◌, arith, sym, ◌∙◌, ap}
-use Rattle.bully_world.specs.Taken.{run_taken, run_answer}
-use Rattle.bully_world.proofs.ExchangeLemmas.{runs_between, run-answer, run-after}
+use Rattle.std.proofs.Common.{arith, sym, ◌∙◌, ap}
+use Rattle.bully_world.specs.StateAfter.{state_after_run, run_answer}
+use Rattle.bully_world.proofs.ExchangeLemmas.{RunsBetween, runs_between, run-answer, run-after}
 use Rattle.bully_world.proofs.steps.run_call.Goals as goal
+use Rattle.bully_world.proofs.steps.run_call.Goals.{After-place_of}
 
-pub run_between-requires-clause-there : goal.run_between-requires-clause-there
-run_between-requires-clause-there c = (runs_between c.args.setup c.args._events c.args.members.now c.requires.fits c.requires.kept c.requires.room c.args.caller c.place_of-here.result c.place_of.result c.index-members-here.result c.in-Some.call c.place_of-here.ensures c.place_of.ensures c.index-members-here.is (grind (arith, c.slot.ensures, c.call.ensures, c.in-Some.is)) c.requires.free).within
-
-pub run_between-requires-clause-apart : goal.run_between-requires-clause-apart
-run_between-requires-clause-apart c = λ e. (runs_between c.args.setup c.args._events c.args.members.now c.requires.fits c.requires.kept c.requires.room c.args.caller c.place_of-here.result c.place_of.result c.index-members-here.result c.in-Some.call c.place_of-here.ensures c.place_of.ensures c.index-members-here.is (grind (arith, c.slot.ensures, c.call.ensures, c.in-Some.is)) c.requires.free).other (sym (runs_between c.args.setup c.args._events c.args.members.now c.requires.fits c.requires.kept c.requires.room c.args.caller c.place_of-here.result c.place_of.result c.index-members-here.result c.in-Some.call c.place_of-here.ensures c.place_of.ensures c.index-members-here.is (grind (arith, c.slot.ensures, c.call.ensures, c.in-Some.is)) c.requires.free).to_there ∙ ap (λ k. k + 1) (sym e) ∙ (runs_between c.args.setup c.args._events c.args.members.now c.requires.fits c.requires.kept c.requires.room c.args.caller c.place_of-here.result c.place_of.result c.index-members-here.result c.in-Some.call c.place_of-here.ensures c.place_of.ensures c.index-members-here.is (grind (arith, c.slot.ensures, c.call.ensures, c.in-Some.is)) c.requires.free).from_here)
+between : (c : After-place_of) → RunsBetween c.args.members.now c.args.caller c.place_of-here.result c.place_of.result
+between c = runs_between c.args.members.now c.args.caller c.place_of-here.result c.place_of.result c.requires c.index-members-here.result c.unwrap-call.result c.place_of-here.ensures c.place_of.ensures c.index-members-here.is (grind (arith, c.slot.ensures, c.call.ensures, c.unwrap-call.ensures))
 
 pub run_between-requires-clause-can : goal.run_between-requires-clause-can
-run_between-requires-clause-can c = (runs_between c.args.setup c.args._events c.args.members.now c.requires.fits c.requires.kept c.requires.room c.args.caller c.place_of-here.result c.place_of.result c.index-members-here.result c.in-Some.call c.place_of-here.ensures c.place_of.ensures c.index-members-here.is (grind (arith, c.slot.ensures, c.call.ensures, c.in-Some.is)) c.requires.free).can
+run_between-requires-clause-can c = (between c).can
 
-pub returns-in-Some-clause-answer : goal.returns-in-Some-clause-answer
-returns-in-Some-clause-answer c =
-    let from = (runs_between c.args.setup c.args._events c.args.members.now c.requires.fits c.requires.kept c.requires.room c.args.caller c.place_of-here.result c.place_of.result c.index-members-here.result c.in-Some.call c.place_of-here.ensures c.place_of.ensures c.index-members-here.is (grind (arith, c.slot.ensures, c.call.ensures, c.in-Some.is)) c.requires.free) in
+pub returns-clause-answer : goal.returns-clause-answer
+returns-clause-answer c =
+    let from = between c.before.before in
     run-answer c.args.members.now c.args.caller c.place_of-here.result c.place_of.result c.run_between.result from c.run_between.ensures.answer
     ∙ ap (run_answer c.args.members.now) (sym from.content)
 
-pub returns-in-Some-clause-after : goal.returns-in-Some-clause-after
-returns-in-Some-clause-after c =
-    let from = (runs_between c.args.setup c.args._events c.args.members.now c.requires.fits c.requires.kept c.requires.room c.args.caller c.place_of-here.result c.place_of.result c.index-members-here.result c.in-Some.call c.place_of-here.ensures c.place_of.ensures c.index-members-here.is (grind (arith, c.slot.ensures, c.call.ensures, c.in-Some.is)) c.requires.free) in
+pub returns-clause-after : goal.returns-clause-after
+returns-clause-after c =
+    let from = between c.before.before in
     let answer = run-answer c.args.members.now c.args.caller c.place_of-here.result c.place_of.result c.run_between.result from c.run_between.ensures.answer in
     run-after c.args.members.now c.run_between.new.members c.args.caller c.place_of-here.result c.place_of.result c.run_between.result from answer c.run_between.ensures.after
-    ∙ ap (run_taken c.args.members.now c.args.caller) (sym from.content)
+    ∙ ap (state_after_run c.args.members.now c.args.caller) (sym from.content)

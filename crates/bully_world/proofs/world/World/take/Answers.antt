@@ -1,29 +1,38 @@
--- The procedure that goes on by the step is in step again.
-use Rattle.std.proofs.Common.{arith, ◌∙◌, ap, subst}
+-- A step that the turn rule offers isn't refused where there is room, and the procedure that goes on by it is in step.
+use Rattle.std.proofs.Common.{◌≡◌, ◌<◌, None, arith, ◌∙◌, ap}
+use Rattle.std.proofs.lemmas.Bool.Decides.{nat_tests}
 use Rattle.bully_steps.specs.Procedure.{state_of}
-use Rattle.bully_world.specs.State.{world_of}
-use Rattle.bully_world.specs.Step.{Step}
+use Rattle.bully_world.specs.State.{cause_in}
 use Rattle.bully_world.specs.Turn.{event_of, is_in_step}
 use Rattle.bully_world.proofs.ProcedureAfter.{identity_after}
-use Rattle.bully_world.proofs.TurnTaken.{goes_on_taken}
+use Rattle.bully_world.proofs.TurnTaken.{free_if_offered, table_if_planned, applied_goes_on, can_go_on, gone_on}
 use Rattle.bully_world.proofs.world.World.take.Goals as goal
 
+pub event_by-event-requires : goal.event_by-event-requires
+event_by-event-requires c e = table_if_planned c.args.self.now (state_of c.args.procedure) c.args.kind c.requires.offered e
+
+pub unwrap-answer-requires : goal.unwrap-answer-requires
+unwrap-answer-requires c =
+    let room : c.args.self.now.events < c.args.self.now.setup.events_max = grind (arith, nat_tests, c.if-events-events_max.false, c.events.ensures.events, c.events_max.ensures.events_max, c.setup.ensures) in
+    let free : cause_in c.args.self.now (event_of c.args.kind (state_of c.args.procedure)) ≡ None =
+    free_if_offered c.args.self.now (state_of c.args.procedure) c.args.kind c.events.ensures.reached c.event_by-event.ensures.state c.requires.setup c.requires.offered room in
+    c.apply.ensures.exact.1 (ap (cause_in c.args.self.now) c.event_by-event.ensures.event ∙ free)
+
 pub go_on-requires : goal.go_on-requires
-go_on-requires c =
-    let h = state_of c.args.procedure in
-    let s : Step c.args.self.now.setup (world_of c.args.self.now) (event_of c.args.kind h) (world_of c.step.new.self) c.in-Ok.answer =
-    subst (λ e. Step c.args.self.now.setup (world_of c.args.self.now) e (world_of c.step.new.self) c.in-Ok.answer) c.in-Ok.ensures.event c.in-Ok.ensures.step in
-    (goes_on_taken c.args.self.now c.step.new.self h c.args.kind c.in-Ok.answer c.step.ensures.reached c.requires.setup c.requires.offered c.step.ensures.setup c.in-Ok.ensures.generations s).1
+go_on-requires c = can_go_on c.args.kind c.unwrap-answer.result (state_of c.args.procedure) (state_of c.event_by-event.result.1) c.event_by-event.ensures.left
+    (applied_goes_on c.args.self.now c.apply.new.self (state_of c.args.procedure) c.args.kind c.event_by-event.result.0 c.apply.result c.unwrap-answer.result c.events.ensures.reached c.requires.setup c.requires.offered c.event_by-event.ensures.event c.apply.ensures.setup c.unwrap-answer.ensures c.apply.ensures.step c.apply.ensures.generations).1
 
-pub returns-in-Ok-clause-in_step : goal.returns-in-Ok-clause-in_step
-returns-in-Ok-clause-in_step c =
-    let h = state_of c.args.procedure in
-    let s : Step c.args.self.now.setup (world_of c.args.self.now) (event_of c.args.kind h) (world_of c.step.new.self) c.in-Ok.answer =
-    subst (λ e. Step c.args.self.now.setup (world_of c.args.self.now) e (world_of c.step.new.self) c.in-Ok.answer) c.in-Ok.ensures.event c.in-Ok.ensures.step in
-    ap (is_in_step c.step.new.self) c.go_on.ensures
-    ∙ (goes_on_taken c.args.self.now c.step.new.self h c.args.kind c.in-Ok.answer c.step.ensures.reached c.requires.setup c.requires.offered c.step.ensures.setup c.in-Ok.ensures.generations s).0
+pub returns-clause-procedure : goal.returns-clause-procedure
+returns-clause-procedure c = c.go_on.ensures ∙ gone_on c.args.kind c.unwrap-answer.result (state_of c.args.procedure) (state_of c.event_by-event.result.1) c.event_by-event.ensures.left
 
-pub returns-in-Ok-clause-owner : goal.returns-in-Ok-clause-owner
-returns-in-Ok-clause-owner c =
-    let owner = identity_after c.args.kind c.in-Ok.answer (state_of c.args.procedure) in
-    (grind (arith, c.go_on.ensures, owner.0, c.requires.setup, c.step.ensures.setup), grind (arith, c.go_on.ensures, owner.1))
+pub returns-clause-in_step : goal.returns-clause-in_step
+returns-clause-in_step c =
+    let goes = c.go_on.ensures ∙ gone_on c.args.kind c.unwrap-answer.result (state_of c.args.procedure) (state_of c.event_by-event.result.1) c.event_by-event.ensures.left in
+    ap (is_in_step c.apply.new.self) goes
+    ∙ (applied_goes_on c.args.self.now c.apply.new.self (state_of c.args.procedure) c.args.kind c.event_by-event.result.0 c.apply.result c.unwrap-answer.result c.events.ensures.reached c.requires.setup c.requires.offered c.event_by-event.ensures.event c.apply.ensures.setup c.unwrap-answer.ensures c.apply.ensures.step c.apply.ensures.generations).0
+
+pub returns-clause-owner : goal.returns-clause-owner
+returns-clause-owner c =
+    let owner = identity_after c.args.kind c.unwrap-answer.result (state_of c.args.procedure) in
+    let goes = c.go_on.ensures ∙ gone_on c.args.kind c.unwrap-answer.result (state_of c.args.procedure) (state_of c.event_by-event.result.1) c.event_by-event.ensures.left in
+    (grind (arith, goes, owner.0, c.requires.setup, c.apply.ensures.setup), grind (arith, goes, owner.1))

@@ -10,7 +10,7 @@ loop-before-preserved c =
     record {
       end = c.loop-before.invariant.end;
       none = λ i l. nobody_more c.args.callee c.loop-before.before i c.unwrap-caller.result c.args.self.now.members number
-          (ap (λ (m : MemberState). is_sent_to c.args.callee (member_of m).pending) (sym c.member.ensures) ∙ sym c.has_sent_to.ensures ∙ c.if-has_sent_to.false) c.loop-before.invariant.none l;
+          (ap (λ (m : MemberState). is_sent_to c.args.callee (member_of m).pending) (sym c.member.ensures.member) ∙ sym c.has_sent_to.ensures ∙ c.if-has_sent_to.false) c.loop-before.invariant.none l;
     }
 
 pub returns-clause-none : goal.returns-clause-none

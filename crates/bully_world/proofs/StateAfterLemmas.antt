@@ -27,12 +27,12 @@ use Rattle.bully_steps.specs.Point.{offered}
 use Rattle.bully_world.specs.declared.event.Event.{Event}
 use Rattle.bully_world.specs.Cause.{cause, is_call, in_phase, callee_is_down}
 use Rattle.bully_world.specs.NodeInvariant.{WorldInvariant, SuitsCall, SuitsPhase}
-use Rattle.bully_world.specs.State.{MemberState, empty_state, member_of, members_of, AllKept}
+use Rattle.bully_world.specs.State.{kept_of, MemberState, empty_state, member_of, members_of, AllKept}
 use Rattle.bully_world.specs.Step.{Step, IsUp, offer, sent, stopped_by, called, ran, with_phase, Returns}
-use Rattle.bully_world.specs.Taken.{taken, answer_taken, run_taken, run_answer, replied, return_taken, returned_state, return_answer, proceeded_state, with_vector, with_content, phased_state, started_state, callee_state_after, stopped_state_by}
+use Rattle.bully_world.specs.StateAfter.{state_after, answer_after, state_after_run, run_answer, replied, node_after_return, returned_state, return_answer, proceeded_state, with_vector, with_content, phased_state, started_state, callee_state_after, stopped_state_by}
 use Rattle.bully_world.specs.World.{World, Member, member, vector, point, pending, with_member}
 use Rattle.bully_world.proofs.MemberLemmas.{call_of_pending}
-use Rattle.bully_world.proofs.MembersOf.{kept_at, at_node-put_cases, members_of-put_node, member-members_of}
+use Rattle.bully_world.proofs.MembersOf.{at_node-put_cases, members_of-put_node, member-members_of}
 
 -- the tag in a node's slot is of a generation that the node has had
 abbrev IsTagged : MemberState → Type 0
@@ -66,7 +66,7 @@ callee_after_is i p g m h = by_kind p.call.kind
     by_kind Ready = refl
 
 -- a call that passes the test is in the slot
-content_there : (test : Phase → Bool) (g : ℕ) (q : Option SlotCall) → in_phase test (option_map (pending_of g) q) ≡ true → (p : SlotCall) × (q ≡ Some p) × (test p.phase ≡ true)
+pub content_there : (test : Phase → Bool) (g : ℕ) (q : Option SlotCall) → in_phase test (option_map (pending_of g) q) ≡ true → (p : SlotCall) × (q ≡ Some p) × (test p.phase ≡ true)
 content_there test g None t = absurd (grind arith)
 content_there test g (Some p) t = (p, refl, t)
 
@@ -153,10 +153,10 @@ pub plan_facts : (setup : Setup) (w : World) (count i : ℕ) (table : List ℕ) 
 plan_facts setup w count i table n = (grind (arith, n), grind (arith, n), grind (arith, n, nat_tests), grind (arith, n))
 
 -- a tag that is kept where its place is written anew
-put_tagged : (ms : List MemberState) (i j : ℕ) (s : MemberState) → IsTagged s → IsTagged (kept_at ms j) → IsTagged (kept_at (put_node ms i s) j)
+put_tagged : (ms : List MemberState) (i j : ℕ) (s : MemberState) → IsTagged s → IsTagged (kept_of ms j) → IsTagged (kept_of (put_node ms i s) j)
 put_tagged ms i j s ts tj = by_case (at_node-put_cases (empty_state 0) ms i j s)
   where
-    by_case : ((j ≡ i) × (kept_at (put_node ms i s) j ≡ s)) ⊎ (kept_at (put_node ms i s) j ≡ kept_at ms j) → IsTagged (kept_at (put_node ms i s) j)
+    by_case : ((j ≡ i) × (kept_of (put_node ms i s) j ≡ s)) ⊎ (kept_of (put_node ms i s) j ≡ kept_of ms j) → IsTagged (kept_of (put_node ms i s) j)
     by_case (inl h) = subst IsTagged (sym h.1) ts
     by_case (inr h) = subst IsTagged (sym h) tj
 
@@ -164,91 +164,91 @@ module _ (setup : Setup) (count : ℕ) (ms : List MemberState) (fit : WorldInvar
   abbrev w : World
   w = members_of ms
 
-  here : (i : ℕ) → member w i ≡ member_of (kept_at ms i)
+  here : (i : ℕ) → member w i ≡ member_of (kept_of ms i)
   here i = member-members_of ms i
 
-  pending_is : (i : ℕ) (p : SlotCall) → (kept_at ms i).slot.content ≡ Some p → pending w i ≡ Some (pending_of (kept_at ms i).generation p)
-  pending_is i p e = ap (λ (q : Member). q.pending) (here i) ∙ ap (option_map (pending_of (kept_at ms i).generation)) e
+  pending_is : (i : ℕ) (p : SlotCall) → (kept_of ms i).slot.content ≡ Some p → pending w i ≡ Some (pending_of (kept_of ms i).generation p)
+  pending_is i p e = ap (λ (q : Member). q.pending) (here i) ∙ ap (option_map (pending_of (kept_of ms i).generation)) e
 
-  in_slot : (test : Phase → Bool) (i : ℕ) → in_phase test (pending w i) ≡ true → (p : SlotCall) × ((kept_at ms i).slot.content ≡ Some p) × (test p.phase ≡ true)
-  in_slot test i t = content_there test (kept_at ms i).generation (kept_at ms i).slot.content (ap (λ (q : Member). in_phase test q.pending) (sym (here i)) ∙ t)
+  in_slot : (test : Phase → Bool) (i : ℕ) → in_phase test (pending w i) ≡ true → (p : SlotCall) × ((kept_of ms i).slot.content ≡ Some p) × (test p.phase ≡ true)
+  in_slot test i t = content_there test (kept_of ms i).generation (kept_of ms i).slot.content (ap (λ (q : Member). in_phase test q.pending) (sym (here i)) ∙ t)
 
   -- the writing of a phase
-  phase_written : (i : ℕ) (p : SlotCall) (f : Phase) → (kept_at ms i).slot.content ≡ Some p → members_of (put_node ms i (phased_state f (kept_at ms i))) ≡ with_phase w i (pending_of (kept_at ms i).generation p) f
+  phase_written : (i : ℕ) (p : SlotCall) (f : Phase) → (kept_of ms i).slot.content ≡ Some p → members_of (put_node ms i (phased_state f (kept_of ms i))) ≡ with_phase w i (pending_of (kept_of ms i).generation p) f
   phase_written i p f e =
-      put_is ms i (phased_state f (kept_at ms i)) (record (member w i) { pending = Some (record (pending_of (kept_at ms i).generation p) { phase = f }) })
-      (phased_is (kept_at ms i) p f e ∙ ap (λ (q : Member). record q { pending = Some (record (pending_of (kept_at ms i).generation p) { phase = f }) }) (sym (here i)))
+      put_is ms i (phased_state f (kept_of ms i)) (record (member w i) { pending = Some (record (pending_of (kept_of ms i).generation p) { phase = f }) })
+      (phased_is (kept_of ms i) p f e ∙ ap (λ (q : Member). record q { pending = Some (record (pending_of (kept_of ms i).generation p) { phase = f }) }) (sym (here i)))
 
-  start_with : (i : ℕ) (call : Call) → IsUp w i → pending w i ≡ None → offer setup w i ≡ Want.Start call → Step setup w (Event.Start i) (members_of (taken setup ms (Event.Start i))) Answer.Done
+  start_with : (i : ℕ) (call : Call) → IsUp w i → pending w i ≡ None → offer setup w i ≡ Want.Start call → Step setup w (Event.Start i) (members_of (state_after setup ms (Event.Start i))) Answer.Done
   start_with i call up free is =
-      (up, free, call, is, put_is ms i (started_state setup i (kept_at ms i)) (record (member w i) { pending = Some (sent call (vector w i)) }) (started_is setup i (kept_at ms i) (member w i) call (here i) is), refl)
+      (up, free, call, is, put_is ms i (started_state setup i (kept_of ms i)) (record (member w i) { pending = Some (sent call (vector w i)) }) (started_is setup i (kept_of ms i) (member w i) call (here i) is), refl)
 
-  lose_with : (i : ℕ) (p : SlotCall) → (kept_at ms i).slot.content ≡ Some p → not (is_failed p.phase) ≡ true → callee_is_down w (pending w i) ≡ true → Step setup w (Event.Lose i) (members_of (taken setup ms (Event.Lose i))) Answer.Done
+  lose_with : (i : ℕ) (p : SlotCall) → (kept_of ms i).slot.content ≡ Some p → not (is_failed p.phase) ≡ true → callee_is_down w (pending w i) ≡ true → Step setup w (Event.Lose i) (members_of (state_after setup ms (Event.Lose i))) Answer.Done
   lose_with i p e phase down =
       let is = pending_is i p e in
-      (pending_of (kept_at ms i).generation p, is, unfailed p.phase phase, callee_down w (pending w i) (pending_of (kept_at ms i).generation p) is down, phase_written i p Phase.Failed e, refl)
+      (pending_of (kept_of ms i).generation p, is, unfailed p.phase phase, callee_down w (pending w i) (pending_of (kept_of ms i).generation p) is down, phase_written i p Phase.Failed e, refl)
 
-  run_by : (i : ℕ) (p : SlotCall) → (kept_at ms i).slot.content ≡ Some p → IsTagged (kept_at ms i) → IsTagged (kept_at ms p.call.callee) → members_of (run_taken ms i (Some p)) ≡ ran w i (pending_of (kept_at ms i).generation p)
+  run_by : (i : ℕ) (p : SlotCall) → (kept_of ms i).slot.content ≡ Some p → IsTagged (kept_of ms i) → IsTagged (kept_of ms p.call.callee) → members_of (state_after_run ms i (Some p)) ≡ ran w i (pending_of (kept_of ms i).generation p)
   run_by i p e ti tj =
-      let c = pending_of (kept_at ms i).generation p in
+      let c = pending_of (kept_of ms i).generation p in
       let j = p.call.callee in
       let f = Phase.Ran (replied ms p) in
       let said : replied ms p ≡ reply p.call.kind (vector w j) = ap (λ (q : Member). reply p.call.kind q.vector) (sym (here j)) in
-      let answered = put_node ms i (phased_state f (kept_at ms i)) in
+      let answered = put_node ms i (phased_state f (kept_of ms i)) in
       let first : members_of answered ≡ with_phase w i c (Phase.Ran (reply p.call.kind (vector w j))) =
       phase_written i p f e ∙ ap (λ a. with_phase w i c (Phase.Ran a)) said in
-      let there : member (members_of answered) j ≡ member_of (kept_at answered j) = member-members_of answered j in
-      let tagged = put_tagged ms i j (phased_state f (kept_at ms i)) (phased_tagged (kept_at ms i) f ti) tj in
-      let second = callee_after_is i p (kept_at ms i).generation (kept_at answered j) tagged in
-      put_is answered j (callee_state_after i p (kept_at answered j)) (called i c (member (members_of answered) j)) (second ∙ ap (called i c) (sym there))
+      let there : member (members_of answered) j ≡ member_of (kept_of answered j) = member-members_of answered j in
+      let tagged = put_tagged ms i j (phased_state f (kept_of ms i)) (phased_tagged (kept_of ms i) f ti) tj in
+      let second = callee_after_is i p (kept_of ms i).generation (kept_of answered j) tagged in
+      put_is answered j (callee_state_after i p (kept_of answered j)) (called i c (member (members_of answered) j)) (second ∙ ap (called i c) (sym there))
       ∙ ap (λ q. with_member q j (called i c (member q j))) first
 
-  is_tagged : (i : ℕ) → IsNode setup i → IsTagged (kept_at ms i)
+  is_tagged : (i : ℕ) → IsNode setup i → IsTagged (kept_of ms i)
   is_tagged i node = (kept i node).tag
 
-  run_with : (i : ℕ) (p : SlotCall) → (kept_at ms i).slot.content ≡ Some p → IsNode setup i → is_sent p.phase ≡ true → callee_is_down w (pending w i) ≡ false → Step setup w (Event.Run i) (members_of (taken setup ms (Event.Run i))) (answer_taken ms (Event.Run i))
+  run_with : (i : ℕ) (p : SlotCall) → (kept_of ms i).slot.content ≡ Some p → IsNode setup i → is_sent p.phase ≡ true → callee_is_down w (pending w i) ≡ false → Step setup w (Event.Run i) (members_of (state_after setup ms (Event.Run i))) (answer_after ms (Event.Run i))
   run_with i p e node phase up =
-      let c = pending_of (kept_at ms i).generation p in
+      let c = pending_of (kept_of ms i).generation p in
       let is = pending_is i p e in
       let to_node = (call_of_pending setup w i c fit is).to_node in
-      let world = ap (λ q. members_of (run_taken ms i q)) e ∙ run_by i p e (is_tagged i node) (is_tagged p.call.callee to_node) in
+      let world = ap (λ q. members_of (state_after_run ms i q)) e ∙ run_by i p e (is_tagged i node) (is_tagged p.call.callee to_node) in
       let answer = ap (run_answer ms) e ∙ ap (λ (q : Member). reply p.call.kind q.vector) (sym (here p.call.callee)) in
       (c, is, sent_is p.phase phase, callee_is_up w (pending w i) c is up, world, answer)
 
   -- a live call's return moves node i on
-  returns_by : (i : ℕ) (p : SlotCall) (o : Outcome) → (kept_at ms i).slot.content ≡ Some p → outcome_of p.phase ≡ Some o → (b : Bool) → p.tag.generation == (kept_at ms i).generation ≡ b
-      → Returns setup w i b o (members_of (put_node ms i (if b then proceeded_state setup i o (with_content None (kept_at ms i)) else with_content None (kept_at ms i)))) (if b then answer_of o else Answer.Discarded)
+  returns_by : (i : ℕ) (p : SlotCall) (o : Outcome) → (kept_of ms i).slot.content ≡ Some p → outcome_of p.phase ≡ Some o → (b : Bool) → p.tag.generation == (kept_of ms i).generation ≡ b
+      → Returns setup w i b o (members_of (put_node ms i (if b then proceeded_state setup i o (with_content None (kept_of ms i)) else with_content None (kept_of ms i)))) (if b then answer_of o else Answer.Discarded)
   returns_by i p o e done true live =
-      let c = pending_of (kept_at ms i).generation p in
+      let c = pending_of (kept_of ms i).generation p in
       let call = call_of_pending setup w i c fit (pending_is i p e) in
       let next = has_value (next_point setup i (vector w i).up (point w i) o) (leads_on setup i (vector w i) (point w i) c o call live done) in
-      let state = returned_is setup i o (kept_at ms i) (member w i) next.0 (here i) next.1 in
-      ((next.0, next.1, put_is ms i (proceeded_state setup i o (with_content None (kept_at ms i))) (record { vector = next_vector i (point w i) o (vector w i); point = next.0; pending = None }) state), refl)
+      let state = returned_is setup i o (kept_of ms i) (member w i) next.0 (here i) next.1 in
+      ((next.0, next.1, put_is ms i (proceeded_state setup i o (with_content None (kept_of ms i))) (record { vector = next_vector i (point w i) o (vector w i); point = next.0; pending = None }) state), refl)
   returns_by i p o e done false live =
-      (put_is ms i (with_content None (kept_at ms i)) (record (member w i) { pending = None }) (ap (λ (q : Member). record q { pending = None }) (sym (here i))), refl)
+      (put_is ms i (with_content None (kept_of ms i)) (record (member w i) { pending = None }) (ap (λ (q : Member). record q { pending = None }) (sym (here i))), refl)
 
-  return_with : (i : ℕ) (p : SlotCall) (o : Outcome) → (kept_at ms i).slot.content ≡ Some p → outcome_of p.phase ≡ Some o → Step setup w (Event.Return i) (members_of (taken setup ms (Event.Return i))) (answer_taken ms (Event.Return i))
+  return_with : (i : ℕ) (p : SlotCall) (o : Outcome) → (kept_of ms i).slot.content ≡ Some p → outcome_of p.phase ≡ Some o → Step setup w (Event.Return i) (members_of (state_after setup ms (Event.Return i))) (answer_after ms (Event.Return i))
   return_with i p o e done =
-      let c = pending_of (kept_at ms i).generation p in
-      let by = returns_by i p o e done (p.tag.generation == (kept_at ms i).generation) refl in
-      let state : return_taken setup i (kept_at ms i) (kept_at ms i).slot.content ≡ returned_state setup i p o (kept_at ms i) = ap (return_taken setup i (kept_at ms i)) e ∙ ap (λ q. option_map_or (λ o. returned_state setup i p o (kept_at ms i)) q (kept_at ms i)) done in
-      let answer : return_answer (kept_at ms i).generation (kept_at ms i).slot.content ≡ (if p.tag.generation == (kept_at ms i).generation then answer_of o else Answer.Discarded) =
-      ap (return_answer (kept_at ms i).generation) e ∙ ap (λ q. if p.tag.generation == (kept_at ms i).generation then option_map_or answer_of q Answer.Done else Answer.Discarded) done in (
+      let c = pending_of (kept_of ms i).generation p in
+      let by = returns_by i p o e done (p.tag.generation == (kept_of ms i).generation) refl in
+      let state : node_after_return setup i (kept_of ms i) (kept_of ms i).slot.content ≡ returned_state setup i p o (kept_of ms i) = ap (node_after_return setup i (kept_of ms i)) e ∙ ap (λ q. option_map_or (λ o. returned_state setup i p o (kept_of ms i)) q (kept_of ms i)) done in
+      let answer : return_answer (kept_of ms i).generation (kept_of ms i).slot.content ≡ (if p.tag.generation == (kept_of ms i).generation then answer_of o else Answer.Discarded) =
+      ap (return_answer (kept_of ms i).generation) e ∙ ap (λ q. if p.tag.generation == (kept_of ms i).generation then option_map_or answer_of q Answer.Done else Answer.Discarded) done in (
         c,
         o,
         pending_is i p e,
         done,
-        subst (λ a. Returns setup w i c.is_live o (members_of (taken setup ms (Event.Return i))) a) (sym answer)
-            (subst (λ s. Returns setup w i c.is_live o (members_of (put_node ms i s)) (if p.tag.generation == (kept_at ms i).generation then answer_of o else Answer.Discarded)) (sym state) by),
+        subst (λ a. Returns setup w i c.is_live o (members_of (state_after setup ms (Event.Return i))) a) (sym answer)
+            (subst (λ s. Returns setup w i c.is_live o (members_of (put_node ms i s)) (if p.tag.generation == (kept_of ms i).generation then answer_of o else Answer.Discarded)) (sym state) by),
       )
 
-  move_with : (i : ℕ) → IsUp w i → pending w i ≡ None → offer setup w i ≡ Want.Move → Step setup w (Event.Move i) (members_of (taken setup ms (Event.Move i))) Answer.Done
+  move_with : (i : ℕ) → IsUp w i → pending w i ≡ None → offer setup w i ≡ Want.Move → Step setup w (Event.Move i) (members_of (state_after setup ms (Event.Move i))) Answer.Done
   move_with i up free offers =
       let next = has_value (next_point setup i (vector w i).up (point w i) Outcome.Moved) (moves_on setup i (vector w i) (point w i) offers) in
-      let state = proceeded_is setup i Outcome.Moved (kept_at ms i) (member w i) next.0 (here i) free next.1 in
-      (up, free, offers, (next.0, next.1, put_is ms i (proceeded_state setup i Outcome.Moved (kept_at ms i)) (record { vector = next_vector i (point w i) Outcome.Moved (vector w i); point = next.0; pending = None }) state), refl)
+      let state = proceeded_is setup i Outcome.Moved (kept_of ms i) (member w i) next.0 (here i) free next.1 in
+      (up, free, offers, (next.0, next.1, put_is ms i (proceeded_state setup i Outcome.Moved (kept_of ms i)) (record { vector = next_vector i (point w i) Outcome.Moved (vector w i); point = next.0; pending = None }) state), refl)
 
-  steps : (e : Event) → cause setup w count e ≡ None → Step setup w e (members_of (taken setup ms e)) (answer_taken ms e)
+  steps : (e : Event) → cause setup w count e ≡ None → Step setup w e (members_of (state_after setup ms e)) (answer_after ms e)
   steps (Event.Recover i) n = grind (arith, n, here i, members_of-put_node)
   steps (Event.Crash i) n = grind (arith, n, here i, members_of-put_node)
   steps (Event.Check i) n = grind (arith, n, here i, members_of-put_node)
@@ -267,7 +267,7 @@ module _ (setup : Setup) (count : ℕ) (ms : List MemberState) (fit : WorldInvar
       lose_with i there.0 there.1 there.2 facts.1
   steps (Event.Return i) n =
       let there = in_slot (λ f. not (is_sent f)) i (return_facts setup w count i n) in
-      let call = call_of_pending setup w i (pending_of (kept_at ms i).generation there.0) fit (pending_is i there.0 there.1) in
+      let call = call_of_pending setup w i (pending_of (kept_of ms i).generation there.0) fit (pending_is i there.0 there.1) in
       let done = outcome_there there.0.call.kind there.0.phase call.phase there.2 in
       return_with i there.0 done.0 there.1 done.1
   steps (Event.Move i) n =
@@ -278,6 +278,6 @@ module _ (setup : Setup) (count : ℕ) (ms : List MemberState) (fit : WorldInvar
       (facts.0, facts.1, facts.2, (is_balanced_decides setup table (with_node i (vector w i).up)).0 facts.3, grind (arith, facts.1, here i, members_of-put_node), refl)
 
 -- what an event that nothing refuses makes is a step, and its answer is the step's
-pub taken_steps : (setup : Setup) (count : ℕ) (ms : List MemberState) (e : Event) → WorldInvariant setup (members_of ms) → AllKept setup count ms → cause setup (members_of ms) count e ≡ None
-    → Step setup (members_of ms) e (members_of (taken setup ms e)) (answer_taken ms e)
-taken_steps setup count ms e fit kept n = steps setup count ms fit kept e n
+pub state_after_steps : (setup : Setup) (count : ℕ) (ms : List MemberState) (e : Event) → WorldInvariant setup (members_of ms) → AllKept setup count ms → cause setup (members_of ms) count e ≡ None
+    → Step setup (members_of ms) e (members_of (state_after setup ms e)) (answer_after ms e)
+state_after_steps setup count ms e fit kept n = steps setup count ms fit kept e n

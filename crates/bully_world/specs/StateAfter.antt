@@ -1,8 +1,8 @@
 -- What an event that nothing refuses makes of what is kept of each node, and its answer.
-use Rattle.std.specs.Prelude.{◌≡◌, ◌≢◌, ℕ, ◌+◌, ◌<◌, ◌^◌, ◌==◌, IsTrue, IsSome, IfSome, length, not, Bool, true, false, List, [], Option, Some, None, option_map, unwrap_or, if◌then◌else◌}
+use Rattle.std.specs.Prelude.{◌≡◌, ◌≢◌, ℕ, ◌+◌, ◌<◌, ◌≤◌, ◌^◌, ◌==◌, IsTrue, IsSome, IfSome, length, not, Bool, true, false, List, [], Option, Some, None, option_map, unwrap_or, if◌then◌else◌}
 use Rattle.std.specs.Option.{option_map_or}
 use Rattle.bully_base.specs.declared.node.Status.TheVariants.{Down}
-use Rattle.bully_base.specs.Places.{at_node, put_node}
+use Rattle.bully_base.specs.Places.{put_node}
 use Rattle.bully_base.specs.Setup.{Setup}
 use Rattle.bully_calls.specs.declared.call.Answer.{Answer}
 use Rattle.bully_calls.specs.declared.call.Call.{Call}
@@ -19,8 +19,10 @@ use Rattle.bully_steps.specs.declared.point.Point.TheVariants.{Idle, Halting, Re
 use Rattle.bully_steps.specs.declared.point.Want.{Want}
 use Rattle.bully_steps.specs.NextPoint.{next_point, next_vector, election, checked, timed_out}
 use Rattle.bully_steps.specs.Point.{offered}
+use Rattle.bully_steps.specs.ProcedureState.{IsCall}
 use Rattle.bully_world.specs.declared.event.Event.{Event}
-use Rattle.bully_world.specs.State.{MemberState, empty_state}
+use Rattle.bully_world.specs.Cause.{node_of}
+use Rattle.bully_world.specs.State.{MemberState, kept_of}
 use Rattle.bully_world.specs.Step.{carried}
 
 abbrev pub with_vector : Vector → MemberState → MemberState
@@ -96,81 +98,71 @@ planned_state table m = record (with_vector (record m.vector.vector { task = Som
 
 -- the callee's answer to the call
 abbrev pub replied : List MemberState → SlotCall → Answer
-replied ms p = reply p.call.kind (at_node (empty_state 0) ms p.call.callee).vector.vector
+replied ms p = reply p.call.kind (kept_of ms p.call.callee).vector.vector
 
-abbrev pub run_taken : List MemberState → ℕ → Option SlotCall → List MemberState
-run_taken ms i None = ms
-run_taken ms i (Some p) =
-    let answered = put_node ms i (phased_state (Phase.Ran (replied ms p)) (at_node (empty_state 0) ms i)) in
-    put_node answered p.call.callee (callee_state_after i p (at_node (empty_state 0) answered p.call.callee))
+abbrev pub node_after_return : Setup → ℕ → MemberState → Option SlotCall → MemberState
+node_after_return setup i m None = m
+node_after_return setup i m (Some p) = option_map_or (λ o. returned_state setup i p o m) (outcome_of p.phase) m
 
-abbrev pub return_taken : Setup → ℕ → MemberState → Option SlotCall → MemberState
-return_taken setup i m None = m
-return_taken setup i m (Some p) = option_map_or (λ o. returned_state setup i p o m) (outcome_of p.phase) m
+-- what an event other than a Run makes of its own node
+abbrev pub node_after : Setup → Event → MemberState → MemberState
+node_after setup (Event.Recover i) m = recovered_state setup i m
+node_after setup (Event.Crash i) m = crashed_state setup m
+node_after setup (Event.Check i) m = begun_state (checked setup i m.vector.vector.status m.vector.vector.coordinator) m
+node_after setup (Event.Timeout i) m = begun_state (timed_out i m.vector.vector.status m.vector.vector.coordinator) m
+node_after setup (Event.Start i) m = started_state setup i m
+node_after setup (Event.Run i) m = m
+node_after setup (Event.Lose i) m = phased_state Phase.Failed m
+node_after setup (Event.Return i) m = node_after_return setup i m m.slot.content
+node_after setup (Event.Move i) m = proceeded_state setup i Outcome.Moved m
+node_after setup (Event.Plan i table) m = planned_state table m
+
+-- a Run writes two places: the caller's, which keeps the answer, and then the callee's
+abbrev pub state_after_run : List MemberState → ℕ → Option SlotCall → List MemberState
+state_after_run ms i None = ms
+state_after_run ms i (Some p) =
+    let answered = put_node ms i (phased_state (Phase.Ran (replied ms p)) (kept_of ms i)) in
+    put_node answered p.call.callee (callee_state_after i p (kept_of answered p.call.callee))
 
 -- what the event makes of what is kept
-abbrev pub taken : Setup → List MemberState → Event → List MemberState
-taken setup ms (Event.Recover i) = put_node ms i (recovered_state setup i (at_node (empty_state 0) ms i))
-taken setup ms (Event.Crash i) = put_node ms i (crashed_state setup (at_node (empty_state 0) ms i))
-taken setup ms (Event.Check i) =
-    let m = at_node (empty_state 0) ms i in put_node ms i (begun_state (checked setup i m.vector.vector.status m.vector.vector.coordinator) m)
-taken setup ms (Event.Timeout i) =
-    let m = at_node (empty_state 0) ms i in put_node ms i (begun_state (timed_out i m.vector.vector.status m.vector.vector.coordinator) m)
-taken setup ms (Event.Start i) = put_node ms i (started_state setup i (at_node (empty_state 0) ms i))
-taken setup ms (Event.Run i) = run_taken ms i (at_node (empty_state 0) ms i).slot.content
-taken setup ms (Event.Lose i) = put_node ms i (phased_state Phase.Failed (at_node (empty_state 0) ms i))
-taken setup ms (Event.Return i) =
-    let m = at_node (empty_state 0) ms i in put_node ms i (return_taken setup i m m.slot.content)
-taken setup ms (Event.Move i) = put_node ms i (proceeded_state setup i Outcome.Moved (at_node (empty_state 0) ms i))
-taken setup ms (Event.Plan i table) = put_node ms i (planned_state table (at_node (empty_state 0) ms i))
-
-abbrev pub run_answer : List MemberState → Option SlotCall → Answer
-run_answer ms None = Answer.Done
-run_answer ms (Some p) = replied ms p
+abbrev pub state_after : Setup → List MemberState → Event → List MemberState
+state_after setup ms (Event.Run i) = state_after_run ms i (kept_of ms i).slot.content
+state_after setup ms e = put_node ms (node_of e) (node_after setup e (kept_of ms (node_of e)))
 
 abbrev pub return_answer : ℕ → Option SlotCall → Answer
 return_answer generation None = Answer.Done
 return_answer generation (Some p) =
     if p.tag.generation == generation then option_map_or answer_of (outcome_of p.phase) Answer.Done else Answer.Discarded
 
+-- what an event other than a Run is answered
+abbrev pub node_answer : Event → MemberState → Answer
+node_answer (Event.Return i) m = return_answer m.generation m.slot.content
+node_answer e m = Answer.Done
+
+abbrev pub run_answer : List MemberState → Option SlotCall → Answer
+run_answer ms None = Answer.Done
+run_answer ms (Some p) = replied ms p
+
 -- what the event is answered
-abbrev pub answer_taken : List MemberState → Event → Answer
-answer_taken ms (Event.Run i) = run_answer ms (at_node (empty_state 0) ms i).slot.content
-answer_taken ms (Event.Return i) = let m = at_node (empty_state 0) ms i in return_answer m.generation m.slot.content
-answer_taken ms e = Answer.Done
+abbrev pub answer_after : List MemberState → Event → Answer
+answer_after ms (Event.Run i) = run_answer ms (kept_of ms i).slot.content
+answer_after ms e = node_answer e (kept_of ms (node_of e))
 
--- what an event other than a Run makes of its own node
-abbrev pub taken_here : Setup → Event → MemberState → MemberState
-taken_here setup (Event.Recover i) m = recovered_state setup i m
-taken_here setup (Event.Crash i) m = crashed_state setup m
-taken_here setup (Event.Check i) m = begun_state (checked setup i m.vector.vector.status m.vector.vector.coordinator) m
-taken_here setup (Event.Timeout i) m = begun_state (timed_out i m.vector.vector.status m.vector.vector.coordinator) m
-taken_here setup (Event.Start i) m = started_state setup i m
-taken_here setup (Event.Run i) m = m
-taken_here setup (Event.Lose i) m = phased_state Phase.Failed m
-taken_here setup (Event.Return i) m = return_taken setup i m m.slot.content
-taken_here setup (Event.Move i) m = proceeded_state setup i Outcome.Moved m
-taken_here setup (Event.Plan i table) m = planned_state table m
-
--- what such an event is answered
-abbrev pub answer_here : Event → MemberState → Answer
-answer_here (Event.Return i) m = return_answer m.generation m.slot.content
-answer_here e m = Answer.Done
-
--- what the event asks of its node's slot and room, where nothing refuses it
-abbrev pub MayTake : Setup → Event → MemberState → Type 0
-MayTake setup (Event.Start i) m =
-    (m.slot.content ≡ None)
+-- what an event other than a Run asks of its node's slot and room, where nothing refuses it
+abbrev pub MayApply : Setup → Event → MemberState → Type 0
+MayApply setup (Event.Start i) m =
+    IsCall (offered setup m.vector.vector.coordinator m.point)
+    × (m.slot.content ≡ None)
     × ((call : Call) → offered setup m.vector.vector.coordinator m.point ≡ Want.Start call → CarriesFor call (carried call.kind m.vector.vector) m.slot.room)
-MayTake setup (Event.Lose i) m = IsTrue (holds_call (λ f. not (is_failed f)) m.slot)
-MayTake setup (Event.Return i) m = IsSome (outcome_in m.slot)
-MayTake setup (Event.Plan i table) m = length table ≡ m.vector.room
-MayTake setup (Event.Recover i) m = Unit {0}
-MayTake setup (Event.Crash i) m = Unit {0}
-MayTake setup (Event.Check i) m = Unit {0}
-MayTake setup (Event.Timeout i) m = Unit {0}
-MayTake setup (Event.Run i) m = Unit {0}
-MayTake setup (Event.Move i) m = Unit {0}
+MayApply setup (Event.Lose i) m = IsTrue (holds_call (λ f. not (is_failed f)) m.slot)
+MayApply setup (Event.Return i) m = IsSome (outcome_in m.slot)
+MayApply setup (Event.Plan i table) m = length table ≡ m.vector.room
+MayApply setup (Event.Recover i) m = Unit {0}
+MayApply setup (Event.Crash i) m = Unit {0}
+MayApply setup (Event.Check i) m = Unit {0}
+MayApply setup (Event.Timeout i) m = Unit {0}
+MayApply setup (Event.Run i) m = ⊥
+MayApply setup (Event.Move i) m = Unit {0}
 
 -- the call of `calling` was sent and may run at `called`
 pub record CanExchange (calling called : MemberState) : Type 0 where
@@ -178,3 +170,12 @@ pub record CanExchange (calling called : MemberState) : Type 0 where
   pub up : called.vector.vector.status ≢ Down
   pub room : called.generation + 1 < 2 ^ 32
   pub carries : IfSome calling.slot.content (λ p. CarriesFor p.call p.table called.vector.room)
+
+-- the call in node i's slot may run: it was sent, and goes to another node, which is up
+pub record CanRun (ms : List MemberState) (i : ℕ) : Type 0 where
+  pub call : SlotCall
+  pub content : (kept_of ms i).slot.content ≡ Some call
+  pub caller : i ≤ length ms
+  pub callee : (0 < call.call.callee) × (call.call.callee ≤ length ms)
+  pub other : call.call.callee ≢ i
+  pub can : CanExchange (kept_of ms i) (kept_of ms call.call.callee)

@@ -1,5 +1,5 @@
 use Rattle.std.proofs.Common.{arith}
-use Rattle.bully_world.proofs.member.Member.take.Goals as goal
+use Rattle.bully_world.proofs.member.Member.apply.Goals as goal
 
 -- a crash leaves the same under every setup
 pub returns-in-Crash-clause-after : goal.returns-in-Crash-clause-after

@@ -17,16 +17,17 @@ use Rattle.bully_steps.specs.declared.point.Point.{Point}
 use Rattle.bully_steps.specs.declared.point.Point.TheVariants.{Idle, Asking, Halting, Announcing, Planning, Readying, Checking, Inquiring}
 use Rattle.bully_steps.specs.declared.point.Want.{Want}
 use Rattle.bully_steps.specs.Point.{offered, IsPointOf}
+use Rattle.bully_steps.specs.ProcedureState.{IsCall}
 use Rattle.bully_world.specs.declared.event.Event.{Event}
-use Rattle.bully_world.specs.Cause.{cause, node_of, in_phase}
+use Rattle.bully_world.specs.Cause.{cause, node_of, in_phase, is_call}
 use Rattle.bully_world.specs.NodeInvariant.{WorldInvariant, NodeInvariant, SuitsPhase, SuitsPoint, SuitsPending}
-use Rattle.bully_world.specs.State.{MemberState, empty_state, member_of, members_of, AllKept, IsKept}
+use Rattle.bully_world.specs.State.{kept_of, MemberState, empty_state, member_of, members_of, AllKept, IsKept}
 use Rattle.bully_world.specs.Step.{carried}
-use Rattle.bully_world.specs.Taken.{taken, taken_here, answer_taken, answer_here, MayTake}
+use Rattle.bully_world.specs.StateAfter.{state_after, node_after, answer_after, node_answer, MayApply}
 use Rattle.bully_world.specs.World.{World, Member, member}
 use Rattle.bully_base.proofs.PlaceLemmas.{at_node-place}
-use Rattle.bully_world.proofs.MembersOf.{kept_at, member-members_of, members_of-length}
-use Rattle.bully_world.proofs.TakenLemmas.{start_facts, lose_facts, return_facts, plan_facts}
+use Rattle.bully_world.proofs.MembersOf.{member-members_of, members_of-length}
+use Rattle.bully_world.proofs.StateAfterLemmas.{start_facts, lose_facts, return_facts, plan_facts}
 
 -- there is room for the event, and its node is one of the setup's
 pub room_of : (setup : Setup) (w : World) (count : ℕ) (e : Event) → cause setup w count e ≡ None → count < setup.events_max
@@ -84,6 +85,13 @@ none_content : (g : ℕ) (q : Option SlotCall) → option_map (pending_of g) q �
 none_content g None e = refl
 none_content g (Some p) e = absurd (cc e)
 
+is_call_there : (q : Want) → is_call q ≡ true → IsCall q
+is_call_there (Want.Start call) t = tt
+is_call_there Want.Nothing t = absurd (cc t)
+is_call_there Want.Move t = absurd (cc t)
+is_call_there Want.Plan t = absurd (cc t)
+is_call_there Want.Await t = absurd (cc t)
+
 -- a test of the phase, of the call in the slot
 pub content_test : (test : Phase → Bool) (g : ℕ) (q : Option SlotCall) → in_phase test (option_map (pending_of g) q) ≡ true → option_map_or (λ p. test p.phase) q false ≡ true
 content_test test g None t = absurd (cc t)
@@ -104,66 +112,56 @@ some_outcome setup i v at g (Some p) s t = by_phase p.phase s.phase t
     by_phase Phase.Failed s t = refl
 
 module _ (setup : Setup) (w : World) (count : ℕ) (m : MemberState) where
-  pub may_take : (e : Event) → member w (node_of e) ≡ member_of m → NodeInvariant setup (node_of e) (member_of m) → IsKept setup count (node_of e) m → cause setup w count e ≡ None → MayTake setup e m
-  may_take (Event.Recover i) here fits kept n = tt
-  may_take (Event.Crash i) here fits kept n = tt
-  may_take (Event.Check i) here fits kept n = tt
-  may_take (Event.Timeout i) here fits kept n = tt
-  may_take (Event.Start i) here fits kept n =
-      let free = ap (λ (x : Member). x.pending) (sym here) ∙ (start_facts setup w count i n).1 in
-      (none_content m.generation m.slot.content free, λ call offers. carries setup i m call fits kept.slot_room offers)
-  may_take (Event.Run i) here fits kept n = tt
-  may_take (Event.Lose i) here fits kept n =
+  pub may_apply : (e : Event) → member w (node_of e) ≡ member_of m → NodeInvariant setup (node_of e) (member_of m) → IsKept setup count (node_of e) m → cause setup w count e ≡ None → ((i : ℕ) → e ≡ Event.Run i → ⊥) → MayApply setup e m
+  may_apply (Event.Recover i) here fits kept n other = tt
+  may_apply (Event.Crash i) here fits kept n other = tt
+  may_apply (Event.Check i) here fits kept n other = tt
+  may_apply (Event.Timeout i) here fits kept n other = tt
+  may_apply (Event.Start i) here fits kept n other =
+      let facts = start_facts setup w count i n in
+      let free = ap (λ (x : Member). x.pending) (sym here) ∙ facts.1 in
+      let offers = ap (λ (x : Member). is_call (offered setup x.vector.coordinator x.point)) (sym here) ∙ facts.2 in
+      (is_call_there (offered setup m.vector.vector.coordinator m.point) offers, none_content m.generation m.slot.content free, λ call offers. carries setup i m call fits kept.slot_room offers)
+  may_apply (Event.Run i) here fits kept n other = other i refl
+  may_apply (Event.Lose i) here fits kept n other =
       content_test (λ f. not (is_failed f)) m.generation m.slot.content (ap (λ (x : Member). in_phase (λ f. not (is_failed f)) x.pending) (sym here) ∙ (lose_facts setup w count i n).0)
-  may_take (Event.Return i) here fits kept n =
+  may_apply (Event.Return i) here fits kept n other =
       some_outcome setup i m.vector.vector m.point m.generation m.slot.content fits.by_call (ap (λ (x : Member). in_phase (λ f. not (is_sent f)) x.pending) (sym here) ∙ return_facts setup w count i n)
-  may_take (Event.Move i) here fits kept n = tt
-  may_take (Event.Plan i table) here fits kept n = (plan_facts setup w count i table n).2 ∙ sym kept.vector_room
+  may_apply (Event.Move i) here fits kept n other = tt
+  may_apply (Event.Plan i table) here fits kept n other = (plan_facts setup w count i table n).2 ∙ sym kept.vector_room
 
--- what is taken of an event other than a Run is its node's own part
-pub taken-here : (setup : Setup) (ms : List MemberState) (e : Event) → ((i : ℕ) → e ≡ Event.Run i → ⊥) → taken setup ms e ≡ put_node ms (node_of e) (taken_here setup e (kept_at ms (node_of e)))
-taken-here setup ms (Event.Recover i) n = refl
-taken-here setup ms (Event.Crash i) n = refl
-taken-here setup ms (Event.Check i) n = refl
-taken-here setup ms (Event.Timeout i) n = refl
-taken-here setup ms (Event.Start i) n = refl
-taken-here setup ms (Event.Run i) n = absurd (n i refl)
-taken-here setup ms (Event.Lose i) n = refl
-taken-here setup ms (Event.Return i) n = refl
-taken-here setup ms (Event.Move i) n = refl
-taken-here setup ms (Event.Plan i table) n = refl
-
-pub answer-here : (ms : List MemberState) (e : Event) → ((i : ℕ) → e ≡ Event.Run i → ⊥) → answer_taken ms e ≡ answer_here e (kept_at ms (node_of e))
-answer-here ms (Event.Recover i) n = refl
-answer-here ms (Event.Crash i) n = refl
-answer-here ms (Event.Check i) n = refl
-answer-here ms (Event.Timeout i) n = refl
-answer-here ms (Event.Start i) n = refl
-answer-here ms (Event.Run i) n = absurd (n i refl)
-answer-here ms (Event.Lose i) n = refl
-answer-here ms (Event.Return i) n = refl
-answer-here ms (Event.Move i) n = refl
-answer-here ms (Event.Plan i table) n = refl
+-- the members by which an event other than a Run is applied make of it what the definitions say
+pub node_writes : (setup : Setup) (ms : List MemberState) (e : Event) → ((i : ℕ) → e ≡ Event.Run i → ⊥) → (state_after setup ms e ≡ put_node ms (node_of e) (node_after setup e (kept_of ms (node_of e)))) × (answer_after ms e ≡ node_answer e (kept_of ms (node_of e)))
+node_writes setup ms (Event.Run i) n = absurd (n i refl)
+node_writes setup ms (Event.Recover i) n = (refl, refl)
+node_writes setup ms (Event.Crash i) n = (refl, refl)
+node_writes setup ms (Event.Check i) n = (refl, refl)
+node_writes setup ms (Event.Timeout i) n = (refl, refl)
+node_writes setup ms (Event.Start i) n = (refl, refl)
+node_writes setup ms (Event.Lose i) n = (refl, refl)
+node_writes setup ms (Event.Return i) n = (refl, refl)
+node_writes setup ms (Event.Move i) n = (refl, refl)
+node_writes setup ms (Event.Plan i table) n = (refl, refl)
 
 -- what an event that nothing refuses asks of its node's member
-pub record Takes (setup : Setup) (e : Event) (m : MemberState) : Type 0 where
+pub record Applicable (setup : Setup) (e : Event) (m : MemberState) : Type 0 where
   pub at : IsPointOf setup (node_of e) m.point
   pub room : m.generation + 1 < 2 ^ 32
-  pub may : MayTake setup e m
+  pub may : MayApply setup e m
 
-pub takes : (setup : Setup) (count : ℕ) (ms : List MemberState) → WorldInvariant setup (members_of ms) → AllKept setup count ms → count + 1 < 2 ^ 32 → (e : Event) → cause setup (members_of ms) count e ≡ None → Takes setup e (kept_at ms (node_of e))
-takes setup count ms fit kept room e free = record { at = fits.is_point; room = omega (arith, here.generation, room); may = may_take setup (members_of ms) count (kept_at ms (node_of e)) e is fits here free }
+pub applicable : (setup : Setup) (count : ℕ) (ms : List MemberState) → WorldInvariant setup (members_of ms) → AllKept setup count ms → count + 1 < 2 ^ 32 → (e : Event) → cause setup (members_of ms) count e ≡ None → ((i : ℕ) → e ≡ Event.Run i → ⊥) → Applicable setup e (kept_of ms (node_of e))
+applicable setup count ms fit kept room e free other = record { at = fits.is_point; room = omega (arith, here.generation, room); may = may_apply setup (members_of ms) count (kept_of ms (node_of e)) e is fits here free other }
   where
-    is : member (members_of ms) (node_of e) ≡ member_of (kept_at ms (node_of e))
+    is : member (members_of ms) (node_of e) ≡ member_of (kept_of ms (node_of e))
     is = member-members_of ms (node_of e)
 
-    fits : NodeInvariant setup (node_of e) (member_of (kept_at ms (node_of e)))
+    fits : NodeInvariant setup (node_of e) (member_of (kept_of ms (node_of e)))
     fits = subst (NodeInvariant setup (node_of e)) is (fit.fits (node_of e))
 
-    here : IsKept setup count (node_of e) (kept_at ms (node_of e))
+    here : IsKept setup count (node_of e) (kept_of ms (node_of e))
     here = kept (node_of e) (node_in_setup setup (members_of ms) count e free)
 
 -- the place of the event's node, by its index
-pub place_of_node : (setup : Setup) (count : ℕ) (ms : List MemberState) → WorldInvariant setup (members_of ms) → (e : Event) → cause setup (members_of ms) count e ≡ None → (k : ℕ) (m : MemberState) → k + 1 ≡ node_of e → kept_at ms (node_of e) ≡ slice_index_or ms k m
+pub place_of_node : (setup : Setup) (count : ℕ) (ms : List MemberState) → WorldInvariant setup (members_of ms) → (e : Event) → cause setup (members_of ms) count e ≡ None → (k : ℕ) (m : MemberState) → k + 1 ≡ node_of e → kept_of ms (node_of e) ≡ slice_index_or ms k m
 place_of_node setup count ms fit e free k m is =
     at_node-place (empty_state 0) m ms k (node_of e) is (omega (arith, members_of-length ms, fit.count, (node_in_setup setup (members_of ms) count e free).1, is))
