@@ -1,3 +1,2 @@
 pub mod KnownBytesLemmas
 pub mod AnswerLemmas
-pub mod WordsLemmas

@@ -1,4 +1,3 @@
-pub mod Words
 pub mod Answer
 pub mod PlanText
 pub mod RefusalText

@@ -1,13 +1,13 @@
 ghost use Rattle.std.specs.Prelude.{◌≡◌, ◌≤◌, ◌⊎◌, ◌∷◌, [], true, false, codes, map, IfSome};
 ghost use Rattle.clap.specs.Words.{kind_of};
-ghost use Rattle.bully.specs.Words.{ParsesAsCheck, is_help, is_mistake, asks_for_help};
+ghost use Rattle.bully_words.specs.Words.{ParsesAsCheck, is_help, is_mistake, asks_for_help};
 ghost use Rattle.bully.specs.Answer.{IsAnswer, Tells, stop_line};
 
 use crate::checking::answer_check;
 use crate::playing::answer_play;
 use crate::tables::answer_table;
 use crate::telling::{Stop, answer_stop, finish};
-use crate::words::{Action, action_of};
+use bully_words::{Action, action_of};
 use clap::Error;
 use clap::error::ErrorKind;
 use std::convert::AsStr;

@@ -1,10 +1,10 @@
 use Rattle.std.proofs.Common.{◌⊎◌, inl, inr, ap, sym, subst, map, arith}
 use Rattle.clap.specs.Words.{fault_of}
-use Rattle.bully.specs.Words.{ParsesAsCheck, program}
+use Rattle.bully_words.specs.Words.{ParsesAsCheck, program}
 use Rattle.bully.specs.declared.telling.Stop.{Stop}
 use Rattle.bully.proofs.KnownBytesLemmas.{keeps-same}
 use Rattle.bully.proofs.AnswerLemmas.{stop-case}
-use Rattle.bully.proofs.WordsLemmas.{check-parses, mistake-kind, help-kind}
+use Rattle.bully_words.proofs.WordsLemmas.{check-parses, mistake-kind, help-kind}
 use Rattle.bully.proofs.answering.answer.Goals as goal
 
 -- a stop at a write is a stop
