@@ -1,3 +1,5 @@
 pub mod Answer
 pub mod PlanText
 pub mod RefusalText
+pub mod Wanted
+pub mod ConfigAnswer
