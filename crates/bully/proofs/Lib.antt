@@ -1,3 +1,4 @@
 pub mod KnownBytesLemmas
 pub mod AnswerLemmas
-pub mod WordsLemmas
+mod MemberLemmas
+mod ConfigLemmas

@@ -1,4 +1,5 @@
-pub mod Words
 pub mod Answer
 pub mod PlanText
 pub mod RefusalText
+pub mod Wanted
+pub mod ConfigAnswer

@@ -1,9 +1,25 @@
--- Why a command that reads a configuration does nothing: its status, and its line on the errors.
+-- Why a command that reads a configuration does nothing: what it is of each fault, its status, and its line on the errors.
 use Rattle.std.specs.Prelude.{ℕ, List, ◌++◌, codes}
 use Rattle.bully_config.specs.Keys.{fault_text}
+use Rattle.bully_config.specs.declared.fault.ConfigFault.{ConfigFault}
+use Rattle.bully_table.specs.declared.planning.PlanFault.{PlanFault}
 use Rattle.bully_table.specs.declared.table.TableFault.{TableFault}
 use Rattle.bully.specs.declared.refusals.Refusal.{Refusal}
+use Rattle.bully.specs.declared.telling.Stop.{Stop}
 use Rattle.bully.specs.Answer.{stop_line}
+
+-- the refusal of a fault; want of memory is no fault of form
+abbrev pub refusal_of_config : ConfigFault → Refusal
+refusal_of_config ConfigFault.OutOfMemory = Refusal.Stop Stop.OutOfMemory
+refusal_of_config fault = Refusal.Config fault
+
+abbrev pub refusal_of_table : TableFault → Refusal
+refusal_of_table TableFault.OutOfMemory = Refusal.Stop Stop.OutOfMemory
+refusal_of_table fault = Refusal.Old fault
+
+abbrev pub refusal_of_plan : PlanFault → Refusal
+refusal_of_plan PlanFault.NoMember = Refusal.Member
+refusal_of_plan PlanFault.OutOfMemory = Refusal.Stop Stop.OutOfMemory
 
 abbrev pub table_fault_text : TableFault → List ℕ
 table_fault_text TableFault.Length = codes "Length"

@@ -1,13 +1,14 @@
-ghost use Rattle.std.specs.Prelude.{◌≡◌, ◌≤◌, ◌⊎◌, ◌∷◌, [], true, false, codes, map, IfSome};
+ghost use Rattle.std.specs.Prelude.{◌≡◌, ◌≤◌, ◌⊎◌, ◌∷◌, ℕ, List, [], true, false, codes, map, IfSome};
 ghost use Rattle.clap.specs.Words.{kind_of};
-ghost use Rattle.bully.specs.Words.{ParsesAsCheck, is_help, is_mistake, asks_for_help};
+ghost use Rattle.bully_words.specs.Words.{ParsesAsCheck, ParsesAsPlay, ParsesAsTable, is_help, is_mistake, asks_for_help};
 ghost use Rattle.bully.specs.Answer.{IsAnswer, Tells, stop_line};
+ghost use Rattle.bully.specs.ConfigAnswer.{IsPlayAnswer, IsTableAnswer};
 
 use crate::checking::answer_check;
 use crate::playing::answer_play;
 use crate::tables::answer_table;
 use crate::telling::{Stop, answer_stop, finish};
-use crate::words::{Action, action_of};
+use bully_words::{Action, action_of};
 use clap::Error;
 use clap::error::ErrorKind;
 use std::convert::AsStr;
@@ -31,6 +32,8 @@ pub fn answer<H: Files + AllocGlobal, S: AsStr, R: Read + Drop, W: Write, E: Wri
 ) -> u8
     ensures check { map S.text words.now ≡ codes "check" ∷ [] → IfSome (R.remaining input) (λ bytes. IsAnswer bytes (W.contents output.old) (W.contents output.new) (E.contents errors.old) (E.contents errors.new) result) }
     ensures parsed { ParsesAsCheck (map S.text words.now) → IfSome (R.remaining input) (λ bytes. IsAnswer bytes (W.contents output.old) (W.contents output.new) (E.contents errors.old) (E.contents errors.new) result) }
+    ensures play { (path : _) → ParsesAsPlay (map S.text words.now) path → (bytes : List ℕ) × IsPlayAnswer bytes (W.contents output.old) (W.contents output.new) (E.contents errors.old) (E.contents errors.new) result }
+    ensures table { (path : _) (members : _) (old : _) → ParsesAsTable (map S.text words.now) path members old → (bytes : List ℕ) × IsTableAnswer bytes members old (W.contents output.old) (W.contents output.new) (E.contents errors.old) (E.contents errors.new) result }
     ensures mistake { is_mistake (map S.text words.now) ≡ true → ((result ≡ 2) ⊎ ((result ≡ 4) × Tells (E.contents errors.old) (E.contents errors.new) (stop_line Stop.OutOfMemory))) × (output.new ≡ output.old) }
     ensures help { asks_for_help (map S.text words.now) ≡ true → ((result ≡ 0) × (errors.new ≡ errors.old)) ⊎ ((result ≡ 4) × (stop : Stop) × Tells (E.contents errors.old) (E.contents errors.new) (stop_line stop)) }
     ensures silent { (result ≡ 2) ⊎ (result ≡ 3) → output.new ≡ output.old }

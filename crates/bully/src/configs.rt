@@ -1,22 +1,29 @@
-use crate::refusals::Refusal;
+ghost use Rattle.std.specs.Prelude.{◌≢◌, Ok, Err, IfOk, IfErr};
+ghost use Rattle.bully.specs.Wanted.{ReadsAs};
+
 use crate::telling::Stop;
 use bully_config::{Config, ConfigFault};
+use std::alloc::Global;
 use std::io::ErrorKind;
 use std::rt::Files;
 use std::{fs, str};
 
-/// Reads the configuration at the path. Refused as `Read` where the file can't be read, as the configuration's own
-/// fault, which is `Toml` for bytes that are no text, and for want of memory.
-pub fn read_config<H: Files + AllocGlobal>(rt: &H, path: &str) -> Result<Config, Refusal> {
-    let bytes = match fs::read(rt, path) {
-        Ok(bytes) => bytes,
-        Err(error) if error.kind() == ErrorKind::OutOfMemory => {
-            return Err(Refusal::Stop(Stop::OutOfMemory));
-        }
-        Err(_) => return Err(Refusal::Stop(Stop::Read)),
-    };
-    match str::from_utf8(bytes.as_slice()) {
-        Ok(text) => Ok(Config::read(rt.alloc(), text)?),
-        Err(_) => Err(Refusal::Config(ConfigFault::Toml)),
+/// The bytes of the file at the path. Refused as `Read` where it can't be read, and for want of memory.
+pub fn bytes_at<H: Files + AllocGlobal>(rt: &H, path: &str) -> Result<Vec<u8>, Stop> {
+    match fs::read(rt, path) {
+        Ok(bytes) => Ok(bytes),
+        Err(error) if error.kind() == ErrorKind::OutOfMemory => Err(Stop::OutOfMemory),
+        Err(_) => Err(Stop::Read),
+    }
+}
+
+/// Reads the configuration of a file's bytes. Bytes that are no UTF-8 text are refused as `Toml`.
+pub fn config_of(alloc: Global, bytes: &[u8]) -> Result<Config, ConfigFault>
+    ensures ok { IfOk result (λ config. ReadsAs bytes.now (Ok config)) }
+    ensures fault { IfErr result (λ fault. fault ≢ ConfigFault.OutOfMemory → ReadsAs bytes.now (Err fault)) }
+{
+    match str::from_utf8(bytes) {
+        Ok(text) => Config::read(alloc, text),
+        Err(_) => Err(ConfigFault::Toml),
     }
 }

@@ -12,9 +12,6 @@ mod playing;
 mod refusals;
 mod tables;
 mod telling;
-#[cfg(test)]
-mod tests;
-mod words;
 
 use crate::answering::answer;
 use crate::telling::{Stop, answer_stop, tell};

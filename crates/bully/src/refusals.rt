@@ -1,6 +1,6 @@
 ghost use Rattle.std.specs.Prelude.{◌≡◌, ◌⊎◌, ◌++◌, IfOk, IfErr, codes, string_bytes};
 ghost use Rattle.bully.specs.Answer.{Tells, stop_line};
-ghost use Rattle.bully.specs.RefusalText.{refusal_line, refusal_status, table_fault_text};
+ghost use Rattle.bully.specs.RefusalText.{refusal_line, refusal_of_config, refusal_of_plan, refusal_of_table, refusal_status, table_fault_text};
 
 use crate::telling::{Stop, answer_stop, tell};
 use bully_base::OutOfMemory;
@@ -23,6 +23,8 @@ pub enum Refusal {
 }
 
 impl From<ConfigFault> for Refusal {
+    ghost from_gives = { λ fault refusal. refusal ≡ refusal_of_config fault };
+
     fn from(fault: ConfigFault) -> Refusal {
         match fault {
             ConfigFault::OutOfMemory => Refusal::Stop(Stop::OutOfMemory),
@@ -32,6 +34,8 @@ impl From<ConfigFault> for Refusal {
 }
 
 impl From<TableFault> for Refusal {
+    ghost from_gives = { λ fault refusal. refusal ≡ refusal_of_table fault };
+
     fn from(fault: TableFault) -> Refusal {
         match fault {
             TableFault::OutOfMemory => Refusal::Stop(Stop::OutOfMemory),
@@ -41,6 +45,8 @@ impl From<TableFault> for Refusal {
 }
 
 impl From<PlanFault> for Refusal {
+    ghost from_gives = { λ fault refusal. refusal ≡ refusal_of_plan fault };
+
     fn from(fault: PlanFault) -> Refusal {
         match fault {
             PlanFault::NoMember => Refusal::Member,

@@ -1,0 +1,22 @@
+use Rattle.std.proofs.Common.{subst, map, IfOk, Some, ◌≡◌}
+use Rattle.clap.specs.Words.{subcommand_of}
+use Rattle.bully_words.specs.Words.{asked_in, checking, planning, playing, program, texts_of}
+use Rattle.bully_words.proofs.ActionLemmas.{answer-asked, answer-checked, check-asks}
+use Rattle.bully_words.proofs.action.action_of.Goals as goal
+
+pub returns-in-Ok-clause-asked : goal.returns-in-Ok-clause-asked
+returns-in-Ok-clause-asked g c = subst (λ y. IfOk c.action_in.result (λ action. asked_in y ≡ Some (texts_of action))) c.in-Ok.ensures.rows c.action_in.ensures.asked
+
+pub returns-in-Ok-clause-check : goal.returns-in-Ok-clause-check
+returns-in-Ok-clause-check g c = λ parses.
+    answer-checked c.action_in.result
+    (answer-asked c.action_in.result _ (subcommand_of program (map g.S.AsStr.text c.args.words.now)) checking c.in-Ok.ensures.rows
+    (check-asks (subcommand_of program (map g.S.AsStr.text c.args.words.now)) parses.1) c.action_in.ensures.asked c.action_in.ensures.nothing)
+
+pub returns-in-Ok-clause-play : goal.returns-in-Ok-clause-play
+returns-in-Ok-clause-play g c = λ path parses.
+    answer-asked c.action_in.result _ (subcommand_of program (map g.S.AsStr.text c.args.words.now)) (playing path) c.in-Ok.ensures.rows parses.1 c.action_in.ensures.asked c.action_in.ensures.nothing
+
+pub returns-in-Ok-clause-table : goal.returns-in-Ok-clause-table
+returns-in-Ok-clause-table g c = λ path members old parses.
+    answer-asked c.action_in.result _ (subcommand_of program (map g.S.AsStr.text c.args.words.now)) (planning path members old) c.in-Ok.ensures.rows parses.1 c.action_in.ensures.asked c.action_in.ensures.nothing

@@ -1,0 +1,113 @@
+-- What the words after the program's name ask for, as clap reads them.
+use Rattle.std.specs.Prelude.{◌≡◌, Bool, true, false, not, ◌&&◌, List, [], ◌∷◌, Option, Some, None, map, option_and_then, option_map, codes, if◌then◌else◌}
+use Rattle.std.specs.List.{list_all}
+use Rattle.std.specs.Str.{bytes_eq}
+use Rattle.clap.specs.Words.{App, Row, Rule, Text, Kinds, all_of, fault_of, first_of, new_app, new_rule, subcommand_of, takes, with_rule, with_subcommand}
+use Rattle.clap.specs.declared.builder.action.ArgAction.TheVariants.{Append, Set}
+use Rattle.clap.specs.declared.error.kind.ErrorKind.{ErrorKind}
+use Rattle.clap.specs.declared.error.kind.ErrorKind.TheVariants as kind
+use Rattle.bully_words.specs.declared.action.Action.{Action}
+
+-- the program before its commands, of which one is required; its words come without its name
+abbrev pub bare : App
+bare = record (new_app (codes "bully")) { top = record (new_app (codes "bully")).top { no_binary_name = true; subcommand_required = true } }
+
+-- the path of a configuration
+abbrev pub config_rule : Rule
+config_rule = record (new_rule (codes "CONFIG")) { required = true }
+
+-- the names of the members, one at least
+abbrev pub member_rule : Rule
+member_rule = record (new_rule (codes "MEMBER")) { required = true; action = Some Append }
+
+-- the owners of the old table, where there is one
+abbrev pub old_rule : Rule
+old_rule = record (new_rule (codes "old")) { long = Some (codes "old"); value_names = 1; action = Some Set }
+
+abbrev pub check_app : App
+check_app = new_app (codes "check")
+
+abbrev pub play_app : App
+play_app = with_rule (new_app (codes "play")) config_rule
+
+abbrev pub table_app : App
+table_app = with_rule (with_rule (with_rule (new_app (codes "table")) config_rule) member_rule) old_rule
+
+-- the program with the first of its commands, with two of them, and with all
+abbrev pub with_check : App
+with_check = with_subcommand bare check_app.top
+
+abbrev pub with_play : App
+with_play = with_subcommand with_check play_app.top
+
+abbrev pub program : App
+program = with_subcommand with_play table_app.top
+
+-- the command that the words name
+abbrev pub command_named : List Text → Option Text
+command_named words = option_map (λ p. p.0) (subcommand_of program words)
+
+-- what words ask for: to judge the input; to play the configuration at a path; or to plan a table for the
+-- configuration at a path, members by name, and the owners in an old table
+pub data Asked : Type 0 where
+  checking : Asked
+  playing : Text → Asked
+  planning : Text → List Text → Option Text → Asked
+
+-- with the values of CONFIG, MEMBER and `--old`, where the first two are there
+abbrev pub planning_of : Option Text → Option (List Text) → Option Text → Option Asked
+planning_of (Some path) (Some members) old = Some (planning path members old)
+planning_of _ _ old = None
+
+abbrev pub planning_in : List Row → Option Asked
+planning_in rows = planning_of (first_of (codes "CONFIG") rows) (all_of (codes "MEMBER") rows) (first_of (codes "old") rows)
+
+-- what a command asks for with what clap found behind it
+abbrev pub asked_by : Text → List Row → Option Asked
+asked_by name rows =
+    if bytes_eq name (codes "check") then Some checking
+    else if bytes_eq name (codes "play") then option_map playing (first_of (codes "CONFIG") rows)
+    else if bytes_eq name (codes "table") then planning_in rows
+    else None
+
+abbrev pub asked_in : Option (Text × List Row) → Option Asked
+asked_in command = option_and_then (λ p. asked_by p.0 p.1) command
+
+-- what the words ask for
+abbrev pub asked_for : List Text → Option Asked
+asked_for words = asked_in (subcommand_of program words)
+
+-- an action, with its texts
+abbrev pub texts_of : Action → Asked
+texts_of Action.Check = checking
+texts_of (Action.Play path) = playing path.now
+texts_of (Action.Table words) = planning words.config.now (map (λ s. s.now) words.members.items) (option_map (λ s. s.now) words.old)
+
+-- the words are good, and they are those of `check`
+abbrev pub ParsesAsCheck : List Text → Type 0
+ParsesAsCheck words = (takes program words ≡ true) × (command_named words ≡ Some (codes "check"))
+
+-- the words are good, and they are those of `play` with this CONFIG
+abbrev pub ParsesAsPlay : List Text → Text → Type 0
+ParsesAsPlay words path = (takes program words ≡ true) × (asked_for words ≡ Some (playing path))
+
+-- the words are good, and they are those of `table` with this CONFIG, these MEMBERs and this `--old`
+abbrev pub ParsesAsTable : List Text → Text → List Text → Option Text → Type 0
+ParsesAsTable words path members old = (takes program words ≡ true) × (asked_for words ≡ Some (planning path members old))
+
+abbrev pub is_help : ErrorKind → Bool
+is_help kind.DisplayHelp = true
+is_help kind.DisplayVersion = true
+is_help _ = false
+
+abbrev pub is_filled : Kinds → Bool
+is_filled [] = false
+is_filled (k ∷ ks) = true
+
+-- clap finds a mistake in the words
+abbrev pub is_mistake : List Text → Bool
+is_mistake words = is_filled (fault_of program words) && list_all (λ k. not (is_help k)) (fault_of program words)
+
+-- the words ask for help
+abbrev pub asks_for_help : List Text → Bool
+asks_for_help words = is_filled (fault_of program words) && list_all is_help (fault_of program words)
