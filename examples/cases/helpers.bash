@@ -12,11 +12,11 @@ faults() {
     yes "$(tail -n 4 one_node.toml)" | head -n $((4 * $1))
 }
 
-# Prints the configuration of 64 nodes that recover at the first turn and have so many turns.
+# Prints the configuration of so many nodes with 256 partitions, which recover at the first turn, and so many turns.
 group() {
-    printf 'nodes = 64\npartitions = 256\nevents = 1000000\nturns = %s\nnames = [%s]\n' \
-        "$1" "$(seq -s ', ' -f '"%g"' 1 64)"
-    seq -f $'[[fault]]\nat = 1\nnode = "%g"\nkind = "recover"' 1 64
+    printf 'nodes = %s\npartitions = 256\nevents = 1000000\nturns = %s\nnames = [%s]\n' \
+        "$1" "$2" "$(seq -s ', ' -f '"%g"' 1 "$1")"
+    seq -f $'[[fault]]\nat = 1\nnode = "%g"\nkind = "recover"' 1 "$1"
 }
 
 # Prints the configuration of one node with a comment of so many bytes.
