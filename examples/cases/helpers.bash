@@ -1,0 +1,50 @@
+# What the commands of the cases may use beside coreutils and `bully`.
+
+# Prints a trace of one node with so many claims behind its header, each of them true.
+claims() {
+    echo 'bully,1,1,1'
+    yes 'saw,1,down,-' | head -n "$1"
+}
+
+# Prints the configuration of one node with so many faults, each of them its recovery at the first turn.
+faults() {
+    head -n 5 one_node.toml
+    yes "$(tail -n 4 one_node.toml)" | head -n $((4 * $1))
+}
+
+# Prints the configuration of so many nodes with 256 partitions, which recover at the first turn, and so many turns.
+group() {
+    printf 'nodes = %s\npartitions = 256\nevents = 1000000\nturns = %s\nnames = [%s]\n' \
+        "$1" "$2" "$(seq -s ', ' -f '"%g"' 1 "$1")"
+    seq -f $'[[fault]]\nat = 1\nnode = "%g"\nkind = "recover"' 1 "$1"
+}
+
+# Prints the configuration of one node with a comment of so many bytes.
+comment() {
+    cat one_node.toml
+    printf '# '
+    head -c "$1" /dev/zero | tr '\0' x
+}
+
+# Runs a command whose standard output is a pipe that nobody reads any more.
+without_reader() {
+    mkfifo pipe
+    exec {both}<>pipe {pipe}>pipe {both}>&-
+    "$@" >&"$pipe"
+}
+
+# Runs a command as a user to whom no file of others is open: root reads every file.
+as_nobody() {
+    if [[ $EUID == 0 ]]; then
+        setpriv --reuid=65534 --regid=65534 --clear-groups "$@"
+    else
+        "$@"
+    fi
+}
+
+# Runs a command in at most so many KiB of address space. The program needs some 3,200 to start.
+within() {
+    ulimit -v "$1"
+    shift
+    "$@"
+}
