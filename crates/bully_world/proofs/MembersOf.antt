@@ -54,9 +54,6 @@ map-replicate : (n p : ℕ) → map member_of (replicate n (empty_state p)) ≡ 
 map-replicate zero p = refl
 map-replicate (suc n) p = ap (λ ys. empty_member ∷ ys) (map-replicate n p)
 
-abbrev empty_world : ℕ → World
-empty_world n = record { members = replicate n empty_member }
-
 -- new nodes stand for the first world
 pub members_of-new : (n p : ℕ) → members_of (replicate n (empty_state p)) ≡ record { members = replicate n empty_member }
 members_of-new n p = ap world_from (map-replicate n p)

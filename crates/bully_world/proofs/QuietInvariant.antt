@@ -1,12 +1,12 @@
 -- Recovery, crash, and the events by which an idle node begins a procedure keep what holds of a node.
-use Rattle.std.proofs.Common.{◌≡◌, ◌≢◌, ℕ, ◌<◌, Option, Some, None, arith, refl, inl, inr}
+use Rattle.std.proofs.Common.{◌≡◌, ◌≢◌, ℕ, Option, Some, None, arith, refl, inl, inr}
 use Rattle.bully_base.specs.declared.node.Status.TheVariants.{Down}
 use Rattle.bully_base.specs.Setup.{Setup, IsNode}
 use Rattle.bully_calls.specs.Pending.{Pending}
 use Rattle.bully_handlers.specs.Vector.{Vector, crashed, recovered}
 use Rattle.bully_steps.specs.declared.point.Point.{Point}
 use Rattle.bully_steps.specs.declared.point.Point.TheVariants.{Idle}
-use Rattle.bully_steps.specs.NextPoint.{election, checking_from, checked, timed_out}
+use Rattle.bully_steps.specs.NextPoint.{election, checked, timed_out}
 use Rattle.bully_steps.specs.Point.{IsPointOf}
 use Rattle.bully_world.specs.NodeInvariant.{NodeInvariant, SuitsPoint, SuitsPending, IsBeginning}
 use Rattle.bully_world.specs.World.{Member, empty_member}
@@ -51,15 +51,6 @@ begin_fits setup i m p fits up idle begins is_point suits_point = record {
     suits : (c : Option Pending) → SuitsPending setup i m.vector m.point c → SuitsPending setup i m.vector p c
     suits None s = tt
     suits (Some c) s = record { live = λ e. absurd (grind (arith, idle, s.live e)); orphan = λ e. begins; to_node = s.to_node; callee = s.callee; table = s.table; phase = s.phase }
-
-pub checking_is_point : (setup : Setup) (i k : ℕ) → 0 < k → IsPointOf setup i (checking_from setup i k)
-checking_is_point setup i k l = grind (arith, l)
-
-checking_begins : (setup : Setup) (i k : ℕ) → IsBeginning i (checking_from setup i k)
-checking_begins setup i k = grind arith
-
-pub checking_suits : (setup : Setup) (i k : ℕ) (v : Vector) → SuitsPoint i v (checking_from setup i k)
-checking_suits setup i k v = grind arith
 
 pub check_fits : (setup : Setup) (i : ℕ) (m : Member) → NodeInvariant setup i m → m.vector.status ≢ Down → m.point ≡ Idle → NodeInvariant setup i (record m { point = checked setup i m.vector.status m.vector.coordinator })
 check_fits setup i m fits up idle = begin_fits setup i m _ fits up idle (grind arith) (grind arith) (grind arith)

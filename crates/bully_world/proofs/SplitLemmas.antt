@@ -1,6 +1,6 @@
 -- Writes to the two parts of a list are writes to the list.
-use Rattle.std.proofs.Common.{◌≡◌, ◌≢◌, ℕ, zero, suc, ◌<◌, List, [], ◌∷◌, ◌++◌, Option, Some, None, arith, refl, ap, take, drop, length}
-use Rattle.std.specs.Prelude.{slice_set, IfSome}
+use Rattle.std.proofs.Common.{◌≡◌, ◌≢◌, ℕ, zero, suc, ◌<◌, List, [], ◌∷◌, ◌++◌, arith, refl, ap, take, drop, length}
+use Rattle.std.specs.Prelude.{slice_set}
 
 -- the earlier place in the front, the later one at the head of the rest
 pub set-split : {A : Type 0} (xs : List A) (early late : ℕ) (a b : A) → early < late → late < length xs
@@ -22,7 +22,3 @@ set-set (x ∷ xs) zero zero a b n = absurd (n refl)
 set-set (x ∷ xs) zero (suc j) a b n = refl
 set-set (x ∷ xs) (suc i) zero a b n = refl
 set-set (x ∷ xs) (suc i) (suc j) a b n = ap (λ ys. x ∷ ys) (set-set xs i j a b (λ e. n (ap suc e)))
-
-pub if_some-from : {A : Type 0} (q : Option A) (P Q : A → Type 0) → ((x : A) → P x → Q x) → IfSome q P → IfSome q Q
-if_some-from None P Q f h = tt
-if_some-from (Some x) P Q f h = f x h

@@ -93,9 +93,6 @@ wants setup i g m h se a free = grind (arith, se, free, a.awaits, a.point, a.coo
 up_if : (setup : Setup) (i : ℕ) (m : Member) → NodeInvariant setup i m → offered setup m.vector.coordinator m.point ≢ Want.Nothing → m.vector.status ≢ Down
 up_if setup i m fits offers down = offers (grind (arith, fits.down_idle down))
 
-up_if_call : (setup : Setup) (i : ℕ) (m : Member) (c : Pending) → NodeInvariant setup i m → m.pending ≡ Some c → m.vector.status ≢ Down
-up_if_call setup i m c fits is down = grind (arith, is, fits.down_free down)
-
 start_possible : (setup : Setup) (w : World) (count i : ℕ) → count < setup.events_max → IsNode setup i → IsUp w i → pending w i ≡ None → is_call (offer setup w i) ≡ true → cause setup w count (Event.Start i) ≡ None
 start_possible setup w count i room node up free offers = grind (arith, nat_tests, room, node, up, free, offers)
 
