@@ -149,9 +149,6 @@ highest-none marks ms n number last is l same e = rw (← is, members-below mark
 pub members-within : (marks : List Bool) (ms : List ℕ) (n : ℕ) → members_among marks n ≡ ms → IsFallingBelow (n + 1) ms
 members-within marks ms n is = rw (← is) (members-falling marks n)
 
-pub below-all : (marks : List Bool) (ms : List ℕ) (n : ℕ) → members_among marks n ≡ ms → below_node (n + 1) ms ≡ ms
-below-all marks ms n is = below_node-all (n + 1) ms (n + 1) (omega arith) (members-within marks ms n is)
-
 -- Membership, as a list's.
 
 abbrev Has : List ℕ → ℕ → Type 0

@@ -27,18 +27,6 @@ use Rattle.bully_world.specs.declared.turn.StepKind.TheVariants.{Start, Lose, Re
 use Rattle.bully_world.proofs.LawfulLemmas.{lawful_more}
 use Rattle.bully_world.proofs.WorldLemmas.{first_is}
 
--- before any event nothing is recorded
-pub first_recorded : (c : Configuration) → IsRecorded c (record { world = first_state c.setup; rows = [] })
-first_recorded c = record {
-  setup = refl;
-  events = [];
-  answers = [];
-  rows = refl;
-  lawful = record { leads = first_is c.setup; bounded = omega arith };
-  counted = refl;
-  due = All-nil (IsDue c.faults);
-}
-
 -- an event more
 pub recorded_more : (c : Configuration) (e : Event) (before after : RecordingState) → Records e before after → IsDue c.faults e → IsRecorded c before → IsRecorded c after
 recorded_more c e before after r due is =

@@ -88,11 +88,8 @@ impl Recording {
 
     // A row for an event that was applied.
     fn record(&mut self, event: Event) -> Result<(), OutOfMemory>
-        ensures rows { OnOk result (self.new ≡ record self.old { rows = self.old.rows ++ Row.Event event ∷ [] }) }
-        ensures bounded { self.new.world.events ≤ self.new.world.setup.events_max }
+        ensures { OnOk result (self.new ≡ record self.old { rows = self.old.rows ++ Row.Event event ∷ [] }) }
     {
-        // Shows the proof that a lawful list leads to the world, no longer than its bound.
-        let _ = self.world.events();
         self.rows.push(Row::Event(event))?;
         Ok(())
     }

@@ -82,8 +82,6 @@ fn prepared(
     ensures state { IfOk result (λ p. state_of p ≡ prepared recording.now.world (state_of procedure)) }
     ensures owner { IfOk result (λ p. HasSameNode (state_of procedure) (state_of p)) }
 {
-    // Shows the proof that the node is one of the setup's, and that a lawful list leads to the world.
-    let _ = (procedure.setup(), recording.world().events());
     let task = recording.world().vector(procedure.node()).task();
     prepared_from(alloc, task, procedure)
 }
@@ -150,8 +148,6 @@ fn proceed(recording: &mut Recording, procedure: Procedure) -> Result<Procedure,
     ensures recorded { OnOk result (Continues recording.old recording.new) }
     ensures owner { IfOk result (λ p. HasSameNode (state_of procedure) (state_of p)) }
 {
-    // Shows the proof that the node is one of the setup's.
-    let _ = procedure.setup();
     match recording.world().next(&procedure) {
         Next::Resync => Ok(recording.world().procedure(procedure.node())),
         Next::Rest => Ok(procedure),

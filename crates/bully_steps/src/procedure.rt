@@ -106,9 +106,10 @@ impl Procedure {
         self.identity().setup
     }
 
-    /// The node.
+    /// The node, which is one of the setup's.
     pub fn node(&self) -> Node
-        ensures { result ≡ (state_of self.now).node }
+        ensures node { result ≡ (state_of self.now).node }
+        ensures state { IsProcedureState (state_of self.now) }
     {
         self.identity().node
     }

@@ -14,10 +14,6 @@ pub check-parses : ParsesAsCheck (codes "check" ∷ [])
 unfolding clap_on_literals
 check-parses = (refl, refl)
 
-pub no-words-mistaken : is_mistake [] ≡ true
-unfolding clap_on_literals
-no-words-mistaken = refl
-
 -- no kind of a list without help is one
 among-none : (kinds : Kinds) (k : ErrorKind) → list_all (λ x. not (is_help x)) kinds ≡ true → IsAmong k kinds → is_help k ≡ false
 among-none [] k all among = absurd among

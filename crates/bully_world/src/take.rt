@@ -8,7 +8,7 @@ ghost use Rattle.bully_world.specs.declared.turn.Next.{Next};
 
 use crate::World;
 use crate::event::{Event, Refused};
-use crate::turn::{StepKind, node_of};
+use crate::turn::StepKind;
 use bully_calls::{Answer, Outcome};
 use bully_steps::Procedure;
 
@@ -69,7 +69,7 @@ fn event_by(kind: StepKind, procedure: Procedure) -> (Event, Procedure)
     ensures left { state_of result.1 ≡ procedure_left kind (state_of procedure) }
     ensures state { IsProcedureState (state_of procedure) }
 {
-    let node = node_of(&procedure);
+    let node = procedure.node();
     match kind {
         StepKind::Start => (Event::Start(node), procedure),
         StepKind::Lose => (Event::Lose(node), procedure),

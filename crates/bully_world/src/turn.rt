@@ -64,7 +64,7 @@ impl World {
         requires { (state_of procedure.now).setup ≡ self.now.setup }
         ensures { result ≡ turn self.now (state_of procedure.now) }
     {
-        let node = node_of(procedure);
+        let node = procedure.node();
         if !agree_on_all(procedure, &self.procedure(node)) {
             return Next::Resync;
         }
@@ -76,15 +76,6 @@ impl World {
             _ => next_of_want(procedure),
         }
     }
-}
-
-/// The node of the procedure. It tells proofs what holds of every procedure, which they learn from `setup` alone.
-pub(crate) fn node_of(procedure: &Procedure) -> Node
-    ensures node { result ≡ (state_of procedure.now).node }
-    ensures state { IsProcedureState (state_of procedure.now) }
-{
-    let _ = procedure.setup();
-    procedure.node()
 }
 
 // Whether the slot holds a call of this generation of its caller.

@@ -1,4 +1,4 @@
-ghost use Rattle.std.specs.Prelude.{◌≡◌, ◌↔◌, ◌+◌, ◌<◌, ◌≤◌, ℕ, IfOk, OnOk, IfErr, IfSome, IfNone, IsOk, true, false, None, Some, if◌then◌else◌};
+ghost use Rattle.std.specs.Prelude.{◌≡◌, ◌↔◌, ◌+◌, ◌<◌, ◌≤◌, ℕ, IfOk, OnOk, IfErr, IfSome, IfNone, IsOk, length, true, false, None, Some, if◌then◌else◌};
 ghost use Rattle.bully_world.specs.State.{state_at, world_of, cause_in, waits_for, first_state, new_members, member_of, StepsTo, RaisesGenerations, KeepsTags, NobodyWaits, NobodyWaitsBelow, IsKept, IsReached};
 ghost use Rattle.bully_world.specs.NodeInvariant.{NodeInvariant};
 ghost use Rattle.bully_world.specs.World.{first_world};
@@ -73,6 +73,7 @@ impl World {
         ensures step { IfOk result (StepsTo self.old event.now self.new) }
         ensures exact { IsOk result ↔ (cause_in self.old event.now ≡ None) }
         ensures counted { OnOk result (self.new.events ≡ self.old.events + 1) }
+        ensures room { OnOk result (self.old.events < self.old.setup.events_max) }
         ensures generations { OnOk result (RaisesGenerations event.now self.old self.new) }
         ensures tags { OnOk result (KeepsTags event.now self.old self.new) }
         ensures setup { self.new.setup ≡ self.old.setup }
@@ -87,10 +88,11 @@ impl World {
         Ok(answer)
     }
 
-    /// The node's vector. The node is at most the setup's last.
+    /// The node's vector; its task, if any, has the setup's partitions. The node is at most the setup's last.
     pub fn vector(&self, node: Node) -> &Vector
         requires { node ≤ self.now.setup.nodes }
-        ensures { result.now ≡ (state_at self.now node).vector }
+        ensures vector { result.now ≡ (state_at self.now node).vector }
+        ensures task { IfSome result.now.vector.task (λ t. length t ≡ self.now.setup.partitions) }
     {
         self.member(node).vector()
     }

@@ -11,7 +11,7 @@ loop-before-preserved c =
     let count = count_of_reached c.args.world.now c.requires in
     let number : c.loop-before.before + 1 ≡ c.unwrap-node.result = grind (arith, c.new.ensures, c.unwrap-node.ensures) in
     let more = shown-more c.args.world.now.members c.loop-before.nodes.items c.in_ok-shown_by.field-0 c.loop-before.before c.unwrap-node.result number
-    (omega (arith, count, c.loop-before.invariant.end, c.loop-before-test.true)) c.loop-before.invariant.shown (grind (arith, c.in_ok-shown_by.ensures, c.vector.ensures)) in
+    (omega (arith, count, c.loop-before.invariant.end, c.loop-before-test.true)) c.loop-before.invariant.shown (grind (arith, c.in_ok-shown_by.ensures, c.vector.ensures.vector)) in
     record {
       shown = grind (arith, more, c.in_ok-push.ensures.items);
       end = c.loop-before.invariant.end;

@@ -7,6 +7,7 @@ use Rattle.bully_world.specs.NodeInvariant.{WorldInvariant}
 use Rattle.bully_world.specs.State.{IsWorld, members_of, state_at, world_of, cause_in, empty_state, raises, tag_in}
 use Rattle.bully_world.specs.Step.{Step}
 use Rattle.bully_world.specs.StateAfter.{state_after, answer_after}
+use Rattle.bully_world.proofs.ApplyLemmas.{room_of}
 use Rattle.bully_world.proofs.GenerationLemmas.{state_after_generations}
 use Rattle.bully_world.proofs.KeptLemmas.{state_after_length}
 use Rattle.bully_world.proofs.TagLemmas.{state_after_tags}
@@ -54,3 +55,8 @@ returns-clause-tags c =
     let back = put_back c.self.inside.members.len c.apply_event-answer.new.members ms (ap length next ∙ state_after_length c.self.inside.setup ms c.args.event.now ∙ sym c.self.inside.members.ok.0) (sym c.self.inside.members.ok.0) ∙ next in
     λ i other. subst (λ s. tag_in (at_node (empty_state 0) (take c.self.inside.members.len (c.apply_event-answer.new.members ++ drop (length c.apply_event-answer.new.members) ms)) i) ≡ tag_in (state_at s i)) c.self.view_is
     (subst (λ xs. tag_in (at_node (empty_state 0) xs i) ≡ tag_in (at_node (empty_state 0) ms i)) (sym back) (state_after_tags c.self.inside.setup ms c.args.event.now i other))
+
+pub returns-clause-room : goal.returns-clause-room
+returns-clause-room c =
+    let w = c.args.self.now in
+    room_of w.setup (world_of w) w.events c.args.event.now (sym c.cause.ensures ∙ none_from c.cause.result c.in_default.not-Some)
