@@ -1,5 +1,5 @@
 -- Lists of events tried by the function that computes a step: a list of events runs by itself.
-use Rattle.std.specs.Prelude.{ℕ, Bool, true, false, List, [], ◌∷◌, length, Option, Some, None, ◌+◌, ◌&&◌, nat_le, is_some, is_none}
+use Rattle.std.specs.Prelude.{ℕ, Bool, true, false, List, [], ◌∷◌, length, Some, None, ◌+◌, ◌&&◌, nat_le, is_some, is_none}
 use Rattle.std.specs.Option.{option_map_or}
 use Rattle.bully_base.specs.Setup.{Setup}
 use Rattle.bully_calls.specs.declared.call.Answer.{Answer}
