@@ -1,6 +1,6 @@
 ghost use Rattle.std.specs.Prelude.{◌≡◌, ◌≤◌, ◌⊎◌, ◌∷◌, ℕ, List, [], true, false, codes, map, IfSome};
 ghost use Rattle.clap.specs.Words.{kind_of};
-ghost use Rattle.bully_words.specs.Words.{ParsesAsCheck, ParsesAsPlay, ParsesAsTable, is_help, is_mistake, asks_for_help};
+ghost use Rattle.bully_words.specs.Words.{checking, planning, playing, texts_of, ParsesAsCheck, ParsesAsPlay, ParsesAsTable, is_help, is_mistake, asks_for_help};
 ghost use Rattle.bully.specs.Answer.{IsAnswer, Tells, stop_line};
 ghost use Rattle.bully.specs.ConfigAnswer.{IsPlayAnswer, IsTableAnswer};
 
@@ -40,10 +40,29 @@ pub fn answer<H: Files + AllocGlobal, S: AsStr, R: Read + Drop, W: Write, E: Wri
     ensures status { result ≤ 4 }
 {
     match action_of(rt.alloc(), words) {
-        Ok(Action::Check) => answer_check(rt.alloc(), input, output, errors),
-        Ok(Action::Play(path)) => answer_play(rt, path, output, errors),
-        Ok(Action::Table(words)) => answer_table(rt, &words, output, errors),
+        Ok(action) => act(rt, &action, input, output, errors),
         Err(error) => answer_words(&error, output, errors),
+    }
+}
+
+// Does this, and tells the status.
+fn act<H: Files + AllocGlobal, R: Read + Drop, W: Write, E: Write>(
+    rt: &H,
+    action: &Action<'_>,
+    input: R,
+    output: &mut W,
+    errors: &mut E,
+) -> u8
+    ensures check { texts_of action.now ≡ checking → IfSome (R.remaining input) (λ bytes. IsAnswer bytes (W.contents output.old) (W.contents output.new) (E.contents errors.old) (E.contents errors.new) result) }
+    ensures play { (path : _) → texts_of action.now ≡ playing path → (bytes : List ℕ) × IsPlayAnswer bytes (W.contents output.old) (W.contents output.new) (E.contents errors.old) (E.contents errors.new) result }
+    ensures table { (path : _) (members : _) (old : _) → texts_of action.now ≡ planning path members old → (bytes : List ℕ) × IsTableAnswer bytes members old (W.contents output.old) (W.contents output.new) (E.contents errors.old) (E.contents errors.new) result }
+    ensures silent { (result ≡ 2) ⊎ (result ≡ 3) → output.new ≡ output.old }
+    ensures status { result ≤ 4 }
+{
+    match action {
+        Action::Check => answer_check(rt.alloc(), input, output, errors),
+        Action::Play(path) => answer_play(rt, path, output, errors),
+        Action::Table(words) => answer_table(rt, words, output, errors),
     }
 }
 

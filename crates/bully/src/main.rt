@@ -1,6 +1,6 @@
 //! The program `bully`: it judges recorded traces, plays groups, and plans tables.
 //!
-//! It stands on bully_nodes, bully_trace, bully_config, bully_table, the crates below them, and clap. No crate stands on it; its
+//! It stands on bully_nodes, bully_trace, bully_config, bully_table, the crates below them, and bully_words. No crate stands on it; its
 //! callers rely on the statuses: 0 done, lawful or help asked for; 1 refused or differs; 2 bad words; 3 a fault of
 //! form in a trace or a configuration; 4 what stops it from outside, as Read, Write or OutOfMemory.
 #![tactic(auto)]
@@ -14,8 +14,8 @@ mod tables;
 mod telling;
 
 use crate::answering::answer;
-use crate::telling::{Stop, answer_stop, tell};
-use std::io::{BufWriter, ErrorKind};
+use crate::telling::{Stop, answer_stop, answer_unread};
+use std::io::BufWriter;
 use std::process::ExitCode;
 use std::{env, io};
 
@@ -39,13 +39,4 @@ fn status_of(rt: &HostRuntime) -> u8 {
 // The words after the program's name.
 fn words_after_name(rt: &HostRuntime) -> io::Result<Vec<String>> {
     Ok(env::args(rt)?.skip(1).collect(rt.alloc())?)
-}
-
-// The status where the words can't be read: a word isn't text, or memory was refused.
-fn answer_unread(error: &io::Error, errors: &mut io::Stderr) -> u8 {
-    if error.kind() == ErrorKind::OutOfMemory {
-        return answer_stop(Stop::OutOfMemory, errors);
-    }
-    tell(errors, "error: a word isn't UTF-8\n");
-    2
 }

@@ -1,11 +1,13 @@
-ghost use Rattle.std.specs.Prelude.{◌≡◌, ◌⊎◌, None, Some, IfOk, string_bytes, take};
+ghost use Rattle.std.specs.Prelude.{◌≡◌, ◌≢◌, ◌⊎◌, codes, None, Some, IfOk, string_bytes, take};
+ghost use Rattle.std.specs.IoError.{error_kind};
 ghost use Rattle.std.specs.Io.KnownBytes.{Appends, Keeps};
 ghost use Rattle.bully.specs.Answer.{Tells, stop_of, stop_line, cause_text, row_line};
 
 use bully_base::OutOfMemory;
 use bully_trace::{TraceCause, TraceFault};
 use std::alloc::Global;
-use std::io::Write;
+use std::io;
+use std::io::{ErrorKind, Write};
 
 /// What stops the program from outside: the faults of status 4.
 #[derive(Clone, Copy)]
@@ -53,6 +55,18 @@ pub fn answer_stop<E: Write>(stop: Stop, errors: &mut E) -> u8
 {
     tell(errors, stop_line(stop));
     4
+}
+
+/// Tells on the errors why the words can't be read, and the status: 4 for want of memory, and 2 where a word is no text.
+pub fn answer_unread<E: Write>(error: &io::Error, errors: &mut E) -> u8
+    ensures memory { error_kind error.now ≡ ErrorKind.OutOfMemory → (result ≡ 4) × Tells (E.contents errors.old) (E.contents errors.new) (stop_line Stop.OutOfMemory) }
+    ensures other { error_kind error.now ≢ ErrorKind.OutOfMemory → (result ≡ 2) × Tells (E.contents errors.old) (E.contents errors.new) (codes "error: a word isn't UTF-8\n") }
+{
+    if error.kind() == ErrorKind::OutOfMemory {
+        return answer_stop(Stop::OutOfMemory, errors);
+    }
+    tell(errors, "error: a word isn't UTF-8\n");
+    2
 }
 
 /// Writes the text up to its end or to the first write that fails: so some part from its front.

@@ -1,10 +1,9 @@
-use Rattle.std.proofs.Common.{◌≡◌, ◌∙◌, option_map, ◌⊎◌, inl, inr, [], ap, sym, subst, map, arith}
+use Rattle.std.proofs.Common.{◌⊎◌, inl, inr, [], ap, sym, subst, map, arith}
 use Rattle.clap.specs.Words.{fault_of}
-use Rattle.bully_words.specs.Words.{ParsesAsCheck, planning, program, texts_of}
+use Rattle.bully_words.specs.Words.{ParsesAsCheck, program, texts_of}
 use Rattle.bully.specs.declared.telling.Stop.{Stop}
 use Rattle.bully.proofs.KnownBytesLemmas.{keeps-same}
 use Rattle.bully.proofs.AnswerLemmas.{stop-case}
-use Rattle.bully.proofs.ConfigLemmas.{table-named}
 use Rattle.bully_words.proofs.WordsLemmas.{check-parses, mistake-kind, help-kind}
 use Rattle.bully.proofs.answering.answer.Goals as goal
 
@@ -34,15 +33,11 @@ returns-in-Err-clause-help g c = λ help.
       | inr shown ↦ some_stop (c.answer_words.ensures.help shown)
     ]
 
-pub returns-in-Ok-Table-clause-check : goal.returns-in-Ok-Table-clause-check
-returns-in-Ok-Table-clause-check g c = λ alone.
-    let other = c.in-Ok-Table.ensures.check (subst ParsesAsCheck (sym alone) check-parses) in
-    absurd (grind (arith, other))
+pub returns-in-Ok-clause-check : goal.returns-in-Ok-clause-check
+returns-in-Ok-clause-check g c = λ alone. c.act.ensures.check (ap texts_of (c.in-Ok.ensures.check (subst ParsesAsCheck (sym alone) check-parses)))
 
-pub returns-in-Ok-Play-clause-check : goal.returns-in-Ok-Play-clause-check
-returns-in-Ok-Play-clause-check g c = λ alone.
-    let other = c.in-Ok-Play.ensures.check (subst ParsesAsCheck (sym alone) check-parses) in
-    absurd (grind (arith, other))
+pub returns-in-Ok-clause-parsed : goal.returns-in-Ok-clause-parsed
+returns-in-Ok-clause-parsed g c = λ parses. c.act.ensures.check (ap texts_of (c.in-Ok.ensures.check parses))
 
 pub returns-in-Err-clause-play : goal.returns-in-Err-clause-play
 returns-in-Err-clause-play g c = λ path parses.
@@ -53,11 +48,3 @@ pub returns-in-Err-clause-table : goal.returns-in-Err-clause-table
 returns-in-Err-clause-table g c = λ path members old parses.
     let stopped = c.answer_words.ensures.memory (c.in-Err.ensures.table path members old parses) in
     ([], inr (inr (Stop.OutOfMemory, (λ _. keeps-same _ _ (ap g.W.Write.contents stopped.1)), stopped.2, stopped.0)))
-
-pub returns-in-Ok-Table-clause-table : goal.returns-in-Ok-Table-clause-table
-returns-in-Ok-Table-clause-table g c = λ path members old parses.
-    let words = c.in-Ok-Table.words in
-    let same : planning words.config.now (map (λ s. s.now) words.members.items) (option_map (λ s. s.now) words.old) ≡ planning path members old =
-    ap texts_of (sym c.in-Ok-Table.field-0-is) ∙ c.in-Ok-Table.ensures.table path members old parses in
-    let answered = c.answer_table.ensures.answer in
-    (answered.0, table-named answered.0 _ path _ members _ old _ _ _ _ _ same answered.1)
