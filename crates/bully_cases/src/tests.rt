@@ -1,6 +1,7 @@
 //! The worked cases, with the values that this project's profile gives.
 
 mod choices;
+mod full_size;
 mod playing;
 mod runs;
 mod scripts;

@@ -1,19 +1,17 @@
 //! The refusals of a document. None of them takes memory.
 ghost use Rattle.std.specs.Prelude.{◌≡◌, ◌≤◌, map, length};
+ghost use Rattle.std.specs.Fn.{FnReturnsAt};
 ghost use Rattle.std.specs.List.{list_all, list_any};
 ghost use Rattle.toml.specs.View.{view, table_view, members_view};
 ghost use Rattle.bully_base.specs.declared.TheConstants.{NODES_MAX};
 ghost use Rattle.bully_config.specs.Answers.{refusal_of};
 ghost use Rattle.std.specs.Str.{bytes_eq};
 ghost use Rattle.bully_config.specs.Configuration.{has_double, is_empty};
-ghost use Rattle.bully_config.specs.Document.{text_of};
-ghost use Rattle.bully_config.specs.Keys.{fault_keys};
-ghost use Rattle.bully_config.specs.Refusals.{first_failing, first_in, first_absent, missing_in, is_table, is_string, has_kind, is_array_of, first_misfit, misfit_in, are_names, fault_out_of_range, out_of_range_in, is_listed, has_unlisted, fault_has_unlisted, has_unlisted_in};
-ghost use Rattle.bully_config.specs.Values.{names_of};
-ghost use Rattle.bully_config.specs.Searches.{Computes};
-ghost use Rattle.std.specs.Fn.{FnReturnsAt};
-ghost use Rattle.bully_config.specs.Refusals.{fits};
 ghost use Rattle.bully_config.specs.Document.{value_at};
+ghost use Rattle.bully_config.specs.Keys.{fault_keys};
+ghost use Rattle.bully_config.specs.Refusals.{first_failing, first_in, first_absent, missing_in, is_table, is_string, has_kind, first_misfit, misfit_in, are_names, fault_out_of_range, out_of_range_in, is_listed, has_unlisted, fault_has_unlisted, has_unlisted_in, fits};
+ghost use Rattle.bully_config.specs.Searches.{Computes};
+ghost use Rattle.bully_config.specs.Values.{names_of};
 
 use crate::fault::{ConfigFault, Key};
 use crate::lookup::{items_at, kind_at, node_at, number_at, text_of, value_at};

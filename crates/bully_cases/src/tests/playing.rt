@@ -49,7 +49,7 @@ const NODES: u32 = 5;
 const CODES: u32 = 3_125;
 
 // What `check` writes of the trace that is played of this configuration, and its verdict.
-fn judged(alloc: Global, config: &str) -> Result<(Verdict, String), Fail> {
+pub fn judged(alloc: Global, config: &str) -> Result<(Verdict, String), Fail> {
     let config = Config::read(alloc, config)?;
     let mut trace = Vec::new(alloc);
     play(alloc, &config, &mut trace)?;
