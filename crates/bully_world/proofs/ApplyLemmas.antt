@@ -1,5 +1,5 @@
 -- What nothing refuses may be taken by the members that it changes.
-use Rattle.std.proofs.Common.{◌≡◌, ℕ, ◌+◌, ◌<◌, ◌^◌, Bool, true, false, List, length, Option, Some, None, refl, sym, ◌∙◌, ap, subst, arith}
+use Rattle.std.proofs.Common.{◌≡◌, ℕ, ◌+◌, ◌<◌, ◌≤◌, ◌^◌, Bool, true, false, List, length, Option, Some, None, refl, sym, ◌∙◌, ap, subst, arith}
 use Rattle.std.specs.Prelude.{not, option_map, option_and_then, IsSome, slice_index_or}
 use Rattle.std.specs.Option.{option_map_or}
 use Rattle.std.proofs.lemmas.Bool.Decides.{nat_tests}
@@ -16,14 +16,14 @@ use Rattle.bully_handlers.specs.Vector.{Vector}
 use Rattle.bully_steps.specs.declared.point.Point.{Point}
 use Rattle.bully_steps.specs.declared.point.Point.TheVariants.{Idle, Asking, Halting, Announcing, Planning, Readying, Checking, Inquiring}
 use Rattle.bully_steps.specs.declared.point.Want.{Want}
-use Rattle.bully_steps.specs.Point.{offered, IsPointOf}
+use Rattle.bully_steps.specs.Point.{offered}
 use Rattle.bully_steps.specs.ProcedureState.{IsCall}
 use Rattle.bully_world.specs.declared.event.Event.{Event}
 use Rattle.bully_world.specs.Cause.{cause, node_of, in_phase, is_call}
 use Rattle.bully_world.specs.NodeInvariant.{WorldInvariant, NodeInvariant, SuitsPhase, SuitsPoint, SuitsPending}
 use Rattle.bully_world.specs.State.{kept_of, MemberState, empty_state, member_of, members_of, AllKept, IsKept}
 use Rattle.bully_world.specs.Step.{carried}
-use Rattle.bully_world.specs.StateAfter.{state_after, node_after, answer_after, node_answer, MayApply}
+use Rattle.bully_world.specs.StateAfter.{state_after, node_after, answer_after, node_answer, MayApply, CanApply, CanApplyHere}
 use Rattle.bully_world.specs.World.{World, Member, member}
 use Rattle.bully_base.proofs.PlaceLemmas.{at_node-place}
 use Rattle.bully_world.proofs.MembersOf.{member-members_of, members_of-length}
@@ -143,14 +143,25 @@ node_writes setup ms (Event.Return i) n = (refl, refl)
 node_writes setup ms (Event.Move i) n = (refl, refl)
 node_writes setup ms (Event.Plan i table) n = (refl, refl)
 
--- what an event that nothing refuses asks of its node's member
-pub record Applicable (setup : Setup) (e : Event) (m : MemberState) : Type 0 where
-  pub at : IsPointOf setup (node_of e) m.point
-  pub room : m.generation + 1 < 2 ^ 32
-  pub may : MayApply setup e m
+-- an event other than a Run that may be applied may be so at its node
+pub can_here : (setup : Setup) (ms : List MemberState) (e : Event) → ((i : ℕ) → e ≡ Event.Run i → ⊥) → CanApply setup ms e → (node_of e ≤ length ms) × CanApplyHere setup e (kept_of ms (node_of e))
+can_here setup ms (Event.Run i) n can = absurd (n i refl)
+can_here setup ms (Event.Recover i) n can = can
+can_here setup ms (Event.Crash i) n can = can
+can_here setup ms (Event.Check i) n can = can
+can_here setup ms (Event.Timeout i) n can = can
+can_here setup ms (Event.Start i) n can = can
+can_here setup ms (Event.Lose i) n can = can
+can_here setup ms (Event.Return i) n can = can
+can_here setup ms (Event.Move i) n can = can
+can_here setup ms (Event.Plan i table) n can = can
 
-pub applicable : (setup : Setup) (count : ℕ) (ms : List MemberState) → WorldInvariant setup (members_of ms) → AllKept setup count ms → count + 1 < 2 ^ 32 → (e : Event) → cause setup (members_of ms) count e ≡ None → ((i : ℕ) → e ≡ Event.Run i → ⊥) → Applicable setup e (kept_of ms (node_of e))
-applicable setup count ms fit kept room e free other = record { at = fits.is_point; room = omega (arith, here.generation, room); may = may_apply setup (members_of ms) count (kept_of ms (node_of e)) e is fits here free other }
+-- what nothing refuses may be applied at its node
+pub free_here : (setup : Setup) (count : ℕ) (ms : List MemberState) → WorldInvariant setup (members_of ms) → AllKept setup count ms → count + 1 < 2 ^ 32 → (e : Event) → cause setup (members_of ms) count e ≡ None → ((i : ℕ) → e ≡ Event.Run i → ⊥) → (node_of e ≤ length ms) × CanApplyHere setup e (kept_of ms (node_of e))
+free_here setup count ms fit kept room e free other = (
+  omega (arith, members_of-length ms, fit.count, (node_in_setup setup (members_of ms) count e free).1),
+  record { at = fits.is_point; room = omega (arith, here.generation, room); may = may_apply setup (members_of ms) count (kept_of ms (node_of e)) e is fits here free other },
+)
   where
     is : member (members_of ms) (node_of e) ≡ member_of (kept_of ms (node_of e))
     is = member-members_of ms (node_of e)
@@ -161,7 +172,6 @@ applicable setup count ms fit kept room e free other = record { at = fits.is_poi
     here : IsKept setup count (node_of e) (kept_of ms (node_of e))
     here = kept (node_of e) (node_in_setup setup (members_of ms) count e free)
 
--- the place of the event's node, by its index
-pub place_of_node : (setup : Setup) (count : ℕ) (ms : List MemberState) → WorldInvariant setup (members_of ms) → (e : Event) → cause setup (members_of ms) count e ≡ None → (k : ℕ) (m : MemberState) → k + 1 ≡ node_of e → kept_of ms (node_of e) ≡ slice_index_or ms k m
-place_of_node setup count ms fit e free k m is =
-    at_node-place (empty_state 0) m ms k (node_of e) is (omega (arith, members_of-length ms, fit.count, (node_in_setup setup (members_of ms) count e free).1, is))
+-- what stands at a node's place is what is kept of it
+pub place_of_node : (ms : List MemberState) (i k : ℕ) (m : MemberState) → i ≤ length ms → k + 1 ≡ i → kept_of ms i ≡ slice_index_or ms k m
+place_of_node ms i k m l is = at_node-place (empty_state 0) m ms k i is (omega (arith, l, is))

@@ -17,11 +17,11 @@ use Rattle.bully_world.specs.declared.event.Event.{Event}
 use Rattle.bully_world.specs.Cause.{cause, in_phase}
 use Rattle.bully_world.specs.NodeInvariant.{WorldInvariant, SuitsCall, SuitsCallee, SuitsTable, SuitsPending}
 use Rattle.bully_world.specs.State.{kept_of, MemberState, empty_state, member_of, members_of, AllKept}
-use Rattle.bully_world.specs.StateAfter.{state_after_run, replied, callee_state_after, phased_state, CanExchange, CanRun}
+use Rattle.bully_world.specs.StateAfter.{state_after_run, replied, callee_state_after, phased_state, CanExchange, CanRun, CanApply}
 use Rattle.bully_world.specs.World.{World, Member, member, pending}
 use Rattle.bully_world.proofs.MembersOf.{member-members_of, members_of-length}
 use Rattle.bully_world.proofs.StateAfterLemmas.{run_facts, content_there}
-use Rattle.bully_world.proofs.ApplyLemmas.{content_test, node_in_setup}
+use Rattle.bully_world.proofs.ApplyLemmas.{content_test, node_in_setup, free_here}
 
 suits_table : (setup : Setup) (call : Call) (q : Option (List ℕ)) (room : ℕ) → SuitsTable setup call.kind q → room ≡ setup.partitions → CarriesFor call q room
 suits_table setup call None room s e = s
@@ -75,6 +75,19 @@ pub can_run : (setup : Setup) (count : ℕ) (ms : List MemberState) → WorldInv
 can_run setup count ms fit kept room i free =
     let there = content_there is_sent (kept_of ms i).generation (kept_of ms i).slot.content (ap (λ (q : Member). in_phase is_sent q.pending) (sym (member-members_of ms i)) ∙ (run_facts setup (members_of ms) count i free).1) in
     runs_to setup count ms fit kept room i there.0 there.1 free
+
+-- an event that nothing refuses may be applied
+pub can_apply : (setup : Setup) (count : ℕ) (ms : List MemberState) → WorldInvariant setup (members_of ms) → AllKept setup count ms → count + 1 < 2 ^ 32 → (e : Event) → cause setup (members_of ms) count e ≡ None → CanApply setup ms e
+can_apply setup count ms fit kept room (Event.Run i) free = can_run setup count ms fit kept room i free
+can_apply setup count ms fit kept room (Event.Recover i) free = free_here setup count ms fit kept room (Event.Recover i) free (λ j e. absurd (cc e))
+can_apply setup count ms fit kept room (Event.Crash i) free = free_here setup count ms fit kept room (Event.Crash i) free (λ j e. absurd (cc e))
+can_apply setup count ms fit kept room (Event.Check i) free = free_here setup count ms fit kept room (Event.Check i) free (λ j e. absurd (cc e))
+can_apply setup count ms fit kept room (Event.Timeout i) free = free_here setup count ms fit kept room (Event.Timeout i) free (λ j e. absurd (cc e))
+can_apply setup count ms fit kept room (Event.Start i) free = free_here setup count ms fit kept room (Event.Start i) free (λ j e. absurd (cc e))
+can_apply setup count ms fit kept room (Event.Lose i) free = free_here setup count ms fit kept room (Event.Lose i) free (λ j e. absurd (cc e))
+can_apply setup count ms fit kept room (Event.Return i) free = free_here setup count ms fit kept room (Event.Return i) free (λ j e. absurd (cc e))
+can_apply setup count ms fit kept room (Event.Move i) free = free_here setup count ms fit kept room (Event.Move i) free (λ j e. absurd (cc e))
+can_apply setup count ms fit kept room (Event.Plan i table) free = free_here setup count ms fit kept room (Event.Plan i table) free (λ j e. absurd (cc e))
 
 -- what a run makes of the list, as two writes to it
 pub state_after_run-writes : (ms : List MemberState) (i : ℕ) (p : SlotCall) (here there : ℕ) → here + 1 ≡ i → there + 1 ≡ p.call.callee → p.call.callee ≢ i

@@ -18,7 +18,7 @@ use Rattle.bully_steps.specs.declared.point.Point.{Point}
 use Rattle.bully_steps.specs.declared.point.Point.TheVariants.{Idle, Halting, Readying}
 use Rattle.bully_steps.specs.declared.point.Want.{Want}
 use Rattle.bully_steps.specs.NextPoint.{next_point, next_vector, election, checked, timed_out}
-use Rattle.bully_steps.specs.Point.{offered}
+use Rattle.bully_steps.specs.Point.{offered, IsPointOf}
 use Rattle.bully_steps.specs.ProcedureState.{IsCall}
 use Rattle.bully_world.specs.declared.event.Event.{Event}
 use Rattle.bully_world.specs.Cause.{node_of}
@@ -179,3 +179,14 @@ pub record CanRun (ms : List MemberState) (i : ℕ) : Type 0 where
   pub callee : (0 < call.call.callee) × (call.call.callee ≤ length ms)
   pub other : call.call.callee ≢ i
   pub can : CanExchange (kept_of ms i) (kept_of ms call.call.callee)
+
+-- what an event other than a Run asks of what is kept of its node
+pub record CanApplyHere (setup : Setup) (e : Event) (m : MemberState) : Type 0 where
+  pub at : IsPointOf setup (node_of e) m.point
+  pub room : m.generation + 1 < 2 ^ 32
+  pub may : MayApply setup e m
+
+-- what an event asks that nothing refuses
+abbrev pub CanApply : Setup → List MemberState → Event → Type 0
+CanApply setup ms (Event.Run i) = CanRun ms i
+CanApply setup ms e = (node_of e ≤ length ms) × CanApplyHere setup e (kept_of ms (node_of e))

@@ -2,10 +2,8 @@ ghost use Rattle.std.specs.Prelude.{◌≡◌, ◌≢◌, ◌⊎◌, ◌+◌, �
 ghost use Rattle.bully_calls.specs.Pending.{is_sent};
 ghost use Rattle.bully_calls.specs.Slot.{CarriesFor, holds_call};
 ghost use Rattle.bully_handlers.specs.Handler.{reply};
-ghost use Rattle.bully_world.specs.Cause.{cause};
-ghost use Rattle.bully_world.specs.NodeInvariant.{WorldInvariant};
-ghost use Rattle.bully_world.specs.State.{AllKept, empty_state, kept_of, members_of};
-ghost use Rattle.bully_world.specs.StateAfter.{CanExchange, CanRun, callee_state_after, phased_state, state_after, state_after_run, answer_after, run_answer};
+ghost use Rattle.bully_world.specs.State.{empty_state, kept_of};
+ghost use Rattle.bully_world.specs.StateAfter.{CanApply, CanExchange, CanRun, callee_state_after, phased_state, state_after, state_after_run, answer_after, run_answer};
 
 use crate::causes::place_of;
 use crate::event::Event;
@@ -14,11 +12,8 @@ use bully_base::{Node, Setup};
 use bully_calls::{Answer, Phase};
 
 /// An event that nothing refuses is applied.
-pub fn apply_event(setup: Setup, events: u32, members: &mut [Member], event: &Event) -> Answer
-    requires fits { WorldInvariant setup (members_of members.old) }
-    requires kept { AllKept setup events members.old }
-    requires room { events + 1 < 2 ^ 32 }
-    requires free { cause setup (members_of members.old) events event.now ≡ None }
+pub fn apply_event(setup: Setup, members: &mut [Member], event: &Event) -> Answer
+    requires { CanApply setup members.old event.now }
     ensures after { members.new ≡ state_after setup members.old event.now }
     ensures answer { result ≡ answer_after members.old event.now }
 {

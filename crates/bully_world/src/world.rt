@@ -83,7 +83,7 @@ impl World {
         if let Some(why) = self.cause(event) {
             return Err(why);
         }
-        let answer = apply_event(self.setup, self.events, self.members.as_mut_slice(), event);
+        let answer = apply_event(self.setup, self.members.as_mut_slice(), event);
         self.events += 1;
         Ok(answer)
     }

@@ -1,22 +1,26 @@
 -- What is kept after the event is what the definitions' step makes of it.
-use Rattle.std.proofs.Common.{◌≡◌, ◌+◌, None, sym, ◌∙◌, ap, subst, length, take, drop, ◌++◌}
+use Rattle.std.proofs.Common.{◌≡◌, ◌+◌, ◌<◌, ◌^◌, rules, None, sym, ◌∙◌, ap, subst, length, take, drop, ◌++◌}
 use Rattle.std.specs.Prelude.{if◌then◌else◌}
 use Rattle.bully_base.specs.Places.{at_node}
 use Rattle.bully_world.specs.Cause.{cause}
-use Rattle.bully_world.specs.NodeInvariant.{WorldInvariant}
 use Rattle.bully_world.specs.State.{IsWorld, members_of, state_at, world_of, cause_in, empty_state, raises, tag_in}
 use Rattle.bully_world.specs.Step.{Step}
-use Rattle.bully_world.specs.StateAfter.{state_after, answer_after}
+use Rattle.bully_world.specs.StateAfter.{CanApply, state_after, answer_after}
 use Rattle.bully_world.proofs.ApplyLemmas.{room_of}
+use Rattle.bully_world.proofs.ExchangeLemmas.{can_apply}
 use Rattle.bully_world.proofs.GenerationLemmas.{state_after_generations}
 use Rattle.bully_world.proofs.KeptLemmas.{state_after_length}
 use Rattle.bully_world.proofs.TagLemmas.{state_after_tags}
 use Rattle.bully_world.proofs.WorldLemmas.{world_fits, world_steps, next_world, put_back, none_from}
 use Rattle.bully_world.proofs.world.World.apply.Goals as goal
 
-pub apply_event-answer-requires-clause-fits : goal.apply_event-answer-requires-clause-fits
-apply_event-answer-requires-clause-fits c =
-    subst (λ ms. WorldInvariant c.self.inside.setup (members_of ms)) (sym c.as_mut_slice.ensures.value) (world_fits c.self.inside.setup c.self.inside.events c.self.inside.members.items c.self.invariant)
+pub apply_event-answer-requires : goal.apply_event-answer-requires
+apply_event-answer-requires c =
+    let ms = c.self.inside.members.items in
+    let free : cause c.self.inside.setup (members_of ms) c.self.inside.events c.args.event.now ≡ None = subst (λ s. cause_in s c.args.event.now ≡ None) (sym c.self.view_is) (sym c.cause.ensures ∙ none_from c.cause.result c.in_default.not-Some) in
+    let room : c.self.inside.events + 1 < 2 ^ 32 = search rules in
+    subst (λ xs. CanApply c.self.inside.setup xs c.args.event.now) (sym c.as_mut_slice.ensures.value)
+    (can_apply c.self.inside.setup c.self.inside.events ms (world_fits c.self.inside.setup c.self.inside.events ms c.self.invariant) c.self.invariant.kept room c.args.event.now free)
 
 pub invariant_of-self : goal.invariant_of-self
 invariant_of-self c =
