@@ -64,7 +64,7 @@ impl Recording {
         requires setup { (state_of procedure).setup ≡ self.old.world.setup }
         requires offered { turn self.old.world (state_of procedure) ≡ Next.Take kind }
         ensures steps { IfOk result (λ p. Steps kind self.old (state_of procedure) self.new (state_of p)) }
-        ensures owner { IfOk result (λ p. HasSameNode (state_of procedure) (state_of p)) }
+        ensures same_node { IfOk result (λ p. HasSameNode (state_of procedure) (state_of p)) }
     {
         match self.world.take(kind, procedure) {
             Ok(step) => {

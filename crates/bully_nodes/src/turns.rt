@@ -58,7 +58,7 @@ pub fn take_turn(
     requires { (state_of place.old).setup ≡ recording.old.world.setup }
     ensures turn { OnOk result (IsTurn turn recording.old (state_of place.old) recording.new (state_of place.new)) }
     ensures recorded { OnOk result (Continues recording.old recording.new) }
-    ensures owner { OnOk result (HasSameNode (state_of place.old) (state_of place.new)) }
+    ensures same_node { OnOk result (HasSameNode (state_of place.old) (state_of place.new)) }
 {
     let node = place.node();
     let idle = Procedure::idle(place.setup(), node, 0);
@@ -80,7 +80,7 @@ fn prepared(
 ) -> Result<Procedure, OutOfMemory>
     requires { (state_of procedure).setup ≡ recording.now.world.setup }
     ensures state { IfOk result (λ p. state_of p ≡ prepared recording.now.world (state_of procedure)) }
-    ensures owner { IfOk result (λ p. HasSameNode (state_of procedure) (state_of p)) }
+    ensures same_node { IfOk result (λ p. HasSameNode (state_of procedure) (state_of p)) }
 {
     let task = recording.world().vector(procedure.node()).task();
     prepared_from(alloc, task, procedure)
@@ -130,7 +130,7 @@ fn go_on(
     requires { (state_of procedure).setup ≡ recording.old.world.setup }
     ensures goes_on { IfOk result (λ p. GoesOn (chosen turn (state_of procedure).point) recording.old (state_of procedure) recording.new (state_of p)) }
     ensures recorded { OnOk result (Continues recording.old recording.new) }
-    ensures owner { IfOk result (λ p. HasSameNode (state_of procedure) (state_of p)) }
+    ensures same_node { IfOk result (λ p. HasSameNode (state_of procedure) (state_of p)) }
 {
     let node = procedure.node();
     match Driver::choose(turn, &procedure) {
@@ -146,7 +146,7 @@ fn proceed(recording: &mut Recording, procedure: Procedure) -> Result<Procedure,
     requires { (state_of procedure).setup ≡ recording.old.world.setup }
     ensures proceeds { IfOk result (λ p. Proceeds (turn_rule recording.old.world (state_of procedure)) recording.old (state_of procedure) recording.new (state_of p)) }
     ensures recorded { OnOk result (Continues recording.old recording.new) }
-    ensures owner { IfOk result (λ p. HasSameNode (state_of procedure) (state_of p)) }
+    ensures same_node { IfOk result (λ p. HasSameNode (state_of procedure) (state_of p)) }
 {
     match recording.world().next(&procedure) {
         Next::Resync => Ok(recording.world().procedure(procedure.node())),

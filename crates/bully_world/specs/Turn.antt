@@ -1,5 +1,5 @@
--- The procedure that a world shows of a node, whether one that its owner holds is in step with the world, and
--- what the turn rule has its owner do.
+-- The procedure that a world shows of a node, whether the one that the node holds is in step with the world, and
+-- what the turn rule has it do.
 use Rattle.std.specs.Prelude.{◌≡◌, ℕ, ◌==◌, ◌&&◌, Bool, true, false, not, List, [], Option, Some, None, bytes_eq, unwrap_or, if◌then◌else◌}
 use Rattle.std.specs.Option.{option_map_or, option_eq}
 use Rattle.bully_base.specs.Setup.{Setup}
@@ -124,8 +124,8 @@ abbrev pub EndsInStep : WorldState → TakenStep → Type 0
 EndsInStep w taken = is_in_step w (state_of taken.procedure) ≡ true
 
 -- its procedure is of this node, in a group of this setup
-abbrev pub HasOwner : Setup → ℕ → TakenStep → Type 0
-HasOwner setup i taken = ((state_of taken.procedure).setup ≡ setup) × ((state_of taken.procedure).node ≡ i)
+abbrev pub IsProcedureOf : Setup → ℕ → TakenStep → Type 0
+IsProcedureOf setup i taken = ((state_of taken.procedure).setup ≡ setup) × ((state_of taken.procedure).node ≡ i)
 
 -- The same in two parts: what the step's event takes from the procedure, and how it goes on afterwards.
 

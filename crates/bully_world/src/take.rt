@@ -3,7 +3,7 @@ ghost use Rattle.std.specs.Option.{option_map_or};
 ghost use Rattle.bully_steps.specs.ProcedureState.{IsProcedureState, CanResume, resumed};
 ghost use Rattle.bully_steps.specs.Procedure.{state_of};
 ghost use Rattle.bully_world.specs.State.{StepsTo, KeepsGenerations, IsFull};
-ghost use Rattle.bully_world.specs.Turn.{turn, has_table, event_of, procedure_left, outcome_left, GoesOnBy, EndsInStep, HasOwner};
+ghost use Rattle.bully_world.specs.Turn.{turn, has_table, event_of, procedure_left, outcome_left, GoesOnBy, EndsInStep, IsProcedureOf};
 ghost use Rattle.bully_world.specs.declared.turn.Next.{Next};
 
 use crate::World;
@@ -42,7 +42,7 @@ impl World {
         ensures event { IfOk result (λ taken. taken.event ≡ event_of kind (state_of procedure)) }
         ensures procedure { IfOk result (GoesOnBy kind (state_of procedure)) }
         ensures in_step { IfOk result (EndsInStep self.new) }
-        ensures owner { IfOk result (HasOwner self.new.setup (state_of procedure).node) }
+        ensures identity { IfOk result (IsProcedureOf self.new.setup (state_of procedure).node) }
         ensures room { OnOk result (self.old.events < self.old.setup.events_max) }
         ensures refused { IfErr result (λ why. (why.1 ≡ Refused.Full) × IsFull self.old) }
         ensures handed_back { IfErr result (λ why. why.0 ≡ procedure) }

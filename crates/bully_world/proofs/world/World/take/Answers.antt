@@ -31,8 +31,8 @@ returns-clause-in_step c =
     ap (is_in_step c.apply.new.self) goes
     ∙ (applied_goes_on c.args.self.now c.apply.new.self (state_of c.args.procedure) c.args.kind c.event_by-event.result.0 c.apply.result c.unwrap-answer.result c.events.ensures.reached c.requires.setup c.requires.offered c.event_by-event.ensures.event c.apply.ensures.setup c.unwrap-answer.ensures c.apply.ensures.step c.apply.ensures.generations).0
 
-pub returns-clause-owner : goal.returns-clause-owner
-returns-clause-owner c =
+pub returns-clause-identity : goal.returns-clause-identity
+returns-clause-identity c =
     let owner = identity_after c.args.kind c.unwrap-answer.result (state_of c.args.procedure) in
     let goes = c.go_on.ensures ∙ gone_on c.args.kind c.unwrap-answer.result (state_of c.args.procedure) (state_of c.event_by-event.result.1) c.event_by-event.ensures.left in
     (grind (arith, goes, owner.0, c.requires.setup, c.apply.ensures.setup), grind (arith, goes, owner.1))
