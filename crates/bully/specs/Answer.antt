@@ -5,6 +5,7 @@ use Rattle.std.specs.Io.KnownBytes.{Appends, Keeps}
 use Rattle.bully_world.specs.World.{World}
 use Rattle.bully_trace.specs.declared.trace.Trace.{Trace}
 use Rattle.bully_trace.specs.declared.trace.TraceCause.{TraceCause}
+use Rattle.bully_trace.specs.VerdictText.{trace_cause_text}
 use Rattle.bully_trace.specs.declared.trace.TraceFault.{TraceFault}
 use Rattle.bully_trace.specs.declared.verdict.Verdict.{Verdict}
 use Rattle.bully_trace.specs.Rows.{records_of, trace_of}
@@ -26,17 +27,9 @@ verdict_status (Verdict.Lawful count) = 0
 verdict_status (Verdict.Refused row why) = 1
 verdict_status (Verdict.Differs row) = 1
 
-abbrev pub cause_text : TraceCause → List ℕ
-cause_text TraceCause.BadHeader = codes "BadHeader"
-cause_text TraceCause.BadRow = codes "BadRow"
-cause_text TraceCause.TooManyRows = codes "TooManyRows"
-cause_text TraceCause.Read = codes "Read"
-cause_text TraceCause.Write = codes "Write"
-cause_text TraceCause.OutOfMemory = codes "OutOfMemory"
-
 -- the line of a fault of form
 abbrev pub row_line : TraceFault → List ℕ
-row_line fault = codes "bully: trace row " ++ decimal fault.row ++ codes ": " ++ cause_text fault.cause ++ codes "\n"
+row_line fault = codes "bully: trace row " ++ decimal fault.row ++ codes ": " ++ trace_cause_text fault.cause ++ codes "\n"
 
 -- what stops the program, where the cause is no fault of form
 abbrev pub stop_of : TraceCause → Option Stop

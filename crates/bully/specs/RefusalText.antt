@@ -4,6 +4,7 @@ use Rattle.bully_config.specs.Keys.{fault_text}
 use Rattle.bully_config.specs.declared.fault.ConfigFault.{ConfigFault}
 use Rattle.bully_table.specs.declared.planning.PlanFault.{PlanFault}
 use Rattle.bully_table.specs.declared.table.TableFault.{TableFault}
+use Rattle.bully_table.specs.TableText.{table_fault_text}
 use Rattle.bully.specs.declared.refusals.Refusal.{Refusal}
 use Rattle.bully.specs.declared.telling.Stop.{Stop}
 use Rattle.bully.specs.Answer.{stop_line}
@@ -20,12 +21,6 @@ refusal_of_table fault = Refusal.Old fault
 abbrev pub refusal_of_plan : PlanFault → Refusal
 refusal_of_plan PlanFault.NoMember = Refusal.Member
 refusal_of_plan PlanFault.OutOfMemory = Refusal.Stop Stop.OutOfMemory
-
-abbrev pub table_fault_text : TableFault → List ℕ
-table_fault_text TableFault.Length = codes "Length"
-table_fault_text TableFault.Owner = codes "Owner"
-table_fault_text TableFault.Syntax = codes "Syntax"
-table_fault_text TableFault.OutOfMemory = codes "OutOfMemory"
 
 abbrev pub refusal_line : Refusal → List ℕ
 refusal_line (Refusal.Config fault) = codes "bully: config: " ++ fault_text fault ++ codes "\n"

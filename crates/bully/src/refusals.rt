@@ -1,6 +1,6 @@
 ghost use Rattle.std.specs.Prelude.{◌≡◌, ◌⊎◌, ◌++◌, IfOk, IfErr, codes, string_bytes};
 ghost use Rattle.bully.specs.Answer.{Tells, stop_line};
-ghost use Rattle.bully.specs.RefusalText.{refusal_line, refusal_of_config, refusal_of_plan, refusal_of_table, refusal_status, table_fault_text};
+ghost use Rattle.bully.specs.RefusalText.{refusal_line, refusal_of_config, refusal_of_plan, refusal_of_table, refusal_status};
 
 use crate::telling::{Stop, answer_stop, tell};
 use bully_base::OutOfMemory;
@@ -99,19 +99,6 @@ fn table_line(alloc: Global, fault: TableFault) -> Result<String, OutOfMemory>
     ensures { IfOk result (λ line. string_bytes line ≡ refusal_line (Refusal.Old fault)) }
 {
     let mut line = String::new(alloc);
-    let name = fault_word(fault);
-    writeln!(line, "bully: words: {name}")?;
+    writeln!(line, "bully: words: {fault}")?;
     Ok(line)
-}
-
-// A table's fault as its line spells it.
-fn fault_word(fault: TableFault) -> &'static str
-    ensures { result.now ≡ table_fault_text fault }
-{
-    match fault {
-        TableFault::Length => "Length",
-        TableFault::Owner => "Owner",
-        TableFault::Syntax => "Syntax",
-        TableFault::OutOfMemory => "OutOfMemory",
-    }
 }

@@ -1,7 +1,7 @@
 ghost use Rattle.std.specs.Prelude.{◌≡◌, ◌≢◌, ◌⊎◌, codes, None, Some, IfOk, string_bytes, take};
 ghost use Rattle.std.specs.IoError.{error_kind};
 ghost use Rattle.std.specs.Io.KnownBytes.{Appends, Keeps};
-ghost use Rattle.bully.specs.Answer.{Tells, stop_of, stop_line, cause_text, row_line};
+ghost use Rattle.bully.specs.Answer.{Tells, stop_of, stop_line, row_line};
 
 use bully_base::OutOfMemory;
 use bully_trace::{TraceCause, TraceFault};
@@ -119,21 +119,7 @@ fn row_line(alloc: Global, fault: TraceFault) -> Result<String, OutOfMemory>
 {
     let mut line = String::new(alloc);
     let row = fault.row;
-    let cause = cause_word(fault.cause);
+    let cause = fault.cause;
     writeln!(line, "bully: trace row {row}: {cause}")?;
     Ok(line)
-}
-
-// The cause as its line spells it.
-fn cause_word(cause: TraceCause) -> &'static str
-    ensures { result.now ≡ cause_text cause }
-{
-    match cause {
-        TraceCause::BadHeader => "BadHeader",
-        TraceCause::BadRow => "BadRow",
-        TraceCause::TooManyRows => "TooManyRows",
-        TraceCause::Read => "Read",
-        TraceCause::Write => "Write",
-        TraceCause::OutOfMemory => "OutOfMemory",
-    }
 }
