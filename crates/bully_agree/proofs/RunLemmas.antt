@@ -9,7 +9,7 @@ use Rattle.bully_calls.specs.declared.call.Answer.{Answer}
 use Rattle.bully_world.proofs.CauseLemmas.{no_cause_if_step}
 use Rattle.bully_world.proofs.LawfulLemmas.{lawful_more, lead_one, lead_split}
 use Rattle.bully_world.proofs.NodeInvariantLemmas.{lawful_fits}
-use Rattle.bully_world.proofs.TakeLemmas.{room_of}
+use Rattle.bully_world.proofs.ApplyLemmas.{room_of}
 use Rattle.bully_world.specs.Cause.{cause}
 use Rattle.bully_world.specs.Lawful.{IsLawful, LeadTo}
 use Rattle.bully_world.specs.Step.{Step}
