@@ -1,5 +1,6 @@
 ghost use Rattle.std.specs.Prelude.{◌≡◌, ◌≤◌, []};
 ghost use Rattle.bully_base.specs.declared.TheConstants.{NODES_MAX};
+ghost use Rattle.bully_group.specs.Seat.{IsSeat};
 
 use bully_watch::Entry;
 use std::alloc::Global;
@@ -14,15 +15,13 @@ pub struct Seat {
 }
 
 impl Model for Seat {
-    ghost use Rattle.std.specs.Prelude.{◌≤◌};
-    ghost use Rattle.bully_base.specs.declared.TheConstants.{NODES_MAX};
-    ghost use Rattle.bully_group.specs.Seat.{SeatState};
+    ghost use Rattle.bully_group.specs.Seat.{SeatState, IsSeat};
 
     ghost Value = { SeatState };
 
     ghost view = { λ s. record { actor = s.actor; log = s.log.items } };
 
-    ghost invariant = { λ s. s.actor ≤ NODES_MAX };
+    ghost invariant = { λ s. IsSeat (record { actor = s.actor; log = s.log.items }) };
 }
 
 impl Seat {
@@ -34,14 +33,16 @@ impl Seat {
         self.actor
     }
 
-    /// Each entry that it was answered, beside its index from 0 in the history.
+    /// Each entry that it was answered, beside its index from 0 in the history. The indices rise.
     pub fn log(&self) -> &[(usize, Entry)]
-        ensures { result.now ≡ self.now.log }
+        ensures log { result.now ≡ self.now.log }
+        ensures seat { IsSeat self.now }
     {
         self.log.as_slice()
     }
 
     // The actor's seat, which was answered nothing.
+    #[tactic(auto, using(crate::proofs::SeatLemmas::new_seat))]
     pub(crate) fn new(alloc: Global, actor: u16) -> Seat
         requires { actor ≤ NODES_MAX }
         ensures actor { result.actor ≡ actor }

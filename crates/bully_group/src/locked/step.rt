@@ -86,6 +86,7 @@ impl<L: Naming> Locked<L> {
         event: &Event,
         pass: &mut Pass<L>,
     ) -> Result<(), StepFault>
+        requires known { IsKnown self.old.history seat.old }
         requires yours { IsYours self.old seat.old event.now }
         ensures entry { OnOk result (Records self.old seat.old event.now self.new seat.new) }
         ensures no_cause { OnOk result (cause_in self.old.world event.now ≡ None) }

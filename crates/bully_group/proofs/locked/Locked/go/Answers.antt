@@ -1,5 +1,5 @@
 -- The step's entry is one more, and the procedure goes on by it.
-use Rattle.std.proofs.Common.{rules, ◌≡◌, ◌+◌, ◌++◌, ◌<◌, [], ◌∷◌, Some}
+use Rattle.std.proofs.Common.{rules, length, refl, ◌≡◌, ◌+◌, ◌++◌, ◌<◌, [], ◌∷◌, Some}
 use Rattle.bully_steps.specs.Procedure.{state_of}
 use Rattle.bully_watch.specs.declared.entry.Entry.{Entry}
 use Rattle.bully_watch.specs.History.{whose}
@@ -8,6 +8,8 @@ use Rattle.bully_world.specs.Step.{Step}
 use Rattle.bully_world.specs.Turn.{event_of}
 use Rattle.bully_world.proofs.TurnTaken.{table_if_planned}
 use Rattle.bully_group.specs.Locked.{LockedState}
+use Rattle.bully_group.specs.Seat.{SeatState, IsKnown}
+use Rattle.bully_group.proofs.SeatLemmas.{seat_more}
 use Rattle.bully_group.proofs.LockedLemmas.{locked_more}
 use Rattle.bully_group.proofs.WorldLemmas.{whose_turn}
 use Rattle.bully_group.proofs.locked.Locked.go.Goals as goal
@@ -48,3 +50,12 @@ returns-clause-went g c = (
   },
   search rules,
 )
+
+pub invariant_of-seat-2 : goal.invariant_of-seat-2
+invariant_of-seat-2 g c =
+    let s : SeatState = record { actor = c.seat.inside.actor; log = c.seat.inside.log.items } in
+    let history = c.self.inside.history.items in
+    let e : Entry = record { actor = c.seat.inside.actor; event = c.in-Ok-take.taken.event; answer = c.in-Ok-take.taken.answer } in
+    let known : IsKnown history s = search rules in
+    let made : c.add.new.log.items ≡ s.log ++ (length history, e) ∷ [] = search rules in
+    rw made (seat_more s history e c.seat.invariant known refl)

@@ -1,11 +1,13 @@
 -- The event's entry is one more, and the world goes one step by it.
-use Rattle.std.proofs.Common.{rules, ◌≡◌, ◌+◌, ◌++◌, ◌<◌, [], ◌∷◌, Some, None}
+use Rattle.std.proofs.Common.{rules, length, refl, ◌≡◌, ◌+◌, ◌++◌, ◌<◌, [], ◌∷◌, Some, None}
 use Rattle.bully_watch.specs.declared.entry.Entry.{Entry}
 use Rattle.bully_watch.specs.History.{whose}
 use Rattle.bully_world.specs.State.{world_of, cause_in}
 use Rattle.bully_world.specs.Step.{Step}
 use Rattle.bully_world.proofs.ApplyLemmas.{room_of}
 use Rattle.bully_group.specs.Locked.{LockedState}
+use Rattle.bully_group.specs.Seat.{SeatState, IsKnown}
+use Rattle.bully_group.proofs.SeatLemmas.{seat_more}
 use Rattle.bully_group.proofs.LockedLemmas.{locked_more}
 use Rattle.bully_group.proofs.locked.Locked.take_in.Goals as goal
 
@@ -33,3 +35,12 @@ returns-clause-entry g c = record {
   actor = search rules;
   setup = search rules;
 }
+
+pub invariant_of-seat-2 : goal.invariant_of-seat-2
+invariant_of-seat-2 g c =
+    let s : SeatState = record { actor = c.seat.inside.actor; log = c.seat.inside.log.items } in
+    let history = c.self.inside.history.items in
+    let e : Entry = record { actor = c.seat.inside.actor; event = c.in-Ok.event; answer = c.unwrap-answer.result } in
+    let known : IsKnown history s = search rules in
+    let made : c.add.new.log.items ≡ s.log ++ (length history, e) ∷ [] = search rules in
+    rw made (seat_more s history e c.seat.invariant known refl)
