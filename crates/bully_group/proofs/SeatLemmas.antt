@@ -42,10 +42,13 @@ last_after s history i p kept known at = by_last (le_cases i (length s.log - 1) 
   where
     within : i < length s.log
     within = slice_get_within s.log i p at
+
     is_last : (q : ℕ × Entry) → last_of s ≡ Some q → q.0 < length history
     is_last q last = slice_get_within history q.0 q.1 (known.stands q.0 q.1 last)
+
     there : slice_get s.log (length s.log - 1) ≡ Some (get_or s.log (length s.log - 1) p)
     there = slice_get-get_or s.log (length s.log - 1) p (omega (arith, within))
+
     by_last : (i < length s.log - 1) ⊎ (i ≡ length s.log - 1) → p.0 < length history
     by_last (inl before) = let first = kept.rising i (length s.log - 1) p (get_or s.log (length s.log - 1) p) before at there in let last = is_last (get_or s.log (length s.log - 1) p) there in omega (arith, first, last)
     by_last (inr same) = is_last p (subst (λ (k : ℕ). slice_get s.log k ≡ Some p) same at)

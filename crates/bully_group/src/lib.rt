@@ -21,3 +21,6 @@ pub use locked::turn::Turn;
 pub use naming::Naming;
 pub use pass::Pass;
 pub use seat::Seat;
+
+#[cfg(test)]
+mod tests;
