@@ -86,6 +86,6 @@ abbrev pub Fails : LockedState → SeatState → ProcedureState → ProcedureSta
 Fails s seat h h' fault = IsTurnFault s seat h fault × (h' ≡ h)
 
 -- the procedure is of the same node of the same group
-pub record HasSameOwner (h h' : ProcedureState) : Type 0 where
+pub record HasSameNode (h h' : ProcedureState) : Type 0 where
   pub setup : h'.setup ≡ h.setup
   pub node : h'.node ≡ h.node

@@ -5,7 +5,8 @@ use Rattle.bully_base.specs.Setup.{Setup}
 use Rattle.bully_world.specs.Lawful.{LeadTo}
 use Rattle.bully_world.specs.Step.{Step}
 use Rattle.bully_world.specs.World.{World, first_world}
-use Rattle.bully_world.proofs.LawfulLemmas.{step_one, lawful_more}
+use Rattle.bully_world.proofs.LawfulLemmas.{lawful_more}
+use Rattle.bully_world.proofs.StepOfLemmas.{step_is_one}
 use Rattle.bully_watch.specs.declared.entry.Entry.{Entry}
 use Rattle.bully_watch.specs.History.{AreActors, IsHistory, whose, event_of, answer_of}
 
@@ -14,7 +15,7 @@ actors_more setup w [] mid e actors lead own = (rw lead at own, λ mid' s. tt)
 actors_more setup w (x ∷ entries) mid e actors lead own = (
   actors.0,
   λ next s.
-      let same = step_one setup w x.event lead.0 next x.answer x.answer lead.1 s in
+      let same = step_is_one setup w x.event next lead.0 x.answer x.answer s lead.1 in
       actors_more setup next entries mid e (actors.1 next s) (subst (λ m. LeadTo setup m (map event_of entries) (map answer_of entries) mid) same.0 lead.2) own,
 )
 
