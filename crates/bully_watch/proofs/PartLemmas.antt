@@ -1,20 +1,20 @@
 -- Where the entries of a history stand in the parts of its actors, and that no actor is above the last node.
-use Rattle.std.proofs.Common.{◌≡◌, ◌≢◌, ◌≤◌, ◌<◌, ◌+◌, ◌-◌, ◌==◌, ℕ, zero, suc, Bool, true, false, List, [], ◌∷◌, Some, None, map, length, arith, refl, sym, ap, ◌∙◌}
+use Rattle.std.proofs.Common.{◌≡◌, ◌≤◌, ◌<◌, ◌+◌, ◌-◌, ◌==◌, ℕ, zero, suc, Bool, true, false, List, [], ◌∷◌, Some, map, length, arith, refl, sym, ap, ◌∙◌}
 use Rattle.std.specs.Prelude.{slice_get, if◌then◌else◌}
 use Rattle.std.proofs.lemmas.List.{length-map}
 use Rattle.std.proofs.lemmas.Bool.Decides.{nat_tests}
 use Rattle.bully_base.specs.Setup.{Setup, IsNode}
 use Rattle.bully_world.specs.declared.event.Event.{Event}
 use Rattle.bully_world.specs.Cause.{node_of}
-use Rattle.bully_world.specs.Lawful.{LeadTo, IsLawful}
+use Rattle.bully_world.specs.Lawful.{LeadTo}
 use Rattle.bully_world.specs.NodeInvariant.{WorldInvariant}
 use Rattle.bully_world.specs.Step.{Step}
-use Rattle.bully_world.specs.World.{World, first_world, pending}
+use Rattle.bully_world.specs.World.{World, first_world}
 use Rattle.bully_world.proofs.ApplyLemmas.{node_in_setup}
 use Rattle.bully_world.proofs.CauseLemmas.{no_cause_if_step}
 use Rattle.bully_world.proofs.NodeInvariantLemmas.{first_fits, step_fits, call_of_pending}
 use Rattle.bully_watch.specs.declared.entry.Entry.{Entry}
-use Rattle.bully_watch.specs.History.{AreActors, IsHistory, whose, event_of, answer_of, callee_of, part_from, part}
+use Rattle.bully_watch.specs.History.{AreActors, IsHistory, whose, event_of, answer_of, part_from}
 
 -- an entry that stands in an actor's part: it stands in the history at its index, and is that actor's
 pub record Stands (at actor : ℕ) (entries : List Entry) (index : ℕ) (e : Entry) : Type 0 where
