@@ -1,4 +1,4 @@
-use bully_base::Node;
+use bully_base::{Node, OutOfMemory};
 use bully_table::Table;
 
 /// One step of the group. Each names the node whose event it is, or, for `Run`, whose call runs.
@@ -44,7 +44,7 @@ pub enum Refused {
 }
 
 impl Event {
-    ghost use Rattle.std.specs.Prelude.{◌≡◌};
+    ghost use Rattle.std.specs.Prelude.{◌≡◌, ◌↔◌, IsTrue, IfOk};
     ghost use Rattle.bully_world.specs.Cause.{node_of};
 
     /// The node that the event names.
@@ -62,6 +62,43 @@ impl Event {
             | Event::Return(node)
             | Event::Move(node)
             | Event::Plan(node, _) => *node,
+        }
+    }
+
+    /// The same event. Only a plan takes memory, for its table; refused where an allocation fails.
+    pub fn copy(&self) -> Result<Event, OutOfMemory>
+        ensures { IfOk result (λ event. event ≡ self.now) }
+    {
+        Ok(match self {
+            Event::Recover(node) => Event::Recover(*node),
+            Event::Crash(node) => Event::Crash(*node),
+            Event::Check(node) => Event::Check(*node),
+            Event::Timeout(node) => Event::Timeout(*node),
+            Event::Start(node) => Event::Start(*node),
+            Event::Run(node) => Event::Run(*node),
+            Event::Lose(node) => Event::Lose(*node),
+            Event::Return(node) => Event::Return(*node),
+            Event::Move(node) => Event::Move(*node),
+            Event::Plan(node, table) => Event::Plan(*node, table.copy()?),
+        })
+    }
+
+    /// Whether both are the same event; plans, where their tables have the same owners.
+    pub fn is_same(&self, other: &Event) -> bool
+        ensures { IsTrue result ↔ (self.now ≡ other.now) }
+    {
+        match (self, other) {
+            (Event::Recover(node), Event::Recover(same))
+            | (Event::Crash(node), Event::Crash(same))
+            | (Event::Check(node), Event::Check(same))
+            | (Event::Timeout(node), Event::Timeout(same))
+            | (Event::Start(node), Event::Start(same))
+            | (Event::Run(node), Event::Run(same))
+            | (Event::Lose(node), Event::Lose(same))
+            | (Event::Return(node), Event::Return(same))
+            | (Event::Move(node), Event::Move(same)) => node == same,
+            (Event::Plan(node, table), Event::Plan(same, other)) => node == same && table == other,
+            _ => false,
         }
     }
 }

@@ -1,0 +1,4 @@
+pub mod WorldLemmas
+pub mod SeatLemmas
+pub mod LockedLemmas
+pub mod FinishLemmas

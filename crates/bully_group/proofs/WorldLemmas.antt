@@ -1,0 +1,41 @@
+-- What a world shows of a number above its last node, and what its turn rule offers.
+use Rattle.std.proofs.Common.{◌≡◌, ◌<◌, ℕ, Bool, true, false, None, Some, arith, ap, refl, ⊎_elim}
+use Rattle.bully_base.specs.Setup.{IsNode}
+use Rattle.bully_base.specs.declared.node.Status.TheVariants.{Down}
+use Rattle.bully_handlers.specs.Vector.{is_down}
+use Rattle.bully_steps.specs.ProcedureState.{ProcedureState}
+use Rattle.bully_watch.specs.History.{whose}
+use Rattle.bully_world.specs.declared.turn.Next.{Next}
+use Rattle.bully_world.specs.declared.turn.StepKind.{StepKind}
+use Rattle.bully_world.specs.Cause.{is_down_at}
+use Rattle.bully_world.specs.State.{WorldState, IsReached, world_of}
+use Rattle.bully_world.specs.Turn.{turn, event_of, is_in_step}
+use Rattle.bully_world.specs.World.{World, pending, vector}
+use Rattle.bully_world.proofs.NodeInvariantLemmas.{lawful_fits}
+
+status_beyond : (s : WorldState) (i : ℕ) → IsReached s → s.setup.nodes < i → (vector (world_of s) i).status ≡ Down
+status_beyond s i r above = ⊎_elim (λ d. d) (λ (n : IsNode s.setup i). absurd (omega (arith, n.1, above))) ((lawful_fits s.setup r.applied r.answers (world_of s) r.lawful).fits i).a_node
+
+-- a number above the last node has no call
+pub no_call_beyond : (s : WorldState) (i : ℕ) → IsReached s → s.setup.nodes < i → pending (world_of s) i ≡ None
+no_call_beyond s i r above = ((lawful_fits s.setup r.applied r.answers (world_of s) r.lawful).fits i).down_free (status_beyond s i r above)
+
+-- and is Down
+pub down_beyond : (s : WorldState) (i : ℕ) → IsReached s → s.setup.nodes < i → is_down_at (world_of s) i ≡ true
+down_beyond s i r above = ap is_down (status_beyond s i r above)
+
+-- a step that is offered is one of the procedure's node
+pub whose_turn : (w : World) (kind : StepKind) (h : ProcedureState) → whose w (event_of kind h) ≡ Some h.node
+whose_turn w StepKind.Start h = refl
+whose_turn w StepKind.Lose h = refl
+whose_turn w StepKind.Return h = refl
+whose_turn w StepKind.Move h = refl
+whose_turn w StepKind.Plan h = refl
+
+-- a procedure that rests is in step
+pub rest_in_step : (w : WorldState) (h : ProcedureState) → turn w h ≡ Next.Rest → is_in_step w h ≡ true
+rest_in_step w h t = by_test (is_in_step w h) refl
+  where
+    by_test : (b : Bool) → is_in_step w h ≡ b → is_in_step w h ≡ true
+    by_test true is = is
+    by_test false is = absurd (grind (arith, t, is))

@@ -1,0 +1,6 @@
+pub mod Names
+pub mod Seat
+pub mod Locked
+pub mod Steps
+pub mod Turns
+pub mod Finish

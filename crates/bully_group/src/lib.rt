@@ -1,0 +1,26 @@
+//! A group under one lock: its world, its history, and the book that counts the entries.
+//!
+//! It stands on bully_watch, bully_agree and the crates below them. The crates above rely on each step being one entry
+//! of the history and of its seat, answered as the definitions say, and on a finished group's seats having all of it.
+#![tactic(auto)]
+
+mod closed;
+mod group;
+mod locked;
+mod naming;
+mod pass;
+mod seat;
+
+pub use closed::Closed;
+pub use group::Group;
+pub use locked::Locked;
+pub use locked::finish::FinishFault;
+pub use locked::shown::ViewFault;
+pub use locked::step::StepFault;
+pub use locked::turn::Turn;
+pub use naming::Naming;
+pub use pass::Pass;
+pub use seat::Seat;
+
+#[cfg(test)]
+mod tests;

@@ -1,0 +1,130 @@
+ghost use Rattle.std.specs.Prelude.{◌≡◌, ◌+◌, ◌≤◌, ◌<◌, [], IfOk, IfErr, vec_capacity, replicate};
+ghost use Rattle.bully_base.specs.Setup.{IsSetup};
+ghost use Rattle.bully_base.specs.declared.TheConstants.{NODES_MAX};
+ghost use Rattle.bully_group.specs.Locked.{IsLocked};
+ghost use Rattle.bully_group.specs.Seat.{AreNewSeats};
+ghost use Rattle.bully_world.specs.State.{first_state};
+
+pub mod finish;
+pub mod shown;
+pub mod step;
+pub mod turn;
+
+use crate::naming::Naming;
+use crate::pass::Pass;
+use crate::seat::Seat;
+use bully_base::{OutOfMemory, Setup};
+use bully_watch::Entry;
+use bully_world::World;
+use std::alloc::{AllocError, Global};
+use std::marker::Model;
+use std::sync::ledger::{Blank, Book, Share};
+
+/// What lies under the lock of a group: its world, its history and the book that counts the entries. Its type keeps that
+/// the entries are a history of the setup that `L` names, that the world is the one that it leads to, and that the book
+/// counts them.
+#[derive(Drop)]
+pub struct Locked<L: Naming> {
+    world: World,
+    history: Vec<Entry>,
+    book: Book<L>,
+}
+
+impl<L: Naming> Model for Locked<L> {
+    ghost use Rattle.bully_group.specs.Locked.{LockedState, IsLocked};
+
+    ghost Value = { LockedState };
+
+    ghost view = { λ s. record { world = s.world; history = s.history.items; counted = s.book.total } };
+
+    ghost invariant = { λ s. IsLocked L.setup L.parts (record { world = s.world; history = s.history.items; counted = s.book.total }) };
+}
+
+impl<L: Naming> Locked<L> {
+    /// A group before any event, with a seat for the operator and then one for each node, and as many passes. Setup
+    /// and blank are `L`'s, and the blank has a part for each seat. Refused where an allocation fails, and then the
+    /// blank is handed back.
+    pub fn open(
+        alloc: Global,
+        setup: Setup,
+        blank: Blank,
+    ) -> Result<(Locked<L>, Vec<Seat>, Vec<Pass<L>>), (OutOfMemory, Blank)>
+        requires setup { setup ≡ L.setup }
+        requires name { blank.name ≡ L.name }
+        requires parts { (blank.parts ≡ L.parts) × (L.parts ≡ L.setup.nodes + 1) }
+        ensures world { IfOk result (λ opened. opened.0.world ≡ first_state setup) }
+        ensures history { IfOk result (λ opened. opened.0.history ≡ []) }
+        ensures seats { IfOk result (λ opened. AreNewSeats (setup.nodes + 1) opened.1.items) }
+        ensures passes { IfOk result (λ opened. opened.2.items ≡ replicate (setup.nodes + 1) 0) }
+        ensures blank { IfErr result (λ fault. fault.1 ≡ blank) }
+    {
+        let count = setup.nodes() + 1;
+        let Ok(world) = World::new(alloc, setup) else {
+            return Err((AllocError, blank));
+        };
+        let Ok(seats) = new_seats(alloc, count) else {
+            return Err((AllocError, blank));
+        };
+        let Ok(passes) = Vec::with_capacity(alloc, usize::from(count)) else {
+            return Err((AllocError, blank));
+        };
+        let (book, share) = blank.open::<L>();
+        let passes = deal(share, passes, count);
+        let locked = Locked {
+            world,
+            history: Vec::new(alloc),
+            book,
+        };
+        Ok((locked, seats, passes))
+    }
+
+    /// What the group was set up with.
+    pub fn setup(&self) -> Setup
+        ensures setup { result ≡ self.now.world.setup }
+        ensures named { result ≡ L.setup }
+    {
+        self.world.setup()
+    }
+
+    /// The entries from the first one on. They are a history, and the world is the one that it leads to.
+    pub fn history(&self) -> &[Entry]
+        ensures history { result.now ≡ self.now.history }
+        ensures locked { IsLocked L.setup L.parts self.now }
+    {
+        self.history.as_slice()
+    }
+
+    /// The world that the history leads to.
+    pub fn world(&self) -> &World
+        ensures { result.now ≡ self.now.world }
+    {
+        &self.world
+    }
+}
+
+// A seat for each of so many actors, from the operator's on.
+#[tactic(auto, using(crate::proofs::SeatLemmas::new_seat_more))]
+fn new_seats(alloc: Global, count: u16) -> Result<Vec<Seat>, OutOfMemory>
+    requires { count ≤ NODES_MAX + 1 }
+    ensures { IfOk result (λ seats. AreNewSeats count seats.items) }
+{
+    let mut seats = Vec::with_capacity(alloc, usize::from(count))?;
+    for actor in 0..count {
+        seats.push(Seat::new(alloc, actor))?;
+    }
+    Ok(seats)
+}
+
+// Cuts the share into passes of one part, for which there is room.
+fn deal<L: Naming>(mut share: Share<L>, mut passes: Vec<Pass<L>>, count: u16) -> Vec<Pass<L>>
+    requires parts { share.parts ≡ count }
+    requires amount { share.amount ≡ 0 }
+    requires empty { passes.items ≡ [] }
+    requires room { count ≤ vec_capacity passes }
+    ensures { result.items ≡ replicate count 0 }
+{
+    for _dealt in 0..count {
+        passes.push_reserved(Pass::of(share.split_off(1, 0)));
+    }
+    passes
+}

@@ -1,0 +1,170 @@
+ghost use Rattle.std.specs.Prelude.{◌≡◌, ◌↔◌, ◌<◌, ◌==◌, IsTrue, false, IfOk, OnOk, IfErr, IfSome, MatchOption, All, length, map, sum, vec_len};
+ghost use Rattle.std.specs.List.{AllByRecursion};
+ghost use Rattle.bully_group.specs.Finish.{AreAll, AreOfGroup, HasPart, IsLowestDiffering, IsFinishFault, EachInOneLog};
+ghost use Rattle.bully_group.specs.Locked.{view_in};
+ghost use Rattle.bully_group.specs.Seat.{actor_of};
+ghost use Rattle.bully_group.specs.declared.locked.finish.FinishFault.{FinishFault};
+ghost use Rattle.bully_watch.specs.History.{part};
+
+use super::Locked;
+use crate::closed::Closed;
+use crate::naming::Naming;
+use crate::pass::Pass;
+use crate::seat::Seat;
+use bully_agree::view;
+use bully_watch::Entry;
+use std::sync::ledger::Book;
+
+/// Why a group isn't finished, the first that holds.
+#[derive(Clone, Copy, PartialEq, Eq, Debug)]
+pub enum FinishFault {
+    /// There isn't a seat for the operator and for each node, or not as many passes.
+    SeatCount,
+    /// Two seats are of one actor, or one is of an actor above the last node.
+    Stranger,
+    /// The log of this actor, the lowest such, isn't its part of the history.
+    Differs(u16),
+    /// An allocation failed.
+    OutOfMemory,
+}
+
+impl<L: Naming> Locked<L> {
+    /// Ends the group, with all its seats, in any order, and all its passes. Each seat's log is its actor's part of the
+    /// history. Refused, in this order, as `SeatCount`, `Stranger`, `Differs` and `OutOfMemory`; then everything is
+    /// handed back.
+    pub fn finish(
+        self,
+        seats: Vec<Seat>,
+        passes: Vec<Pass<L>>,
+    ) -> Result<Closed, (Locked<L>, Vec<Seat>, Vec<Pass<L>>, FinishFault)>
+        ensures history { IfOk result (λ closed. closed.history ≡ self.history) }
+        ensures view { IfOk result (λ closed. closed.view ≡ view_in self) }
+        ensures all { OnOk result (AreAll self.world.setup.nodes seats.items (vec_len passes)) }
+        ensures own { OnOk result (AreOfGroup self.world.setup.nodes seats.items) }
+        ensures logs { OnOk result (All (HasPart self.history) seats.items) }
+        ensures once { OnOk result (EachInOneLog self.history seats.items) }
+        ensures counted { IfOk result (λ closed. sum passes.items ≡ length closed.history) }
+        ensures fault { IfErr result (λ back. IsFinishFault self seats.items (vec_len passes) back.3) }
+        ensures locked { IfErr result (λ back. back.0 ≡ self) }
+        ensures seats { IfErr result (λ back. back.1.items ≡ seats.items) }
+        ensures passes { IfErr result (λ back. back.2.items ≡ passes.items) }
+    {
+        if let Some(fault) = self.fault(&seats, passes.len()) {
+            return Err((self, seats, passes, fault));
+        }
+        let alloc = *self.history.allocator();
+        let Ok(shown) = view(alloc, &self.world) else {
+            return Err((self, seats, passes, FinishFault::OutOfMemory));
+        };
+        let Locked {
+            world: _,
+            history,
+            book,
+        } = self;
+        add_up(book, passes);
+        Ok(Closed::of(history, shown))
+    }
+
+    // Why it can't be finished with these seats and so many passes, memory aside.
+    fn fault(&self, seats: &[Seat], passes: usize) -> Option<FinishFault>
+        ensures { MatchOption result (IsFinishFault self.now seats.now passes FinishFault.OutOfMemory) (IsFinishFault self.now seats.now passes) }
+    {
+        let nodes = self.world.setup().nodes();
+        let count = usize::from(nodes) + 1;
+        if seats.len() != count || passes != count {
+            return Some(FinishFault::SeatCount);
+        }
+        if has_stranger(nodes, seats) {
+            return Some(FinishFault::Stranger);
+        }
+        let actor = first_differing(&self.history, seats)?;
+        Some(FinishFault::Differs(actor))
+    }
+}
+
+// Whether two seats are of one actor, or one is of an actor above the last node.
+fn has_stranger(nodes: u16, seats: &[Seat]) -> bool
+    ensures { (result ≡ false) ↔ AreOfGroup nodes seats.now }
+{
+    let Some((seat, rest)) = seats.split_first() else {
+        return false;
+    };
+    if seat.actor > nodes {
+        return true;
+    }
+    if has_actor(rest, seat.actor) {
+        return true;
+    }
+    has_stranger(nodes, rest)
+}
+
+// Whether a seat is of this actor.
+fn has_actor(seats: &[Seat], actor: u16) -> bool
+    ensures { (result ≡ false) ↔ AllByRecursion (λ other. (actor == other) ≡ false) (map actor_of seats.now) }
+{
+    match seats.split_first() {
+        None => false,
+        Some((seat, rest)) => seat.actor == actor || has_actor(rest, actor),
+    }
+}
+
+// The lowest actor of the seats whose log isn't its part of the history.
+#[tactic(auto, using(crate::proofs::FinishLemmas::lowest_later, crate::proofs::FinishLemmas::lowest_first))]
+fn first_differing(history: &[Entry], seats: &[Seat]) -> Option<u16>
+    ensures { MatchOption result (All (HasPart history.now) seats.now) (IsLowestDiffering history.now seats.now) }
+{
+    let (seat, rest) = seats.split_first()?;
+    let later = first_differing(history, rest);
+    if is_part(history, seat.actor, &seat.log) || !is_below(seat.actor, later) {
+        later
+    } else {
+        Some(seat.actor)
+    }
+}
+
+// Whether the actor is below the one that was found, if any.
+fn is_below(actor: u16, found: Option<u16>) -> bool
+    ensures { IsTrue result ↔ IfSome found (λ lowest. actor < lowest) }
+{
+    match found {
+        Some(lowest) => actor < lowest,
+        None => true,
+    }
+}
+
+// Whether the log is the actor's part of the history.
+fn is_part(history: &[Entry], actor: u16, log: &[(usize, Entry)]) -> bool
+    ensures { IsTrue result ↔ (log.now ≡ part actor history.now) }
+{
+    let mut next = 0;
+    for at in 0..history.len() {
+        let entry = &history[at];
+        if entry.actor == actor {
+            if next >= log.len() {
+                return false;
+            }
+            let told = &log[next];
+            if told.0 != at || !told.1.is_same(entry) {
+                return false;
+            }
+            next += 1;
+        }
+    }
+    next == log.len()
+}
+
+// The passes are all of the ledger, so what they counted adds up to the book's total.
+fn add_up<L: Naming>(mut book: Book<L>, mut passes: Vec<Pass<L>>)
+    requires all { vec_len passes ≡ L.parts }
+    requires some { 0 < L.parts }
+    ensures { sum passes.items ≡ book.total }
+{
+    let Some(pass) = passes.pop() else {
+        unreachable!()
+    };
+    let mut all = pass.into_share();
+    while let Some(pass) = passes.pop() {
+        all.merge(pass.into_share());
+    }
+    book.audit(&mut all);
+}

@@ -1,0 +1,208 @@
+ghost use Rattle.std.specs.Prelude.{◌≡◌, ◌+◌, ◌++◌, ◌<◌, [], ◌∷◌, ◌↔◌, IsTrue, IfOk, OnOk, IfErr, MatchOption, Some, None, is_ok, slice_get, vec_len, vec_capacity, if◌then◌else◌};
+ghost use Rattle.std.specs.Option.{option_map};
+ghost use Rattle.bully_group.specs.Seat.{IsKnown, IsForeign};
+ghost use Rattle.bully_group.specs.Steps.{Records, IsAllowed, IsYours, IsStepFault, IsTakeFault, IsServe, IsServeFault, is_served};
+ghost use Rattle.bully_watch.specs.History.{whose, callee_of};
+ghost use Rattle.bully_world.specs.Cause.{is_down_at};
+ghost use Rattle.bully_world.specs.State.{world_of, cause_in};
+ghost use Rattle.bully_world.specs.World.{pending};
+
+use super::Locked;
+use crate::naming::Naming;
+use crate::pass::Pass;
+use crate::seat::Seat;
+use bully_base::{Node, OutOfMemory, Status};
+use bully_watch::Entry;
+use bully_world::{Event, Refused, World};
+
+/// Why a step isn't taken, the first that holds.
+#[derive(Clone, Copy, PartialEq, Eq, Debug)]
+pub enum StepFault {
+    /// The seat's last entry isn't in this history at its index, which is this one.
+    Foreign { index: usize },
+    /// The event isn't the seat's actor's.
+    NotYours,
+    /// The world refuses the event, for this cause.
+    Refused(Refused),
+    /// An allocation failed.
+    OutOfMemory,
+}
+
+impl<L: Naming> Locked<L> {
+    /// Takes one event of the seat's actor. Its entry becomes the last of the history and, beside its index, of the
+    /// seat; the pass counts it. Refused, in this order, as `Foreign`, never for a seat without an entry, `NotYours`,
+    /// `Refused` and `OutOfMemory`; then nothing changes.
+    pub fn step(
+        &mut self,
+        seat: &mut Seat,
+        event: &Event,
+        pass: &mut Pass<L>,
+    ) -> Result<(), StepFault>
+        ensures entry { OnOk result (Records self.old seat.old event.now self.new seat.new) }
+        ensures allowed { OnOk result (IsAllowed self.old seat.old event.now) }
+        ensures fault { IfErr result (IsStepFault self.old seat.old event.now) }
+        ensures unchanged { IfErr result (λ _. (self.new ≡ self.old) × (seat.new ≡ seat.old)) }
+        ensures pass { pass.new ≡ (if is_ok result then pass.old + 1 else pass.old) }
+    {
+        if let Some(index) = foreign_index(&self.history, seat) {
+            return Err(StepFault::Foreign { index });
+        }
+        if actor_of(&self.world, event) != Some(seat.actor) {
+            return Err(StepFault::NotYours);
+        }
+        self.take_in(seat, event, pass)
+    }
+
+    /// Runs the call that waits for the seat's node, that of the lowest caller; a step as `step` takes it. False, and
+    /// nothing changes, where no call waits or the node is Down. Refused, in this order, as `Foreign`, `NotYours` for
+    /// the operator's seat, `Refused` and `OutOfMemory`; then nothing changes.
+    pub fn serve(&mut self, seat: &mut Seat, pass: &mut Pass<L>) -> Result<bool, StepFault>
+        ensures served { IfOk result (IsServe self.old seat.old self.new seat.new) }
+        ensures fault { IfErr result (IsServeFault self.old seat.old) }
+        ensures unchanged { IfErr result (λ _. (self.new ≡ self.old) × (seat.new ≡ seat.old)) }
+        ensures pass { pass.new ≡ (if is_served result then pass.old + 1 else pass.old) }
+    {
+        if let Some(index) = foreign_index(&self.history, seat) {
+            return Err(StepFault::Foreign { index });
+        }
+        let Some(node) = Node::new(seat.actor) else {
+            return Err(StepFault::NotYours);
+        };
+        if is_down(&self.world, node) {
+            return Ok(false);
+        }
+        let Some(caller) = self.world.waiting_for(node) else {
+            return Ok(false);
+        };
+        self.take_in(seat, &Event::Run(caller), pass)?;
+        Ok(true)
+    }
+
+    // Takes the event of the seat's actor in, where the world doesn't refuse it. Everything is reserved before anything
+    // changes.
+    fn take_in(
+        &mut self,
+        seat: &mut Seat,
+        event: &Event,
+        pass: &mut Pass<L>,
+    ) -> Result<(), StepFault>
+        requires known { IsKnown self.old.history seat.old }
+        requires yours { IsYours self.old seat.old event.now }
+        ensures entry { OnOk result (Records self.old seat.old event.now self.new seat.new) }
+        ensures no_cause { OnOk result (cause_in self.old.world event.now ≡ None) }
+        ensures fault { IfErr result (IsTakeFault self.old event.now) }
+        ensures unchanged { IfErr result (λ _. (self.new ≡ self.old) × (seat.new ≡ seat.old)) }
+        ensures pass { pass.new ≡ (if is_ok result then pass.old + 1 else pass.old) }
+    {
+        if let Some(cause) = self.world.cause(event) {
+            return Err(StepFault::Refused(cause));
+        }
+        let Ok((event, logged)) = two_copies(event) else {
+            return Err(StepFault::OutOfMemory);
+        };
+        if self.history.reserve(1).is_err() || seat.log.reserve(1).is_err() {
+            return Err(StepFault::OutOfMemory);
+        }
+        let answer = self.world.apply(&event).unwrap();
+        pass.count(&mut self.book);
+        let entry = Entry {
+            actor: seat.actor,
+            event,
+            answer,
+        };
+        add(&mut self.history, &mut seat.log, entry, logged);
+        Ok(())
+    }
+}
+
+/// The index of the seat's last entry, where that isn't in this history.
+pub(crate) fn foreign_index(history: &[Entry], seat: &Seat) -> Option<usize>
+    ensures { MatchOption result (IsKnown history.now seat.now) (IsForeign history.now seat.now) }
+{
+    let (index, last) = seat.log.as_slice().last()?;
+    if stands(history, *index, last) {
+        None
+    } else {
+        Some(*index)
+    }
+}
+
+// Whether the entry is in the history at this index.
+fn stands(history: &[Entry], index: usize, entry: &Entry) -> bool
+    ensures { IsTrue result ↔ (slice_get history.now index ≡ Some entry.now) }
+{
+    match history.get(index) {
+        None => false,
+        Some(found) => found.is_same(entry),
+    }
+}
+
+// Whose event it is, nobody's where a run finds no call.
+fn actor_of(world: &World, event: &Event) -> Option<u16>
+    ensures { result ≡ whose (world_of world.now) event.now }
+{
+    match event {
+        Event::Recover(_) | Event::Crash(_) => Some(0),
+        Event::Run(caller) => callee_of(world, *caller),
+        Event::Check(node)
+        | Event::Timeout(node)
+        | Event::Start(node)
+        | Event::Lose(node)
+        | Event::Return(node)
+        | Event::Move(node)
+        | Event::Plan(node, _) => Some(node.number()),
+    }
+}
+
+// Whom the caller's call is made to, if it has one.
+#[tactic(auto, using(crate::proofs::WorldLemmas::no_call_beyond))]
+fn callee_of(world: &World, caller: Node) -> Option<u16>
+    ensures { result ≡ option_map callee_of (pending (world_of world.now) caller) }
+{
+    if caller.number() > world.setup().nodes() {
+        // Shows the proof that a lawful list leads to the world.
+        let _ = world.events();
+        return None;
+    }
+    let call = world.slot(caller).call()?;
+    Some(call.callee.number())
+}
+
+// Whether the node is Down, as one above the setup's last is.
+#[tactic(auto, using(crate::proofs::WorldLemmas::down_beyond))]
+fn is_down(world: &World, node: Node) -> bool
+    ensures { result ≡ is_down_at (world_of world.now) node }
+{
+    // Shows the proof that a lawful list leads to the world.
+    let _ = world.events();
+    node.number() > world.setup().nodes() || world.vector(node).status() == Status::Down
+}
+
+/// Adds the entry to the history and, beside its index, to the log, where its event is this copy. Both have room.
+pub(crate) fn add(
+    history: &mut Vec<Entry>,
+    log: &mut Vec<(usize, Entry)>,
+    entry: Entry,
+    copy: Event,
+)
+    requires room { vec_len history.old < vec_capacity history.old }
+    requires log_room { vec_len log.old < vec_capacity log.old }
+    ensures history { history.new.items ≡ history.old.items ++ entry ∷ [] }
+    ensures log { log.new.items ≡ log.old.items ++ (vec_len history.old, record entry { event = copy }) ∷ [] }
+{
+    let index = history.len();
+    let logged = Entry {
+        actor: entry.actor,
+        event: copy,
+        answer: entry.answer,
+    };
+    history.push_reserved(entry);
+    log.push_reserved((index, logged));
+}
+
+// Both copies, or neither.
+fn two_copies(event: &Event) -> Result<(Event, Event), OutOfMemory>
+    ensures { IfOk result (λ copies. (copies.0 ≡ event.now) × (copies.1 ≡ event.now)) }
+{
+    Ok((event.copy()?, event.copy()?))
+}

@@ -1,0 +1,124 @@
+ghost use Rattle.std.specs.Prelude.{◌≡◌, ◌+◌, ◌⊎◌, IfOk, true, false, if◌then◌else◌};
+ghost use Rattle.bully_group.specs.Seat.{IsKnown};
+ghost use Rattle.bully_group.specs.Turns.{handed_back, IfWent, IfWaiting, IfResynced, IfFault, is_went, is_fault, MayTurn, Goes, Waits, Resyncs, Fails, HasSameNode};
+ghost use Rattle.bully_steps.specs.Procedure.{state_of};
+ghost use Rattle.bully_world.specs.Turn.{turn, has_table, event_of, procedure_in, is_in_step};
+ghost use Rattle.bully_world.specs.declared.turn.Next.{Next};
+ghost use Rattle.bully_world.specs.declared.turn.StepKind.{StepKind};
+
+use super::Locked;
+use super::step::{StepFault, add, foreign_index};
+use crate::naming::Naming;
+use crate::pass::Pass;
+use crate::seat::Seat;
+use bully_base::OutOfMemory;
+use bully_steps::Procedure;
+use bully_watch::Entry;
+use bully_world::{Event, Next, Refused, StepKind, TakenStep};
+
+/// What became of a turn. Each hands a procedure of the same node back.
+#[derive(Drop, Debug)]
+pub enum Turn {
+    /// A step was taken, and the procedure goes on by it.
+    Went(Procedure),
+    /// There is nothing that it can do now; it is as it was.
+    Waiting(Procedure),
+    /// It wasn't in step with the world. It is given up for the one that the world shows.
+    Resynced(Procedure),
+    /// No turn was taken, for this fault; it is as it was.
+    Fault(Procedure, StepFault),
+}
+
+impl<L: Naming> Locked<L> {
+    /// Takes the turn of the seat's node by the turn rule, with the procedure that the node holds, whose setup is the
+    /// group's. A step that is taken adds an entry as `step` does. Refused, in this order, as `Foreign`, `NotYours`
+    /// where the seat isn't that of the procedure's node, then, where the rule has a step, `Refused` as Full, and
+    /// `OutOfMemory`; then nothing changes. The rule: docs/ALGORITHM.md.
+    #[tactic(auto, using(crate::proofs::WorldLemmas::rest_in_step))]
+    pub fn turn(&mut self, seat: &mut Seat, procedure: Procedure, pass: &mut Pass<L>) -> Turn
+        requires setup { (state_of procedure).setup ≡ L.setup }
+        ensures went { IfWent result (Goes self.old seat.old (state_of procedure) self.new seat.new) }
+        ensures waiting { IfWaiting result (Waits self.old seat.old (state_of procedure)) }
+        ensures resynced { IfResynced result (Resyncs self.old seat.old (state_of procedure)) }
+        ensures fault { IfFault result (Fails self.old seat.old (state_of procedure)) }
+        ensures in_step { is_fault result ≡ false → is_in_step self.new.world (handed_back result) ≡ true }
+        ensures same_node { HasSameNode (state_of procedure) (handed_back result) }
+        ensures unchanged { is_went result ≡ false → (self.new ≡ self.old) × (seat.new ≡ seat.old) }
+        ensures pass { pass.new ≡ (if is_went result then pass.old + 1 else pass.old) }
+    {
+        if let Some(index) = foreign_index(&self.history, seat) {
+            return Turn::Fault(procedure, StepFault::Foreign { index });
+        }
+        let node = procedure.node();
+        if seat.actor != node.number() {
+            return Turn::Fault(procedure, StepFault::NotYours);
+        }
+        match self.world.next(&procedure) {
+            Next::Resync => Turn::Resynced(self.world.procedure(node)),
+            Next::Rest => Turn::Waiting(procedure),
+            Next::Take(kind) => self.go(kind, seat, procedure, pass),
+        }
+    }
+
+    // Takes the step that the turn rule offers the procedure of the seat's node. Everything is reserved before anything
+    // changes.
+    fn go(
+        &mut self,
+        kind: StepKind,
+        seat: &mut Seat,
+        procedure: Procedure,
+        pass: &mut Pass<L>,
+    ) -> Turn
+        requires setup { (state_of procedure).setup ≡ self.old.world.setup }
+        requires may { MayTurn self.old seat.old (state_of procedure) }
+        requires offered { turn self.old.world (state_of procedure) ≡ Next.Take kind }
+        ensures went { IfWent result (Goes self.old seat.old (state_of procedure) self.new seat.new) }
+        ensures one { (is_went result ≡ true) ⊎ (is_fault result ≡ true) }
+        ensures fault { IfFault result (Fails self.old seat.old (state_of procedure)) }
+        ensures in_step { is_fault result ≡ false → is_in_step self.new.world (handed_back result) ≡ true }
+        ensures same_node { HasSameNode (state_of procedure) (handed_back result) }
+        ensures unchanged { is_went result ≡ false → (self.new ≡ self.old) × (seat.new ≡ seat.old) }
+        ensures pass { pass.new ≡ (if is_went result then pass.old + 1 else pass.old) }
+    {
+        if self.world.events() >= self.world.setup().events_max() {
+            return Turn::Fault(procedure, StepFault::Refused(Refused::Full));
+        }
+        let Ok(logged) = event_of(kind, &procedure) else {
+            return Turn::Fault(procedure, StepFault::OutOfMemory);
+        };
+        if self.history.reserve(1).is_err() || seat.log.reserve(1).is_err() {
+            return Turn::Fault(procedure, StepFault::OutOfMemory);
+        }
+        let Ok(taken) = self.world.take(kind, procedure) else {
+            unreachable!()
+        };
+        let TakenStep {
+            event,
+            answer,
+            procedure,
+        } = taken;
+        pass.count(&mut self.book);
+        let entry = Entry {
+            actor: seat.actor,
+            event,
+            answer,
+        };
+        add(&mut self.history, &mut seat.log, entry, logged);
+        Turn::Went(procedure)
+    }
+}
+
+// A copy of the event of the procedure's step, a plan's with the procedure's table.
+fn event_of(kind: StepKind, procedure: &Procedure) -> Result<Event, OutOfMemory>
+    requires { kind ≡ StepKind.Plan → has_table (state_of procedure.now) ≡ true }
+    ensures { IfOk result (λ event. event ≡ event_of kind (state_of procedure.now)) }
+{
+    let node = procedure.node();
+    Ok(match kind {
+        StepKind::Start => Event::Start(node),
+        StepKind::Lose => Event::Lose(node),
+        StepKind::Return => Event::Return(node),
+        StepKind::Move => Event::Move(node),
+        StepKind::Plan => Event::Plan(node, procedure.table().unwrap().copy()?),
+    })
+}

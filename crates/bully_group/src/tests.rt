@@ -1,0 +1,319 @@
+//! Worked cases, each on a bare `Locked` and through the lock of a `Group`.
+
+mod asks;
+mod finishes;
+mod two_groups;
+
+use crate::tests::asks::{Ask, Told, tried};
+use crate::tests::finishes::finished;
+use crate::tests::two_groups::{with_a_foreign_seat, with_strangers, with_swapped_seats};
+use crate::{FinishFault, StepFault, ViewFault};
+use bully_base::{Node, NodeSet, Setup, Status};
+use bully_calls::Answer;
+use bully_steps::Point;
+use bully_table::Table;
+use bully_world::{Event, Refused};
+use std::test::Fail;
+
+// Node 1 recovers, is resynced and moves. What isn't its actor's, what is refused, and a serve without a call.
+#[test]
+fn a_small_group(rt: HostRuntime) -> Result<(), Fail> {
+    let one = Node::new(1).unwrap();
+    let asks = [
+        Ask::Step(0, Event::Recover(one)),
+        Ask::Turn(1),
+        Ask::Turn(1),
+        Ask::Step(1, Event::Crash(one)),
+        Ask::Step(0, Event::Recover(one)),
+        Ask::Serve(1),
+        Ask::Serve(0),
+    ];
+    let told = [
+        Told::Stepped,
+        Told::Resynced(Point::Asking(2), 0),
+        Told::Went(Point::Halting(0)),
+        Told::Fault(StepFault::NotYours),
+        Told::Fault(StepFault::Refused(Refused::IsUp)),
+        Told::Served(false),
+        Told::Fault(StepFault::NotYours),
+    ];
+    let entries: [(u16, u16, Answer); 2] = [(0, 1, Answer::Done), (1, 1, Answer::Done)];
+    let trials = tried(&rt, rt.alloc(), Setup::new(1, 2, 10)?, one, asks.as_slice()).unwrap_or(
+        Vec::new(rt.alloc()),
+    );
+    assert_eq!(rt; trials.len(), 2);
+    for trial in trials.as_slice() {
+        assert_eq!(rt; trial.told.as_slice(), told.as_slice());
+        assert_eq!(rt; trial.entries.as_slice(), entries.as_slice());
+        assert_eq!(rt; trial.status, Status::Election);
+    }
+    Ok(())
+}
+
+// Its finish with one seat, with one pass, and with all.
+#[test]
+fn finish_of_a_small_group(rt: HostRuntime) -> Result<(), Fail> {
+    let setup = Setup::new(1, 2, 10)?;
+    match finished(rt.alloc(), setup) {
+        Some((one_seat, one_pass, closed)) => {
+            assert_eq!(rt; one_seat, FinishFault::SeatCount);
+            assert_eq!(rt; one_pass, FinishFault::SeatCount);
+            assert_eq!(rt; closed.history().len(), 1);
+            assert_eq!(rt; closed.view().events(), 1);
+        }
+        None => assert!(rt; false),
+    }
+    Ok(())
+}
+
+// Node 1 elects itself while node 2 is down, and plans. Then node 2 recovers and halts it: the plan is given up.
+#[test]
+fn turns_and_a_stop(rt: HostRuntime) -> Result<(), Fail> {
+    let (one, two) = (Node::new(1).unwrap(), Node::new(2).unwrap());
+    let asks = [
+        Ask::Step(0, Event::Recover(one)),
+        Ask::Turn(1),
+        Ask::Turn(1),
+        Ask::Turn(1),
+        Ask::Turn(1),
+        Ask::Turn(1),
+        Ask::Turn(1),
+        Ask::Turn(1),
+        Ask::Prepare,
+        Ask::Step(0, Event::Recover(two)),
+        Ask::Step(2, Event::Move(two)),
+        Ask::Step(2, Event::Start(two)),
+        Ask::Serve(1),
+        Ask::Turn(1),
+    ];
+    let told = [
+        Told::Stepped,
+        Told::Resynced(Point::Asking(2), 0),
+        Told::Went(Point::Asking(2)),
+        Told::Went(Point::Asking(2)),
+        Told::Went(Point::Asking(3)),
+        Told::Went(Point::Halting(0)),
+        Told::Went(Point::Announcing(NodeSet::new())),
+        Told::Went(Point::Planning),
+        Told::Prepared,
+        Told::Stepped,
+        Told::Stepped,
+        Told::Stepped,
+        Told::Served(true),
+        Told::Resynced(Point::Idle, 1),
+    ];
+    let entries: [(u16, u16, Answer); 11] = [
+        (0, 1, Answer::Done),
+        (1, 1, Answer::Done),
+        (1, 1, Answer::Done),
+        (1, 1, Answer::Failed),
+        (1, 1, Answer::Done),
+        (1, 1, Answer::Done),
+        (1, 1, Answer::Done),
+        (0, 2, Answer::Done),
+        (2, 2, Answer::Done),
+        (2, 2, Answer::Done),
+        (1, 2, Answer::Yes),
+    ];
+    let trials = tried(
+        &rt,
+        rt.alloc(),
+        Setup::new(2, 2, 100)?,
+        one,
+        asks.as_slice(),
+    )
+    .unwrap_or(Vec::new(rt.alloc()));
+    assert_eq!(rt; trials.len(), 2);
+    for trial in trials.as_slice() {
+        assert_eq!(rt; trial.told.as_slice(), told.as_slice());
+        assert_eq!(rt; trial.entries.as_slice(), entries.as_slice());
+        assert_eq!(rt; trial.status, Status::Election);
+    }
+    Ok(())
+}
+
+// Node 2 plans for itself, and keeps the plan over an election in which node 1 is up: another up set, and the same
+// generation.
+#[test]
+fn a_stale_plan(rt: HostRuntime) -> Result<(), Fail> {
+    let (one, two) = (Node::new(1).unwrap(), Node::new(2).unwrap());
+    let setup = Setup::new(2, 2, 100)?;
+    let table = Table::read(rt.alloc(), setup, "2 2")?;
+    let asks = [
+        Ask::Step(0, Event::Recover(two)),
+        Ask::Turn(2),
+        Ask::Turn(2),
+        Ask::Turn(2),
+        Ask::Turn(2),
+        Ask::Turn(2),
+        Ask::Turn(2),
+        Ask::Turn(2),
+        Ask::Prepare,
+        Ask::Step(2, Event::Plan(two, table)),
+        Ask::Step(2, Event::Move(two)),
+        Ask::Step(2, Event::Check(two)),
+        Ask::Step(0, Event::Recover(one)),
+        Ask::Step(2, Event::Start(two)),
+        Ask::Step(1, Event::Run(two)),
+        Ask::Step(2, Event::Return(two)),
+        Ask::Step(2, Event::Move(two)),
+        Ask::Step(2, Event::Start(two)),
+        Ask::Step(1, Event::Run(two)),
+        Ask::Step(2, Event::Return(two)),
+        Ask::Step(2, Event::Move(two)),
+        Ask::Step(2, Event::Start(two)),
+        Ask::Step(1, Event::Run(two)),
+        Ask::Step(2, Event::Return(two)),
+        Ask::Step(2, Event::Move(two)),
+        Ask::Turn(2),
+    ];
+    let told = [
+        Told::Stepped,
+        Told::Resynced(Point::Asking(3), 0),
+        Told::Went(Point::Halting(1)),
+        Told::Went(Point::Halting(1)),
+        Told::Went(Point::Halting(1)),
+        Told::Went(Point::Halting(0)),
+        Told::Went(Point::Announcing(NodeSet::new())),
+        Told::Went(Point::Planning),
+        Told::Prepared,
+        Told::Stepped,
+        Told::Stepped,
+        Told::Stepped,
+        Told::Stepped,
+        Told::Stepped,
+        Told::Stepped,
+        Told::Stepped,
+        Told::Stepped,
+        Told::Stepped,
+        Told::Stepped,
+        Told::Stepped,
+        Told::Stepped,
+        Told::Stepped,
+        Told::Stepped,
+        Told::Stepped,
+        Told::Stepped,
+        Told::Resynced(Point::Planning, 0),
+    ];
+    let trials = tried(&rt, rt.alloc(), setup, two, asks.as_slice()).unwrap_or(Vec::new(
+        rt.alloc(),
+    ));
+    assert_eq!(rt; trials.len(), 2);
+    for trial in trials.as_slice() {
+        assert_eq!(rt; trial.told.as_slice(), told.as_slice());
+        assert_eq!(rt; trial.entries.len(), 23);
+        assert_eq!(rt; trial.status, Status::Reorganization);
+    }
+    Ok(())
+}
+
+// A procedure that was kept over a crash is resynced, and so is one over the next.
+#[test]
+fn kept_procedures(rt: HostRuntime) -> Result<(), Fail> {
+    let one = Node::new(1).unwrap();
+    let asks = [
+        Ask::Step(0, Event::Recover(one)),
+        Ask::Turn(1),
+        Ask::Step(0, Event::Crash(one)),
+        Ask::Step(0, Event::Recover(one)),
+        Ask::Turn(1),
+        Ask::Step(0, Event::Crash(one)),
+        Ask::Turn(1),
+        Ask::Turn(1),
+    ];
+    let told = [
+        Told::Stepped,
+        Told::Resynced(Point::Asking(2), 0),
+        Told::Stepped,
+        Told::Stepped,
+        Told::Resynced(Point::Asking(2), 1),
+        Told::Stepped,
+        Told::Resynced(Point::Idle, 2),
+        Told::Waiting(Point::Idle),
+    ];
+    let trials = tried(
+        &rt,
+        rt.alloc(),
+        Setup::new(1, 2, 100)?,
+        one,
+        asks.as_slice(),
+    )
+    .unwrap_or(Vec::new(rt.alloc()));
+    assert_eq!(rt; trials.len(), 2);
+    for trial in trials.as_slice() {
+        assert_eq!(rt; trial.told.as_slice(), told.as_slice());
+        assert_eq!(rt; trial.entries.len(), 4);
+        assert_eq!(rt; trial.status, Status::Down);
+    }
+    Ok(())
+}
+
+// Where the bound on events is reached, a resync is still no step.
+#[test]
+fn a_full_group(rt: HostRuntime) -> Result<(), Fail> {
+    let one = Node::new(1).unwrap();
+    let asks = [
+        Ask::Step(0, Event::Recover(one)),
+        Ask::Turn(1),
+        Ask::Turn(1),
+    ];
+    let told = [
+        Told::Stepped,
+        Told::Resynced(Point::Asking(2), 0),
+        Told::Fault(StepFault::Refused(Refused::Full)),
+    ];
+    let trials = tried(&rt, rt.alloc(), Setup::new(1, 2, 1)?, one, asks.as_slice()).unwrap_or(
+        Vec::new(rt.alloc()),
+    );
+    assert_eq!(rt; trials.len(), 2);
+    for trial in trials.as_slice() {
+        assert_eq!(rt; trial.told.as_slice(), told.as_slice());
+        assert_eq!(rt; trial.entries.len(), 1);
+        assert_eq!(rt; trial.status, Status::Election);
+    }
+    Ok(())
+}
+
+// The view after a step, and a seat that has an entry of another group.
+#[test]
+fn foreign_seats(rt: HostRuntime) -> Result<(), Fail> {
+    match with_a_foreign_seat(rt.alloc(), Setup::new(1, 2, 10)?) {
+        Some(told) => {
+            assert_eq!(rt; told.own, Some((1, Status::Election)));
+            assert_eq!(rt; told.step, Err(StepFault::Foreign { index: 0 }));
+            assert_eq!(rt; told.view, Some(ViewFault::Foreign { index: 0 }));
+        }
+        None => assert!(rt; false),
+    }
+    Ok(())
+}
+
+// An operator without an entry takes a step of another group: neither is finished with its own seats.
+#[test]
+fn swapped_seats(rt: HostRuntime) -> Result<(), Fail> {
+    match with_swapped_seats(rt.alloc(), Setup::new(1, 1, 10)?) {
+        Some(told) => {
+            assert_eq!(rt; told.first, FinishFault::Differs(0));
+            assert_eq!(rt; told.second, FinishFault::Differs(0));
+            assert_eq!(rt; told.entries, 1);
+        }
+        None => assert!(rt; false),
+    }
+    Ok(())
+}
+
+// The seat of a node that the group doesn't have, and two operators.
+#[test]
+fn seats_of_strangers(rt: HostRuntime) -> Result<(), Fail> {
+    match with_strangers(rt.alloc(), Setup::new(1, 1, 10)?, Setup::new(2, 1, 10)?) {
+        Some(told) => {
+            assert_eq!(rt; told.serve, Ok(false));
+            assert_eq!(rt; told.step, Err(StepFault::Refused(Refused::BadNode)));
+            assert_eq!(rt; told.turn, Some(StepFault::NotYours));
+            assert_eq!(rt; told.finish, FinishFault::Stranger);
+            assert_eq!(rt; told.operators, FinishFault::Stranger);
+        }
+        None => assert!(rt; false),
+    }
+    Ok(())
+}
