@@ -9,5 +9,7 @@ mod recording;
 #[cfg(test)]
 mod tests;
 mod turns;
+mod writing;
 
 pub use playing::{PlayFault, play};
+pub use writing::write_history;
