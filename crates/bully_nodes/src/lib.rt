@@ -6,8 +6,10 @@
 
 mod playing;
 mod recording;
+mod running;
 #[cfg(test)]
 mod tests;
 mod turns;
 
 pub use playing::{PlayFault, play};
+pub use running::{Gate, NodesFault, run_nodes};
