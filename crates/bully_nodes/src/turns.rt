@@ -2,10 +2,11 @@ ghost use Rattle.std.specs.Prelude.{◌≡◌, ◌<◌, ◌≤◌, length, IfOk,
 ghost use Rattle.std.specs.Option.{IfSome, option_copied};
 ghost use Rattle.bully_config.specs.Configuration.{Configuration};
 ghost use Rattle.bully_nodes.specs.Play.{event_of_fault};
-ghost use Rattle.bully_nodes.specs.Recording.{IsRecorded, Continues, HasSameNode};
+ghost use Rattle.bully_nodes.specs.Recording.{IsRecorded, Continues};
 ghost use Rattle.bully_nodes.specs.Turns.{prepared, prepared_from, Serves, Proceeds, GoesOn, IsTurn, Operates};
 ghost use Rattle.bully_steps.specs.Driver.{chosen_every};
 ghost use Rattle.bully_steps.specs.Procedure.{state_of};
+ghost use Rattle.bully_steps.specs.ProcedureState.{HasSameNode};
 ghost use Rattle.bully_world.specs.Turn.{turn as turn_rule};
 
 use crate::recording::Recording;
