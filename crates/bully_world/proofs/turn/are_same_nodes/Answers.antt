@@ -1,5 +1,5 @@
 -- Sets are the same where their words are.
-use Rattle.std.proofs.Common.{arith}
+use Rattle.std.proofs.Common.{◌+◌, arith}
 use Rattle.bully_base.specs.declared.TheConstants.{NODES_MAX}
 use Rattle.std.proofs.lemmas.Bool.Decides.{nat_tests}
 use Rattle.bully_base.proofs.NodeSetLemmas.{same_set_test, sizes_differ}
