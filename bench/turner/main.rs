@@ -17,6 +17,9 @@ use std::env;
 use std::sync::Mutex;
 use world::{bit, Action, Node, Offer, Outcome, Phase, Point, Setup, World};
 
+/// How often the last node crashes: once in so many rounds.
+const PERIOD: u32 = 1024;
+
 #[derive(Clone, Copy)]
 enum Answer {
     Done,
@@ -229,17 +232,16 @@ impl Player {
     }
 }
 
-/// The operator's turn: all recover in the first round; the last node crashes once in sixteen rounds for each node, and
-/// recovers half way between.
+/// The operator's turn: all recover in the first round; the last node crashes once in a period, and recovers half way
+/// between.
 fn operate(group: &Mutex<Locked>, nodes: u8, round: u32, seat: &mut Seat) {
-    let period = u32::from(nodes) * 16;
     if round == 1 {
         for node in 1..=nodes {
             group.lock().unwrap().step(seat, Action::Recover, node);
         }
-    } else if round % period == 0 {
+    } else if round % PERIOD == 0 {
         group.lock().unwrap().step(seat, Action::Crash, nodes);
-    } else if round % period == period / 2 {
+    } else if round % PERIOD == PERIOD / 2 {
         group.lock().unwrap().step(seat, Action::Recover, nodes);
     }
 }

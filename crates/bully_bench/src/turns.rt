@@ -11,6 +11,9 @@ use std::marker::Brand;
 use std::sync::ledger::Blank;
 use std::sync::{MutexGuard, Wait};
 
+/// How often the last node crashes: once in so many rounds.
+const PERIOD: u32 = 1024;
+
 /// What some turns of a group come to: how many entries there are, and a number that all of them make.
 #[derive(Drop)]
 pub struct TurnSums {
@@ -76,8 +79,8 @@ fn players_of<L: Naming>(
     Some(players)
 }
 
-// The operator's turn: all recover in the first round; the last node crashes once in sixteen rounds for each node, and
-// recovers half way between.
+// The operator's turn: all recover in the first round; the last node crashes once in a period, and recovers half way
+// between.
 fn operate<L: Naming, R: Wait>(
     rt: &R,
     group: &Group<L>,
@@ -87,7 +90,6 @@ fn operate<L: Naming, R: Wait>(
     pass: &mut Pass<L>,
 ) -> Option<()> {
     let last = Node::new(setup.nodes())?;
-    let period = u32::from(setup.nodes()) * 16;
     if round == 1 {
         for before in 0..setup.nodes() {
             step(
@@ -98,9 +100,9 @@ fn operate<L: Naming, R: Wait>(
                 pass,
             )?;
         }
-    } else if round % period == 0 {
+    } else if round % PERIOD == 0 {
         step(rt, group, seat, &Event::Crash(last), pass)?;
-    } else if round % period == period / 2 {
+    } else if round % PERIOD == PERIOD / 2 {
         step(rt, group, seat, &Event::Recover(last), pass)?;
     }
     Some(())
