@@ -1,7 +1,8 @@
 ghost use Rattle.std.specs.Prelude.{◌≡◌, ◌≤◌, ◌++◌, ◌∷◌, [], length, IfOk, OnOk};
 ghost use Rattle.bully_nodes.specs.Play.{trace_setup};
-ghost use Rattle.bully_nodes.specs.Recording.{Applies, Steps, HasSameNode};
+ghost use Rattle.bully_nodes.specs.Recording.{Applies, Steps};
 ghost use Rattle.bully_steps.specs.Procedure.{state_of};
+ghost use Rattle.bully_steps.specs.ProcedureState.{HasSameNode};
 ghost use Rattle.bully_trace.specs.declared.TheConstants.{ROWS_MAX};
 ghost use Rattle.bully_world.specs.State.{first_state};
 ghost use Rattle.bully_world.specs.Turn.{turn};
