@@ -1,11 +1,13 @@
--- From what is read and planned to what the program answers to `play` and to `table`.
+-- From what is read and planned to what the program answers to `play`, to `run` and to `table`.
 use Rattle.std.proofs.Common.{◌≡◌, ◌≢◌, ◌⊎◌, inl, inr, ℕ, List, [], ◌∷◌, Option, Some, None, Result, Ok, Err, IsOk, refl, sym, ap, subst, ◌∙◌, arith}
 use Rattle.std.specs.Io.KnownBytes.{Appends, Keeps}
 use Rattle.bully_base.specs.Setup.{Setup}
 use Rattle.bully_config.specs.Configuration.{Configuration}
 use Rattle.bully_config.specs.declared.fault.ConfigFault.{ConfigFault}
 use Rattle.bully_nodes.specs.Play.{IsPlay, trace_with}
+use Rattle.bully_nodes.specs.Run.{IsNodesFault}
 use Rattle.bully_nodes.specs.Turns.{IsScheduled}
+use Rattle.bully_nodes.specs.declared.running.NodesFault.{NodesFault}
 use Rattle.bully_table.specs.Planning.{IsFewest, IsMostKept, moves_from, planned}
 use Rattle.bully_table.specs.TableText.{table_of_text}
 use Rattle.bully_table.specs.declared.planning.PlanFault.{PlanFault}
@@ -15,7 +17,7 @@ use Rattle.bully_trace.specs.TraceText.{trace_text}
 use Rattle.bully_words.specs.Words.{planning}
 use Rattle.bully_world.specs.declared.event.Event.{Event}
 use Rattle.bully.specs.Answer.{KnownBytes, Tells, stop_line}
-use Rattle.bully.specs.ConfigAnswer.{IsPlayAnswer, IsRefused, IsStopped, IsTableAnswer}
+use Rattle.bully.specs.ConfigAnswer.{IsNotDone, IsPlayAnswer, IsRefused, IsRunAnswer, IsStopped, IsTableAnswer, nodes_line}
 use Rattle.bully.specs.PlanText.{plan_text}
 use Rattle.bully.specs.RefusalText.{refusal_line, refusal_of_config, refusal_of_plan, refusal_of_table, refusal_status}
 use Rattle.bully.specs.Wanted.{IsPlanOf, ReadsAs, Wanted, Wants, wanted_after, wanted_for, wanted_from, wanted_in, wanted_over}
@@ -119,15 +121,15 @@ abbrev IsTold : Refusal → KnownBytes → KnownBytes → ℕ → Type 0
 IsTold refusal errors errors' status =
     ((status ≡ refusal_status refusal) × Tells errors errors' (refusal_line refusal)) ⊎ ((status ≡ 4) × Tells errors errors' (stop_line Stop.OutOfMemory))
 
--- the configuration that is to be played is refused
-pub play-refused : (bytes : List ℕ) (fault : ConfigFault) (refusal : Refusal) (output output' errors errors' : KnownBytes) (status : ℕ)
+-- the configuration whose group is to do something is refused
+pub config-refused : (bytes : List ℕ) (fault : ConfigFault) (refusal : Refusal) (output output' errors errors' : KnownBytes) (status : ℕ)
     → (fault ≢ ConfigFault.OutOfMemory → ReadsAs bytes (Err fault)) → refusal ≡ refusal_of_config fault → Keeps output output' → IsTold refusal errors errors' status
-    → IsPlayAnswer bytes output output' errors errors' status
-play-refused bytes fault refusal output output' errors errors' status reads is kept told = elim (of-config fault) [
-  | inl memory ↦ inr (inr (memory-stops output output' errors errors' status kept (subst (λ r. IsTold r errors errors' status) (is ∙ memory) told)))
+    → IsNotDone bytes output output' errors errors' status
+config-refused bytes fault refusal output output' errors errors' status reads is kept told = elim (of-config fault) [
+  | inl memory ↦ inr (memory-stops output output' errors errors' status kept (subst (λ r. IsTold r errors errors' status) (is ∙ memory) told))
   | inr form ↦ elim (told-or-stopped (Refusal.Config fault) output output' errors errors' status kept (subst (λ r. IsTold r errors errors' status) (is ∙ form.1) told)) [
-    | inl refused ↦ inr (inl (fault, reads form.0, refused))
-    | inr stopped ↦ inr (inr stopped)
+    | inl refused ↦ inl (fault, reads form.0, refused)
+    | inr stopped ↦ inr stopped
   ]
 ]
 
@@ -159,6 +161,20 @@ play-answered written told bytes config output output' errors errors' status rea
     inl (config, events, reads, play, scheduled, text, keeps-same _ _ (ap told same), done)
 play-answered written told bytes config output output' errors errors' status reads (inr stopped) =
     inr (inr (stopped-from written told output output' errors errors' status stopped))
+
+-- the configuration is run
+pub run-answered : {W E : Type 0} (written : W → KnownBytes) (told : E → KnownBytes) (bytes : List ℕ) (config : Configuration) (output output' : W) (errors errors' : E) (status : ℕ)
+    → ReadsAs bytes (Ok config)
+    → ((status ≡ 0) × (errors' ≡ errors) × ((events : List Event) × IsPlay config events × Appends (written output) (written output') (trace_text (trace_with config.setup events))))
+    ⊎ ((status ≡ 4) × (fault : NodesFault) × IsNodesFault config.setup fault × (output' ≡ output) × Tells (told errors) (told errors') (nodes_line fault))
+    ⊎ ((status ≡ 4) × (stop : Stop) × (stop ≢ Stop.Write → output' ≡ output) × Tells (told errors) (told errors') (stop_line stop))
+    → IsRunAnswer bytes (written output) (written output') (told errors) (told errors') status
+run-answered written told bytes config output output' errors errors' status reads (inl (done, same, (events, play, text))) =
+    inl (config, events, reads, play, text, keeps-same _ _ (ap told same), done)
+run-answered written told bytes config output output' errors errors' status reads (inr (inl (four, fault, is, same, line))) =
+    inr (inl (config, fault, reads, is, keeps-same _ _ (ap written same), line, four))
+run-answered written told bytes config output output' errors errors' status reads (inr (inr stopped)) =
+    inr (inr (inr (stopped-from written told output output' errors errors' status stopped)))
 
 -- the table is planned
 pub table-answered : {W E : Type 0} (written : W → KnownBytes) (told : E → KnownBytes) (bytes : List ℕ) (names : List (List ℕ)) (old : Option (List ℕ)) (plan : TablePlan) (output output' : W) (errors errors' : E) (status : ℕ)

@@ -1,8 +1,9 @@
-//! The program `bully`: it judges recorded traces, plays groups, and plans tables.
+//! The program `bully`: it judges recorded traces, plays groups, runs them in threads, and plans tables.
 //!
-//! It stands on bully_nodes, bully_trace, bully_config, bully_table, the crates below them, and bully_words. No crate stands on it; its
-//! callers rely on the statuses: 0 done, lawful or help asked for; 1 refused or differs; 2 bad words; 3 a fault of
-//! form in a trace or a configuration; 4 what stops it from outside, as Read, Write or OutOfMemory.
+//! It stands on bully_nodes, bully_trace, bully_config, bully_table, the crates below them, and bully_words. No crate
+//! stands on it; its callers rely on the statuses: 0 done, lawful or help asked for; 1 refused or differs; 2 bad words;
+//! 3 a fault of form in a trace or a configuration; 4 what stops it from outside, as Read, Write, Spawn, Finish or
+//! OutOfMemory.
 #![tactic(auto)]
 
 mod answering;
@@ -10,6 +11,7 @@ mod checking;
 mod configs;
 mod playing;
 mod refusals;
+mod running;
 mod tables;
 mod telling;
 
@@ -20,20 +22,16 @@ use std::process::ExitCode;
 use std::{env, io};
 
 fn main(rt: HostRuntime) -> ExitCode {
-    ExitCode::from(status_of(&rt))
-}
-
-// The status of the run, with the process's own words and streams.
-fn status_of(rt: &HostRuntime) -> u8 {
     let mut errors = rt.stderr();
-    let words = match words_after_name(rt) {
+    let words = match words_after_name(&rt) {
         Ok(words) => words,
-        Err(error) => return answer_unread(&error, &mut errors),
+        Err(error) => return ExitCode::from(answer_unread(&error, &mut errors)),
     };
     let Ok(mut output) = BufWriter::new(rt.alloc(), rt.stdout()) else {
-        return answer_stop(Stop::OutOfMemory, &mut errors);
+        return ExitCode::from(answer_stop(Stop::OutOfMemory, &mut errors));
     };
-    answer(rt, words.as_slice(), rt.stdin(), &mut output, &mut errors)
+    let words = words.as_slice();
+    ExitCode::from(answer(&rt, words, rt.stdin(), &mut output, &mut errors))
 }
 
 // The words after the program's name.

@@ -11,7 +11,7 @@ use crate::configs::{bytes_at, config_of};
 use crate::refusals::{Refusal, answer_refusal};
 use crate::telling::{Stop, answer_stop, finish};
 use bully_config::Config;
-use bully_nodes::{PlayFault, play};
+use bully_nodes::play;
 use std::alloc::Global;
 use std::io::Write;
 use std::rt::Files;
@@ -64,7 +64,6 @@ fn answer_config<W: Write, E: Write>(
 {
     match play(alloc, config, output) {
         Ok(()) => finish(0, output, errors),
-        Err(PlayFault::Write) => answer_stop(Stop::Write, errors),
-        Err(PlayFault::OutOfMemory) => answer_stop(Stop::OutOfMemory, errors),
+        Err(fault) => answer_stop(Stop::from(fault), errors),
     }
 }

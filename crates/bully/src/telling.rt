@@ -4,6 +4,7 @@ ghost use Rattle.std.specs.Io.KnownBytes.{Appends, Keeps};
 ghost use Rattle.bully.specs.Answer.{Tells, stop_of, stop_line, row_line};
 
 use bully_base::OutOfMemory;
+use bully_nodes::PlayFault;
 use bully_trace::{TraceCause, TraceFault};
 use std::alloc::Global;
 use std::io;
@@ -18,6 +19,19 @@ pub enum Stop {
     Write,
     /// An allocation failed.
     OutOfMemory,
+}
+
+impl From<PlayFault> for Stop {
+    ghost use Rattle.bully.specs.ConfigAnswer.{stop_of_trace};
+
+    ghost from_gives = { λ fault stop. stop ≡ stop_of_trace fault };
+
+    fn from(fault: PlayFault) -> Stop {
+        match fault {
+            PlayFault::Write => Stop::Write,
+            PlayFault::OutOfMemory => Stop::OutOfMemory,
+        }
+    }
 }
 
 /// Ends what was done with this status: flushes the output. Where that fails the status is 4.

@@ -4,7 +4,10 @@ use Rattle.std.specs.Prelude.{slice_index_or}
 use Rattle.std.proofs.lemmas.List.{length-map}
 use Rattle.bully_base.specs.Places.{at_node}
 use Rattle.bully_base.specs.Setup.{Setup}
+use Rattle.bully_calls.specs.declared.call.Answer.{Answer}
 use Rattle.bully_world.proofs.NodeInvariantLemmas.{lawful_fits}
+use Rattle.bully_world.specs.declared.event.Event.{Event}
+use Rattle.bully_world.specs.Lawful.{IsLawful}
 use Rattle.bully_world.specs.State.{MemberState, WorldState, IsReached, empty_state, member_of, world_of}
 use Rattle.bully_world.specs.World.{Member, World, empty_member, member}
 use Rattle.bully_agree.specs.Agreement.{Agreement}
@@ -32,17 +35,18 @@ agrees_of setup count w agreed = record {
     there : (i : ℕ) → shown (view_of setup count w) i ≡ shown_of (member w i)
     there = shown_there setup count w
 
+-- of a world that a lawful list leads to
+pub lawful_agrees : (setup : Setup) (count : ℕ) (events : List Event) (answers : List Answer) (w : World) → IsLawful setup events answers w → ViewAgrees (view_of setup count w)
+lawful_agrees setup count events answers w lawful = agrees_of setup count w (agreement_lem setup events answers w lawful)
+
 -- as many nodes are shown as the setup has
 pub count_of_reached : (w : WorldState) → IsReached w → length w.members ≡ w.setup.nodes
 count_of_reached w reached = sym (length-map w.members member_of) ∙ (lawful_fits w.setup reached.applied reached.answers (world_of w) reached.lawful).count
 
-pub agreed_of : (w : WorldState) → IsReached w → Agreement (world_of w)
-agreed_of w reached = agreement_lem w.setup reached.applied reached.answers (world_of w) reached.lawful
-
 pub view_keeps : (w : WorldState) → IsReached w → IsView (view_of w.setup w.events (world_of w))
 view_keeps w reached = record {
   count = length-map (world_of w).members shown_of ∙ length-map w.members member_of ∙ count_of_reached w reached;
-  agrees = agrees_of w.setup w.events (world_of w) (agreed_of w reached);
+  agrees = lawful_agrees w.setup w.events reached.applied reached.answers (world_of w) reached.lawful;
   viewed = record { events = reached.applied; answers = reached.answers; world = world_of w; lawful = reached.lawful; view = ap (λ n. view_of w.setup n (world_of w)) (sym reached.counted) };
 }
 

@@ -1,2 +1,3 @@
 pub mod NodeSetLemmas
 pub mod PlaceLemmas
+pub mod WordLemmas

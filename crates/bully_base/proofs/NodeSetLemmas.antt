@@ -1,26 +1,18 @@
--- What the methods of a node set do to its members.
-use Rattle.std.proofs.Common.{◌≡◌, ◌≢◌, ℕ, zero, suc, ◌+◌, ◌<◌, ◌≤◌, Bool, true, false, List, [], ◌∷◌, length, arith, refl, sym, ◌∙◌, ◌⊎◌, inl, inr}
-use Rattle.std.specs.Prelude.{◌-◌, Contains, All, IfSome, ◌↔◌, slice_index_or, slice_set, nat_lt, ◌==◌, not, if◌then◌else◌, Some, None}
-use Rattle.std.proofs.Math.ListN.{replicate}
-use Rattle.std.proofs.lemmas.Grind.{common_steps}
-use Rattle.std.proofs.lemmas.Bool.Decides.{nat_tests, eqb_tells, Decides-eqb, Decides-ltb}
-use Rattle.std.proofs.lemmas.List.Elements.{All-nil, All-cons, All-weaker}
-use Rattle.bully_base.specs.NodeSetLaws.{has_node-members_among}
-use Rattle.bully_base.specs.NodeSet.{members_among, has_node, with_node, without_node, below_node, highest_of, IsFallingBelow}
+-- Lists of members in falling order.
+use Rattle.std.proofs.Common.{◌≡◌, ◌≢◌, ℕ, zero, suc, ◌+◌, ◌<◌, ◌≤◌, Bool, true, false, List, [], ◌∷◌, length, arith, refl, sym, ap, ◌∙◌, ◌⊎◌, inl, inr}
+use Rattle.std.specs.Prelude.{◌-◌, ◌^◌, Contains, All, Option, IfSome, ◌↔◌, slice_index_or, nat_lt, ◌==◌, bytes_eq, not, if◌then◌else◌, Some, None}
+use Rattle.std.specs.Bool.{Decides}
+use Rattle.std.proofs.Math.Nat.{pow-le-pow_right, pow-suc}
+use Rattle.std.proofs.lemmas.Bool.Decides.{nat_tests, Decides-eqb, Decides-ltb}
+use Rattle.std.proofs.lemmas.List.Elements.{All-nil, All-cons, All-weaker, All-contains}
+use Rattle.std.proofs.lemmas.Nat.{pow_pos}
+use Rattle.std.proofs.lemmas.Slice.Eq.{bytes_eq-Decides}
+use Rattle.bully_base.specs.NodeSet.{with_node, without_node, below_node, highest_of, lowest_of, word_of, IsFallingBelow}
 
 -- the bound may be raised
 pub IsFallingBelow-more : (b d : ℕ) (ms : List ℕ) → b ≤ d → IsFallingBelow b ms → IsFallingBelow d ms
 IsFallingBelow-more b d [] l h = tt
 IsFallingBelow-more b d (m ∷ ms) l h = (h.0, omega arith, h.2)
-
-pub members-falling : (marks : List Bool) (n : ℕ) → IsFallingBelow (n + 1) (members_among marks n)
-unfolding members_among
-members-falling marks zero = tt
-members-falling marks (suc n) = by_mark (slice_index_or marks n false) (members-falling marks n)
-  where
-    by_mark : (b : Bool) → IsFallingBelow (n + 1) (members_among marks n) → IsFallingBelow (suc n + 1) (if b then (n + 1) ∷ members_among marks n else members_among marks n)
-    by_mark true h = (omega arith, omega arith, h)
-    by_mark false h = IsFallingBelow-more (n + 1) (suc n + 1) (members_among marks n) (omega arith) h
 
 -- a new highest member goes to the front
 pub with_node-top : (k : ℕ) (ms : List ℕ) → IsFallingBelow k ms → with_node k ms ≡ k ∷ ms
@@ -39,119 +31,9 @@ pub below_node-all : (k : ℕ) (ms : List ℕ) (b : ℕ) → b ≤ k → IsFalli
 below_node-all k [] b l h = refl
 below_node-all k (m ∷ ms) b l h = grind (arith, nat_tests, h.1, below_node-all k ms m (omega arith) h.2)
 
--- a mark past the places changes nothing
-pub members-set_past : (marks : List Bool) (k : ℕ) (b : Bool) (n : ℕ) → n ≤ k → members_among (slice_set marks k b) n ≡ members_among marks n
-unfolding members_among
-members-set_past marks k b zero l = refl
-members-set_past marks k b (suc n) l = grind (arith, common_steps, members-set_past marks k b n (omega arith))
-
-pub members-insert : (marks : List Bool) (k n : ℕ) → k < length marks → k < n → members_among (slice_set marks k true) n ≡ with_node (k + 1) (members_among marks n)
-unfolding members_among
-members-insert marks k zero inside l = absurd (omega arith)
-members-insert marks k (suc n) inside l = by_case (members-insert marks k n inside) (grind arith)
-  where
-    at_top : (b : Bool) → with_node (n + 1) (if b then (n + 1) ∷ members_among marks n else members_among marks n) ≡ (n + 1) ∷ members_among marks n
-    at_top true = grind (arith, nat_tests)
-    at_top false = with_node-top (n + 1) (members_among marks n) (members-falling marks n)
-
-    below_top : k < n → (b : Bool) → (if b then (n + 1) ∷ with_node (k + 1) (members_among marks n) else with_node (k + 1) (members_among marks n)) ≡ with_node (k + 1) (if b then (n + 1) ∷ members_among marks n else members_among marks n)
-    below_top h true = grind (arith, nat_tests, h)
-    below_top h false = refl
-
-    by_case : (k < n → members_among (slice_set marks k true) n ≡ with_node (k + 1) (members_among marks n)) → (k ≡ n) ⊎ (k < n) → members_among (slice_set marks k true) (suc n) ≡ with_node (k + 1) (members_among marks (suc n))
-    by_case more (inl e) = grind (arith, common_steps, e, members-set_past marks k true n (omega arith), at_top (slice_index_or marks n false))
-    by_case more (inr h) = grind (arith, common_steps, h, more h, below_top h (slice_index_or marks n false))
-
-pub members-remove : (marks : List Bool) (k n : ℕ) → k < length marks → k < n → members_among (slice_set marks k false) n ≡ without_node (k + 1) (members_among marks n)
-unfolding members_among
-members-remove marks k zero inside l = absurd (omega arith)
-members-remove marks k (suc n) inside l = by_case (members-remove marks k n inside) (grind arith)
-  where
-    at_top : (b : Bool) → without_node (n + 1) (if b then (n + 1) ∷ members_among marks n else members_among marks n) ≡ members_among marks n
-    at_top true = grind (arith, nat_tests, without_node-top (n + 1) (members_among marks n) (n + 1) (omega arith) (members-falling marks n))
-    at_top false = without_node-top (n + 1) (members_among marks n) (n + 1) (omega arith) (members-falling marks n)
-
-    below_top : k < n → (b : Bool) → (if b then (n + 1) ∷ without_node (k + 1) (members_among marks n) else without_node (k + 1) (members_among marks n)) ≡ without_node (k + 1) (if b then (n + 1) ∷ members_among marks n else members_among marks n)
-    below_top h true = grind (arith, nat_tests, h)
-    below_top h false = refl
-
-    by_case : (k < n → members_among (slice_set marks k false) n ≡ without_node (k + 1) (members_among marks n)) → (k ≡ n) ⊎ (k < n) → members_among (slice_set marks k false) (suc n) ≡ without_node (k + 1) (members_among marks (suc n))
-    by_case more (inl e) = grind (arith, common_steps, e, members-set_past marks k false n (omega arith), at_top (slice_index_or marks n false))
-    by_case more (inr h) = grind (arith, common_steps, h, more h, below_top h (slice_index_or marks n false))
-
--- the members below a place are those of the places before it
-pub members-below : (marks : List Bool) (k n : ℕ) → k ≤ n → below_node (k + 1) (members_among marks n) ≡ members_among marks k
-unfolding members_among
-members-below marks k zero l = grind arith
-members-below marks k (suc n) l = by_case (members-below marks k n) (grind arith)
-  where
-    above : k ≤ n → (b : Bool) → below_node (k + 1) (if b then (n + 1) ∷ members_among marks n else members_among marks n) ≡ below_node (k + 1) (members_among marks n)
-    above h true = grind (arith, nat_tests, h)
-    above h false = refl
-
-    by_case : (k ≤ n → below_node (k + 1) (members_among marks n) ≡ members_among marks k) → (k ≡ suc n) ⊎ (k ≤ n) → below_node (k + 1) (members_among marks (suc n)) ≡ members_among marks k
-    by_case more (inl e) = grind (arith, e, below_node-all (k + 1) (members_among marks k) (k + 1) (omega arith) (members-falling marks k))
-    by_case more (inr h) = above h (slice_index_or marks n false) ∙ more h
-
-pub members-none : (n m : ℕ) → members_among (replicate m false) n ≡ []
-unfolding members_among
-members-none zero m = refl
-members-none (suc n) m = rw (none_at n m) (members-none n m)
-  where
-    none_at : (i m : ℕ) → slice_index_or (replicate m false) i false ≡ false
-    none_at i zero = refl
-    none_at zero (suc m) = refl
-    none_at (suc i) (suc m) = none_at i m
-
--- what one more place adds
-pub members-length_next : (marks : List Bool) (n : ℕ) → slice_index_or marks n false ≡ true → length (members_among marks (n + 1)) ≡ length (members_among marks n) + 1
-unfolding members_among
-members-length_next marks n e = grind (arith, common_steps, e)
-
-pub members-skip : (marks : List Bool) (n : ℕ) → slice_index_or marks n false ≡ false → members_among marks (n + 1) ≡ members_among marks n
-unfolding members_among
-members-skip marks n e = grind (arith, common_steps, e)
-
-pub members-length : (marks : List Bool) (n : ℕ) → length (members_among marks n) ≤ n
-unfolding members_among
-members-length marks zero = omega arith
-members-length marks (suc n) = by_mark (slice_index_or marks n false) (members-length marks n)
-  where
-    by_mark : (b : Bool) → length (members_among marks n) ≤ n → length (if b then (n + 1) ∷ members_among marks n else members_among marks n) ≤ suc n
-    by_mark true h = omega arith
-    by_mark false h = omega arith
-
--- The steps of the methods. `ms` are the members of n places, `node` stands at place k.
-
-pub insert-step : (marks : List Bool) (ms : List ℕ) (k node n : ℕ) → k + 1 ≡ node → k < n → length marks ≡ n → members_among marks n ≡ ms → members_among (slice_set marks k true) n ≡ with_node node ms
-insert-step marks ms k node n next l len is = rw (← is, ← next) (members-insert marks k n (omega arith) l)
-
-pub remove-step : (marks : List Bool) (ms : List ℕ) (k node n : ℕ) → k + 1 ≡ node → k < n → length marks ≡ n → members_among marks n ≡ ms → members_among (slice_set marks k false) n ≡ without_node node ms
-remove-step marks ms k node n next l len is = rw (← is, ← next) (members-remove marks k n (omega arith) l)
-
-pub highest-skip : (marks : List Bool) (last : ℕ) → 0 < last → slice_index_or marks (last - 1) false ≡ false → members_among marks (last - 1) ≡ members_among marks last
-unfolding members_among
-highest-skip marks zero l e = absurd (omega arith)
-highest-skip marks (suc k) l e = grind (arith, e)
-
-highest-here : (marks : List Bool) (last : ℕ) → 0 < last → slice_index_or marks (last - 1) false ≡ true → highest_of (members_among marks last) ≡ Some last
-unfolding members_among
-highest-here marks zero l e = absurd (omega arith)
-highest-here marks (suc k) l e = grind (arith, e)
-
-pub highest-found : (marks : List Bool) (ms : List ℕ) (n number last : ℕ) → members_among marks n ≡ ms → number ≤ n → highest_of (members_among marks number) ≡ highest_of (members_among marks last) → 0 < last → slice_index_or marks (last - 1) false ≡ true → highest_of (below_node (number + 1) ms) ≡ Some last
-highest-found marks ms n number last is l same pos e = rw (← is, members-below marks number n l, same) (highest-here marks last pos e)
-
-pub highest-none : (marks : List Bool) (ms : List ℕ) (n number last : ℕ) → members_among marks n ≡ ms → number ≤ n → highest_of (members_among marks number) ≡ highest_of (members_among marks last) → last ≡ 0 → highest_of (below_node (number + 1) ms) ≡ None
-unfolding members_among
-highest-none marks ms n number last is l same e = rw (← is, members-below marks number n l, same, e) refl
-
-pub members-within : (marks : List Bool) (ms : List ℕ) (n : ℕ) → members_among marks n ≡ ms → IsFallingBelow (n + 1) ms
-members-within marks ms n is = rw (← is) (members-falling marks n)
-
 -- Membership, as a list's.
 
-abbrev Has : List ℕ → ℕ → Type 0
+abbrev pub Has : List ℕ → ℕ → Type 0
 Has [] j = ⊥
 Has (m ∷ ms) j = (j ≡ m) ⊎ Has ms j
 
@@ -170,30 +52,6 @@ Has-from (m ∷ ms) j h = by_index (Has-from ms j) h.0 h.1 h.2
     by_index : (Contains ms j → Has ms j) → (k : ℕ) → k < suc (length ms) → slice_index_or (m ∷ ms) k j ≡ j → Has (m ∷ ms) j
     by_index more zero l e = inl (sym e)
     by_index more (suc k) l e = inr (more (k, omega arith, e))
-
-has_node-Has : (ms : List ℕ) (j : ℕ) → Has ms j → has_node j ms ≡ true
-unfolding has_node
-has_node-Has [] j h = absurd h
-has_node-Has (m ∷ ms) j (inl e) = grind (arith, nat_tests, e)
-has_node-Has (m ∷ ms) j (inr h) = grind (arith, nat_tests, has_node-Has ms j h)
-
-Has-has_node : (ms : List ℕ) (j : ℕ) → has_node j ms ≡ true → Has ms j
-unfolding has_node
-Has-has_node [] j e = absurd (cc)
-Has-has_node (m ∷ ms) j e = by_test (Has-has_node ms j) (eqb_tells m j)
-  where
-    by_test : (has_node j ms ≡ true → Has ms j) → ((m == j ≡ true) × (m ≡ j)) ⊎ ((m == j ≡ false) × (m ≢ j)) → Has (m ∷ ms) j
-    by_test more (inl h) = inl (sym h.1)
-    by_test more (inr h) = inr (more (rw h.0 at e))
-
-pub has-step : (marks : List Bool) (ms : List ℕ) (k node n : ℕ) → k + 1 ≡ node → k < n → members_among marks n ≡ ms → (slice_index_or marks k false ≡ true) ↔ Contains ms node
-has-step marks ms k node n next l is =
-    let same : has_node node ms ≡ slice_index_or marks k false = rw (← is, ← next) (has_node-members_among marks n k l) in
-    ((λ e. Contains-from ms node (Has-has_node ms node (same ∙ e))), (λ h. sym same ∙ has_node-Has ms node (Has-from ms node h)))
-
-pub members-none_yet : (marks : List Bool) → length (members_among marks 0) ≡ 0
-unfolding members_among
-members-none_yet marks = refl
 
 -- The words on members are a set's.
 
@@ -291,3 +149,81 @@ falling-below (m ∷ ms) bound h = All-cons (λ j. j < bound) m ms h.1 (All-weak
 pub highest-largest : (ms : List ℕ) (bound : ℕ) → IsFallingBelow bound ms → IfSome (highest_of ms) (λ m. (Contains ms m) × All (λ j. j ≤ m) ms)
 highest-largest [] bound h = tt
 highest-largest (m ∷ ms) bound h = ((0, omega arith, refl), All-cons (λ j. j ≤ m) m ms (omega arith) (All-weaker (λ j. j < m) (λ j. j ≤ m) (λ j l. omega arith) ms (falling-below ms m h.2)))
+
+-- the last of the list is the least member
+pub lowest-least : (ms : List ℕ) (bound : ℕ) → IsFallingBelow bound ms → IfSome (lowest_of ms) (λ m. (Contains ms m) × All (λ j. m ≤ j) ms)
+lowest-least [] bound h = tt
+lowest-least (m ∷ []) bound h = ((0, omega arith, refl), All-cons (λ j. m ≤ j) m [] (omega arith) (All-nil (λ j. m ≤ j)))
+lowest-least (m ∷ n ∷ ms) bound h = one_more (lowest_of (n ∷ ms)) (lowest-least (n ∷ ms) m h.2)
+  where
+    one_more : (o : Option ℕ) → IfSome o (λ k. (Contains (n ∷ ms) k) × All (λ j. k ≤ j) (n ∷ ms)) → IfSome o (λ k. (Contains (m ∷ n ∷ ms) k) × All (λ j. k ≤ j) (m ∷ n ∷ ms))
+    one_more None more = tt
+    one_more (Some k) more =
+        let below : k < m = All-contains (λ j. j < m) (n ∷ ms) k (falling-below (n ∷ ms) m h.2) more.0 in
+        (Contains-tail m (n ∷ ms) k more.0, All-cons (λ j. k ≤ j) m (n ∷ ms) (omega arith) more.1)
+
+-- The word of a falling list tells its members.
+
+word_of-suc : (k : ℕ) (ms : List ℕ) → word_of (suc k ∷ ms) ≡ 2 ^ k + word_of ms
+unfolding word_of
+word_of-suc k ms = let e : suc k - 1 ≡ k = omega arith in rw e refl
+
+-- the highest member says how large the word is
+word_of-lt : (ms : List ℕ) (bound : ℕ) → IsFallingBelow (suc bound) ms → word_of ms < 2 ^ bound
+unfolding word_of
+word_of-lt [] bound h = pow_pos bound
+word_of-lt (zero ∷ ms) bound h = absurd (omega (arith, h.0))
+word_of-lt (suc k ∷ ms) bound h =
+    let rest = word_of-lt ms k h.2 in
+    let room : 2 ^ suc k ≤ 2 ^ bound = pow-le-pow_right (omega arith) (omega (arith, h.1)) in
+    omega (arith, rest, room, pow-suc 2 k, word_of-suc k ms)
+
+word_of-head : (k : ℕ) (ms : List ℕ) → 2 ^ k ≤ word_of (suc k ∷ ms)
+word_of-head k ms = omega (arith, word_of-suc k ms)
+
+-- a higher member makes the word larger, whatever stands below it
+word_of-order : (j k : ℕ) (ms ns : List ℕ) → j < k → IsFallingBelow (suc j) ms → word_of (suc j ∷ ms) < word_of (suc k ∷ ns)
+word_of-order j k ms ns l h =
+    let small = word_of-lt (suc j ∷ ms) (suc j) (omega arith, omega arith, h) in
+    let room : 2 ^ suc j ≤ 2 ^ k = pow-le-pow_right (omega arith) (omega arith) in
+    omega (arith, small, room, word_of-head k ns)
+
+word_of-rest : (j k : ℕ) (ms ns : List ℕ) → j ≡ k → word_of (suc j ∷ ms) ≡ word_of (suc k ∷ ns) → word_of ms ≡ word_of ns
+word_of-rest j k ms ns q e = omega (arith, e, word_of-suc j ms, word_of-suc k ns, ap (λ i. 2 ^ i) q)
+
+word_of-some : (m : ℕ) (ms : List ℕ) → 0 < word_of (m ∷ ms)
+unfolding word_of
+word_of-some m ms = omega (arith, pow_pos (m - 1))
+
+-- falling lists with the same word are the same
+pub word_of-same : (b : ℕ) (ms ns : List ℕ) → IsFallingBelow b ms → IsFallingBelow b ns → word_of ms ≡ word_of ns → ms ≡ ns
+unfolding word_of
+word_of-same b [] [] h k e = refl
+word_of-same b [] (n ∷ ns) h k e = absurd (omega (arith, e, word_of-some n ns))
+word_of-same b (m ∷ ms) [] h k e = absurd (omega (arith, e, word_of-some m ms))
+word_of-same b (zero ∷ ms) (n ∷ ns) h k e = absurd (omega (arith, h.0))
+word_of-same b (suc i ∷ ms) (zero ∷ ns) h k e = absurd (omega (arith, k.0))
+word_of-same b (suc i ∷ ms) (suc j ∷ ns) h k e = by_order (grind arith) (word_of-same (suc i) ms)
+  where
+    by_order : (i < j) ⊎ ((j < i) ⊎ (i ≡ j)) → ((xs : List ℕ) → IsFallingBelow (suc i) ms → IsFallingBelow (suc i) xs → word_of ms ≡ word_of xs → ms ≡ xs) → suc i ∷ ms ≡ suc j ∷ ns
+    by_order (inl l) more = absurd (omega (arith, e, word_of-order i j ms ns l h.2))
+    by_order (inr (inl l)) more = absurd (omega (arith, e, word_of-order j i ns ms l k.2))
+    by_order (inr (inr q)) more = ap (λ x. suc x ∷ ms) q ∙ ap (λ xs. suc j ∷ xs) (more ns h.2 (rw q k.2) (word_of-rest i j ms ns q e))
+
+-- sets are the same list exactly where their words are equal
+pub same_set_test : (bound : ℕ) (ms ns : List ℕ) (b : Bool) → IsFallingBelow bound ms → IsFallingBelow bound ns → b ≡ (word_of ms == word_of ns) → b ≡ bytes_eq ms ns
+same_set_test bound ms ns b h k e = by_test b (bytes_eq ms ns) (bytes_eq-Decides ms ns) (rw e (Decides-eqb (word_of ms) (word_of ns)))
+  where
+    by_test : (b t : Bool) → Decides t (ms ≡ ns) → Decides b (word_of ms ≡ word_of ns) → b ≡ t
+    by_test true true d e = refl
+    by_test false false d e = refl
+    by_test true false d e = sym (d.1 (word_of-same bound ms ns h k (e.0 refl)))
+    by_test false true d e = e.1 (ap word_of (d.0 refl))
+
+-- lists of different lengths are not the same
+pub sizes_differ : (ms ns : List ℕ) → length ms ≢ length ns → false ≡ bytes_eq ms ns
+sizes_differ ms ns n = by_test (bytes_eq ms ns) (bytes_eq-Decides ms ns)
+  where
+    by_test : (t : Bool) → Decides t (ms ≡ ns) → false ≡ t
+    by_test false d = refl
+    by_test true d = absurd (n (ap length (d.0 refl)))

@@ -1,5 +1,6 @@
 -- Sets of nodes, as the lists of their numbers in falling order.
-use Rattle.std.specs.Prelude.{ℕ, zero, suc, ◌+◌, ◌<◌, Bool, true, false, List, [], ◌∷◌, Option, Some, None, slice_index_or, filter, nat_lt, ◌==◌, not, if◌then◌else◌}
+use Rattle.std.specs.Prelude.{ℕ, zero, suc, ◌+◌, ◌-◌, ◌^◌, ◌<◌, Bool, List, [], ◌∷◌, Option, Some, None, filter, nat_lt, ◌==◌, not, if◌then◌else◌}
+use Rattle.std.specs.Int.{bit_at}
 
 -- the set with one more member
 abbrev pub with_node : ℕ → List ℕ → List ℕ
@@ -19,22 +20,27 @@ abbrev pub highest_of : List ℕ → Option ℕ
 highest_of [] = None
 highest_of (m ∷ ms) = Some m
 
+-- the lowest member
+abbrev pub lowest_of : List ℕ → Option ℕ
+lowest_of [] = None
+lowest_of (m ∷ []) = Some m
+lowest_of (m ∷ n ∷ ms) = lowest_of (n ∷ ms)
+
 -- each number is below the one before it
 abbrev pub IsFallingBelow : ℕ → List ℕ → Type 0
 IsFallingBelow bound [] = Unit {0}
 IsFallingBelow bound (m ∷ ms) = (0 < m) × (m < bound) × IsFallingBelow m ms
 
--- which nodes are members: place k stands for node k + 1. Of the first n places
-unfoldable pub members_among : List Bool → ℕ → List ℕ
-members_among marks zero = []
-members_among marks (suc n) = if slice_index_or marks n false then (n + 1) ∷ members_among marks n else members_among marks n
+-- whether bit k of the word is set
+abbrev pub is_set : ℕ → ℕ → Bool
+is_set word k = bit_at word k == 1
 
--- whether the number stands in the list
-unfoldable pub has_node : ℕ → List ℕ → Bool
-has_node k [] = false
-has_node k (m ∷ ms) = if m == k then true else has_node k ms
+-- which nodes are members: bit k stands for node k + 1. Of the lowest n bits
+unfoldable pub members_among : ℕ → ℕ → List ℕ
+members_among word zero = []
+members_among word (suc n) = if is_set word n then (n + 1) ∷ members_among word n else members_among word n
 
--- the marks of n places from place k on
-unfoldable pub marks_from : ℕ → ℕ → List ℕ → List Bool
-marks_from k zero ms = []
-marks_from k (suc n) ms = has_node (k + 1) ms ∷ marks_from (k + 1) n ms
+-- the word in which exactly the bits of these members are set
+unfoldable pub word_of : List ℕ → ℕ
+word_of [] = 0
+word_of (m ∷ ms) = 2 ^ (m - 1) + word_of ms

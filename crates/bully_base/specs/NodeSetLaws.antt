@@ -1,33 +1,27 @@
--- Marks of places, and the members that they stand for.
-use Rattle.std.proofs.Common.{◌≡◌, ℕ, zero, suc, ◌+◌, ◌<◌, Bool, false, List, length, drop, arith, refl, sym, ◌⊎◌, inl, inr, add-one}
-use Rattle.std.specs.Prelude.{slice_index_or}
-use Rattle.std.proofs.Math.Seq.{drop-cons}
-use Rattle.std.proofs.lemmas.Grind.{common_steps}
-use Rattle.bully_base.specs.NodeSet.{members_among, has_node, marks_from}
+-- The word of a set can be read off its members.
+use Rattle.std.proofs.Common.{◌≡◌, ℕ, zero, suc, ◌+◌, ◌*◌, ◌<◌, ◌%◌, ◌^◌, arith, refl, ◌∙◌, ap, ◌⊎◌, inl, inr}
+use Rattle.std.specs.Int.{bit_at}
+use Rattle.std.proofs.lemmas.Bool.Decides.{nat_tests}
+use Rattle.std.proofs.lemmas.Nat.{mod-pow-add}
+use Rattle.bully_base.specs.NodeSet.{members_among, word_of}
 
--- a number past the places is no member
-pub has_node-past : (marks : List Bool) (n k : ℕ) → n < k → has_node k (members_among marks n) ≡ false
-unfolding has_node members_among
-has_node-past marks zero k l = refl
-has_node-past marks (suc n) k l = grind (arith, has_node-past marks n k (omega arith))
-
-pub has_node-members_among : (marks : List Bool) (n k : ℕ) → k < n → has_node (k + 1) (members_among marks n) ≡ slice_index_or marks k false
-unfolding has_node members_among
-has_node-members_among marks zero k l = absurd (omega arith)
-has_node-members_among marks (suc n) k l = by_case (has_node-members_among marks n k) (grind arith)
+pub is_bit : (word n : ℕ) → (bit_at word n ≡ 1) ⊎ (bit_at word n ≡ 0)
+is_bit word n = of_two (bit_at word n) (omega arith)
   where
-    by_case : (k < n → has_node (k + 1) (members_among marks n) ≡ slice_index_or marks k false) → (k ≡ n) ⊎ (k < n) → has_node (k + 1) (members_among marks (suc n)) ≡ slice_index_or marks k false
-    by_case more (inl e) = grind (arith, e, has_node-past marks n (n + 1) (omega arith))
-    by_case more (inr h) = grind (arith, h, more h)
+    of_two : (b : ℕ) → b < 2 → (b ≡ 1) ⊎ (b ≡ 0)
+    of_two zero l = inr refl
+    of_two (suc zero) l = inl refl
+    of_two (suc (suc b)) l = absurd (omega arith)
 
-marks_from-drop : (marks : List Bool) (k n : ℕ) → k + n ≡ length marks → marks_from k n (members_among marks (length marks)) ≡ drop k marks
-unfolding marks_from
-marks_from-drop marks k zero e = grind (arith, common_steps)
-marks_from-drop marks k (suc n) e =
-    let more = marks_from-drop marks (k + 1) n (omega arith) in
-    let here = has_node-members_among marks (length marks) k (omega arith) in
-    let lt : k < length marks = omega arith in
-    rw (here, more, add-one) (sym (drop-cons marks k false lt))
+-- bit n, and the bits below it
+pub next_bit : (word n : ℕ) → word % 2 ^ suc n ≡ bit_at word n * 2 ^ n + word % 2 ^ n
+next_bit word n = let e : suc n ≡ 1 + n = omega arith in ap (λ k. word % 2 ^ k) e ∙ mod-pow-add word 1 n
 
-pub marks_from-members_among : (marks : List Bool) (n : ℕ) → length marks ≡ n → marks_from 0 n (members_among marks n) ≡ marks
-marks_from-members_among marks n e = rw (← e) (marks_from-drop marks 0 (length marks) (omega arith))
+pub word_of-members_among : (word n : ℕ) → word_of (members_among word n) ≡ word % 2 ^ n
+unfolding members_among word_of
+word_of-members_among word zero = omega arith
+word_of-members_among word (suc n) = by_bit (word_of-members_among word n) (is_bit word n)
+  where
+    by_bit : word_of (members_among word n) ≡ word % 2 ^ n → (bit_at word n ≡ 1) ⊎ (bit_at word n ≡ 0) → word_of (members_among word (suc n)) ≡ word % 2 ^ suc n
+    by_bit more (inl e) = grind (arith, nat_tests, e, next_bit word n, more)
+    by_bit more (inr e) = grind (arith, nat_tests, e, next_bit word n, more)

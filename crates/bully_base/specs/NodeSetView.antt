@@ -1,12 +1,12 @@
--- The marks that a set of nodes keeps can be read off its members.
-use Rattle.std.proofs.Common.{◌≡◌, List, Bool, length, ap}
+-- The word that a set of nodes keeps can be read off its members.
+use Rattle.std.proofs.Common.{◌≡◌, ℕ, ◌<◌, ◌^◌, ◌∙◌, ap, arith}
 use Rattle.bully_base.specs.declared.node_set.NodeSet.TheInside.{Inside}
 use Rattle.bully_base.specs.declared.TheConstants.{NODES_MAX}
-use Rattle.bully_base.specs.NodeSet.{members_among, marks_from}
-use Rattle.bully_base.specs.NodeSetLaws.{marks_from-members_among}
+use Rattle.bully_base.specs.NodeSet.{members_among, word_of}
+use Rattle.bully_base.specs.NodeSetLaws.{word_of-members_among}
 
-abbrev marked : List Bool → Inside
-marked marks = record { marks = marks }
+abbrev of_word : ℕ → Inside
+of_word word = record { word = word }
 
-pub inverse_of_view : (a : Inside) → length a.marks ≡ NODES_MAX → marked (marks_from 0 NODES_MAX (members_among a.marks NODES_MAX)) ≡ a
-inverse_of_view a h = ap marked (marks_from-members_among a.marks NODES_MAX h)
+pub inverse_of_view : (a : Inside) → a.word < 2 ^ NODES_MAX → of_word (word_of (members_among a.word NODES_MAX)) ≡ a
+inverse_of_view a h = ap of_word (word_of-members_among a.word NODES_MAX ∙ omega arith)

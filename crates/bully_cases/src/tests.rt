@@ -3,6 +3,7 @@
 mod choices;
 mod full_size;
 mod playing;
+mod rest;
 mod runs;
 mod scripts;
 

@@ -1,5 +1,5 @@
 -- What is known of a document that nothing refuses.
-use Rattle.std.proofs.Common.{[], option_and_then, ◌≡◌, subst, ℕ, ◌<◌, ◌≤◌, Bool, true, false, List, length, refl, sym, ap, arith, ◌∙◌, Option, Some, None, option_map, if◌then◌else◌}
+use Rattle.std.proofs.Common.{[], option_and_then, ◌≡◌, ◌≢◌, subst, ℕ, ◌<◌, ◌≤◌, Bool, true, false, List, length, refl, sym, ap, arith, ◌∙◌, Option, Some, None, option_map, if◌then◌else◌}
 use Rattle.std.specs.Option.{option_or, is_some, unwrap_or}
 use Rattle.std.specs.List.{list_all, list_any}
 use Rattle.std.proofs.lemmas.Grind.{common_steps}
@@ -10,7 +10,7 @@ use Rattle.std.proofs.lemmas.Option.{same_Some}
 use Rattle.bully_config.specs.declared.config.Fault.{Fault}
 use Rattle.bully_config.specs.declared.fault.Key.{Key}
 use Rattle.bully_config.specs.declared.fault.ConfigFault.{ConfigFault}
-use Rattle.bully_config.specs.declared.TheConstants.{TURNS_MAX, FAULTS_MAX}
+use Rattle.bully_config.specs.declared.TheConstants.{TURNS_MAX, PERIOD_MIN, PERIOD_MAX, FAULTS_MAX}
 use Rattle.bully_config.specs.Answers.{refusal_of}
 use Rattle.bully_config.specs.Configuration.{Configuration, has_double, is_empty, IsConfiguration}
 use Rattle.bully_config.specs.Document.{list_of, value_at, items_at}
@@ -25,8 +25,8 @@ use Rattle.bully_base.specs.declared.setup.SetupFault.{SetupFault}
 use Rattle.bully_config.specs.Document.{text_of}
 use Rattle.std.proofs.lemmas.Bool.{false≢true}
 use Rattle.bully_base.specs.declared.TheConstants.{NODES_MAX, PARTITIONS_MAX, EVENTS_MAX}
-use Rattle.bully_config.proofs.FaultLemmas.{faults_all, number_within, faults_within, faults_few}
-use Rattle.bully_config.specs.Values.{number_at, nodes_in, partitions_in, events_in, turns_in, or_zero, names_of, faults_in, values_of}
+use Rattle.bully_config.proofs.FaultLemmas.{faults_all, number_within, period_within, faults_within, faults_few}
+use Rattle.bully_config.specs.Values.{number_at, nodes_in, partitions_in, events_in, turns_in, period_in, or_zero, names_of, faults_in, values_of}
 
 -- the parts of it that the values rest on
 pub record Facts (ms : Members) : Type 0 where
@@ -34,6 +34,7 @@ pub record Facts (ms : Members) : Type 0 where
   pub partitions : is_some (partitions_in ms) ≡ true
   pub events : is_some (events_in ms) ≡ true
   pub turns : is_some (turns_in ms) ≡ true
+  pub period : is_some (period_in ms) ≡ true
   pub names : length (names_of (items_at Key.Names ms)) ≡ or_zero (nodes_in ms)
   pub full : list_any is_empty (names_of (items_at Key.Names ms)) ≡ false
   pub few : length (items_at Key.Fault ms) ≤ FAULTS_MAX
@@ -45,6 +46,7 @@ ranged ms e d = record {
   partitions = grind (arith, common_steps, e);
   events = grind (arith, common_steps, e);
   turns = grind (arith, common_steps, e);
+  period = grind (arith, common_steps, e);
   names = grind (arith, common_steps, e);
   full = grind (arith, common_steps, e);
   few = grind (arith, common_steps, e);
@@ -66,6 +68,21 @@ facts ms e =
     let (ranges, double) = chain (missing_in ms) (misfit_in ms) (out_of_range_in ms) _ _ (has_double_in ms) (has_unlisted_in ms) e in
     ranged ms ranges double
 
+-- a refusal of a document is of another kind than those that come without one
+told_chain : (a b c : Option Key) (d u : Bool) (fault : ConfigFault)
+    → option_or (option_map ConfigFault.Missing a) (option_or (option_map ConfigFault.Kind b) (option_or (option_map ConfigFault.Range c)
+    (if d then Some ConfigFault.DoubleName else if u then Some ConfigFault.UnknownKey else None))) ≡ Some fault
+    → (fault ≢ ConfigFault.Toml) × (fault ≢ ConfigFault.OutOfMemory)
+told_chain (Some k) b c d u fault e = grind (arith, e)
+told_chain None (Some k) c d u fault e = grind (arith, e)
+told_chain None None (Some k) d u fault e = grind (arith, e)
+told_chain None None None true u fault e = grind (arith, e)
+told_chain None None None false true fault e = grind (arith, e)
+told_chain None None None false false fault e = grind (arith, e)
+
+pub told_of_document : (ms : Members) (fault : ConfigFault) → refusal_of ms ≡ Some fault → (fault ≢ ConfigFault.Toml) × (fault ≢ ConfigFault.OutOfMemory)
+told_of_document ms fault e = told_chain (missing_in ms) (misfit_in ms) (out_of_range_in ms) (has_double_in ms) (has_unlisted_in ms) fault e
+
 -- the number that a test finds there is the one that stands there
 there : (o : Option ℕ) → is_some o ≡ true → o ≡ Some (or_zero o)
 there None e = absurd (false≢true e)
@@ -74,6 +91,9 @@ there (Some n) e = refl
 pub number_there : (key : Key) (limit : ℕ) (ms : Members) → is_some (number_at key limit ms) ≡ true
     → (0 < or_zero (number_at key limit ms)) × (or_zero (number_at key limit ms) ≤ limit)
 number_there key limit ms e = number_within key limit (or_zero (number_at key limit ms)) ms (there (number_at key limit ms) e)
+
+period_there : (ms : Members) → is_some (period_in ms) ≡ true → (PERIOD_MIN ≤ or_zero (period_in ms)) × (or_zero (period_in ms) ≤ PERIOD_MAX)
+period_there ms e = period_within (or_zero (period_in ms)) ms (there (period_in ms) e)
 
 pub configured : (ms : Members) → refusal_of ms ≡ None → IsConfiguration (values_of ms)
 configured ms e =
@@ -85,6 +105,7 @@ configured ms e =
         events = number_there Key.Events EVENTS_MAX ms f.events;
       };
       turns = number_there Key.Turns TURNS_MAX ms f.turns;
+      period = period_there ms f.period;
       names = f.names;
       distinct = f.distinct;
       full = f.full;
@@ -115,16 +136,17 @@ setup_made (Err SetupFault.BadPartitions) n p e a b c x y z = absurd ((b.0 refl)
 setup_made (Err SetupFault.BadLimit) n p e a b c x y z = absurd ((c.0 refl).2 z)
 
 -- the parts that were read are the values
-pub same_parts : (ms : Members) (s : Setup) (t : ℕ) (names : List (List ℕ)) (faults : List Fault) (vs items : List Data)
-    → s ≡ (values_of ms).setup → number_at Key.Turns TURNS_MAX ms ≡ Some t → vs ≡ items_at Key.Names ms → items ≡ items_at Key.Fault ms
+pub same_parts : (ms : Members) (s : Setup) (t p : ℕ) (names : List (List ℕ)) (faults : List Fault) (vs items : List Data)
+    → s ≡ (values_of ms).setup → number_at Key.Turns TURNS_MAX ms ≡ Some t → period_in ms ≡ Some p → vs ≡ items_at Key.Names ms → items ≡ items_at Key.Fault ms
     → names ≡ names_of vs → faults ≡ faults_in t (names_of vs) items
-    → record { setup = s; turns = t; names = names; faults = faults } ≡ values_of ms
-same_parts ms s t names faults vs items setup turns names_there faults_there named told =
+    → record { setup = s; turns = t; period = p; names = names; faults = faults } ≡ values_of ms
+same_parts ms s t p names faults vs items setup turns period names_there faults_there named told =
     let turn : t ≡ or_zero (turns_in ms) = sym (ap or_zero turns) in
+    let every : p ≡ or_zero (period_in ms) = sym (ap or_zero period) in
     let name : names ≡ names_of (items_at Key.Names ms) = named ∙ ap names_of names_there in
     let fault : faults ≡ faults_in (or_zero (turns_in ms)) (names_of (items_at Key.Names ms)) (items_at Key.Fault ms) =
     told ∙ (λ j. faults_in (turn j) (names_of (names_there j)) (faults_there j)) in
-    λ j. record { setup = setup j; turns = turn j; names = name j; faults = fault j }
+    λ j. record { setup = setup j; turns = turn j; period = every j; names = name j; faults = fault j }
 
 -- a text without any key is refused
 no_keys : refusal_of no_members ≡ None → ⊥
@@ -150,24 +172,25 @@ value_fits : (o : Option Data) → fits Key.Fault o ≡ true → list_all is_tab
 value_fits None h = refl
 value_fits (Some d) h = items_fit (as_array d) h
 
--- the last of six tests, where none fails
-last_fits : (a b c d e f : Bool) (rest : Option Key)
-    → option_or (if a then if b then if c then if d then if e then if f then None else Some Key.Fault else Some Key.Names else Some Key.Turns else Some Key.Events else Some Key.Partitions else Some Key.Nodes) rest ≡ None
-    → f ≡ true
-last_fits true true true true true true rest h = refl
-last_fits true true true true true false rest h = grind (arith, h)
-last_fits true true true true false f rest h = grind (arith, h)
-last_fits true true true false e f rest h = grind (arith, h)
-last_fits true true false d e f rest h = grind (arith, h)
-last_fits true false c d e f rest h = grind (arith, h)
-last_fits false b c d e f rest h = grind (arith, h)
+-- the last of seven tests, where none fails
+last_fits : (a b c d e f g : Bool) (rest : Option Key)
+    → option_or (if a then if b then if c then if d then if e then if f then if g then None else Some Key.Fault else Some Key.Names else Some Key.Period else Some Key.Turns else Some Key.Events else Some Key.Partitions else Some Key.Nodes) rest ≡ None
+    → g ≡ true
+last_fits true true true true true true true rest h = refl
+last_fits true true true true true true false rest h = grind (arith, h)
+last_fits true true true true true false g rest h = grind (arith, h)
+last_fits true true true true false f g rest h = grind (arith, h)
+last_fits true true true false e f g rest h = grind (arith, h)
+last_fits true true false d e f g rest h = grind (arith, h)
+last_fits true false c d e f g rest h = grind (arith, h)
+last_fits false b c d e f g rest h = grind (arith, h)
 
 tables_there : (ms : Members) → misfit_in ms ≡ None → list_all is_table (items_at Key.Fault ms) ≡ true
 unfolding items_at
 tables_there ms e =
     value_fits (value_at Key.Fault ms)
     (last_fits (fits Key.Nodes (value_at Key.Nodes ms)) (fits Key.Partitions (value_at Key.Partitions ms)) (fits Key.Events (value_at Key.Events ms))
-    (fits Key.Turns (value_at Key.Turns ms)) (fits Key.Names (value_at Key.Names ms)) (fits Key.Fault (value_at Key.Fault ms)) _ e)
+    (fits Key.Turns (value_at Key.Turns ms)) (fits Key.Period (value_at Key.Period ms)) (fits Key.Names (value_at Key.Names ms)) (fits Key.Fault (value_at Key.Fault ms)) _ e)
 
 inside : (ms : Members) → out_of_range_in ms ≡ None → first_in (fault_out_of_range (or_zero (turns_in ms)) (names_of (items_at Key.Names ms))) (items_at Key.Fault ms) ≡ None
 inside ms e = grind (arith, common_steps, e)

@@ -2,20 +2,21 @@
 use Rattle.std.proofs.Common.{◌≡◌, ℕ, ℤ, pos, negsuc, suc, ◌+◌, ◌<◌, ◌≤◌, Bool, true, false, List, [], ◌∷◌, length, refl, ap, arith, Option, Some, None, option_map, option_and_then}
 use Rattle.std.specs.List.{list_all, position_from, AllByRecursion}
 use Rattle.std.proofs.lemmas.Grind.{common_steps}
-use Rattle.toml.specs.Data.{Data, Members, as_table}
+use Rattle.toml.specs.Data.{Data, Members, as_integer, as_table}
 use Rattle.std.specs.Str.{bytes_eq}
 use Rattle.std.proofs.lemmas.Option.{same_Some, none-some}
 use Rattle.bully_config.specs.declared.config.FaultKind.{FaultKind}
 use Rattle.bully_base.specs.Setup.{Setup}
 use Rattle.bully_config.specs.declared.config.Fault.{Fault}
 use Rattle.bully_config.specs.declared.fault.Key.{Key}
+use Rattle.bully_config.specs.declared.TheConstants.{PERIOD_MIN, PERIOD_MAX}
 use Rattle.bully_config.specs.Configuration.{IsFaultOf, node_named}
 use Rattle.std.specs.Prelude.{not, if◌then◌else◌}
 use Rattle.std.specs.Option.{is_some, option_or}
 use Rattle.std.proofs.lemmas.Bool.{false≢true, and_parts}
 use Rattle.bully_config.specs.Refusals.{first_in, is_table, fault_out_of_range}
-use Rattle.bully_config.specs.Document.{integer_at, string_at}
-use Rattle.bully_config.specs.Values.{within, number_at, turn_in, node_in, kind_in, fault_in, faults_in}
+use Rattle.bully_config.specs.Document.{value_at, integer_at, string_at}
+use Rattle.bully_config.specs.Values.{within, number_at, period_of, period_in, turn_in, node_in, kind_in, fault_in, faults_in}
 
 pub position_within : {X : Type 0} (test : X → Bool) (i k : ℕ) (xs : List X) → position_from test i xs ≡ Some k → (i ≤ k) × (k < i + length xs)
 position_within test i k [] e = grind (arith, e)
@@ -28,14 +29,31 @@ position_within test i k (x ∷ xs) e = by_test (test x) refl (position_within t
         let (low, high) = more rest in
         (omega (arith, low), omega (arith, high))
 
+within_range : (least most n : ℕ) (z : ℤ) → within least most z ≡ Some n → (least ≤ n) × (n ≤ most)
+within_range least most n (pos m) h = grind (arith, common_steps, h)
+within_range least most n (negsuc m) h = grind (arith, h)
+
 pub number_within : (key : Key) (limit n : ℕ) (ms : Members) → number_at key limit ms ≡ Some n → (0 < n) × (n ≤ limit)
 unfolding number_at
 number_within key limit n ms e = by_value (integer_at key ms) e
   where
-    by_value : (o : Option ℤ) → option_and_then (within limit) o ≡ Some n → (0 < n) × (n ≤ limit)
+    by_value : (o : Option ℤ) → option_and_then (within 1 limit) o ≡ Some n → (0 < n) × (n ≤ limit)
     by_value None h = grind (arith, h)
-    by_value (Some (pos m)) h = grind (arith, common_steps, h)
-    by_value (Some (negsuc m)) h = grind (arith, h)
+    by_value (Some z) h =
+        let (low, high) = within_range 1 limit n z h in
+        (omega (arith, low), high)
+
+pub period_within : (n : ℕ) (ms : Members) → period_in ms ≡ Some n → (PERIOD_MIN ≤ n) × (n ≤ PERIOD_MAX)
+unfolding period_in
+period_within n ms e = by_value (value_at Key.Period ms) e
+  where
+    by_integer : (o : Option ℤ) → option_and_then (within PERIOD_MIN PERIOD_MAX) o ≡ Some n → (PERIOD_MIN ≤ n) × (n ≤ PERIOD_MAX)
+    by_integer None h = grind (arith, h)
+    by_integer (Some z) h = within_range PERIOD_MIN PERIOD_MAX n z h
+
+    by_value : (o : Option Data) → period_of o ≡ Some n → (PERIOD_MIN ≤ n) × (n ≤ PERIOD_MAX)
+    by_value None h = grind (arith, h)
+    by_value (Some d) h = by_integer (as_integer d) h
 
 pub node_within : (names : List (List ℕ)) (n : ℕ) (ms : Members) → node_in names ms ≡ Some n → (0 < n) × (n ≤ length names)
 node_within names n ms e = by_value (string_at Key.Node ms) e

@@ -4,12 +4,13 @@ use Rattle.std.specs.List.{list_any, AllByRecursion, position_from}
 use Rattle.std.specs.Str.{bytes_eq}
 use Rattle.bully_base.specs.Setup.{Setup, IsSetup, IsNode}
 use Rattle.bully_config.specs.declared.config.Fault.{Fault}
-use Rattle.bully_config.specs.declared.TheConstants.{TURNS_MAX, FAULTS_MAX}
+use Rattle.bully_config.specs.declared.TheConstants.{TURNS_MAX, PERIOD_MIN, PERIOD_MAX, FAULTS_MAX}
 
 -- the name at place k, counted from 1, is that of node k
 pub record Configuration : Type 0 where
   pub setup : Setup
   pub turns : ℕ
+  pub period : ℕ
   pub names : List (List ℕ)
   pub faults : List Fault
 
@@ -34,6 +35,7 @@ IsFaultOf setup turns fault = (0 < fault.at) × (fault.at ≤ turns) × IsNode s
 pub record IsConfiguration (c : Configuration) : Type 0 where
   pub setup : IsSetup c.setup
   pub turns : (0 < c.turns) × (c.turns ≤ TURNS_MAX)
+  pub period : (PERIOD_MIN ≤ c.period) × (c.period ≤ PERIOD_MAX)
   pub names : length c.names ≡ c.setup.nodes
   pub distinct : has_double c.names ≡ false
   pub full : list_any is_empty c.names ≡ false

@@ -9,7 +9,7 @@ use Rattle.bully_config.specs.declared.fault.Key.{Key}
 use Rattle.bully_config.specs.Configuration.{has_double, is_empty}
 use Rattle.bully_config.specs.Document.{list_of, value_at, items_at}
 use Rattle.bully_config.specs.Keys.{word_of, required_keys, top_keys, fault_keys}
-use Rattle.bully_config.specs.Values.{nodes_in, partitions_in, events_in, turns_in, or_zero, names_of, turn_in, node_in, kind_in}
+use Rattle.bully_config.specs.Values.{nodes_in, partitions_in, events_in, turns_in, period_in, or_zero, names_of, turn_in, node_in, kind_in}
 
 -- the first of the keys that fails the test
 abbrev pub first_failing : (Key → Bool) → List Key → Option Key
@@ -52,6 +52,7 @@ has_kind Key.Nodes d = is_some (as_integer d)
 has_kind Key.Partitions d = is_some (as_integer d)
 has_kind Key.Events d = is_some (as_integer d)
 has_kind Key.Turns d = is_some (as_integer d)
+has_kind Key.Period d = is_some (as_integer d)
 has_kind Key.Names d = is_array_of is_string d
 has_kind Key.Fault d = is_array_of is_table d
 has_kind Key.At d = is_some (as_integer d)
@@ -92,6 +93,7 @@ out_of_range_in ms =
     else if not (is_some (partitions_in ms)) then Some Key.Partitions
     else if not (is_some (events_in ms)) then Some Key.Events
     else if not (is_some (turns_in ms)) then Some Key.Turns
+    else if not (is_some (period_in ms)) then Some Key.Period
     else if not (are_names (or_zero (nodes_in ms)) names) then Some Key.Names
     else if nat_lt FAULTS_MAX (length faults) then Some Key.Fault
     else first_in (fault_out_of_range (or_zero (turns_in ms)) names) faults

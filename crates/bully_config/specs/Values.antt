@@ -1,23 +1,24 @@
 -- The values of a document: what the configuration has where nothing refuses the document.
-use Rattle.std.specs.Prelude.{ℕ, ℤ, pos, negsuc, ◌&&◌, nat_lt, nat_le, codes, List, [], ◌∷◌, map, Option, Some, None, option_map, option_and_then, if◌then◌else◌}
+use Rattle.std.specs.Prelude.{ℕ, ℤ, pos, negsuc, ◌&&◌, nat_le, codes, List, [], ◌∷◌, map, Option, Some, None, option_map, option_and_then, if◌then◌else◌}
 use Rattle.std.specs.Option.{unwrap_or}
 use Rattle.std.specs.Str.{bytes_eq}
-use Rattle.toml.specs.Data.{Data, Members, as_table}
+use Rattle.toml.specs.Data.{Data, Members, as_integer, as_table}
 use Rattle.bully_base.specs.declared.TheConstants.{NODES_MAX, PARTITIONS_MAX, EVENTS_MAX}
-use Rattle.bully_config.specs.declared.TheConstants.{TURNS_MAX}
+use Rattle.bully_config.specs.declared.TheConstants.{TURNS_MAX, PERIOD, PERIOD_MIN, PERIOD_MAX}
 use Rattle.bully_config.specs.declared.config.Fault.{Fault}
 use Rattle.bully_config.specs.declared.config.FaultKind.{FaultKind}
 use Rattle.bully_config.specs.declared.fault.Key.{Key}
 use Rattle.bully_config.specs.Configuration.{Configuration, node_named}
-use Rattle.bully_config.specs.Document.{integer_at, string_at, items_at, text_of}
+use Rattle.bully_config.specs.Document.{value_at, integer_at, string_at, items_at, text_of}
 
--- the number, where it is from 1 to the limit
-abbrev pub within : ℕ → ℤ → Option ℕ
-within limit (pos n) = if nat_lt 0 n && nat_le n limit then Some n else None
-within limit (negsuc n) = None
+-- the number, where it is from the least to the most
+abbrev pub within : ℕ → ℕ → ℤ → Option ℕ
+within least most (pos n) = if nat_le least n && nat_le n most then Some n else None
+within least most (negsuc n) = None
 
+-- the number at a key, where it is from 1 to the limit
 unfoldable pub number_at : Key → ℕ → Members → Option ℕ
-number_at key limit ms = option_and_then (within limit) (integer_at key ms)
+number_at key limit ms = option_and_then (within 1 limit) (integer_at key ms)
 
 -- the four numbers at the top, where they are in their ranges
 abbrev pub nodes_in : Members → Option ℕ
@@ -31,6 +32,14 @@ events_in ms = number_at Key.Events EVENTS_MAX ms
 
 abbrev pub turns_in : Members → Option ℕ
 turns_in ms = number_at Key.Turns TURNS_MAX ms
+
+-- the period: the profile's where the key isn't there
+abbrev pub period_of : Option Data → Option ℕ
+period_of None = Some PERIOD
+period_of (Some d) = option_and_then (within PERIOD_MIN PERIOD_MAX) (as_integer d)
+
+unfoldable pub period_in : Members → Option ℕ
+period_in ms = period_of (value_at Key.Period ms)
 
 abbrev pub or_zero : Option ℕ → ℕ
 or_zero n = unwrap_or n 0
@@ -78,6 +87,7 @@ values_of ms =
     record {
       setup = record { nodes = or_zero (nodes_in ms); partitions = or_zero (partitions_in ms); events_max = or_zero (events_in ms) };
       turns = turns;
+      period = or_zero (period_in ms);
       names = names;
       faults = faults_in turns names (items_at Key.Fault ms);
     }

@@ -22,12 +22,14 @@ pub struct Fault {
     pub kind: FaultKind,
 }
 
-/// A configuration: its setup, its turns (1 to [`crate::TURNS_MAX`]), a name for each node, and at most
-/// [`crate::FAULTS_MAX`] faults in the order of the document.
+/// A configuration: its setup, its turns (1 to [`crate::TURNS_MAX`]), its period ([`crate::PERIOD_MIN`] to
+/// [`crate::PERIOD_MAX`] turns), a name for each node, and at most [`crate::FAULTS_MAX`] faults in the order of the
+/// document.
 #[derive(Drop, Debug)]
 pub struct Config {
     setup: Setup,
     turns: u32,
+    period: u32,
     names: IndexSet<String>,
     faults: Vec<Fault>,
 }
@@ -38,9 +40,9 @@ impl Model for Config {
 
     ghost Value = { Configuration };
 
-    ghost view = { λ c. record { setup = c.setup; turns = c.turns; names = map (λ s. string_bytes s) c.names.keys; faults = c.faults.items } };
+    ghost view = { λ c. record { setup = c.setup; turns = c.turns; period = c.period; names = map (λ s. string_bytes s) c.names.keys; faults = c.faults.items } };
 
-    ghost invariant = { λ c. IsConfiguration (record { setup = c.setup; turns = c.turns; names = map (λ s. string_bytes s) c.names.keys; faults = c.faults.items }) };
+    ghost invariant = { λ c. IsConfiguration (record { setup = c.setup; turns = c.turns; period = c.period; names = map (λ s. string_bytes s) c.names.keys; faults = c.faults.items }) };
 }
 
 impl Config {
@@ -52,15 +54,17 @@ impl Config {
     pub(crate) fn from_parts(
         setup: Setup,
         turns: u32,
+        period: u32,
         names: IndexSet<String>,
         faults: Vec<Fault>,
     ) -> Config
-        requires { IsConfiguration (record { setup = setup; turns = turns; names = map (λ s. string_bytes s) names.keys; faults = faults.items }) }
-        ensures { result ≡ record { setup = setup; turns = turns; names = map (λ s. string_bytes s) names.keys; faults = faults.items } }
+        requires { IsConfiguration (record { setup = setup; turns = turns; period = period; names = map (λ s. string_bytes s) names.keys; faults = faults.items }) }
+        ensures { result ≡ record { setup = setup; turns = turns; period = period; names = map (λ s. string_bytes s) names.keys; faults = faults.items } }
     {
         Config {
             setup,
             turns,
+            period,
             names,
             faults,
         }
@@ -80,6 +84,15 @@ impl Config {
         ensures within { IsConfiguration self.now }
     {
         self.turns
+    }
+
+    /// How often an idle node checks, in turns: from [`crate::PERIOD_MIN`] to [`crate::PERIOD_MAX`], and
+    /// [`crate::PERIOD`] where the document doesn't tell it.
+    pub fn period(&self) -> u32
+        ensures period { result ≡ self.now.period }
+        ensures within { IsConfiguration self.now }
+    {
+        self.period
     }
 
     /// The name of a node of the setup.

@@ -4,7 +4,7 @@ ghost use Rattle.bully_config.specs.Keys.{word_of, name_of, key_of};
 use std::alloc::AllocError;
 use std::fmt;
 
-/// A key of a configuration. The first six stand at the top, the last three in a fault.
+/// A key of a configuration. The first seven stand at the top, the last three in a fault.
 #[derive(Clone, Copy, PartialEq, Eq, Debug)]
 pub enum Key {
     /// How many nodes the group has: an integer from 1 to 64.
@@ -15,6 +15,8 @@ pub enum Key {
     Events,
     /// The turns of each thread: an integer from 1 to 1,000,000.
     Turns,
+    /// How often an idle node checks, in turns: an integer from 2 to 65,536. It may be left out, and is 16 then.
+    Period,
     /// The names of the nodes, in the order of their numbers: an array of as many strings as nodes, none empty.
     Names,
     /// The faults: an array of at most 10,000 tables. It may be left out.
@@ -37,6 +39,7 @@ impl Key {
             Key::Partitions => "partitions",
             Key::Events => "events",
             Key::Turns => "turns",
+            Key::Period => "period",
             Key::Names => "names",
             Key::Fault => "fault",
             Key::At => "at",

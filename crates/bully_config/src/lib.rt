@@ -1,11 +1,12 @@
-//! Configurations of a group: what a TOML document says of its setup, its turns, its names and its faults.
+//! Configurations of a group: what a TOML document says of its setup, its turns, its period, its names and its
+//! faults.
 //!
 //! It stands on bully_base, toml and indexmap. The crates above rely on a configuration being within its limits
 //! and on the answer to a document being its first refusal in the written order, else its values.
 #![tactic(auto)]
 
 ghost use Rattle.std.specs.Prelude.{◌≡◌};
-ghost use Rattle.bully_config.specs.declared.TheConstants.{FAULTS_MAX, TURNS_MAX};
+ghost use Rattle.bully_config.specs.declared.TheConstants.{FAULTS_MAX, PERIOD, PERIOD_MAX, PERIOD_MIN, TURNS_MAX};
 
 mod config;
 mod fault;
@@ -21,11 +22,23 @@ pub use fault::{ConfigFault, Key};
 /// The most turns of a configuration. The profile's limit.
 pub const TURNS_MAX: u32 = 1_000_000;
 
+/// The period of a configuration that doesn't tell one: how often an idle node checks, in turns. The profile's.
+pub const PERIOD: u32 = 16;
+
+/// The least period of a configuration. The profile's limit.
+pub const PERIOD_MIN: u32 = 2;
+
+/// The greatest period of a configuration. The profile's limit.
+pub const PERIOD_MAX: u32 = 65_536;
+
 /// The most faults of a configuration. The profile's limit.
 pub const FAULTS_MAX: usize = 10_000;
 
 /// The limits in numbers. The definitions cite the constants, and so say as much as these numbers.
 pub fn limits()
     ensures turns { TURNS_MAX ≡ 1000000 }
+    ensures period { PERIOD ≡ 16 }
+    ensures period_min { PERIOD_MIN ≡ 2 }
+    ensures period_max { PERIOD_MAX ≡ 65536 }
     ensures faults { FAULTS_MAX ≡ 10000 }
 {}

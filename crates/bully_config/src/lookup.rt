@@ -4,10 +4,11 @@ ghost use Rattle.toml.specs.View.{view, table_view};
 ghost use Rattle.bully_base.specs.declared.TheConstants.{NODES_MAX};
 ghost use Rattle.bully_config.specs.Configuration.{node_named};
 ghost use Rattle.bully_config.specs.Document.{value_at, integer_at, string_at, items_at, text_of};
-ghost use Rattle.bully_config.specs.Values.{number_at, within, names_of, kind_named, node_in, kind_in};
+ghost use Rattle.bully_config.specs.Values.{number_at, period_in, within, names_of, kind_named, node_in, kind_in};
 
 use crate::config::FaultKind;
 use crate::fault::Key;
+use crate::{PERIOD, PERIOD_MAX, PERIOD_MIN};
 use bully_base::Node;
 use toml::{Table, Value};
 
@@ -37,7 +38,18 @@ pub fn items_at(table: &Table, key: Key) -> &[Value]
 pub fn number_at(table: &Table, key: Key, limit: u32) -> Option<u32>
     ensures { result ≡ number_at key limit (table_view table.now) }
 {
-    number_within(integer_at(table, key)?, limit)
+    number_within(integer_at(table, key)?, 1, limit)
+}
+
+/// The period, where it is in its range: the profile's where the document doesn't tell it.
+#[tactic(auto, unfolding(crate::specs::Values::period_in))]
+pub fn period_at(document: &Table) -> Option<u32>
+    ensures { result ≡ period_in (table_view document.now) }
+{
+    match value_at(document, Key::Period) {
+        Some(value) => number_within(value.as_integer()?, PERIOD_MIN, PERIOD_MAX),
+        None => Some(PERIOD),
+    }
 }
 
 /// The node that a fault names, among the names of a document.
@@ -78,11 +90,11 @@ fn string_at(table: &Table, key: Key) -> Option<&str>
     value_at(table, key)?.as_str()
 }
 
-// The number, where it is from 1 to the limit.
-fn number_within(value: i64, limit: u32) -> Option<u32>
-    ensures { result ≡ within limit value }
+// The number, where it is from the least to the most.
+fn number_within(value: i64, least: u32, most: u32) -> Option<u32>
+    ensures { result ≡ within least most value }
 {
-    if 0 < value && value <= i64::from(limit) {
+    if i64::from(least) <= value && value <= i64::from(most) {
         Some(value as u32)
     } else {
         None

@@ -13,7 +13,7 @@ ghost use Rattle.bully_config.specs.Values.{values_of, fault_in, faults_in, name
 use crate::TURNS_MAX;
 use crate::config::{Config, Fault};
 use crate::fault::{ConfigFault, Key};
-use crate::lookup::{items_at, kind_at, node_at, number_at, text_of};
+use crate::lookup::{items_at, kind_at, node_at, number_at, period_at, text_of};
 use crate::refusal::first_refusal;
 use bully_base::{EVENTS_MAX, NODES_MAX, OutOfMemory, PARTITIONS_MAX, Setup};
 use indexmap::IndexSet;
@@ -46,10 +46,11 @@ fn config_of(alloc: Global, document: &Table) -> Result<Config, OutOfMemory>
 {
     let setup = setup_of(document);
     let turns = number_at(document, Key::Turns, TURNS_MAX).unwrap();
+    let period = period_at(document).unwrap();
     let names = items_at(document, Key::Names);
     let faults = read_faults(alloc, items_at(document, Key::Fault), turns, names)?;
     let names = read_names(alloc, names)?;
-    Ok(Config::from_parts(setup, turns, names, faults))
+    Ok(Config::from_parts(setup, turns, period, names, faults))
 }
 
 // The setup that a document tells, which nothing refuses.

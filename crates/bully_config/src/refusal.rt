@@ -14,7 +14,7 @@ ghost use Rattle.bully_config.specs.Searches.{Computes};
 ghost use Rattle.bully_config.specs.Values.{names_of};
 
 use crate::fault::{ConfigFault, Key};
-use crate::lookup::{items_at, kind_at, node_at, number_at, text_of, value_at};
+use crate::lookup::{items_at, kind_at, node_at, number_at, period_at, text_of, value_at};
 use crate::{FAULTS_MAX, TURNS_MAX};
 use bully_base::{EVENTS_MAX, NODES_MAX, PARTITIONS_MAX};
 use toml::{Table, Value};
@@ -29,11 +29,12 @@ const REQUIRED_KEYS: [Key; 5] = [
 ];
 
 /// The keys that a document may have.
-const TOP_KEYS: [Key; 6] = [
+const TOP_KEYS: [Key; 7] = [
     Key::Nodes,
     Key::Partitions,
     Key::Events,
     Key::Turns,
+    Key::Period,
     Key::Names,
     Key::Fault,
 ];
@@ -120,7 +121,8 @@ fn has_kind(key: Key, value: &Value) -> bool
     ensures { result ≡ has_kind key (view value.now) }
 {
     match key {
-        Key::Nodes | Key::Partitions | Key::Events | Key::Turns | Key::At => value.is_integer(),
+        Key::Nodes | Key::Partitions | Key::Events | Key::Turns | Key::Period | Key::At =>
+            value.is_integer(),
         Key::Names => match value.as_array() {
             Some(items) => are_strings(items),
             None => false,
@@ -164,6 +166,9 @@ fn key_out_of_range(document: &Table) -> Option<Key>
     let Some(turns) = number_at(document, Key::Turns, TURNS_MAX) else {
         return Some(Key::Turns);
     };
+    if period_at(document).is_none() {
+        return Some(Key::Period);
+    }
     let names = items_at(document, Key::Names);
     if !are_names(names, nodes) {
         return Some(Key::Names);

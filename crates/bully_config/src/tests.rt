@@ -53,6 +53,7 @@ fn reads_one_node(rt: HostRuntime) -> Result<(), Fail> {
     assert_eq!(rt; config.setup().partitions(), 2);
     assert_eq!(rt; config.setup().events_max(), 100);
     assert_eq!(rt; config.turns(), 6);
+    assert_eq!(rt; config.period(), 16);
     let node = Node::new(1).ok_or("node 1")?;
     assert_eq!(rt; config.name(node), "a");
     assert!(rt; config.node("a") == Some(node));
@@ -80,6 +81,15 @@ fn reads_three_nodes(rt: HostRuntime) -> Result<(), Fail> {
     assert_eq!(rt; config.faults()[1].at, 9);
     assert!(rt; config.faults()[1].node == last);
     assert!(rt; config.faults()[1].kind == FaultKind::Crash);
+    Ok(())
+}
+
+#[test]
+fn reads_the_period(rt: HostRuntime) -> Result<(), Fail> {
+    let text = changed(rt.alloc(), &[(3, "turns = 9\nperiod = 5")])?;
+    let config = Config::read(rt.alloc(), text.as_str())?;
+    assert_eq!(rt; config.turns(), 9);
+    assert_eq!(rt; config.period(), 5);
     Ok(())
 }
 

@@ -8,7 +8,7 @@ use Rattle.bully_watch.specs.History.{whose}
 use Rattle.bully_world.specs.declared.turn.Next.{Next}
 use Rattle.bully_world.specs.declared.turn.StepKind.{StepKind}
 use Rattle.bully_world.specs.Cause.{is_down_at}
-use Rattle.bully_world.specs.State.{WorldState, IsReached, world_of}
+use Rattle.bully_world.specs.State.{WorldState, IsReached, world_of, KeepsGenerations, RaisesGenerations}
 use Rattle.bully_world.specs.Turn.{turn, event_of, is_in_step}
 use Rattle.bully_world.specs.World.{World, pending, vector}
 use Rattle.bully_world.proofs.NodeInvariantLemmas.{lawful_fits}
@@ -31,6 +31,14 @@ whose_turn w StepKind.Lose h = refl
 whose_turn w StepKind.Return h = refl
 whose_turn w StepKind.Move h = refl
 whose_turn w StepKind.Plan h = refl
+
+-- and raises no generation
+pub no_turn_raises : (before after : WorldState) (kind : StepKind) (h : ProcedureState) → KeepsGenerations before after → RaisesGenerations (event_of kind h) before after
+no_turn_raises before after StepKind.Start h keeps i = omega (arith, keeps i)
+no_turn_raises before after StepKind.Lose h keeps i = omega (arith, keeps i)
+no_turn_raises before after StepKind.Return h keeps i = omega (arith, keeps i)
+no_turn_raises before after StepKind.Move h keeps i = omega (arith, keeps i)
+no_turn_raises before after StepKind.Plan h keeps i = omega (arith, keeps i)
 
 -- a procedure that rests is in step
 pub rest_in_step : (w : WorldState) (h : ProcedureState) → turn w h ≡ Next.Rest → is_in_step w h ≡ true

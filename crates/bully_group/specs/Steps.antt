@@ -5,7 +5,7 @@ use Rattle.bully_watch.specs.declared.entry.Entry.{Entry}
 use Rattle.bully_watch.specs.History.{whose}
 use Rattle.bully_world.specs.declared.event.Event.{Event}
 use Rattle.bully_world.specs.Cause.{is_down_at}
-use Rattle.bully_world.specs.State.{world_of, cause_in}
+use Rattle.bully_world.specs.State.{world_of, cause_in, RaisesGenerations}
 use Rattle.bully_world.specs.Step.{Step}
 use Rattle.bully_world.specs.World.{World, pending, is_sent_to}
 use Rattle.bully_group.specs.declared.locked.shown.ViewFault.{ViewFault}
@@ -18,8 +18,8 @@ use Rattle.bully_group.specs.Seat.{SeatState, IsKnown, IsForeign}
 abbrev pub entry_of : SeatState → Event → Answer → Entry
 entry_of seat e answer = record { actor = seat.actor; event = e; answer = answer }
 
--- One entry more: the event is one step of the world, with the answer that it names; the entry is the last of the history
--- and, beside its index, of the seat
+-- One entry more: the event is one step of the world, with the answer that it names, and raises generations as its kind
+-- does; the entry is the last of the history and, beside its index, of the seat
 pub record Records (s : LockedState) (seat : SeatState) (e : Event) (s' : LockedState) (seat' : SeatState) : Type 0 where
   pub answer : Answer
   pub step : Step s.world.setup (world_of s.world) e (world_of s'.world) answer
@@ -27,6 +27,7 @@ pub record Records (s : LockedState) (seat : SeatState) (e : Event) (s' : Locked
   pub log : seat'.log ≡ seat.log ++ (length s.history, entry_of seat e answer) ∷ []
   pub actor : seat'.actor ≡ seat.actor
   pub setup : s'.world.setup ≡ s.world.setup
+  pub generations : RaisesGenerations e s.world s'.world
 
 -- the event is the seat's actor's in the group's world
 abbrev pub IsYours : LockedState → SeatState → Event → Type 0

@@ -84,8 +84,3 @@ Resyncs s seat h h' = MayTurn s seat h × (turn s.world h ≡ Next.Resync) × (h
 -- this fault comes, and it is as it was
 abbrev pub Fails : LockedState → SeatState → ProcedureState → ProcedureState → StepFault → Type 0
 Fails s seat h h' fault = IsTurnFault s seat h fault × (h' ≡ h)
-
--- the procedure is of the same node of the same group
-pub record HasSameNode (h h' : ProcedureState) : Type 0 where
-  pub setup : h'.setup ≡ h.setup
-  pub node : h'.node ≡ h.node

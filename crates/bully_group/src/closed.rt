@@ -42,12 +42,11 @@ impl Closed {
     }
 
     /// The view of the world that the history leads to.
+    #[tactic(auto, using(crate::proofs::LockedLemmas::closed_agrees))]
     pub fn view(&self) -> &View
         ensures view { result.now ≡ self.now.view }
         ensures agrees { ViewAgrees self.now.view }
     {
-        // Shows the proof that the view agrees.
-        let _ = self.view.events();
         &self.view
     }
 

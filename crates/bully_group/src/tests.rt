@@ -1,26 +1,29 @@
 //! Worked cases, each on a bare `Locked` and through the lock of a `Group`.
 
 mod asks;
-mod finishes;
+mod held;
 mod two_groups;
 
-use crate::tests::asks::{Ask, Told, tried};
-use crate::tests::finishes::finished;
+use crate::tests::asks::{Ask, Told, answered, done, tried};
+use crate::tests::held::Way;
 use crate::tests::two_groups::{with_a_foreign_seat, with_strangers, with_swapped_seats};
 use crate::{FinishFault, StepFault, ViewFault};
 use bully_base::{Node, NodeSet, Setup, Status};
 use bully_calls::Answer;
 use bully_steps::Point;
 use bully_table::Table;
+use bully_watch::Entry;
 use bully_world::{Event, Refused};
 use std::test::Fail;
 
-// Node 1 recovers, is resynced and moves. What isn't its actor's, what is refused, and a serve without a call.
+// Node 1 recovers, is resynced and moves. The view after a step; what isn't its actor's, what is refused, and a serve
+// without a call. Its finish with one seat, with one pass, and with all.
 #[test]
-fn a_small_group(rt: HostRuntime) -> Result<(), Fail> {
+fn a_small_group_and_its_finish(rt: HostRuntime) -> Result<(), Fail> {
     let one = Node::new(1).unwrap();
     let asks = [
         Ask::Step(0, Event::Recover(one)),
+        Ask::View(0),
         Ask::Turn(1),
         Ask::Turn(1),
         Ask::Step(1, Event::Crash(one)),
@@ -30,6 +33,7 @@ fn a_small_group(rt: HostRuntime) -> Result<(), Fail> {
     ];
     let told = [
         Told::Stepped,
+        Told::Viewed(1, Status::Election),
         Told::Resynced(Point::Asking(2), 0),
         Told::Went(Point::Halting(0)),
         Told::Fault(StepFault::NotYours),
@@ -37,31 +41,64 @@ fn a_small_group(rt: HostRuntime) -> Result<(), Fail> {
         Told::Served(false),
         Told::Fault(StepFault::NotYours),
     ];
-    let entries: [(u16, u16, Answer); 2] = [(0, 1, Answer::Done), (1, 1, Answer::Done)];
+    let entries = [done(0, Event::Recover(one)), done(1, Event::Move(one))];
     let trials = tried(&rt, rt.alloc(), Setup::new(1, 2, 10)?, one, asks.as_slice()).unwrap_or(
         Vec::new(rt.alloc()),
     );
     assert_eq!(rt; trials.len(), 2);
     for trial in trials.as_slice() {
         assert_eq!(rt; trial.told.as_slice(), told.as_slice());
-        assert_eq!(rt; trial.entries.as_slice(), entries.as_slice());
-        assert_eq!(rt; trial.status, Status::Election);
+        assert_eq!(rt; trial.one_seat_less, FinishFault::SeatCount);
+        assert_eq!(rt; trial.one_pass_less, FinishFault::SeatCount);
+        assert!(rt; trial.ends_in(entries.as_slice(), one, Status::Election));
     }
     Ok(())
 }
 
-// Its finish with one seat, with one pass, and with all.
+// Alone, a node elects itself by its turns; at Planning it waits until its procedure is prepared.
 #[test]
-fn finish_of_a_small_group(rt: HostRuntime) -> Result<(), Fail> {
-    let setup = Setup::new(1, 2, 10)?;
-    match finished(rt.alloc(), setup) {
-        Some((one_seat, one_pass, closed)) => {
-            assert_eq!(rt; one_seat, FinishFault::SeatCount);
-            assert_eq!(rt; one_pass, FinishFault::SeatCount);
-            assert_eq!(rt; closed.history().len(), 1);
-            assert_eq!(rt; closed.view().events(), 1);
-        }
-        None => assert!(rt; false),
+fn alone_by_turns(rt: HostRuntime) -> Result<(), Fail> {
+    let one = Node::new(1).unwrap();
+    let setup = Setup::new(1, 2, 6)?;
+    let asks = [
+        Ask::Step(0, Event::Recover(one)),
+        Ask::Turn(1),
+        Ask::Turn(1),
+        Ask::Turn(1),
+        Ask::Turn(1),
+        Ask::Turn(1),
+        Ask::Prepare,
+        Ask::Turn(1),
+        Ask::Turn(1),
+        Ask::Turn(1),
+    ];
+    let told = [
+        Told::Stepped,
+        Told::Resynced(Point::Asking(2), 0),
+        Told::Went(Point::Halting(0)),
+        Told::Went(Point::Announcing(NodeSet::new())),
+        Told::Went(Point::Planning),
+        Told::Waiting(Point::Planning),
+        Told::Prepared,
+        Told::Went(Point::Readying(NodeSet::new())),
+        Told::Went(Point::Idle),
+        Told::Waiting(Point::Idle),
+    ];
+    let entries = [
+        done(0, Event::Recover(one)),
+        done(1, Event::Move(one)),
+        done(1, Event::Move(one)),
+        done(1, Event::Move(one)),
+        done(1, Event::Plan(one, Table::read(rt.alloc(), setup, "1 1")?)),
+        done(1, Event::Move(one)),
+    ];
+    let trials = tried(&rt, rt.alloc(), setup, one, asks.as_slice()).unwrap_or(Vec::new(
+        rt.alloc(),
+    ));
+    assert_eq!(rt; trials.len(), 2);
+    for trial in trials.as_slice() {
+        assert_eq!(rt; trial.told.as_slice(), told.as_slice());
+        assert!(rt; trial.ends_in(entries.as_slice(), one, Status::Normal));
     }
     Ok(())
 }
@@ -102,18 +139,18 @@ fn turns_and_a_stop(rt: HostRuntime) -> Result<(), Fail> {
         Told::Served(true),
         Told::Resynced(Point::Idle, 1),
     ];
-    let entries: [(u16, u16, Answer); 11] = [
-        (0, 1, Answer::Done),
-        (1, 1, Answer::Done),
-        (1, 1, Answer::Done),
-        (1, 1, Answer::Failed),
-        (1, 1, Answer::Done),
-        (1, 1, Answer::Done),
-        (1, 1, Answer::Done),
-        (0, 2, Answer::Done),
-        (2, 2, Answer::Done),
-        (2, 2, Answer::Done),
-        (1, 2, Answer::Yes),
+    let entries = [
+        done(0, Event::Recover(one)),
+        done(1, Event::Start(one)),
+        done(1, Event::Lose(one)),
+        answered(1, Event::Return(one), Answer::Failed),
+        done(1, Event::Move(one)),
+        done(1, Event::Move(one)),
+        done(1, Event::Move(one)),
+        done(0, Event::Recover(two)),
+        done(2, Event::Move(two)),
+        done(2, Event::Start(two)),
+        answered(1, Event::Run(two), Answer::Yes),
     ];
     let trials = tried(
         &rt,
@@ -126,8 +163,7 @@ fn turns_and_a_stop(rt: HostRuntime) -> Result<(), Fail> {
     assert_eq!(rt; trials.len(), 2);
     for trial in trials.as_slice() {
         assert_eq!(rt; trial.told.as_slice(), told.as_slice());
-        assert_eq!(rt; trial.entries.as_slice(), entries.as_slice());
-        assert_eq!(rt; trial.status, Status::Election);
+        assert!(rt; trial.ends_in(entries.as_slice(), one, Status::Election));
     }
     Ok(())
 }
@@ -201,8 +237,7 @@ fn a_stale_plan(rt: HostRuntime) -> Result<(), Fail> {
     assert_eq!(rt; trials.len(), 2);
     for trial in trials.as_slice() {
         assert_eq!(rt; trial.told.as_slice(), told.as_slice());
-        assert_eq!(rt; trial.entries.len(), 23);
-        assert_eq!(rt; trial.status, Status::Reorganization);
+        assert!(rt; trial.ends_in_so_many(23, two, Status::Reorganization));
     }
     Ok(())
 }
@@ -242,8 +277,7 @@ fn kept_procedures(rt: HostRuntime) -> Result<(), Fail> {
     assert_eq!(rt; trials.len(), 2);
     for trial in trials.as_slice() {
         assert_eq!(rt; trial.told.as_slice(), told.as_slice());
-        assert_eq!(rt; trial.entries.len(), 4);
-        assert_eq!(rt; trial.status, Status::Down);
+        assert!(rt; trial.ends_in_so_many(4, one, Status::Down));
     }
     Ok(())
 }
@@ -268,22 +302,25 @@ fn a_full_group(rt: HostRuntime) -> Result<(), Fail> {
     assert_eq!(rt; trials.len(), 2);
     for trial in trials.as_slice() {
         assert_eq!(rt; trial.told.as_slice(), told.as_slice());
-        assert_eq!(rt; trial.entries.len(), 1);
-        assert_eq!(rt; trial.status, Status::Election);
+        assert!(rt; trial.ends_in_so_many(1, one, Status::Election));
     }
     Ok(())
 }
 
-// The view after a step, and a seat that has an entry of another group.
+// A seat that has an entry of another group: neither a step nor a view.
 #[test]
 fn foreign_seats(rt: HostRuntime) -> Result<(), Fail> {
-    match with_a_foreign_seat(rt.alloc(), Setup::new(1, 2, 10)?) {
-        Some(told) => {
-            assert_eq!(rt; told.own, Some((1, Status::Election)));
-            assert_eq!(rt; told.step, Err(StepFault::Foreign { index: 0 }));
-            assert_eq!(rt; told.view, Some(ViewFault::Foreign { index: 0 }));
+    let setup = Setup::new(1, 2, 10)?;
+    for way in [Way::Bare, Way::Shared] {
+        match with_a_foreign_seat(&rt, rt.alloc(), way, setup) {
+            Some(told) => {
+                assert_eq!(rt; told.own, Some((1, Status::Election)));
+                assert_eq!(rt; told.step, Err(StepFault::Foreign { index: 0 }));
+                assert_eq!(rt; told.view, Some(ViewFault::Foreign { index: 0 }));
+                assert_eq!(rt; told.log, 1);
+            }
+            None => assert!(rt; false),
         }
-        None => assert!(rt; false),
     }
     Ok(())
 }
@@ -291,13 +328,16 @@ fn foreign_seats(rt: HostRuntime) -> Result<(), Fail> {
 // An operator without an entry takes a step of another group: neither is finished with its own seats.
 #[test]
 fn swapped_seats(rt: HostRuntime) -> Result<(), Fail> {
-    match with_swapped_seats(rt.alloc(), Setup::new(1, 1, 10)?) {
-        Some(told) => {
-            assert_eq!(rt; told.first, FinishFault::Differs(0));
-            assert_eq!(rt; told.second, FinishFault::Differs(0));
-            assert_eq!(rt; told.entries, 1);
+    let setup = Setup::new(1, 1, 10)?;
+    for way in [Way::Bare, Way::Shared] {
+        match with_swapped_seats(&rt, rt.alloc(), way, setup) {
+            Some(told) => {
+                assert_eq!(rt; told.first, FinishFault::Differs(0));
+                assert_eq!(rt; told.second, FinishFault::Differs(0));
+                assert_eq!(rt; told.entries, 1);
+            }
+            None => assert!(rt; false),
         }
-        None => assert!(rt; false),
     }
     Ok(())
 }
@@ -305,15 +345,18 @@ fn swapped_seats(rt: HostRuntime) -> Result<(), Fail> {
 // The seat of a node that the group doesn't have, and two operators.
 #[test]
 fn seats_of_strangers(rt: HostRuntime) -> Result<(), Fail> {
-    match with_strangers(rt.alloc(), Setup::new(1, 1, 10)?, Setup::new(2, 1, 10)?) {
-        Some(told) => {
-            assert_eq!(rt; told.serve, Ok(false));
-            assert_eq!(rt; told.step, Err(StepFault::Refused(Refused::BadNode)));
-            assert_eq!(rt; told.turn, Some(StepFault::NotYours));
-            assert_eq!(rt; told.finish, FinishFault::Stranger);
-            assert_eq!(rt; told.operators, FinishFault::Stranger);
+    let (setup, larger) = (Setup::new(1, 1, 10)?, Setup::new(2, 1, 10)?);
+    for way in [Way::Bare, Way::Shared] {
+        match with_strangers(&rt, rt.alloc(), way, setup, larger) {
+            Some(told) => {
+                assert_eq!(rt; told.serve, Ok(false));
+                assert_eq!(rt; told.step, Err(StepFault::Refused(Refused::BadNode)));
+                assert_eq!(rt; told.turn, Some(StepFault::NotYours));
+                assert_eq!(rt; told.finish, FinishFault::Stranger);
+                assert_eq!(rt; told.operators, FinishFault::Stranger);
+            }
+            None => assert!(rt; false),
         }
-        None => assert!(rt; false),
     }
     Ok(())
 }

@@ -130,7 +130,7 @@ recorded_play c r within is = record {
 }
 
 -- and so is its trace
-pub recorded_trace : (c : Configuration) (r : RecordingState) (hs : List ProcedureState) (trace : Trace) → IsSetup c.setup → Rounds c.faults c.turns 1 (first_recording c.setup) (idle_first c.setup c.setup.nodes) r hs → (is : IsRecorded c r)
+pub recorded_trace : (c : Configuration) (r : RecordingState) (hs : List ProcedureState) (trace : Trace) → IsSetup c.setup → Rounds c.faults c.period c.turns 1 (first_recording c.setup) (idle_first c.setup c.setup.nodes) r hs → (is : IsRecorded c r)
     → trace ≡ record { setup = trace_setup r.world.setup; rows = r.rows } → (events : List Event) × IsPlay c events × IsScheduled c events × (trace ≡ trace_with c.setup events)
 recorded_trace c r hs trace within rounds is same =
     (is.events, recorded_play c r within is, record { last = r; procedures = hs; rounds = rounds; rows = is.rows }, grind (arith, same, is.setup, is.rows))

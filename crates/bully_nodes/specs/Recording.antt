@@ -52,8 +52,3 @@ Steps kind before h after h' =
 pub record Continues (before after : RecordingState) : Type 0 where
   pub setup : after.world.setup ≡ before.world.setup
   pub recorded : (c : Configuration) → IsRecorded c before → IsRecorded c after
-
--- the procedure is one of the same node, in the same group
-pub record HasSameNode (h other : ProcedureState) : Type 0 where
-  pub setup : other.setup ≡ h.setup
-  pub node : other.node ≡ h.node

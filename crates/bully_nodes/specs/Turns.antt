@@ -11,7 +11,7 @@ use Rattle.bully_nodes.specs.Recording.{RecordingState, Applies, Steps}
 use Rattle.bully_steps.specs.declared.driver.Choice.{Choice}
 use Rattle.bully_steps.specs.declared.point.Point.{Point}
 use Rattle.bully_steps.specs.declared.point.Point.TheVariants.{Idle, Planning}
-use Rattle.bully_steps.specs.Driver.{chosen}
+use Rattle.bully_steps.specs.Driver.{chosen_every}
 use Rattle.bully_steps.specs.ProcedureState.{ProcedureState, procedure_state}
 use Rattle.bully_table.specs.Planning.{planned}
 use Rattle.bully_trace.specs.declared.trace.Row.{Row}
@@ -59,14 +59,14 @@ GoesOn Choice.Timeout before h after h' = Applies (Event.Timeout h.node) before 
 GoesOn Choice.Proceed before h after h' = Proceeds (turn before.world h) before h after h'
 
 -- a node that served does nothing else in its turn
-abbrev pub Follows : Bool → ℕ → RecordingState → ProcedureState → RecordingState → ProcedureState → Type 0
-Follows true number before h after h' = (after ≡ before) × (h' ≡ h)
-Follows false number before h after h' = GoesOn (chosen number h.point) before h after h'
+abbrev pub Follows : Bool → ℕ → ℕ → RecordingState → ProcedureState → RecordingState → ProcedureState → Type 0
+Follows true period number before h after h' = (after ≡ before) × (h' ≡ h)
+Follows false period number before h after h' = GoesOn (chosen_every period number h.point) before h after h'
 
--- a node's turn of this number, with the procedure that it holds
-abbrev pub IsTurn : ℕ → RecordingState → ProcedureState → RecordingState → ProcedureState → Type 0
-IsTurn number before h after h' =
-    (mid : RecordingState) × (served : Bool) × Serves before h.node served mid × Follows served number mid (prepared before.world h) after h'
+-- a node's turn of this number, with the procedure that it holds, where a node checks once in a period
+abbrev pub IsTurn : ℕ → ℕ → RecordingState → ProcedureState → RecordingState → ProcedureState → Type 0
+IsTurn period number before h after h' =
+    (mid : RecordingState) × (served : Bool) × Serves before h.node served mid × Follows served period number mid (prepared before.world h) after h'
 
 -- the operator's turn: the faults of that turn, one after the other
 abbrev pub Operates : ℕ → List Fault → RecordingState → RecordingState → Type 0
@@ -77,22 +77,22 @@ Operates number (fault ∷ faults) before after =
     (Operates number faults before after)
 
 -- the turns of the nodes that hold these procedures, one after the other
-abbrev pub TakeTurns : ℕ → RecordingState → List ProcedureState → RecordingState → List ProcedureState → Type 0
-TakeTurns number before [] after hs' = (after ≡ before) × (hs' ≡ [])
-TakeTurns number before (h ∷ hs) after [] = ⊥
-TakeTurns number before (h ∷ hs) after (h' ∷ hs') =
-    (mid : RecordingState) × IsTurn number before h mid h' × TakeTurns number mid hs after hs'
+abbrev pub TakeTurns : ℕ → ℕ → RecordingState → List ProcedureState → RecordingState → List ProcedureState → Type 0
+TakeTurns period number before [] after hs' = (after ≡ before) × (hs' ≡ [])
+TakeTurns period number before (h ∷ hs) after [] = ⊥
+TakeTurns period number before (h ∷ hs) after (h' ∷ hs') =
+    (mid : RecordingState) × IsTurn period number before h mid h' × TakeTurns period number mid hs after hs'
 
 -- a round: the operator's turn of this number, and then each node's
-abbrev pub IsRound : List Fault → ℕ → RecordingState → List ProcedureState → RecordingState → List ProcedureState → Type 0
-IsRound faults number before hs after hs' =
-    (mid : RecordingState) × Operates number faults before mid × TakeTurns number mid hs after hs'
+abbrev pub IsRound : List Fault → ℕ → ℕ → RecordingState → List ProcedureState → RecordingState → List ProcedureState → Type 0
+IsRound faults period number before hs after hs' =
+    (mid : RecordingState) × Operates number faults before mid × TakeTurns period number mid hs after hs'
 
 -- so many rounds, the first of which has this number
-abbrev pub Rounds : List Fault → ℕ → ℕ → RecordingState → List ProcedureState → RecordingState → List ProcedureState → Type 0
-Rounds faults zero number before hs after hs' = (after ≡ before) × (hs' ≡ hs)
-Rounds faults (suc more) number before hs after hs' =
-    (mid : RecordingState) × (between : List ProcedureState) × IsRound faults number before hs mid between × Rounds faults more (number + 1) mid between after hs'
+abbrev pub Rounds : List Fault → ℕ → ℕ → ℕ → RecordingState → List ProcedureState → RecordingState → List ProcedureState → Type 0
+Rounds faults period zero number before hs after hs' = (after ≡ before) × (hs' ≡ hs)
+Rounds faults period (suc more) number before hs after hs' =
+    (mid : RecordingState) × (between : List ProcedureState) × IsRound faults period number before hs mid between × Rounds faults period more (number + 1) mid between after hs'
 
 abbrev pub idle_at : Setup → ℕ → ProcedureState
 idle_at setup i = procedure_state setup i 0 Idle [] None false
@@ -109,5 +109,5 @@ first_recording setup = record { world = first_state setup; rows = [] }
 pub record IsScheduled (c : Configuration) (events : List Event) : Type 0 where
   pub last : RecordingState
   pub procedures : List ProcedureState
-  pub rounds : Rounds c.faults c.turns 1 (first_recording c.setup) (idle_first c.setup c.setup.nodes) last procedures
+  pub rounds : Rounds c.faults c.period c.turns 1 (first_recording c.setup) (idle_first c.setup c.setup.nodes) last procedures
   pub rows : last.rows ≡ map Row.Event events

@@ -6,8 +6,12 @@
 
 mod playing;
 mod recording;
+mod running;
 #[cfg(test)]
 mod tests;
 mod turns;
+mod writing;
 
 pub use playing::{PlayFault, play};
+pub use running::{Gate, NodesFault, run_nodes};
+pub use writing::write_history;

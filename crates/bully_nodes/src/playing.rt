@@ -94,13 +94,14 @@ fn take_round(
 ) -> Result<(), OutOfMemory>
     requires recorded { IsRecorded config.now recording.old }
     requires setups { All (λ p. (state_of p).setup ≡ config.now.setup) procedures.old }
-    ensures round { OnOk result (IsRound config.now.faults turn recording.old (map state_of procedures.old) recording.new (map state_of procedures.new)) }
+    ensures round { OnOk result (IsRound config.now.faults config.now.period turn recording.old (map state_of procedures.old) recording.new (map state_of procedures.new)) }
     ensures recorded { OnOk result (IsRecorded config.now recording.new) }
     ensures setups { OnOk result (All (λ p. (state_of p).setup ≡ config.now.setup) procedures.new) }
 {
     operator_turn(recording, config.faults(), turn)?;
+    let period = config.period();
     for procedure in procedures.iter_mut() {
-        take_turn(recording, alloc, turn, procedure)?;
+        take_turn(recording, alloc, period, turn, procedure)?;
     }
     Ok(())
 }

@@ -1,15 +1,17 @@
 ghost use Rattle.std.specs.Prelude.{◌≡◌, ◌≤◌, ◌++◌, ◌∷◌, [], length, IfOk, OnOk};
 ghost use Rattle.bully_nodes.specs.Play.{trace_setup};
-ghost use Rattle.bully_nodes.specs.Recording.{Applies, Steps, HasSameNode};
+ghost use Rattle.bully_nodes.specs.Recording.{Applies, Steps};
 ghost use Rattle.bully_steps.specs.Procedure.{state_of};
+ghost use Rattle.bully_steps.specs.ProcedureState.{HasSameNode};
 ghost use Rattle.bully_trace.specs.declared.TheConstants.{ROWS_MAX};
 ghost use Rattle.bully_world.specs.State.{first_state};
 ghost use Rattle.bully_world.specs.Turn.{turn};
 ghost use Rattle.bully_world.specs.declared.turn.Next.{Next};
 
-use bully_base::{EVENTS_MAX, OutOfMemory, Setup};
+use crate::writing::trace_with;
+use bully_base::{OutOfMemory, Setup};
 use bully_steps::Procedure;
-use bully_trace::{Row, Rows, Trace};
+use bully_trace::{Row, Trace};
 use bully_world::{Event, StepKind, World};
 use std::alloc::Global;
 use std::marker::Model;
@@ -80,10 +82,7 @@ impl Recording {
         requires { length self.rows ≤ ROWS_MAX }
         ensures { result ≡ record { setup = trace_setup self.world.setup; rows = self.rows } }
     {
-        Trace {
-            setup: trace_setup(self.world.setup()),
-            rows: Rows::from_vec(self.rows),
-        }
+        trace_with(self.world.setup(), self.rows)
     }
 
     // A row for an event that was applied.
@@ -93,11 +92,4 @@ impl Recording {
         self.rows.push(Row::Event(event))?;
         Ok(())
     }
-}
-
-// The setup that a trace's header tells: it has no bound on events, so that is the profile's.
-fn trace_setup(setup: Setup) -> Setup
-    ensures { result ≡ trace_setup setup }
-{
-    Setup::new(setup.nodes(), setup.partitions(), EVENTS_MAX).unwrap()
 }

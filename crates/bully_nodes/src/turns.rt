@@ -1,11 +1,12 @@
-ghost use Rattle.std.specs.Prelude.{◌≡◌, ◌≤◌, length, IfOk, OnOk};
+ghost use Rattle.std.specs.Prelude.{◌≡◌, ◌<◌, ◌≤◌, length, IfOk, OnOk};
 ghost use Rattle.std.specs.Option.{IfSome, option_copied};
 ghost use Rattle.bully_config.specs.Configuration.{Configuration};
 ghost use Rattle.bully_nodes.specs.Play.{event_of_fault};
-ghost use Rattle.bully_nodes.specs.Recording.{IsRecorded, Continues, HasSameNode};
+ghost use Rattle.bully_nodes.specs.Recording.{IsRecorded, Continues};
 ghost use Rattle.bully_nodes.specs.Turns.{prepared, prepared_from, Serves, Proceeds, GoesOn, IsTurn, Operates};
-ghost use Rattle.bully_steps.specs.Driver.{chosen};
+ghost use Rattle.bully_steps.specs.Driver.{chosen_every};
 ghost use Rattle.bully_steps.specs.Procedure.{state_of};
+ghost use Rattle.bully_steps.specs.ProcedureState.{HasSameNode};
 ghost use Rattle.bully_world.specs.Turn.{turn as turn_rule};
 
 use crate::recording::Recording;
@@ -47,16 +48,19 @@ fn event_of(fault: Fault) -> Event
 }
 
 /// The turn of this number of the node that holds the procedure, which goes on. It is prepared first, where it
-/// is Planning. Then the node serves the call that waits for it, if any; else it goes on as it chooses.
+/// is Planning. Then the node serves the call that waits for it, if any; else it goes on as it chooses, with a check
+/// once in a period of at least 1.
 #[tactic(auto, using(crate::proofs::RecordingLemmas::continues_then))]
 pub fn take_turn(
     recording: &mut Recording,
     alloc: Global,
+    period: u32,
     turn: u32,
     place: &mut Procedure,
 ) -> Result<(), OutOfMemory>
-    requires { (state_of place.old).setup ≡ recording.old.world.setup }
-    ensures turn { OnOk result (IsTurn turn recording.old (state_of place.old) recording.new (state_of place.new)) }
+    requires setup { (state_of place.old).setup ≡ recording.old.world.setup }
+    requires period { 0 < period }
+    ensures turn { OnOk result (IsTurn period turn recording.old (state_of place.old) recording.new (state_of place.new)) }
     ensures recorded { OnOk result (Continues recording.old recording.new) }
     ensures same_node { OnOk result (HasSameNode (state_of place.old) (state_of place.new)) }
 {
@@ -67,7 +71,7 @@ pub fn take_turn(
     *place = if serve(recording, node)? {
         procedure
     } else {
-        go_on(recording, turn, procedure)?
+        go_on(recording, period, turn, procedure)?
     };
     Ok(())
 }
@@ -124,16 +128,18 @@ fn serve(recording: &mut Recording, node: Node) -> Result<bool, OutOfMemory>
 // procedure goes on by the turn rule.
 fn go_on(
     recording: &mut Recording,
+    period: u32,
     turn: u32,
     procedure: Procedure,
 ) -> Result<Procedure, OutOfMemory>
-    requires { (state_of procedure).setup ≡ recording.old.world.setup }
-    ensures goes_on { IfOk result (λ p. GoesOn (chosen turn (state_of procedure).point) recording.old (state_of procedure) recording.new (state_of p)) }
+    requires setup { (state_of procedure).setup ≡ recording.old.world.setup }
+    requires period { 0 < period }
+    ensures goes_on { IfOk result (λ p. GoesOn (chosen_every period turn (state_of procedure).point) recording.old (state_of procedure) recording.new (state_of p)) }
     ensures recorded { OnOk result (Continues recording.old recording.new) }
     ensures same_node { IfOk result (λ p. HasSameNode (state_of procedure) (state_of p)) }
 {
     let node = procedure.node();
-    match Driver::choose(turn, &procedure) {
+    match Driver::choose_every(period, turn, &procedure) {
         Choice::Check => recording.apply(Event::Check(node))?,
         Choice::Timeout => recording.apply(Event::Timeout(node))?,
         Choice::Proceed => return proceed(recording, procedure),

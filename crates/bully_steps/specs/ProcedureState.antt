@@ -53,6 +53,11 @@ procedure_state setup node generation point up coordinator awaits = record {
   awaits = awaits;
 }
 
+-- the procedure is one of the same node, in the same group
+pub record HasSameNode (h other : ProcedureState) : Type 0 where
+  pub setup : other.setup ≡ h.setup
+  pub node : other.node ≡ h.node
+
 -- a call is offered
 abbrev pub IsCall : Want → Type 0
 IsCall (Start call) = Unit {0}

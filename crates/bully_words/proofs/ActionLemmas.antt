@@ -7,7 +7,7 @@ use Rattle.clap.specs.declared.error.kind.ErrorKind.TheVariants as kind
 use Rattle.clap.specs.declared.parser.matches.Found.{Found}
 use Rattle.clap.proofs.WalkLemmas.{first_value-rows, raw_values-rows}
 use Rattle.bully_words.specs.declared.action.Action.{Action}
-use Rattle.bully_words.specs.Words.{Asked, asked_by, asked_in, checking, planning, planning_in, planning_of, playing, texts_of}
+use Rattle.bully_words.specs.Words.{Asked, asked_by, asked_in, checking, planning, planning_in, planning_of, texts_of}
 
 -- a value, and the values, that the readers give
 abbrev text_now : Bor Text → Text
@@ -17,19 +17,11 @@ abbrev texts_now : Bor (List (Bor Text)) → List Text
 texts_now s = map text_now s.now
 
 module _ (f : Found) where
-  value_is : (id : Text) (r : Option (Bor Text)) → option_map text_now r ≡ first_value f id → first_of id (rows_of f) ≡ option_map text_now r
+  pub value_is : (id : Text) (r : Option (Bor Text)) → option_map text_now r ≡ first_value f id → first_of id (rows_of f) ≡ option_map text_now r
   value_is id r read = sym (read ∙ first_value-rows f id)
 
   values_are : (id : Text) (r : Option (Bor (List (Bor Text)))) → option_map texts_now r ≡ option_map raw_values (matched_of f id) → all_of id (rows_of f) ≡ option_map texts_now r
   values_are id r read = sym (read ∙ raw_values-rows f id)
-
-  pub path-found : (r : Option (Bor Text)) (path : Bor Text) → option_map text_now r ≡ first_value f (codes "CONFIG") → r ≡ Some path
-      → Some (playing path.now) ≡ option_map playing (first_of (codes "CONFIG") (rows_of f))
-  path-found r path read is = sym (ap (option_map playing) (value_is _ r read ∙ ap (option_map text_now) is))
-
-  pub no-path-found : (r : Option (Bor Text)) → option_map text_now r ≡ first_value f (codes "CONFIG") → r ≡ None
-      → None ≡ option_map playing (first_of (codes "CONFIG") (rows_of f))
-  no-path-found r read is = sym (ap (option_map playing) (value_is _ r read ∙ ap (option_map text_now) is))
 
   nothing-without : (path : Option Text) (old : Option Text) → planning_of path None old ≡ None
   nothing-without None old = refl
@@ -77,6 +69,7 @@ answer-asked (Err e) x y what same asked is (inr none) =
 checked : (a : Action) → texts_of a ≡ checking → a ≡ Action.Check
 checked Action.Check e = refl
 checked (Action.Play path) e = absurd (grind (arith, e))
+checked (Action.Run path) e = absurd (grind (arith, e))
 checked (Action.Table words) e = absurd (grind (arith, e))
 
 pub answer-checked : (r : Result Action Error) → MatchResult r (λ a. texts_of a ≡ checking) (λ e. kind_of e ≡ kind.OutOfMemory)

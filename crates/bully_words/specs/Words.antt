@@ -30,28 +30,35 @@ check_app = new_app (codes "check")
 abbrev pub play_app : App
 play_app = with_rule (new_app (codes "play")) config_rule
 
+abbrev pub run_app : App
+run_app = with_rule (new_app (codes "run")) config_rule
+
 abbrev pub table_app : App
 table_app = with_rule (with_rule (with_rule (new_app (codes "table")) config_rule) member_rule) old_rule
 
--- the program with the first of its commands, with two of them, and with all
+-- the program with the first of its commands, with two of them, with three, and with all
 abbrev pub with_check : App
 with_check = with_subcommand bare check_app.top
 
 abbrev pub with_play : App
 with_play = with_subcommand with_check play_app.top
 
+abbrev pub with_run : App
+with_run = with_subcommand with_play run_app.top
+
 abbrev pub program : App
-program = with_subcommand with_play table_app.top
+program = with_subcommand with_run table_app.top
 
 -- the command that the words name
 abbrev pub command_named : List Text → Option Text
 command_named words = option_map (λ p. p.0) (subcommand_of program words)
 
--- what words ask for: to judge the input; to play the configuration at a path; or to plan a table for the
--- configuration at a path, members by name, and the owners in an old table
+-- what words ask for: to judge the input; to play the configuration at a path, or to run its node threads; or to plan
+-- a table for the configuration at a path, members by name, and the owners in an old table
 pub data Asked : Type 0 where
   checking : Asked
   playing : Text → Asked
+  running : Text → Asked
   planning : Text → List Text → Option Text → Asked
 
 -- with the values of CONFIG, MEMBER and `--old`, where the first two are there
@@ -67,6 +74,7 @@ abbrev pub asked_by : Text → List Row → Option Asked
 asked_by name rows =
     if bytes_eq name (codes "check") then Some checking
     else if bytes_eq name (codes "play") then option_map playing (first_of (codes "CONFIG") rows)
+    else if bytes_eq name (codes "run") then option_map running (first_of (codes "CONFIG") rows)
     else if bytes_eq name (codes "table") then planning_in rows
     else None
 
@@ -81,6 +89,7 @@ asked_for words = asked_in (subcommand_of program words)
 abbrev pub texts_of : Action → Asked
 texts_of Action.Check = checking
 texts_of (Action.Play path) = playing path.now
+texts_of (Action.Run path) = running path.now
 texts_of (Action.Table words) = planning words.config.now (map (λ s. s.now) words.members.items) (option_map (λ s. s.now) words.old)
 
 -- the words are good, and they are those of `check`
@@ -90,6 +99,10 @@ ParsesAsCheck words = (takes program words ≡ true) × (command_named words ≡
 -- the words are good, and they are those of `play` with this CONFIG
 abbrev pub ParsesAsPlay : List Text → Text → Type 0
 ParsesAsPlay words path = (takes program words ≡ true) × (asked_for words ≡ Some (playing path))
+
+-- the words are good, and they are those of `run` with this CONFIG
+abbrev pub ParsesAsRun : List Text → Text → Type 0
+ParsesAsRun words path = (takes program words ≡ true) × (asked_for words ≡ Some (running path))
 
 -- the words are good, and they are those of `table` with this CONFIG, these MEMBERs and this `--old`
 abbrev pub ParsesAsTable : List Text → Text → List Text → Option Text → Type 0

@@ -1,6 +1,6 @@
 ghost use Rattle.std.specs.Prelude.{◌≡◌, ◌≢◌, ◌⊎◌, [], codes, true, None, Some, map, option_map, IfOk, IfErr, IsErrAnd, MatchResult};
 ghost use Rattle.clap.specs.Words.{fault_of, first_of, found_of, kind_of, rows_of, subcommand_of, subcommand_rows_of, takes, FailsBy, HasKind};
-ghost use Rattle.bully_words.specs.Words.{asked_by, asked_for, asked_in, playing, planning, planning_in, program, texts_of, ParsesAsCheck, ParsesAsPlay, ParsesAsTable};
+ghost use Rattle.bully_words.specs.Words.{asked_by, asked_for, asked_in, playing, planning, planning_in, program, running, texts_of, ParsesAsCheck, ParsesAsPlay, ParsesAsRun, ParsesAsTable};
 
 use crate::command::command_line;
 use clap::error::ErrorKind;
@@ -15,6 +15,8 @@ pub enum Action<'a> {
     Check,
     /// Play the group of the configuration at this path.
     Play(&'a str),
+    /// Run the group of the configuration at this path in threads.
+    Run(&'a str),
     /// Plan a table.
     Table(TableWords<'a>),
 }
@@ -34,6 +36,7 @@ pub fn action_of<'a, S: AsStr>(alloc: Global, words: &'a [S]) -> Result<Action<'
     ensures asked { IfOk result (λ action. asked_for (map S.text words.now) ≡ Some (texts_of action)) }
     ensures check { ParsesAsCheck (map S.text words.now) → MatchResult result (λ action. action ≡ Action.Check) (λ error. kind_of error ≡ ErrorKind.OutOfMemory) }
     ensures play { (path : _) → ParsesAsPlay (map S.text words.now) path → MatchResult result (λ action. texts_of action ≡ playing path) (λ error. kind_of error ≡ ErrorKind.OutOfMemory) }
+    ensures run { (path : _) → ParsesAsRun (map S.text words.now) path → MatchResult result (λ action. texts_of action ≡ running path) (λ error. kind_of error ≡ ErrorKind.OutOfMemory) }
     ensures table { (path : _) (members : _) (old : _) → ParsesAsTable (map S.text words.now) path members old → MatchResult result (λ action. texts_of action ≡ planning path members old) (λ error. kind_of error ≡ ErrorKind.OutOfMemory) }
     ensures fault { fault_of program (map S.text words.now) ≢ [] → IsErrAnd result (HasKind (fault_of program (map S.text words.now))) }
 {
@@ -88,20 +91,18 @@ fn named<'a>(
 {
     match name {
         "check" => Ok(Some(Action::Check)),
-        "play" => Ok(play_words(found)),
+        "play" => Ok(config_path(found).map(Action::Play)),
+        "run" => Ok(config_path(found).map(Action::Run)),
         "table" => table_words(alloc, found),
         _ => Ok(None),
     }
 }
 
-// The words of `play`.
-fn play_words<'a>(found: &ArgMatches<'a>) -> Option<Action<'a>>
-    ensures { option_map texts_of result ≡ option_map playing (first_of (codes "CONFIG") (rows_of (found_of found.now))) }
+// The path of the configuration.
+fn config_path<'a>(found: &ArgMatches<'a>) -> Option<&'a str>
+    ensures { option_map (λ s. s.now) result ≡ first_of (codes "CONFIG") (rows_of (found_of found.now)) }
 {
-    match found.get_str("CONFIG") {
-        Some(path) => Some(Action::Play(path)),
-        None => None,
-    }
+    found.get_str("CONFIG")
 }
 
 // The words of `table`.

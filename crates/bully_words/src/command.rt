@@ -1,7 +1,7 @@
 ghost use Rattle.std.specs.Prelude.{◌≡◌, false, IfOk};
 ghost use Rattle.clap.specs.Words.{app_of, rule_of};
 ghost use Rattle.clap.specs.declared.builder.command.Command.TheViews.{out-Command as fields_of};
-ghost use Rattle.bully_words.specs.Words.{bare, config_rule, member_rule, old_rule, play_app, program, table_app, with_play, with_check};
+ghost use Rattle.bully_words.specs.Words.{bare, config_rule, member_rule, old_rule, play_app, program, run_app, table_app, with_check, with_play, with_run};
 
 use clap::{Arg, ArgAction, Command};
 use std::alloc::{AllocError, Global};
@@ -10,10 +10,17 @@ use std::alloc::{AllocError, Global};
 pub fn command_line<'a>(alloc: Global) -> Result<Command<'a>, AllocError>
     ensures { IfOk result (λ command. app_of command ≡ program) }
 {
-    with_play(alloc)?.subcommand(table_command(alloc)?)
+    with_run(alloc)?.subcommand(table_command(alloc)?)
 }
 
 // The command line with the commands that are about traces.
+fn with_run<'a>(alloc: Global) -> Result<Command<'a>, AllocError>
+    ensures { IfOk result (λ command. app_of command ≡ with_run) }
+{
+    with_play(alloc)?.subcommand(run_command(alloc)?)
+}
+
+// The command line with its first two commands.
 fn with_play<'a>(alloc: Global) -> Result<Command<'a>, AllocError>
     ensures { IfOk result (λ command. app_of command ≡ with_play) }
 {
@@ -48,6 +55,16 @@ fn play_command<'a>(alloc: Global) -> Result<Command<'a>, AllocError>
 {
     Command::new(alloc, "play")
         .about("Plays a group and writes its trace")
+        .arg(config_arg(alloc))
+}
+
+// The command that runs a group in threads.
+fn run_command<'a>(alloc: Global) -> Result<Command<'a>, AllocError>
+    ensures app { IfOk result (λ command. app_of command ≡ run_app) }
+    ensures local { IfOk result (λ command. (fields_of command).has_globals ≡ false) }
+{
+    Command::new(alloc, "run")
+        .about("Runs a group in threads and writes its history as a trace")
         .arg(config_arg(alloc))
 }
 

@@ -17,7 +17,6 @@ pub mod SplitLemmas
 pub mod ApplyLemmas
 pub mod ExchangeLemmas
 pub mod WorldLemmas
-pub mod SetLemmas
 pub mod AgreeLemmas
 pub mod TurnLemmas
 pub mod TurnSteps

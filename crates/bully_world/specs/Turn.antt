@@ -2,7 +2,6 @@
 -- what the turn rule has it do.
 use Rattle.std.specs.Prelude.{◌≡◌, ℕ, ◌==◌, ◌&&◌, Bool, true, false, not, List, [], Option, Some, None, bytes_eq, unwrap_or, if◌then◌else◌}
 use Rattle.std.specs.Option.{option_map_or, option_eq}
-use Rattle.bully_base.specs.Setup.{Setup}
 use Rattle.bully_calls.specs.declared.call.Answer.{Answer}
 use Rattle.bully_calls.specs.declared.call.Outcome.{Outcome}
 use Rattle.bully_calls.specs.declared.call.Phase.{Phase}
@@ -93,13 +92,17 @@ turn_in_step w (Some c) h = turn_of_call (is_down_at w c.call.callee) c.phase
 abbrev pub turn : WorldState → ProcedureState → Next
 turn w h = if is_in_step w h then turn_in_step (world_of w) (member_of (state_at w h.node)).pending h else Resync
 
+-- the event of a step of node i; a plan has the table
+abbrev pub event_at : StepKind → ℕ → Option (List ℕ) → Event
+event_at Start i table = Event.Start i
+event_at Lose i table = Event.Lose i
+event_at Return i table = Event.Return i
+event_at Move i table = Event.Move i
+event_at Plan i table = Event.Plan i (unwrap_or table [])
+
 -- the event of a step of the procedure; a plan has the procedure's table
 abbrev pub event_of : StepKind → ProcedureState → Event
-event_of Start h = Event.Start h.node
-event_of Lose h = Event.Lose h.node
-event_of Return h = Event.Return h.node
-event_of Move h = Event.Move h.node
-event_of Plan h = Event.Plan h.node (unwrap_or h.table [])
+event_of kind h = event_at kind h.node h.table
 
 -- the outcome by which the procedure goes on; none at a loss, and none where an orphan returned
 abbrev pub outcome_after : StepKind → Answer → Option Outcome
@@ -122,10 +125,6 @@ GoesOnBy kind h taken = state_of taken.procedure ≡ procedure_after kind taken.
 
 abbrev pub EndsInStep : WorldState → TakenStep → Type 0
 EndsInStep w taken = is_in_step w (state_of taken.procedure) ≡ true
-
--- its procedure is of this node, in a group of this setup
-abbrev pub IsProcedureOf : Setup → ℕ → TakenStep → Type 0
-IsProcedureOf setup i taken = ((state_of taken.procedure).setup ≡ setup) × ((state_of taken.procedure).node ≡ i)
 
 -- The same in two parts: what the step's event takes from the procedure, and how it goes on afterwards.
 

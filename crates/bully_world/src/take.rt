@@ -1,9 +1,9 @@
 ghost use Rattle.std.specs.Prelude.{◌≡◌, ◌+◌, ◌<◌, IfOk, OnOk, IfErr, IfSome, true};
 ghost use Rattle.std.specs.Option.{option_map_or};
-ghost use Rattle.bully_steps.specs.ProcedureState.{IsProcedureState, CanResume, resumed};
+ghost use Rattle.bully_steps.specs.ProcedureState.{IsProcedureState, HasSameNode, CanResume, resumed};
 ghost use Rattle.bully_steps.specs.Procedure.{state_of};
 ghost use Rattle.bully_world.specs.State.{StepsTo, KeepsGenerations, IsFull};
-ghost use Rattle.bully_world.specs.Turn.{turn, has_table, event_of, procedure_left, outcome_left, GoesOnBy, EndsInStep, IsProcedureOf};
+ghost use Rattle.bully_world.specs.Turn.{turn, has_table, event_of, procedure_left, outcome_left, GoesOnBy, EndsInStep};
 ghost use Rattle.bully_world.specs.declared.turn.Next.{Next};
 
 use crate::World;
@@ -42,7 +42,7 @@ impl World {
         ensures event { IfOk result (λ taken. taken.event ≡ event_of kind (state_of procedure)) }
         ensures procedure { IfOk result (GoesOnBy kind (state_of procedure)) }
         ensures in_step { IfOk result (EndsInStep self.new) }
-        ensures identity { IfOk result (IsProcedureOf self.new.setup (state_of procedure).node) }
+        ensures same_node { IfOk result (λ taken. HasSameNode (state_of procedure) (state_of taken.procedure)) }
         ensures room { OnOk result (self.old.events < self.old.setup.events_max) }
         ensures refused { IfErr result (λ why. (why.1 ≡ Refused.Full) × IsFull self.old) }
         ensures handed_back { IfErr result (λ why. why.0 ≡ procedure) }
@@ -70,16 +70,14 @@ fn event_by(kind: StepKind, procedure: Procedure) -> (Event, Procedure)
     ensures state { IsProcedureState (state_of procedure) }
 {
     let node = procedure.node();
-    match kind {
-        StepKind::Start => (Event::Start(node), procedure),
-        StepKind::Lose => (Event::Lose(node), procedure),
-        StepKind::Return => (Event::Return(node), procedure),
-        StepKind::Move => (Event::Move(node), procedure),
+    let (table, left) = match kind {
         StepKind::Plan => {
             let (table, left) = procedure.take_plan();
-            (Event::Plan(node, table), left)
+            (Some(table), left)
         }
-    }
+        _ => (None, procedure),
+    };
+    (kind.event(node, table), left)
 }
 
 // By what a procedure goes on after its step with this answer, if by anything. A plan's went on with its event.

@@ -1,13 +1,16 @@
-ghost use Rattle.std.specs.Prelude.{◌≡◌, ◌≤◌, true, bytes_eq};
+ghost use Rattle.std.specs.Prelude.{◌≡◌, ◌≤◌, true, IsSome, bytes_eq};
 ghost use Rattle.bully_calls.specs.Slot.{pending_in};
 ghost use Rattle.bully_steps.specs.ProcedureState.{IsProcedureState, want_of};
 ghost use Rattle.bully_steps.specs.Procedure.{state_of};
-ghost use Rattle.bully_world.specs.Turn.{is_live_in, procedure_in, is_in_step, agree, same_point, same_set, same_node, turn, turn_of_call, turn_of_want, has_table};
+ghost use Rattle.bully_world.specs.Turn.{event_at, is_live_in, procedure_in, is_in_step, agree, same_point, same_set, same_node, turn, turn_of_call, turn_of_want, has_table};
+ghost use Rattle.bully_world.specs.declared.turn.StepKind.{StepKind};
 
 use crate::World;
+use crate::event::Event;
 use bully_base::{Node, NodeSet, Status};
 use bully_calls::{Phase, Slot};
 use bully_steps::{Point, Procedure, Want};
+use bully_table::Table;
 
 /// A step of a node by its procedure, which the turn rule offers.
 #[derive(Clone, Copy, PartialEq, Eq, Debug)]
@@ -22,6 +25,22 @@ pub enum StepKind {
     Move,
     /// Its table becomes its task.
     Plan,
+}
+
+impl StepKind {
+    /// The event of such a step of the node. A plan has the table, and the others have none.
+    pub fn event(self, node: Node, table: Option<Table>) -> Event
+        requires { self ≡ StepKind.Plan → IsSome table }
+        ensures { result ≡ event_at self node table }
+    {
+        match self {
+            StepKind::Start => Event::Start(node),
+            StepKind::Lose => Event::Lose(node),
+            StepKind::Return => Event::Return(node),
+            StepKind::Move => Event::Move(node),
+            StepKind::Plan => Event::Plan(node, table.unwrap()),
+        }
+    }
 }
 
 /// What the turn rule says. The rule: docs/ALGORITHM.md.

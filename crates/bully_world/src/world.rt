@@ -47,7 +47,8 @@ impl World {
 
     /// What the group was set up with.
     pub fn setup(&self) -> Setup
-        ensures { result ≡ self.now.setup }
+        ensures setup { result ≡ self.now.setup }
+        ensures reached { IsReached self.now }
     {
         self.setup
     }

@@ -209,14 +209,13 @@ fn faults_of(alloc: Global, order: &[Node], seed: u32) -> Result<Faults, Fail> {
 }
 
 // The lines of nodes at rest: each one that lives is Normal under the highest, with the owners that it has there.
-fn at_rest(alloc: Global, living: &NodeSet, output: &str) -> Result<String, Fail> {
+fn at_rest(alloc: Global, nodes: u16, living: &NodeSet, output: &str) -> Result<String, Fail> {
     let highest = living.highest().ok_or("nobody lives")?.number();
     let line = output.lines().nth(usize::from(highest)).ok_or("no line")?;
     let owners = line.rsplit(' ').next().ok_or("no word")?;
     let mut text = String::new(alloc);
-    for digit in 0..NODES {
-        let node = node_of(digit)?;
-        let number = node.number();
+    for number in 1..=nodes {
+        let node = Node::new(number).ok_or("a node")?;
         if living.has(node) {
             writeln!(text, "{number} normal {highest} {highest} {owners}")?;
         } else {
@@ -226,14 +225,21 @@ fn at_rest(alloc: Global, living: &NodeSet, output: &str) -> Result<String, Fail
     Ok(text)
 }
 
-// What is played with these faults is lawful, and the nodes that live are at rest at its end.
-fn assert_rests(rt: &impl Abort, alloc: Global, faults: &Faults) -> Result<(), Fail> {
-    let (verdict, output) = judged(alloc, faults.text.as_str())?;
+// What is played of this configuration is lawful, and at its end so many nodes are there, and those that live are at
+// rest.
+pub fn assert_rests(
+    rt: &impl Abort,
+    alloc: Global,
+    config: &str,
+    nodes: u16,
+    living: &NodeSet,
+) -> Result<(), Fail> {
+    let (verdict, output) = judged(alloc, config)?;
     let Verdict::Lawful(count) = verdict else {
         assert!(rt; false, "{output}");
         return Ok(());
     };
-    let lines = at_rest(alloc, &faults.living, output.as_str())?;
+    let lines = at_rest(alloc, nodes, living, output.as_str())?;
     let expected = format!(in alloc; "lawful {count}\n{lines}")?;
     assert_eq!(rt; output.as_str(), expected.as_str());
     Ok(())
@@ -245,7 +251,7 @@ fn crashes_and_recoveries(rt: HostRuntime) -> Result<(), Fail> {
     for code in 0..CODES {
         if let Some(order) = order_of(alloc, code)? {
             let faults = faults_of(alloc, order.as_slice(), code)?;
-            assert_rests(&rt, alloc, &faults)?;
+            assert_rests(&rt, alloc, faults.text.as_str(), 5, &faults.living)?;
         }
     }
     Ok(())

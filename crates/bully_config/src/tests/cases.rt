@@ -18,12 +18,14 @@ pub const GOOD: [&str; 13] = [
 ];
 
 /// One line that is written anew, and the answer.
-pub const SINGLE: [(usize, &str, &str); 70] = [
+pub const SINGLE: [(usize, &str, &str); 80] = [
     (1, "partitions = 256", "Ok"),
     (2, "events = 1000000", "Ok"),
     (4, "names = [\"a\", \"\\u0061\", \"c\"]", "DoubleName"),
     (0, "\"nodes\" = 3", "Ok"),
     (3, "turns = 1000000", "Ok"),
+    (3, "turns = 9\nperiod = 2", "Ok"),
+    (3, "turns = 9\nperiod = 65536", "Ok"),
     (12, "kind = \"recover\"", "Ok"),
     (0, "nodes = [", "Toml"),
     (0, "nodes 3", "Toml"),
@@ -48,6 +50,8 @@ pub const SINGLE: [(usize, &str, &str); 70] = [
     (1, "partitions = 4.0", "Kind partitions"),
     (2, "events = true", "Kind events"),
     (3, "turns = [9]", "Kind turns"),
+    (3, "turns = 9\nperiod = \"16\"", "Kind period"),
+    (3, "turns = 9\nperiod = 16.0", "Kind period"),
     (4, "names = \"abc\"", "Kind names"),
     (4, "names = [\"a\", 2, \"c\"]", "Kind names"),
     (4, "names = [[\"a\", \"b\", \"c\"]]", "Kind names"),
@@ -68,6 +72,11 @@ pub const SINGLE: [(usize, &str, &str); 70] = [
     (2, "events = 1000001", "Range events"),
     (3, "turns = 0", "Range turns"),
     (3, "turns = 1000001", "Range turns"),
+    (3, "turns = 9\nperiod = 0", "Range period"),
+    (3, "turns = 9\nperiod = 1", "Range period"),
+    (3, "turns = 9\nperiod = 65537", "Range period"),
+    (3, "turns = 9\nperiod = -16", "Range period"),
+    (3, "turns = 9\nperiod = 4294967312", "Range period"),
     (0, "nodes = 2", "Range names"),
     (0, "nodes = 4", "Range names"),
     (4, "names = []", "Range names"),
@@ -88,11 +97,12 @@ pub const SINGLE: [(usize, &str, &str); 70] = [
     (0, "nodes = 3\nkeep = true", "UnknownKey"),
     (0, "nodes = 3\nat = 1", "UnknownKey"),
     (6, "at = 1\nturns = 9", "UnknownKey"),
+    (6, "at = 1\nperiod = 16", "UnknownKey"),
     (12, "kind = \"crash\"\n[more]", "UnknownKey"),
 ];
 
 /// Two or three faults at once, each a line that is written anew, and the answer: the first in the written order.
-pub const SEVERAL: [(&[(usize, &str)], &str); 38] = [
+pub const SEVERAL: [(&[(usize, &str)], &str); 45] = [
     (&[(0, ""), (1, "partitions = [")], "Toml"),
     (&[(8, "kind = \"stop"), (6, "at = 0")], "Toml"),
     (&[(0, "nodes = \"3\""), (3, "")], "Missing turns"),
@@ -115,11 +125,24 @@ pub const SEVERAL: [(&[(usize, &str)], &str); 38] = [
         "Missing partitions",
     ),
     (&[(6, "at = 1\nx = 1"), (12, "")], "Missing kind"),
+    (&[(3, "turns = 9\nperiod = true"), (4, "")], "Missing names"),
     (
         &[(1, "partitions = true"), (0, "nodes = true")],
         "Kind nodes",
     ),
     (&[(4, "names = 1"), (3, "turns = \"9\"")], "Kind turns"),
+    (
+        &[(3, "turns = true\nperiod = true"), (4, "names = 1")],
+        "Kind turns",
+    ),
+    (
+        &[(3, "turns = 9\nperiod = true"), (4, "names = 1")],
+        "Kind period",
+    ),
+    (
+        &[(3, "turns = 9\nperiod = 1"), (6, "at = \"1\"")],
+        "Kind at",
+    ),
     (&[(6, "at = \"1\""), (4, "names = [1]")], "Kind names"),
     (&[(8, "kind = 1"), (10, "at = \"9\"")], "Kind kind"),
     (&[(7, "node = 1"), (6, "at = \"1\"")], "Kind at"),
@@ -143,6 +166,18 @@ pub const SEVERAL: [(&[(usize, &str)], &str); 38] = [
     (&[(1, "partitions = 0"), (0, "nodes = 0")], "Range nodes"),
     (&[(3, "turns = 0"), (2, "events = 0")], "Range events"),
     (&[(4, "names = []"), (3, "turns = 0")], "Range turns"),
+    (
+        &[(3, "turns = 0\nperiod = 0"), (4, "names = []")],
+        "Range turns",
+    ),
+    (
+        &[(3, "turns = 9\nperiod = 0"), (4, "names = []")],
+        "Range period",
+    ),
+    (
+        &[(3, "turns = 9\nperiod = 1"), (0, "nodes = 3\nx = 1")],
+        "Range period",
+    ),
     (
         &[(6, "at = 0"), (4, "names = [\"a\", \"\", \"c\"]")],
         "Range names",

@@ -160,8 +160,6 @@ fn callee_of(world: &World, caller: Node) -> Option<u16>
     ensures { result ≡ option_map callee_of (pending (world_of world.now) caller) }
 {
     if caller.number() > world.setup().nodes() {
-        // Shows the proof that a lawful list leads to the world.
-        let _ = world.events();
         return None;
     }
     let call = world.slot(caller).call()?;
@@ -173,8 +171,6 @@ fn callee_of(world: &World, caller: Node) -> Option<u16>
 fn is_down(world: &World, node: Node) -> bool
     ensures { result ≡ is_down_at (world_of world.now) node }
 {
-    // Shows the proof that a lawful list leads to the world.
-    let _ = world.events();
     node.number() > world.setup().nodes() || world.vector(node).status() == Status::Down
 }
 

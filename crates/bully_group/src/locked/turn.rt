@@ -1,7 +1,8 @@
 ghost use Rattle.std.specs.Prelude.{◌≡◌, ◌+◌, ◌⊎◌, IfOk, true, false, if◌then◌else◌};
 ghost use Rattle.bully_group.specs.Seat.{IsKnown};
-ghost use Rattle.bully_group.specs.Turns.{handed_back, IfWent, IfWaiting, IfResynced, IfFault, is_went, is_fault, MayTurn, Goes, Waits, Resyncs, Fails, HasSameNode};
+ghost use Rattle.bully_group.specs.Turns.{handed_back, IfWent, IfWaiting, IfResynced, IfFault, is_went, is_fault, MayTurn, Goes, Waits, Resyncs, Fails};
 ghost use Rattle.bully_steps.specs.Procedure.{state_of};
+ghost use Rattle.bully_steps.specs.ProcedureState.{HasSameNode};
 ghost use Rattle.bully_world.specs.Turn.{turn, has_table, event_of, procedure_in, is_in_step};
 ghost use Rattle.bully_world.specs.declared.turn.Next.{Next};
 ghost use Rattle.bully_world.specs.declared.turn.StepKind.{StepKind};
@@ -113,12 +114,9 @@ fn event_of(kind: StepKind, procedure: &Procedure) -> Result<Event, OutOfMemory>
     requires { kind ≡ StepKind.Plan → has_table (state_of procedure.now) ≡ true }
     ensures { IfOk result (λ event. event ≡ event_of kind (state_of procedure.now)) }
 {
-    let node = procedure.node();
-    Ok(match kind {
-        StepKind::Start => Event::Start(node),
-        StepKind::Lose => Event::Lose(node),
-        StepKind::Return => Event::Return(node),
-        StepKind::Move => Event::Move(node),
-        StepKind::Plan => Event::Plan(node, procedure.table().unwrap().copy()?),
-    })
+    let table = match kind {
+        StepKind::Plan => Some(procedure.table().unwrap().copy()?),
+        _ => None,
+    };
+    Ok(kind.event(procedure.node(), table))
 }

@@ -1,17 +1,19 @@
-//! A list of asks, taken one by one, and what is told of each.
+//! A list of asks, taken one by one, what is told of each, and the finish.
 
 ghost use Rattle.std.specs.Prelude.{◌≡◌, ◌≤◌, ◌+◌};
 ghost use Rattle.bully_steps.specs.Procedure.{state_of};
 
-use crate::{Closed, Group, Locked, Naming, Pass, Seat, StepFault, Turn};
+use crate::tests::held::{Opened, Way, finished, open, refused};
+use crate::{Closed, FinishFault, Naming, Seat, StepFault, Turn};
 use bully_base::{Node, Setup, Status};
 use bully_calls::Answer;
 use bully_steps::{Point, Procedure};
+use bully_watch::Entry;
 use bully_world::Event;
 use std::alloc::Global;
 use std::marker::Brand;
+use std::sync::Wait;
 use std::sync::ledger::Blank;
-use std::sync::{MutexGuard, Wait};
 
 /// What is asked with the seat and the pass of an actor. One procedure is held, for turns.
 #[derive(Drop)]
@@ -19,11 +21,13 @@ pub enum Ask {
     Step(usize, Event),
     Serve(usize),
     Turn(usize),
+    View(usize),
     /// The procedure that is held is prepared, without an old table.
     Prepare,
 }
 
-/// What came of it: where the procedure stands, and of a resynced one its generation.
+/// What came of it: where the procedure stands, and of a resynced one its generation; of a view the count of events
+/// and the node's status.
 #[derive(Clone, Copy, PartialEq, Eq, Debug)]
 pub enum Told {
     Stepped,
@@ -31,18 +35,50 @@ pub enum Told {
     Went(Point),
     Waiting(Point),
     Resynced(Point, u32),
+    Viewed(u32, Status),
     Prepared,
     Fault(StepFault),
-    /// There is no such seat, or nothing to prepare.
+    /// There is no such seat, no view, or nothing to prepare.
     Nothing,
 }
 
-/// What was told, the actor, the node and the answer of each entry, and the status of the node in the end.
+/// What was told; why the group isn't finished without its last seat, and why not without its last pass; and its end
+/// with all of them.
 #[derive(Drop)]
 pub struct Trial {
     pub told: Vec<Told>,
-    pub entries: Vec<(u16, u16, Answer)>,
-    pub status: Status,
+    pub one_seat_less: FinishFault,
+    pub one_pass_less: FinishFault,
+    pub closed: Closed,
+}
+
+impl Trial {
+    /// Whether the finished group has these entries, and the node this status.
+    pub fn ends_in(&self, entries: &[Entry], node: Node, status: Status) -> bool {
+        let mut pairs = self.closed.history().iter().zip(entries.iter());
+        pairs.all(|(entry, wanted)| entry.is_same(wanted))
+            && self.ends_in_so_many(entries.len(), node, status)
+    }
+
+    /// Whether the finished group has so many entries, and the node this status.
+    pub fn ends_in_so_many(&self, entries: usize, node: Node, status: Status) -> bool {
+        self.closed.history().len() == entries
+            && node.number() <= self.closed.setup().nodes()
+            && self.closed.view().status(node) == status
+    }
+}
+
+/// The entry of an event that was answered Done.
+pub fn done(actor: u16, event: Event) -> Entry {
+    answered(actor, event, Answer::Done)
+}
+
+pub fn answered(actor: u16, event: Event, answer: Answer) -> Entry {
+    Entry {
+        actor,
+        event,
+        answer,
+    }
 }
 
 /// The asks on a bare `Locked`, and the same through the lock of a `Group`. The procedure is the node's.
@@ -56,49 +92,19 @@ pub fn tried<R: Wait>(
     if node.number() > setup.nodes() {
         return None;
     }
-    let count = u64::from(setup.nodes()) + 1;
     let mut trials = Vec::new(alloc);
-    let bare = on_a_bare_one::<Brand>(alloc, setup, Blank::new(count), node, asks)?;
-    trials.push(bare).ok()?;
-    let shared = through_a_lock::<Brand, R>(rt, alloc, setup, Blank::new(count), node, asks)?;
-    trials.push(shared).ok()?;
+    for way in [Way::Bare, Way::Shared] {
+        let blank = Blank::new(u64::from(setup.nodes()) + 1);
+        let trial = tried_by::<Brand, R>(rt, alloc, way, setup, blank, node, asks)?;
+        trials.push(trial).ok()?;
+    }
     Some(trials)
 }
 
-fn on_a_bare_one<L: Naming>(
-    alloc: Global,
-    setup: Setup,
-    blank: Blank,
-    node: Node,
-    asks: &[Ask],
-) -> Option<Trial>
-    requires setup { setup ≡ L.setup }
-    requires name { blank.name ≡ L.name }
-    requires parts { (blank.parts ≡ L.parts) × (L.parts ≡ L.setup.nodes + 1) }
-    requires node { node ≤ setup.nodes }
-{
-    let Ok((locked, seats, passes)) = Locked::<L>::open(alloc, setup, blank) else {
-        return None;
-    };
-    let mut locked = locked;
-    let mut seats = seats;
-    let mut passes = passes;
-    let mut procedure = Procedure::idle(setup, node, 0);
-    let mut told = Vec::new(alloc);
-    for each in asks {
-        let (next, answer) = perform(alloc, &mut locked, &mut seats, &mut passes, procedure, each);
-        procedure = next;
-        told.push(answer).ok()?;
-    }
-    match locked.finish(seats, passes) {
-        Ok(closed) => trial_of(alloc, told, &closed, node),
-        Err(_) => None,
-    }
-}
-
-fn through_a_lock<L: Naming, R: Wait>(
+fn tried_by<L: Naming, R: Wait>(
     rt: &R,
     alloc: Global,
+    way: Way,
     setup: Setup,
     blank: Blank,
     node: Node,
@@ -109,50 +115,40 @@ fn through_a_lock<L: Naming, R: Wait>(
     requires parts { (blank.parts ≡ L.parts) × (L.parts ≡ L.setup.nodes + 1) }
     requires node { node ≤ setup.nodes }
 {
-    let Ok((group, seats, passes)) = Group::<L>::open(alloc, setup, blank) else {
-        return None;
-    };
-    let mut seats = seats;
-    let mut passes = passes;
+    let mut opened = open::<L>(alloc, way, setup, blank)?;
     let mut procedure = Procedure::idle(setup, node, 0);
     let mut told = Vec::new(alloc);
     for each in asks {
-        let mut guard = group.locked.lock(rt);
-        let (next, answer) = perform(alloc, &mut *guard, &mut seats, &mut passes, procedure, each);
-        MutexGuard::unlock(guard);
+        let (next, answer) = perform(rt, alloc, &mut opened, procedure, each);
         procedure = next;
         told.push(answer).ok()?;
     }
-    match group.close().finish(seats, passes) {
-        Ok(closed) => trial_of(alloc, told, &closed, node),
-        Err(_) => None,
-    }
+    ended(opened, told)
 }
 
-// What is told of a finished group.
-fn trial_of(alloc: Global, told: Vec<Told>, closed: &Closed, node: Node) -> Option<Trial> {
-    let mut entries = Vec::new(alloc);
-    for entry in closed.history() {
-        let row = (entry.actor, entry.event.node().number(), entry.answer);
-        entries.push(row).ok()?;
-    }
-    if node.number() > closed.setup().nodes() {
-        return None;
-    }
-    let status = closed.view().status(node);
+// The finish without the last seat, without the last pass, and with all.
+fn ended<L: Naming>(opened: Opened<L>, told: Vec<Told>) -> Option<Trial> {
+    let mut opened = opened;
+    let seat = opened.seats.pop()?;
+    let (one_seat_less, mut opened) = refused(opened)?;
+    opened.seats.push(seat).ok()?;
+    let pass = opened.passes.pop()?;
+    let (one_pass_less, mut opened) = refused(opened)?;
+    opened.passes.push(pass).ok()?;
+    let closed = finished(opened)?;
     Some(Trial {
         told,
-        entries,
-        status,
+        one_seat_less,
+        one_pass_less,
+        closed,
     })
 }
 
 // One ask. The procedure stays one of the group.
-fn perform<L: Naming>(
+fn perform<L: Naming, R: Wait>(
+    rt: &R,
     alloc: Global,
-    locked: &mut Locked<L>,
-    seats: &mut [Seat],
-    passes: &mut [Pass<L>],
+    opened: &mut Opened<L>,
     procedure: Procedure,
     asked: &Ask,
 ) -> (Procedure, Told)
@@ -160,58 +156,53 @@ fn perform<L: Naming>(
     ensures { (state_of result.0).setup ≡ L.setup }
 {
     match asked {
-        Ask::Step(actor, event) => (procedure, step(locked, seats, passes, *actor, event)),
-        Ask::Serve(actor) => (procedure, serve(locked, seats, passes, *actor)),
-        Ask::Turn(actor) => turn(locked, seats, passes, *actor, procedure),
+        Ask::Step(actor, event) => (procedure, step(rt, opened, *actor, event)),
+        Ask::Serve(actor) => (procedure, serve(rt, opened, *actor)),
+        Ask::Turn(actor) => turn(rt, opened, *actor, procedure),
+        Ask::View(actor) => {
+            let told = view(rt, opened, *actor, procedure.node());
+            (procedure, told)
+        }
         Ask::Prepare => prepare(alloc, procedure),
     }
 }
 
-fn step<L: Naming>(
-    locked: &mut Locked<L>,
-    seats: &mut [Seat],
-    passes: &mut [Pass<L>],
-    actor: usize,
-    event: &Event,
-) -> Told {
-    let (Some(seat), Some(pass)) = (seats.get_mut(actor), passes.get_mut(actor)) else {
+fn step<L: Naming, R: Wait>(rt: &R, opened: &mut Opened<L>, actor: usize, event: &Event) -> Told {
+    let (Some(seat), Some(pass)) = (opened.seats.get_mut(actor), opened.passes.get_mut(actor))
+    else {
         return Told::Nothing;
     };
-    match locked.step(seat, event, pass) {
+    match opened.held.step(rt, seat, event, pass) {
         Ok(()) => Told::Stepped,
         Err(fault) => Told::Fault(fault),
     }
 }
 
-fn serve<L: Naming>(
-    locked: &mut Locked<L>,
-    seats: &mut [Seat],
-    passes: &mut [Pass<L>],
-    actor: usize,
-) -> Told {
-    let (Some(seat), Some(pass)) = (seats.get_mut(actor), passes.get_mut(actor)) else {
+fn serve<L: Naming, R: Wait>(rt: &R, opened: &mut Opened<L>, actor: usize) -> Told {
+    let (Some(seat), Some(pass)) = (opened.seats.get_mut(actor), opened.passes.get_mut(actor))
+    else {
         return Told::Nothing;
     };
-    match locked.serve(seat, pass) {
+    match opened.held.serve(rt, seat, pass) {
         Ok(served) => Told::Served(served),
         Err(fault) => Told::Fault(fault),
     }
 }
 
-fn turn<L: Naming>(
-    locked: &mut Locked<L>,
-    seats: &mut [Seat],
-    passes: &mut [Pass<L>],
+fn turn<L: Naming, R: Wait>(
+    rt: &R,
+    opened: &mut Opened<L>,
     actor: usize,
     procedure: Procedure,
 ) -> (Procedure, Told)
     requires { (state_of procedure).setup ≡ L.setup }
     ensures { (state_of result.0).setup ≡ L.setup }
 {
-    let (Some(seat), Some(pass)) = (seats.get_mut(actor), passes.get_mut(actor)) else {
+    let (Some(seat), Some(pass)) = (opened.seats.get_mut(actor), opened.passes.get_mut(actor))
+    else {
         return (procedure, Told::Nothing);
     };
-    match locked.turn(seat, procedure, pass) {
+    match opened.held.turn(rt, seat, procedure, pass) {
         Turn::Went(procedure) => {
             let point = procedure.point();
             (procedure, Told::Went(point))
@@ -226,6 +217,32 @@ fn turn<L: Naming>(
         }
         Turn::Fault(procedure, fault) => (procedure, Told::Fault(fault)),
     }
+}
+
+fn view<L: Naming, R: Wait>(rt: &R, opened: &Opened<L>, actor: usize, node: Node) -> Told {
+    let Some(seat) = opened.seats.get(actor) else {
+        return Told::Nothing;
+    };
+    match viewed(rt, opened, seat, node) {
+        Some((events, status)) => Told::Viewed(events, status),
+        None => Told::Nothing,
+    }
+}
+
+/// The count of events and the node's status, as the seat sees them.
+pub fn viewed<L: Naming, R: Wait>(
+    rt: &R,
+    opened: &Opened<L>,
+    seat: &Seat,
+    node: Node,
+) -> Option<(u32, Status)> {
+    let Ok(view) = opened.held.view(rt, seat) else {
+        return None;
+    };
+    if node.number() > view.nodes() {
+        return None;
+    }
+    Some((view.events(), view.status(node)))
 }
 
 fn prepare(alloc: Global, procedure: Procedure) -> (Procedure, Told)

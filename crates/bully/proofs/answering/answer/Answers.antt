@@ -44,6 +44,11 @@ returns-in-Err-clause-play g c = λ path parses.
     let stopped = c.answer_words.ensures.memory (c.in-Err.ensures.play path parses) in
     ([], inr (inr (Stop.OutOfMemory, (λ _. keeps-same _ _ (ap g.W.Write.contents stopped.1)), stopped.2, stopped.0)))
 
+pub returns-in-Err-clause-run : goal.returns-in-Err-clause-run
+returns-in-Err-clause-run g c = λ path parses.
+    let stopped = c.answer_words.ensures.memory (c.in-Err.ensures.run path parses) in
+    ([], inr (inr (inr (Stop.OutOfMemory, (λ _. keeps-same _ _ (ap g.W.Write.contents stopped.1)), stopped.2, stopped.0))))
+
 pub returns-in-Err-clause-table : goal.returns-in-Err-clause-table
 returns-in-Err-clause-table g c = λ path members old parses.
     let stopped = c.answer_words.ensures.memory (c.in-Err.ensures.table path members old parses) in

@@ -1,5 +1,6 @@
+use Rattle.std.proofs.Common.{inr}
 use Rattle.bully.proofs.KnownBytesLemmas.{keeps-refl}
-use Rattle.bully.proofs.ConfigLemmas.{play-answered, play-refused}
+use Rattle.bully.proofs.ConfigLemmas.{config-refused, play-answered}
 use Rattle.bully.proofs.playing.play_bytes.Goals as goal
 
 pub returns-in-Ok-clause-answer : goal.returns-in-Ok-clause-answer
@@ -8,4 +9,4 @@ returns-in-Ok-clause-answer g c =
 
 pub returns-in-Err-clause-answer : goal.returns-in-Err-clause-answer
 returns-in-Err-clause-answer g c =
-    play-refused c.args.bytes.now c.in-Err.fault c.from.result _ _ _ _ c.answer_refusal.result c.in-Err.ensures.fault c.from.ensures (keeps-refl _) c.answer_refusal.ensures
+    inr (config-refused c.args.bytes.now c.in-Err.fault c.from.result _ _ _ _ c.answer_refusal.result c.in-Err.ensures.fault c.from.ensures (keeps-refl _) c.answer_refusal.ensures)

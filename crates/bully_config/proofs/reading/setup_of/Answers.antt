@@ -3,8 +3,17 @@ use Rattle.toml.specs.View.{table_view}
 use Rattle.bully_base.specs.declared.TheConstants.{NODES_MAX, PARTITIONS_MAX, EVENTS_MAX}
 use Rattle.bully_config.specs.declared.fault.Key.{Key}
 use Rattle.bully_config.proofs.FaultLemmas.{number_within}
-use Rattle.bully_config.proofs.FactLemmas.{setup_made}
+use Rattle.bully_config.proofs.FactLemmas.{facts, setup_made}
 use Rattle.bully_config.proofs.reading.setup_of.Goals as goal
+
+pub unwrap-nodes-requires : goal.unwrap-nodes-requires
+unwrap-nodes-requires c = rw (c.number_at.ensures, c.from.ensures) (facts (table_view c.args.document.now) c.requires).nodes
+
+pub unwrap-partitions-requires : goal.unwrap-partitions-requires
+unwrap-partitions-requires c = rw (c.number_at-2.ensures, c.from-2.ensures) (facts (table_view c.args.document.now) c.requires).partitions
+
+pub unwrap-events_max-requires : goal.unwrap-events_max-requires
+unwrap-events_max-requires c = rw c.number_at-3.ensures (facts (table_view c.args.document.now) c.requires).events
 
 pub overflow_cast-nodes : goal.overflow_cast-nodes
 overflow_cast-nodes c =

@@ -8,8 +8,8 @@ use Rattle.bully_nodes.proofs.playing.take_round.Given as goal
 -- what the rest comes to from here, all turns come to from the start
 abbrev pub invariant-loop-procedure : goal.invariant-loop-procedure
 invariant-loop-procedure l = record {
-  turns : (after : RecordingState) (hs' : List ProcedureState) → TakeTurns l.turn l.recording (map state_of (drop l.procedure-index l.procedures)) after hs'
-      → TakeTurns l.turn l.initial.recording (map state_of l.fn.procedures) after (map state_of (take l.procedure-index l.procedures) ++ hs');
+  turns : (after : RecordingState) (hs' : List ProcedureState) → TakeTurns l.config.period l.turn l.recording (map state_of (drop l.procedure-index l.procedures)) after hs'
+      → TakeTurns l.config.period l.turn l.initial.recording (map state_of l.fn.procedures) after (map state_of (take l.procedure-index l.procedures) ++ hs');
   recorded : IsRecorded l.config l.recording;
   setups : All (λ p. (state_of p).setup ≡ l.config.setup) l.procedures;
 }

@@ -6,7 +6,7 @@ use Rattle.bully_nodes.proofs.playing.trace_of.Given as goal
 
 abbrev pub invariant-loop-before : goal.invariant-loop-before
 invariant-loop-before l = record {
-  rounds : Rounds l.config.faults l.before 1 (first_recording l.config.setup) (idle_first l.config.setup l.config.setup.nodes) l.recording (map state_of l.procedures.items);
+  rounds : Rounds l.config.faults l.config.period l.before 1 (first_recording l.config.setup) (idle_first l.config.setup l.config.setup.nodes) l.recording (map state_of l.procedures.items);
   recorded : IsRecorded l.config l.recording;
   setups : All (λ p. (state_of p).setup ≡ l.config.setup) l.procedures.items;
   end : l.before-end ≡ l.config.turns;

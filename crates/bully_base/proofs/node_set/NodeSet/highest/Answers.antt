@@ -1,13 +1,14 @@
-use Rattle.std.proofs.Common.{◌∙◌, ◌+◌, ap, arith}
-use Rattle.bully_base.specs.NodeSet.{highest_of}
+use Rattle.std.proofs.Common.{◌∙◌, ◌≡◌, ◌+◌, ap}
+use Rattle.bully_base.specs.NodeSet.{highest_of, IsFallingBelow}
 use Rattle.bully_base.specs.declared.TheConstants.{NODES_MAX}
-use Rattle.bully_base.proofs.NodeSetLemmas.{below_node-all, highest-largest}
+use Rattle.bully_base.proofs.NodeSetLemmas.{highest-largest}
+use Rattle.bully_base.proofs.WordLemmas.{members-falling}
 use Rattle.bully_base.proofs.node_set.NodeSet.highest.Goals as goal
 
 pub returns : goal.returns
 returns c =
-    let falling = c.highest_among.ensures.falling in
-    let same = c.highest_among.ensures.highest ∙ ap highest_of (below_node-all (NODES_MAX + 1) c.args.self.now (NODES_MAX + 1) (omega arith) falling) in
+    let same : c.highest_in.result ≡ highest_of c.args.self.now = c.highest_in.ensures ∙ ap highest_of c.self.view_is in
+    let falling : IsFallingBelow (NODES_MAX + 1) c.args.self.now = rw (← c.self.view_is) (members-falling c.self.inside.word NODES_MAX) in
     record {
       highest = same;
       falling = falling;

@@ -11,7 +11,7 @@ use Rattle.bully_group.specs.Locked.{LockedState}
 use Rattle.bully_group.specs.Seat.{SeatState, IsKnown}
 use Rattle.bully_group.proofs.SeatLemmas.{seat_more}
 use Rattle.bully_group.proofs.LockedLemmas.{locked_more}
-use Rattle.bully_group.proofs.WorldLemmas.{whose_turn}
+use Rattle.bully_group.proofs.WorldLemmas.{whose_turn, no_turn_raises}
 use Rattle.bully_group.proofs.locked.Locked.go.Goals as goal
 
 pub event_of-requires : goal.event_of-requires
@@ -47,6 +47,7 @@ returns-clause-went g c = (
     log = search rules;
     actor = search rules;
     setup = search rules;
+    generations = no_turn_raises c.args.self.now.world c.take.new.self c.args.kind (state_of c.args.procedure) (search rules);
   },
   search rules,
 )

@@ -34,6 +34,7 @@ returns-clause-entry g c = record {
   log = search rules;
   actor = search rules;
   setup = search rules;
+  generations = search rules;
 }
 
 pub invariant_of-seat-2 : goal.invariant_of-seat-2

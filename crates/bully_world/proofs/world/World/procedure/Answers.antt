@@ -12,17 +12,17 @@ at-requires-clause-up c =
 pub at-requires-clause-point : goal.at-requires-clause-point
 at-requires-clause-point c =
     let fits = c.member-member.ensures.fits in
-    grind (arith, fits.is_point, c.point.ensures, c.setup.ensures)
+    grind (arith, fits.is_point, c.point.ensures, c.setup.ensures.setup)
 
 pub at-requires-clause-inquiry : goal.at-requires-clause-inquiry
 at-requires-clause-inquiry c =
     let fits = c.member-member.ensures.fits in
     let m = member_of c.member-member.result.now in
-    grind (arith, suits_inquiry c.args.self.now.setup c.args.node m.vector m.point fits.by_setup fits.by_point, c.point.ensures, c.setup.ensures, c.coordinator.ensures, c.vector-vector.ensures)
+    grind (arith, suits_inquiry c.args.self.now.setup c.args.node m.vector m.point fits.by_setup fits.by_point, c.point.ensures, c.setup.ensures.setup, c.coordinator.ensures, c.vector-vector.ensures)
 
 pub at-requires-clause-call : goal.at-requires-clause-call
 at-requires-clause-call c live =
     let fits = c.member-member.ensures.fits in
     let m = member_of c.member-member.result.now in
     let offers = live_offered c.args.self.now.setup c.args.node m.vector m.point m.pending fits.by_call (grind (arith, live, c.holds_live_call.ensures, c.slot.ensures, c.generation-generation.ensures)) in
-    grind (arith, offers, c.point.ensures, c.setup.ensures, c.coordinator.ensures, c.vector-vector.ensures)
+    grind (arith, offers, c.point.ensures, c.setup.ensures.setup, c.coordinator.ensures, c.vector-vector.ensures)

@@ -13,7 +13,7 @@ event_by-event-requires c e = table_if_planned c.args.self.now (state_of c.args.
 
 pub unwrap-answer-requires : goal.unwrap-answer-requires
 unwrap-answer-requires c =
-    let room : c.args.self.now.events < c.args.self.now.setup.events_max = grind (arith, nat_tests, c.if-events-events_max.false, c.events.ensures.events, c.events_max.ensures.events_max, c.setup.ensures) in
+    let room : c.args.self.now.events < c.args.self.now.setup.events_max = grind (arith, nat_tests, c.if-events-events_max.false, c.events.ensures.events, c.events_max.ensures.events_max, c.setup.ensures.setup) in
     let free : cause_in c.args.self.now (event_of c.args.kind (state_of c.args.procedure)) ≡ None =
     free_if_offered c.args.self.now (state_of c.args.procedure) c.args.kind c.events.ensures.reached c.event_by-event.ensures.state c.requires.setup c.requires.offered room in
     c.apply.ensures.exact.1 (ap (cause_in c.args.self.now) c.event_by-event.ensures.event ∙ free)
@@ -31,8 +31,8 @@ returns-clause-in_step c =
     ap (is_in_step c.apply.new.self) goes
     ∙ (applied_goes_on c.args.self.now c.apply.new.self (state_of c.args.procedure) c.args.kind c.event_by-event.result.0 c.apply.result c.unwrap-answer.result c.events.ensures.reached c.requires.setup c.requires.offered c.event_by-event.ensures.event c.apply.ensures.setup c.unwrap-answer.ensures c.apply.ensures.step c.apply.ensures.generations).0
 
-pub returns-clause-identity : goal.returns-clause-identity
-returns-clause-identity c =
+pub returns-clause-same_node : goal.returns-clause-same_node
+returns-clause-same_node c =
     let owner = identity_after c.args.kind c.unwrap-answer.result (state_of c.args.procedure) in
     let goes = c.go_on.ensures ∙ gone_on c.args.kind c.unwrap-answer.result (state_of c.args.procedure) (state_of c.event_by-event.result.1) c.event_by-event.ensures.left in
-    (grind (arith, goes, owner.0, c.requires.setup, c.apply.ensures.setup), grind (arith, goes, owner.1))
+    record { setup = grind (arith, goes, owner.0); node = grind (arith, goes, owner.1) }

@@ -1,0 +1,270 @@
+//! A group in threads, in plain Rust: what `bench/run` compares `bully run` with.
+//!
+//!     runner NODES PARTITIONS TURNS > TRACE
+//!
+//! One thread for the operator, in whose first turn all nodes recover, and one for each node. They share the world and
+//! its history under one lock. In a turn a node plans first, where it has to; then it serves the lowest call that waits
+//! for it; if there is none it begins a check or a timeout, or takes the step that its procedure offers. For each of
+//! these it takes the lock anew, as `bully run` does. In the end the history is written as a trace.
+
+// The other calls of it are the checker's.
+#[allow(dead_code)]
+#[path = "../baseline/world.rs"]
+mod world;
+
+use std::env;
+use std::io::{self, stdout, BufWriter, Write};
+use std::process::ExitCode;
+use std::sync::Mutex;
+use std::thread;
+use world::{bit, Action, Node, Offer, Phase, Point, Setup, World};
+
+const EVENTS_MAX: u32 = 1_000_000;
+
+struct Entry {
+    action: Action,
+    node: u8,
+    owners: Vec<u8>,
+}
+
+struct Group {
+    world: World,
+    history: Vec<Entry>,
+}
+
+/// What a node holds between its turns: its procedure, and the table that it planned.
+struct Procedure {
+    me: u8,
+    point: Point,
+    generation: u32,
+    awaits: bool,
+    up: u64,
+    coordinator: Option<u8>,
+    table: Option<Vec<u8>>,
+}
+
+impl Group {
+    /// Applies the event and records it, if it is possible.
+    fn step(&mut self, action: Action, node: u8, owners: &[u8]) -> bool {
+        if self.world.events == EVENTS_MAX || self.world.apply(action, node, owners).is_err() {
+            return false;
+        }
+        let owners = owners.to_vec();
+        self.history.push(Entry { action, node, owners });
+        true
+    }
+
+    /// Runs the lowest call that waits for the node, if there is one.
+    fn serve(&mut self, me: u8) -> bool {
+        if self.world.node(me).is_down() {
+            return false;
+        }
+        let nodes = self.world.setup.nodes;
+        let waits = |&caller: &u8| {
+            let slot = &self.world.node(caller).slot;
+            slot.phase == Phase::Sent && slot.callee == me
+        };
+        match (1..=nodes).find(waits) {
+            Some(caller) => self.step(Action::Run, caller, &[]),
+            None => false,
+        }
+    }
+
+    /// The step of the node by the turn rule, if it has one.
+    fn next(&self, procedure: &Procedure) -> Option<Action> {
+        let node = self.world.node(procedure.me);
+        match node.slot.phase {
+            Phase::Ran(_) | Phase::Failed => Some(Action::Return),
+            Phase::Sent if self.world.node(node.slot.callee).is_down() => Some(Action::Lose),
+            Phase::Sent => None,
+            Phase::Empty => match node.offer(self.world.setup.nodes) {
+                Offer::Nothing => None,
+                Offer::Call(..) => Some(Action::Start),
+                Offer::Move => Some(Action::Move),
+                Offer::Plan => procedure.table.is_some().then_some(Action::Plan),
+            },
+        }
+    }
+
+    /// Takes the step of the node, and the procedure goes on by it; one that isn't in step is given up.
+    fn proceed(&mut self, procedure: &mut Procedure) {
+        let me = procedure.me;
+        if !procedure.is_in_step(self.world.node(me)) {
+            *procedure = Procedure::of(me, self.world.node(me));
+        } else if let Some(action) = self.next(procedure) {
+            let table = procedure.table.take().unwrap_or_default();
+            if self.step(action, me, &table) {
+                *procedure = Procedure::of(me, self.world.node(me));
+            }
+        }
+    }
+}
+
+impl Procedure {
+    fn of(me: u8, node: &Node) -> Procedure {
+        Procedure {
+            me,
+            point: node.point,
+            generation: node.generation,
+            awaits: awaits(node),
+            up: node.up,
+            coordinator: node.coordinator,
+            table: None,
+        }
+    }
+
+    fn is_in_step(&self, node: &Node) -> bool {
+        let holds = match self.point {
+            Point::Halting(_) | Point::Announcing(_) | Point::Planning => self.up == node.up,
+            Point::Inquiring => self.coordinator == node.coordinator,
+            _ => true,
+        };
+        holds && self.point == node.point && self.generation == node.generation && self.awaits == awaits(node)
+    }
+}
+
+/// Whether a live call of the node is under way.
+fn awaits(node: &Node) -> bool {
+    node.slot.phase != Phase::Empty && !node.has_orphan()
+}
+
+/// A balanced table over the members, with the fewest moves from the old one.
+fn plan(setup: Setup, members: &[u8], old: Option<&[u8]>) -> Vec<u8> {
+    let mut held = [0; 65];
+    for &owner in old.unwrap_or_default() {
+        held[owner as usize] += 1;
+    }
+    let base = setup.partitions / members.len();
+    let mut rest = setup.partitions % members.len();
+    let mut room = [0; 65];
+    for holds_more in [true, false] {
+        for &member in members {
+            if (held[member as usize] > base) == holds_more {
+                let more = usize::from(rest > 0);
+                room[member as usize] = base + more;
+                rest -= more;
+            }
+        }
+    }
+    let mut owners = vec![0; setup.partitions];
+    for (new, &owner) in owners.iter_mut().zip(old.unwrap_or_default()) {
+        if room[owner as usize] > 0 {
+            room[owner as usize] -= 1;
+            *new = owner;
+        }
+    }
+    let mut next = 0;
+    for new in owners.iter_mut().filter(|new| **new == 0) {
+        while room[members[next] as usize] == 0 {
+            next += 1;
+        }
+        room[members[next] as usize] -= 1;
+        *new = members[next];
+    }
+    owners
+}
+
+/// The table that the node plans, from its own task.
+fn planned(setup: Setup, group: &Mutex<Group>, procedure: &Procedure) -> Vec<u8> {
+    let old = {
+        let group = group.lock().unwrap();
+        let node = group.world.node(procedure.me);
+        node.has_task.then(|| node.task.clone())
+    };
+    let set = procedure.up | bit(procedure.me);
+    let members: Vec<u8> = (1..=setup.nodes).filter(|&node| set & bit(node) != 0).collect();
+    plan(setup, &members, old.as_deref())
+}
+
+fn take_turn(setup: Setup, group: &Mutex<Group>, turn: u32, procedure: &mut Procedure) {
+    let me = procedure.me;
+    if procedure.point == Point::Planning && procedure.table.is_none() {
+        procedure.table = Some(planned(setup, group, procedure));
+    }
+    if group.lock().unwrap().serve(me) {
+        return;
+    }
+    match (procedure.point, turn % 16) {
+        (Point::Idle, 0) => drop(group.lock().unwrap().step(Action::Check, me, &[])),
+        (Point::Idle, 8) => drop(group.lock().unwrap().step(Action::Timeout, me, &[])),
+        _ => group.lock().unwrap().proceed(procedure),
+    }
+}
+
+fn run_node(setup: Setup, group: &Mutex<Group>, turns: u32, me: u8) {
+    let mut procedure = Procedure::of(me, World::new(setup).node(me));
+    for turn in 1..=turns {
+        take_turn(setup, group, turn, &mut procedure);
+    }
+}
+
+fn run_operator(setup: Setup, group: &Mutex<Group>, turns: u32) {
+    for turn in 1..=turns {
+        for node in 1..=setup.nodes {
+            if turn == 1 {
+                group.lock().unwrap().step(Action::Recover, node, &[]);
+            }
+        }
+    }
+}
+
+fn run(setup: Setup, turns: u32) -> Group {
+    let group = Mutex::new(Group {
+        world: World::new(setup),
+        history: Vec::new(),
+    });
+    thread::scope(|scope| {
+        scope.spawn(|| run_operator(setup, &group, turns));
+        for me in 1..=setup.nodes {
+            let group = &group;
+            scope.spawn(move || run_node(setup, group, turns, me));
+        }
+    });
+    group.into_inner().unwrap()
+}
+
+fn word(action: Action) -> &'static str {
+    match action {
+        Action::Recover => "recover",
+        Action::Crash => "crash",
+        Action::Check => "check",
+        Action::Timeout => "timeout",
+        Action::Start => "start",
+        Action::Run => "run",
+        Action::Lose => "lose",
+        Action::Return => "return",
+        Action::Move => "move",
+        Action::Plan => "plan",
+    }
+}
+
+fn write(setup: Setup, history: &[Entry]) -> io::Result<()> {
+    let mut output = BufWriter::new(stdout().lock());
+    writeln!(output, "bully,1,{},{}", setup.nodes, setup.partitions)?;
+    for entry in history {
+        write!(output, "{},{}", word(entry.action), entry.node)?;
+        for (place, owner) in entry.owners.iter().enumerate() {
+            let before = if place == 0 { ',' } else { ' ' };
+            write!(output, "{before}{owner}")?;
+        }
+        writeln!(output)?;
+    }
+    output.flush()
+}
+
+fn main() -> ExitCode {
+    let words: Vec<u32> = env::args().skip(1).filter_map(|word| word.parse().ok()).collect();
+    let &[nodes @ 1..=64, partitions @ 1..=256, turns] = words.as_slice() else {
+        eprintln!("usage: runner NODES PARTITIONS TURNS");
+        return ExitCode::from(2);
+    };
+    let setup = Setup {
+        nodes: nodes as u8,
+        partitions: partitions as usize,
+    };
+    let group = run(setup, turns);
+    match write(setup, &group.history) {
+        Ok(()) => ExitCode::SUCCESS,
+        Err(_) => ExitCode::FAILURE,
+    }
+}

@@ -1,0 +1,62 @@
+ghost use Rattle.std.specs.Prelude.{◌≡◌, ◌≤◌, Err, length, map, IfOk, OnOk};
+ghost use Rattle.std.specs.Io.KnownBytes.{Appends};
+ghost use Rattle.bully_nodes.specs.Play.{trace_setup, trace_with};
+ghost use Rattle.bully_trace.specs.TraceText.{trace_text};
+ghost use Rattle.bully_trace.specs.declared.TheConstants.{ROWS_MAX};
+ghost use Rattle.bully_trace.specs.declared.trace.Row.{Row};
+ghost use Rattle.bully_watch.specs.History.{event_of};
+
+use crate::playing::PlayFault;
+use bully_base::{EVENTS_MAX, OutOfMemory, Setup};
+use bully_group::Closed;
+use bully_trace::{Row, Rows, Trace, write_trace};
+use bully_watch::Entry;
+use std::alloc::Global;
+use std::io::Write;
+
+/// Writes the history of a finished group as a trace: a row for the event of each entry, in order. Refused as
+/// `OutOfMemory` where an allocation fails, and then nothing was written; as `Write` where the writer fails, and
+/// then a prefix of the trace may have been written. The rule: docs/ALGORITHM.md.
+pub fn write_history<W: Write>(
+    alloc: Global,
+    writer: &mut W,
+    closed: &Closed,
+) -> Result<(), PlayFault>
+    ensures written { OnOk result (Appends (W.contents writer.old) (W.contents writer.new) (trace_text (trace_with closed.now.view.setup (map event_of closed.now.history)))) }
+    ensures memory { result ≡ Err PlayFault.OutOfMemory → writer.new ≡ writer.old }
+{
+    let trace = trace_of(alloc, closed)?;
+    Ok(write_trace(alloc, writer, &trace)?)
+}
+
+// The trace of a history.
+fn trace_of(alloc: Global, closed: &Closed) -> Result<Trace, OutOfMemory>
+    ensures { IfOk result (λ trace. trace ≡ trace_with closed.now.view.setup (map event_of closed.now.history)) }
+{
+    let rows = rows_of(alloc, closed.history())?;
+    Ok(trace_with(closed.setup(), rows))
+}
+
+// A row for the event of each entry.
+fn rows_of(alloc: Global, entries: &[Entry]) -> Result<Vec<Row>, OutOfMemory>
+    ensures { IfOk result (λ rows. rows.items ≡ map Row.Event (map event_of entries.now)) }
+{
+    let mut rows = Vec::with_capacity(alloc, entries.len())?;
+    for entry in entries {
+        rows.push(Row::Event(entry.event.copy()?))?;
+    }
+    Ok(rows)
+}
+
+/// The trace with these rows, at most [`bully_trace::ROWS_MAX`]. Its header has no bound on events, so that is the
+/// profile's.
+pub fn trace_with(setup: Setup, rows: Vec<Row>) -> Trace
+    requires { length rows.items ≤ ROWS_MAX }
+    ensures { result ≡ record { setup = trace_setup setup; rows = rows.items } }
+{
+    let setup = Setup::new(setup.nodes(), setup.partitions(), EVENTS_MAX).unwrap();
+    Trace {
+        setup,
+        rows: Rows::from_vec(rows),
+    }
+}
