@@ -8,4 +8,6 @@ pub mod ShareLemmas
 pub mod StayLemmas
 pub mod PlannedLemmas
 pub mod PlanSteps
+pub mod TakerLemmas
+pub mod QuotaSteps
 pub mod OwnerTexts

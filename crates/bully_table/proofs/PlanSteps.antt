@@ -25,17 +25,17 @@ pub moves-no : (old new : List ℕ) (n count : ℕ) → count ≡ places_where (
 moves-no old new n count e h = grind (arith, nat_tests, e, h, places-more (differ old new) n)
 
 -- members below a number, one number more
-below-none : (f : ℕ → ℕ) (bound : ℕ) (ms : List ℕ) → IsFallingBelow bound ms → total f (below_node 1 ms) ≡ 0
+pub below-none : (f : ℕ → ℕ) (bound : ℕ) (ms : List ℕ) → IsFallingBelow bound ms → total f (below_node 1 ms) ≡ 0
 below-none f bound [] falling = refl
 below-none f bound (m ∷ ms) falling = grind (arith, nat_tests, falling.0, below-none f m ms falling.2)
 
-count-total : (test : ℕ → Bool) (ms : List ℕ) → count_by test ms ≡ total (λ k. one (test k)) ms
+pub count-total : (test : ℕ → Bool) (ms : List ℕ) → count_by test ms ≡ total (λ k. one (test k)) ms
 count-total test ms = total-sum_by (λ k. one (test k)) ms
 
 pub count-below-none : (test : ℕ → Bool) (bound : ℕ) (ms : List ℕ) → IsFallingBelow bound ms → 0 ≡ count_by test (below_node 1 ms)
 count-below-none test bound ms falling = sym (count-total test (below_node 1 ms) ∙ below-none (λ k. one (test k)) bound ms falling)
 
-member-or-not : (ms : List ℕ) (k : ℕ) → Contains ms k ⊎ (¬ Contains ms k)
+pub member-or-not : (ms : List ℕ) (k : ℕ) → Contains ms k ⊎ (¬ Contains ms k)
 member-or-not ms k = by_case (list_any (λ m. m == k) ms) refl
   where
     by_case : (b : Bool) → list_any (λ m. m == k) ms ≡ b → Contains ms k ⊎ (¬ Contains ms k)
@@ -66,27 +66,6 @@ rank-no test bound number node rank next ms falling same h was more = by_case (m
 pub count-below-all : (test : ℕ → Bool) (bound k : ℕ) (ms : List ℕ) → IsFallingBelow bound ms → bound ≤ k → count_by test (below_node k ms) ≡ count_by test ms
 count-below-all test bound k ms falling l = omega (arith, count-total test (below_node k ms), count-total test ms, total-above (λ m. one (test m)) bound k ms falling l)
 
--- the rooms below a number
-abbrev pub spare : List ℕ → List ℕ → ℕ → ℕ
-spare quotas counts m = slice_index_or quotas (m - 1) 0 - slice_index_or counts (m - 1) 0
-
-pub spare-none : (quotas counts : List ℕ) (bound : ℕ) (ms : List ℕ) → IsFallingBelow bound ms → total (spare quotas counts) (below_node 1 ms) ≡ 0
-spare-none quotas counts bound ms falling = below-none (spare quotas counts) bound ms falling
-
-pub spare-yes : (f : ℕ → ℕ) (bound number node rest next index : ℕ) (ms : List ℕ) → IsFallingBelow bound ms → number ≡ node → Contains ms node →
-    rest + total f (below_node number ms) ≡ index → f node ≤ rest → next ≡ rest - f node → next + total f (below_node (number + 1) ms) ≡ index
-spare-yes f bound number node rest next index ms falling same h was fits e =
-    let here : Contains ms number = rw same h in
-    let step = total-below-member f bound number ms falling here in
-    let part : f number ≡ f node = ap f same in
-    omega arith
-
-pub spare-no : (f : ℕ → ℕ) (number node rest next index : ℕ) (ms : List ℕ) → number ≡ node → (¬ Contains ms node) →
-    rest + total f (below_node number ms) ≡ index → next ≡ rest → next + total f (below_node (number + 1) ms) ≡ index
-spare-no f number node rest next index ms same out was e =
-    let step = total-below-other f number ms (λ here. out (rw (← same) here)) in
-    omega arith
-
 -- who is found is the taker
 pub taken-at : (setup : Setup) (before : List ℕ) (bound : ℕ) (members : List ℕ) (f : ℕ → ℕ) (m rest index : ℕ) → IsFallingBelow bound members → Contains members m →
     ((k : ℕ) → Contains members k → f k ≡ room setup before members k) → rest + total f (below_node m members) ≡ index → rest < f m → taker setup before members index ≡ m
@@ -94,9 +73,3 @@ taken-at setup before bound members f m rest index falling x same e l =
     let below = total-below-same f (room setup before members) m members same in
     let here = same m x in
     taker-of setup bound before members m index falling x (omega (arith, rooms_below-is setup before members m), omega (arith, rooms_below-is setup before members m))
-
--- and somebody is found
-pub taken-somewhere : (setup : Setup) (before : List ℕ) (bound : ℕ) (members : List ℕ) (f : ℕ → ℕ) (k rest index : ℕ) → IsFallingBelow bound members → bound ≤ k →
-    ((m : ℕ) → Contains members m → f m ≡ room setup before members m) → rest + total f (below_node k members) ≡ index → index < sum_by (room setup before members) members → ⊥
-taken-somewhere setup before bound members f k rest index falling high same e l =
-    omega (arith, total-above f bound k members falling high, total-same f (room setup before members) members same, total-sum_by (room setup before members) members)

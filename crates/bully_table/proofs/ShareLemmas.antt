@@ -20,12 +20,12 @@ large base before m = nat_lt base (count_of m before)
 abbrev pub rank : ℕ → List ℕ → List ℕ → ℕ → ℕ
 rank base before members m = count_by (λ k. comes_first (large base before) k m) members
 
-rank-large : (base : ℕ) (before members : List ℕ) (m : ℕ) → large base before m ≡ true → rank base before members m ≡ lower (large base before) m members
+pub rank-large : (base : ℕ) (before members : List ℕ) (m : ℕ) → large base before m ≡ true → rank base before members m ≡ lower (large base before) m members
 rank-large base before members m e =
     total-sum_by (λ k. one (comes_first (large base before) k m)) members
     ∙ total-same _ _ members (λ k x. grind (arith, e))
 
-rank-small : (base : ℕ) (before members : List ℕ) (m : ℕ) → large base before m ≡ false → rank base before members m ≡ passing (large base before) members + lower (λ k. not (large base before k)) m members
+pub rank-small : (base : ℕ) (before members : List ℕ) (m : ℕ) → large base before m ≡ false → rank base before members m ≡ passing (large base before) members + lower (λ k. not (large base before k)) m members
 rank-small base before members m e =
     total-sum_by (λ k. one (comes_first (large base before) k m)) members
     ∙ (total-same _ (λ k. one (large base before k) + one (not (large base before k) && nat_lt k m)) members (λ k x. grind (arith, e))

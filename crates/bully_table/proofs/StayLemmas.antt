@@ -73,14 +73,6 @@ pub room-is : (setup : Setup) (bound : ℕ) (before members : List ℕ) (m : ℕ
 unfolding room
 room-is setup bound before members m h x = omega (arith, stays-count_all setup bound before members m h x)
 
--- what the code subtracts
-pub rooms-from : (setup : Setup) (before members quotas counts : List ℕ) → Plannable setup 65 before members →
-    ((m : ℕ) → IsNodeNumber m → slice_index_or quotas (m - 1) 0 ≡ quota setup before members m) → ((m : ℕ) → IsNodeNumber m → slice_index_or counts (m - 1) 0 ≡ count_of m before) →
-    (m : ℕ) → Contains members m → slice_index_or quotas (m - 1) 0 - slice_index_or counts (m - 1) 0 ≡ room setup before members m
-rooms-from setup before members quotas counts h shares counted m x =
-    let within = falling-within 65 members m h.falling x in
-    omega (arith, room-is setup 65 before members m h x, shares m (within.0, omega (arith, within.1)), counted m (within.0, omega (arith, within.1)))
-
 -- how many partitions stay in all
 pub stays-total : (setup : Setup) (bound : ℕ) (before members : List ℕ) → Plannable setup bound before members →
     total (λ m. min (count_of m before) (quota setup before members m)) members ≡ places_where (stays setup before members) setup.partitions

@@ -4,3 +4,4 @@ pub mod Numeral
 pub mod TableText
 pub mod Room
 pub mod Pieces
+pub mod Takers

@@ -13,6 +13,7 @@ mod quotas;
 mod reading;
 mod room;
 mod table;
+mod takers;
 mod text;
 
 pub use numeral::read_number;

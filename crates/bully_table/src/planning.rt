@@ -1,15 +1,17 @@
 ghost use Rattle.std.specs.Prelude.{◌≡◌, ◌≢◌, ◌↔◌, ◌+◌, ◌-◌, ◌<◌, ◌≤◌, ℕ, List, [], Some, None, map, take, length, slice_index_or, Contains, IfOk, IfErr, if◌then◌else◌};
-ghost use Rattle.std.specs.List.{range_with_len, sum_by};
+ghost use Rattle.std.specs.List.{range_with_len};
 ghost use Rattle.std.specs.Option.{IfSome, option_copied};
 ghost use Rattle.bully_base.specs.NodeSet.{IsFallingBelow};
 ghost use Rattle.bully_base.specs.declared.TheConstants.{NODES_MAX};
 ghost use Rattle.bully_base.specs.Setup.{Setup as SetupState, IsNodeNumber};
 ghost use Rattle.bully_table.specs.Balance.{count_of};
-ghost use Rattle.bully_table.specs.Planning.{IsFewest, IsMostKept, moves_from, planned, owners_before, planned_owner, owner_at, quota, stays, room, taker};
+ghost use Rattle.bully_table.specs.Planning.{IsFewest, IsMostKept, moves_from, planned, owners_before, planned_owner, owner_at, stays};
+ghost use Rattle.bully_table.specs.Takers.{share};
 
 use crate::balance::{PLACES, count_at, counts_of};
 use crate::quotas::quotas_of;
 use crate::table::Table;
+use crate::takers::Takers;
 use bully_base::{NODES_MAX, Node, NodeSet, OutOfMemory, Setup};
 use std::alloc::{AllocError, Global};
 
@@ -73,8 +75,7 @@ pub fn plan(
         return Err(PlanFault::NoMember);
     }
     let partitions = setup.partitions();
-    let quotas = quotas_of(setup, members, owners_before(old));
-    let owners = planned_owners(alloc, setup, members, owners_before(old), &quotas)?;
+    let owners = planned_owners(alloc, setup, members, owners_before(old))?;
     let table = Table::of(owners);
     let moves = moves_from(setup, old, &table);
     Ok(TablePlan {
@@ -111,27 +112,22 @@ fn planned_owners(
     setup: Setup,
     members: &NodeSet,
     before: &[Node],
-    quotas: &[usize; PLACES],
 ) -> Result<Vec<Node>, OutOfMemory>
     requires some { members.now ≢ [] }
     requires falling { IsFallingBelow (NODES_MAX + 1) members.now }
     requires covers { length before.now ≤ setup.partitions }
-    requires quotas { (m : ℕ) → IsNodeNumber m → slice_index_or quotas.now (m - 1) 0 ≡ quota setup before.now members.now m }
     ensures { IfOk result (λ owners. owners.items ≡ map (planned_owner setup before.now members.now) (range_with_len 0 setup.partitions)) }
 {
     let counts = counts_of(before);
+    let quotas = quotas_of(setup, members, &counts);
+    let mut takers = Takers::of(&quotas, &counts);
     let partitions = usize::from(setup.partitions());
     let mut owners = Vec::with_capacity(alloc, partitions)?;
     let mut seen = [0; PLACES];
-    let mut movers = 0;
     for place in 0..partitions {
-        let owner = match staying_owner(members, before, quotas, place, &mut seen) {
+        let owner = match staying_owner(before, &quotas, place, &mut seen) {
             Some(owner) => owner,
-            None => {
-                let taker = taker_of(members, quotas, &counts, movers).unwrap();
-                movers += 1;
-                taker
-            }
+            None => takers.next().unwrap(),
         };
         owners.push(owner)?;
     }
@@ -141,48 +137,22 @@ fn planned_owners(
 // The owner of the partition at this place, if it stays there. `seen` counts the owners of the places before, and then
 // this one too.
 fn staying_owner(
-    members: &NodeSet,
     before: &[Node],
     quotas: &[usize; PLACES],
     place: usize,
     seen: &mut [usize; PLACES],
 ) -> Option<Node>
-    requires falling { IsFallingBelow (NODES_MAX + 1) members.now }
     requires seen { (m : ℕ) → IsNodeNumber m → slice_index_or seen.old (m - 1) 0 ≡ count_of m (take place before.now) }
     ensures seen { (m : ℕ) → IsNodeNumber m → slice_index_or seen.new (m - 1) 0 ≡ count_of m (take (place + 1) before.now) }
-    ensures owner { (setup : SetupState) → ((m : ℕ) → IsNodeNumber m → slice_index_or quotas.now (m - 1) 0 ≡ quota setup before.now members.now m) → result ≡ (if stays setup before.now members.now place then Some (owner_at before.now place) else None) }
+    ensures owner { (setup : SetupState) (members : List ℕ) → IsFallingBelow (NODES_MAX + 1) members → ((m : ℕ) → IsNodeNumber m → slice_index_or quotas.now (m - 1) 0 ≡ share setup before.now members m) → result ≡ (if stays setup before.now members place then Some (owner_at before.now place) else None) }
 {
     let owner = *before.get(place)?;
     let index = usize::from(owner.number() - 1);
     let count = seen[index];
     seen[index] = count + 1;
-    if members.has(owner) && count < count_at(quotas, owner) {
+    if count < count_at(quotas, owner) {
         Some(owner)
     } else {
         None
     }
-}
-
-// Who gets the partition that is this one, from 0, of those that don't stay.
-fn taker_of(
-    members: &NodeSet,
-    quotas: &[usize; PLACES],
-    counts: &[usize; PLACES],
-    index: usize,
-) -> Option<Node>
-    requires { IsFallingBelow (NODES_MAX + 1) members.now }
-    ensures { (setup : SetupState) (before : List ℕ) → ((m : ℕ) → Contains members.now m → slice_index_or quotas.now (m - 1) 0 - slice_index_or counts.now (m - 1) 0 ≡ room setup before members.now m) → index < sum_by (room setup before members.now) members.now → result ≡ Some (taker setup before members.now index) }
-{
-    let mut rest = index;
-    for number in 1..=NODES_MAX {
-        let node = Node::new(number).unwrap();
-        if members.has(node) {
-            let room = count_at(quotas, node).saturating_sub(count_at(counts, node));
-            if rest < room {
-                return Some(node);
-            }
-            rest -= room;
-        }
-    }
-    None
 }

@@ -8,24 +8,24 @@ use Rattle.bully_table.proofs.planning.plan.Goals as goal
 
 pub of-table-requires : goal.of-table-requires
 of-table-requires c =
-    let covers = ap (λ (xs : List ℕ). length xs) c.in_ok-owners.ensures ∙ planned-covers c.args.setup c.owners_before-2.result.now c.args.members.now in
+    let covers = ap (λ (xs : List ℕ). length xs) c.in_ok-owners.ensures ∙ planned-covers c.args.setup c.owners_before.result.now c.args.members.now in
     omega (arith, covers, c.partitions-partitions.ensures.within)
 
 pub moves_from-moves-requires : goal.moves_from-moves-requires
 moves_from-moves-requires c =
-    let covers = ap (λ (xs : List ℕ). length xs) (c.of-table.ensures ∙ c.in_ok-owners.ensures) ∙ planned-covers c.args.setup c.owners_before-2.result.now c.args.members.now in
+    let covers = ap (λ (xs : List ℕ). length xs) (c.of-table.ensures ∙ c.in_ok-owners.ensures) ∙ planned-covers c.args.setup c.owners_before.result.now c.args.members.now in
     lengths-from (option_copied c.args.old) c.args.setup.partitions (length c.of-table.result) c.requires covers
 
 pub overflow_sub-result : goal.overflow_sub-result
 overflow_sub-result c =
-    let covers = ap (λ (xs : List ℕ). length xs) (c.of-table.ensures ∙ c.in_ok-owners.ensures) ∙ planned-covers c.args.setup c.owners_before-2.result.now c.args.members.now in
+    let covers = ap (λ (xs : List ℕ). length xs) (c.of-table.ensures ∙ c.in_ok-owners.ensures) ∙ planned-covers c.args.setup c.owners_before.result.now c.args.members.now in
     omega (arith, moves-within c.args.setup (option_copied c.args.old) c.of-table.result covers)
 
 pub returns-clause-fewest : goal.returns-clause-fewest
 returns-clause-fewest c =
     let some : is_none c.highest.result ≡ false = grind (arith, c.is_none.ensures, c.if-is_none.false) in
     let plannable : Plannable c.args.setup 65 (owners_before (option_copied c.args.old)) c.args.members.now = record { falling = c.highest.ensures.falling; some = some-from c.highest.result c.args.members.now c.highest.ensures.highest some; covers = covers-from c.args.setup (option_copied c.args.old) c.requires } in
-    let is : c.of-table.result ≡ planned c.args.setup (option_copied c.args.old) c.args.members.now = c.of-table.ensures ∙ (c.in_ok-owners.ensures ∙ ap (λ (before : List ℕ). map (planned_owner c.args.setup before c.args.members.now) (range_with_len 0 c.args.setup.partitions)) c.owners_before-2.ensures) in
+    let is : c.of-table.result ≡ planned c.args.setup (option_copied c.args.old) c.args.members.now = c.of-table.ensures ∙ (c.in_ok-owners.ensures ∙ ap (λ (before : List ℕ). map (planned_owner c.args.setup before c.args.members.now) (range_with_len 0 c.args.setup.partitions)) c.owners_before.ensures) in
     rw is (planned-fewest c.args.setup 65 (option_copied c.args.old) c.args.members.now plannable)
 
 pub returns-clause-bound : goal.returns-clause-bound
@@ -34,5 +34,5 @@ returns-clause-bound c =
 
 pub returns-clause-certificate : goal.returns-clause-certificate
 returns-clause-certificate c =
-    let covers = ap (λ (xs : List ℕ). length xs) (c.of-table.ensures ∙ c.in_ok-owners.ensures) ∙ planned-covers c.args.setup c.owners_before-2.result.now c.args.members.now in
+    let covers = ap (λ (xs : List ℕ). length xs) (c.of-table.ensures ∙ c.in_ok-owners.ensures) ∙ planned-covers c.args.setup c.owners_before.result.now c.args.members.now in
     omega (arith, moves-within c.args.setup (option_copied c.args.old) c.of-table.result covers)

@@ -1,0 +1,7 @@
+use Rattle.std.proofs.Common.{arith, sym}
+use Rattle.bully_table.specs.Takers.{spare}
+use Rattle.bully_table.proofs.TakerLemmas.{takers-next}
+use Rattle.bully_table.proofs.takers.Takers.of.Goals as goal
+
+pub returns : goal.returns
+returns c = grind (arith, c.new.ensures, c.room_of-room.ensures, takers-next (spare c.args.quotas.now c.args.counts.now) 64 63 1 (omega arith))

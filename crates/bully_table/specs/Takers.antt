@@ -1,0 +1,23 @@
+-- Who takes the partitions that don't stay, one after the other.
+use Rattle.std.specs.Prelude.{ℕ, zero, suc, ◌+◌, ◌-◌, List, [], ◌++◌, replicate, ◌==◌, slice_index_or, if◌then◌else◌}
+use Rattle.std.specs.List.{list_any}
+use Rattle.bully_base.specs.Setup.{Setup}
+use Rattle.bully_base.specs.declared.TheConstants.{NODES_MAX}
+use Rattle.bully_table.specs.Planning.{quota}
+
+-- how many partitions the node is to own: its quota, and none where it is no member
+abbrev pub share : Setup → List ℕ → List ℕ → ℕ → ℕ
+share setup before members m = if list_any (λ k. k == m) members then quota setup before members m else 0
+
+-- how many the node still takes, where it is to own so many and has so many
+abbrev pub spare : List ℕ → List ℕ → ℕ → ℕ
+spare quotas counts m = slice_index_or quotas (m - 1) 0 - slice_index_or counts (m - 1) 0
+
+-- the n nodes from m on, each as often as it takes
+unfoldable pub takers_from : (ℕ → ℕ) → ℕ → ℕ → List ℕ
+takers_from takes zero m = []
+takers_from takes (suc n) m = replicate (takes m) m ++ takers_from takes n (m + 1)
+
+-- who is still to take, where this node takes so many more
+abbrev pub takers_left : List ℕ → List ℕ → ℕ → ℕ → List ℕ
+takers_left quotas counts node left = replicate left node ++ takers_from (spare quotas counts) (NODES_MAX - node) (node + 1)
