@@ -1,6 +1,6 @@
 -- A trace, from its header and the rows behind it, as far as it was read.
-use Rattle.std.proofs.Common.{◌≡◌, ◌≢◌, ◌⊎◌, inl, inr, ◌∙◌, ◌+◌, ◌≤◌, ◌<◌, ◌++◌, arith, Bool, true, false, ℕ, List, [], ◌∷◌, Option, Some, None, Result, Ok, Err, refl, sym, ap, append_assoc}
-use Rattle.std.specs.Prelude.{IfSome, IsOk, IsTrue, length, option_map}
+use Rattle.std.proofs.Common.{◌≡◌, ◌≢◌, ◌⊎◌, inl, inr, ◌∙◌, ◌+◌, ◌≤◌, ◌<◌, ◌++◌, arith, Bool, true, false, ℕ, List, [], ◌∷◌, Option, Some, None, Ok, Err, refl, sym, ap, append_assoc}
+use Rattle.std.specs.Prelude.{IfSome, IsOk, option_map}
 use Rattle.std.proofs.lemmas.List.{append-nil, length-append}
 use Rattle.bully_base.specs.Setup.{Setup}
 use Rattle.bully_trace.specs.declared.TheConstants.{ROWS_MAX}
@@ -8,7 +8,7 @@ use Rattle.bully_trace.specs.declared.trace.Row.{Row}
 use Rattle.bully_trace.specs.declared.trace.Trace.{Trace}
 use Rattle.bully_trace.specs.declared.trace.TraceCause.{TraceCause}
 use Rattle.bully_trace.specs.declared.trace.TraceFault.{TraceFault}
-use Rattle.bully_trace.specs.Rows.{AreFaultless, IsBehind, IsReadAtItsRow, IsTraceOf, Record, fault_at, header_of, is_of_form, read_as, records_of, row_of, rows_from, trace_of}
+use Rattle.bully_trace.specs.Rows.{IsBehind, IsTraceOf, Record, fault_at, header_of, is_of_form, read_as, records_of, row_of, rows_from, trace_of}
 use Rattle.bully_trace.specs.RecordsLeft.{EndsReading, HasRead, HasTaken, IsOutside, RowsLeft, Takes}
 use Rattle.bully_trace.proofs.RowsLemmas.{bad-first, good-first, late-first, rows-behind}
 

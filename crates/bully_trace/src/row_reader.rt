@@ -39,7 +39,7 @@ impl<R: Read> Model for RowReader<R> {
 }
 
 impl<R: Read + Drop> RowReader<R> {
-    /// Reads the trace's header.
+    /// Reads the trace's header. Refused as [`crate::read_trace`] refuses it there.
     pub fn open(alloc: Global, reader: R) -> Result<RowReader<R>, TraceFault>
         ensures opened { IfOk result (HasRead (R.remaining reader) []) }
         ensures fault { IfErr result (EndsReading (R.remaining reader)) }
@@ -73,7 +73,7 @@ impl<R: Read + Drop> RowReader<R> {
         self.number
     }
 
-    /// Takes the next row; none where the trace has ended.
+    /// Takes the next row; none where the trace has ended. Refused as [`crate::read_trace`] refuses it at that row.
     pub fn next_row(&mut self) -> Result<Option<Row>, TraceFault>
         ensures next { (known : Option (List ℕ)) (rows : List Row) → HasRead known rows self.old → IfOk result (λ next. IsNext known rows next self.old.setup self.new) }
         ensures fault { (known : Option (List ℕ)) (rows : List Row) → HasRead known rows self.old → IfErr result (EndsReading known) }

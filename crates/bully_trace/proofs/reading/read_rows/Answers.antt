@@ -1,4 +1,4 @@
-use Rattle.std.proofs.Common.{◌≡◌, None, [], sym, arith}
+use Rattle.std.proofs.Common.{None, [], sym, arith}
 use Rattle.bully_trace.specs.RecordsLeft.{HasRead}
 use Rattle.bully_trace.proofs.reading.read_rows.Goals as goal
 

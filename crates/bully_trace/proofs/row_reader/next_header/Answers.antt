@@ -1,5 +1,4 @@
 use Rattle.std.proofs.Common.{◌∙◌, sym, rules}
-use Rattle.csv.specs.Records.{fields_of}
 use Rattle.bully_trace.proofs.TraceLemmas.{header-read}
 use Rattle.bully_trace.proofs.row_reader.next_header.Goals as goal
 

@@ -1,6 +1,5 @@
-use Rattle.std.proofs.Common.{◌≡◌, ◌+◌, ◌≤◌, refl, rules, arith}
+use Rattle.std.proofs.Common.{refl, rules}
 use Rattle.std.proofs.lemmas.Result.{err_from_is_err_and}
-use Rattle.bully_trace.specs.declared.TheConstants.{ROWS_MAX}
 use Rattle.bully_trace.proofs.TraceLemmas.{read-failed, read-fault, read-late, read-more}
 use Rattle.bully_trace.proofs.row_reader.RowReader.next_row.Goals as goal
 
