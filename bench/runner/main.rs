@@ -5,7 +5,8 @@
 //! One thread for the operator, in whose first turn all nodes recover, and one for each node. They share the world and
 //! its history under one lock. In a turn a node plans first, where it has to; then it serves the lowest call that waits
 //! for it; if there is none it begins a check or a timeout, or takes the step that its procedure offers. For each of
-//! these it takes the lock anew, as `bully run` does. In the end the history is written as a trace.
+//! these it takes the lock anew, and after a turn without an event it gives its processor away, as `bully run` does. In
+//! the end the history is written as a trace.
 
 // The other calls of it are the checker's.
 #[allow(dead_code)]
@@ -86,17 +87,21 @@ impl Group {
         }
     }
 
-    /// Takes the step of the node, and the procedure goes on by it; one that isn't in step is given up.
-    fn proceed(&mut self, procedure: &mut Procedure) {
+    /// Takes the step of the node, if it has one, and the procedure goes on by it; one that isn't in step is given up.
+    fn proceed(&mut self, procedure: &mut Procedure) -> bool {
         let me = procedure.me;
         if !procedure.is_in_step(self.world.node(me)) {
             *procedure = Procedure::of(me, self.world.node(me));
-        } else if let Some(action) = self.next(procedure) {
-            let table = procedure.table.take().unwrap_or_default();
-            if self.step(action, me, &table) {
-                *procedure = Procedure::of(me, self.world.node(me));
-            }
+            return false;
         }
+        let Some(action) = self.next(procedure) else {
+            return false;
+        };
+        let taken = self.step(action, me, procedure.table.as_deref().unwrap_or_default());
+        if taken {
+            *procedure = Procedure::of(me, self.world.node(me));
+        }
+        taken
     }
 }
 
@@ -176,17 +181,18 @@ fn planned(setup: Setup, group: &Mutex<Group>, procedure: &Procedure) -> Vec<u8>
     plan(setup, &members, old.as_deref())
 }
 
-fn take_turn(setup: Setup, group: &Mutex<Group>, turn: u32, procedure: &mut Procedure) {
+/// One turn of a node; whether there was an event.
+fn take_turn(setup: Setup, group: &Mutex<Group>, turn: u32, procedure: &mut Procedure) -> bool {
     let me = procedure.me;
     if procedure.point == Point::Planning && procedure.table.is_none() {
         procedure.table = Some(planned(setup, group, procedure));
     }
     if group.lock().unwrap().serve(me) {
-        return;
+        return true;
     }
     match (procedure.point, turn % 16) {
-        (Point::Idle, 0) => drop(group.lock().unwrap().step(Action::Check, me, &[])),
-        (Point::Idle, 8) => drop(group.lock().unwrap().step(Action::Timeout, me, &[])),
+        (Point::Idle, 0) => group.lock().unwrap().step(Action::Check, me, &[]),
+        (Point::Idle, 8) => group.lock().unwrap().step(Action::Timeout, me, &[]),
         _ => group.lock().unwrap().proceed(procedure),
     }
 }
@@ -194,17 +200,18 @@ fn take_turn(setup: Setup, group: &Mutex<Group>, turn: u32, procedure: &mut Proc
 fn run_node(setup: Setup, group: &Mutex<Group>, turns: u32, me: u8) {
     let mut procedure = Procedure::of(me, World::new(setup).node(me));
     for turn in 1..=turns {
-        take_turn(setup, group, turn, &mut procedure);
+        if !take_turn(setup, group, turn, &mut procedure) {
+            thread::yield_now();
+        }
     }
 }
 
 fn run_operator(setup: Setup, group: &Mutex<Group>, turns: u32) {
-    for turn in 1..=turns {
-        for node in 1..=setup.nodes {
-            if turn == 1 {
-                group.lock().unwrap().step(Action::Recover, node, &[]);
-            }
-        }
+    for node in 1..=setup.nodes {
+        group.lock().unwrap().step(Action::Recover, node, &[]);
+    }
+    for _ in 1..turns {
+        thread::yield_now();
     }
 }
 
