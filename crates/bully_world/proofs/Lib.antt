@@ -22,3 +22,4 @@ pub mod TurnLemmas
 pub mod TurnSteps
 pub mod ProcedureAfter
 pub mod TurnTaken
+pub mod WaitingLemmas

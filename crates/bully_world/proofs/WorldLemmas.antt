@@ -1,20 +1,19 @@
 -- What every world keeps, from the first one on.
-use Rattle.std.proofs.Common.{◌≡◌, ℕ, zero, suc, ◌+◌, ◌<◌, ◌≤◌, ◌⊎◌, inl, inr, false, List, [], ◌∷◌, ◌++◌, Option, Some, None, refl, sym, ◌∙◌, ap, arith, length, take, drop, length-append}
+use Rattle.std.proofs.Common.{◌≡◌, ℕ, zero, suc, ◌+◌, ◌≤◌, List, [], ◌∷◌, ◌++◌, Option, Some, None, refl, sym, ◌∙◌, ap, arith, length, take, drop, length-append}
 use Rattle.std.proofs.lemmas.Grind.{common_steps}
 use Rattle.std.specs.Prelude.{replicate, slice_index_or}
-use Rattle.bully_base.proofs.PlaceLemmas.{at_node_past, at_node-place}
-use Rattle.bully_base.specs.Places.{at_node}
+use Rattle.bully_base.proofs.PlaceLemmas.{at_node-place}
 use Rattle.bully_base.specs.Setup.{Setup}
 use Rattle.bully_world.specs.declared.event.Event.{Event}
 use Rattle.bully_world.specs.Cause.{cause}
 use Rattle.bully_world.specs.NodeInvariant.{WorldInvariant}
-use Rattle.bully_world.specs.State.{MemberState, WorldState, empty_state, state_at, member_of, IsWorld, IsReached, members_of, first_state, new_members}
+use Rattle.bully_world.specs.State.{MemberState, WorldState, empty_state, state_at, IsWorld, IsReached, members_of, first_state, new_members}
 use Rattle.bully_world.specs.Step.{Step}
 use Rattle.bully_world.specs.StateAfter.{state_after, answer_after}
-use Rattle.bully_world.specs.World.{Member, empty_member, first_world, pending, is_sent_to}
+use Rattle.bully_world.specs.World.{first_world}
 use Rattle.bully_world.proofs.KeptLemmas.{state_after_kept, state_after_length, new_kept}
 use Rattle.bully_world.proofs.LawfulLemmas.{lawful_more}
-use Rattle.bully_world.proofs.MembersOf.{member-members_of, members_of-length, members_of-new}
+use Rattle.bully_world.proofs.MembersOf.{members_of-new}
 use Rattle.bully_world.proofs.NodeInvariantLemmas.{lawful_fits}
 use Rattle.bully_world.proofs.ApplyLemmas.{room_of}
 use Rattle.bully_world.proofs.StateAfterLemmas.{state_after_steps}
@@ -71,23 +70,3 @@ put_back len xs ys e f = grind (arith, common_steps, e, f)
 pub none_from : {A : Type 0} (q : Option A) → ((x : A) → q ≡ Some x → ⊥) → q ≡ None
 none_from None n = refl
 none_from (Some x) n = absurd (n x refl)
-
--- nobody above the last node waits
-pub nobody_past : (j i : ℕ) (ms : List MemberState) → length ms < i → is_sent_to j (pending (members_of ms) i) ≡ false
-nobody_past j i ms past = ap (λ (m : Member). is_sent_to j m.pending) (at_node_past empty_member (members_of ms).members i (omega (arith, members_of-length ms, past)))
-
--- one node more that doesn't wait
-pub nobody_more : (j n i b : ℕ) (ms : List MemberState) → n + 1 ≡ b → is_sent_to j (member_of (at_node (empty_state 0) ms b)).pending ≡ false → ((k : ℕ) → k ≤ n → is_sent_to j (pending (members_of ms) k) ≡ false) → i ≤ n + 1 → is_sent_to j (pending (members_of ms) i) ≡ false
-nobody_more j n i b ms e here below l = by_case (grind arith)
-  where
-    by_case : (i ≡ b) ⊎ (i ≤ n) → is_sent_to j (pending (members_of ms) i) ≡ false
-    by_case (inl same) = ap (λ (k : ℕ). is_sent_to j (pending (members_of ms) k)) same ∙ ap (λ (m : Member). is_sent_to j m.pending) (member-members_of ms b) ∙ here
-    by_case (inr h) = below i h
-
--- where no node of the setup waits, none does
-pub nobody_waits : (j n : ℕ) (ms : List MemberState) → length ms ≤ n → ((k : ℕ) → k ≤ n → is_sent_to j (pending (members_of ms) k) ≡ false) → (i : ℕ) → is_sent_to j (pending (members_of ms) i) ≡ false
-nobody_waits j n ms all below i = by_case (grind arith)
-  where
-    by_case : (i ≤ n) ⊎ (length ms < i) → is_sent_to j (pending (members_of ms) i) ≡ false
-    by_case (inl h) = below i h
-    by_case (inr h) = nobody_past j i ms h

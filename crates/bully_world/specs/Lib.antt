@@ -7,3 +7,4 @@ pub mod NodeInvariant
 pub mod State
 pub mod StateAfter
 pub mod Turn
+pub mod Waiting

@@ -8,9 +8,9 @@ ghost use Rattle.bully_handlers.specs.Handler.{reply};
 ghost use Rattle.bully_steps.specs.NextPoint.{next_vector};
 ghost use Rattle.bully_steps.specs.Point.{offered, IsPointOf};
 ghost use Rattle.bully_world.specs.Cause.{node_of};
-ghost use Rattle.bully_world.specs.State.{empty_state, member_of};
+ghost use Rattle.bully_world.specs.State.{empty_state};
 ghost use Rattle.bully_world.specs.Step.{carried};
-ghost use Rattle.bully_world.specs.World.{is_sent_to};
+ghost use Rattle.bully_world.specs.Waiting.{sent_in};
 ghost use Rattle.bully_world.specs.StateAfter.{with_vector, halted_number, is_readied, recovered_state, crashed_state, begun_state, opened_state, phased_state, callee_state_after, proceeded_state, node_after_return, return_answer, planned_state, started_state, node_after, node_answer, MayApply};
 
 use crate::event::Event;
@@ -87,13 +87,13 @@ impl Member {
         self.vector.status() == Status::Down
     }
 
-    /// Whether a call to this node was sent and didn't run yet.
-    pub fn has_sent_to(&self, callee: Node) -> bool
-        ensures { result ≡ is_sent_to callee (member_of self.now).pending }
+    /// The node to which its call was sent, where it didn't run yet.
+    pub fn sent_to(&self) -> Option<Node>
+        ensures { result ≡ sent_in self.now }
     {
         match (self.slot.call(), self.slot.phase()) {
-            (Some(call), Some(Phase::Sent)) => call.callee == callee,
-            _ => false,
+            (Some(call), Some(Phase::Sent)) => Some(call.callee),
+            _ => None,
         }
     }
 

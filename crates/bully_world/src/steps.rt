@@ -1,18 +1,57 @@
-ghost use Rattle.std.specs.Prelude.{◌≡◌, ◌≢◌, ◌⊎◌, ◌+◌, ◌<◌, ◌^◌, length, IfSome, IsSome, IsTrue, Some, None, slice_index_or, slice_set};
+ghost use Rattle.std.specs.Prelude.{◌≡◌, ◌≢◌, ◌⊎◌, ◌+◌, ◌<◌, ◌≤◌, ◌^◌, length, IfSome, IsSome, IsTrue, Some, None, slice_index_or, slice_set};
 ghost use Rattle.bully_calls.specs.Pending.{is_sent};
 ghost use Rattle.bully_calls.specs.Slot.{CarriesFor, holds_call};
 ghost use Rattle.bully_handlers.specs.Handler.{reply};
 ghost use Rattle.bully_world.specs.State.{empty_state, kept_of};
 ghost use Rattle.bully_world.specs.StateAfter.{CanApply, CanExchange, CanRun, callee_state_after, phased_state, state_after, state_after_run, answer_after, run_answer};
+ghost use Rattle.bully_world.specs.Cause.{node_of};
+ghost use Rattle.bully_world.specs.Waiting.{sent_in, IsWaiting, with_sent, without_sent};
 
 use crate::causes::place_of;
 use crate::event::Event;
 use crate::member::Member;
 use bully_base::{Node, Setup};
-use bully_calls::{Answer, Phase};
+use bully_calls::{Answer, Phase, Waiting};
 
-/// An event that nothing refuses is applied.
-pub fn apply_event(setup: Setup, members: &mut [Member], event: &Event) -> Answer
+/// An event that nothing refuses is applied, and the map of the waiting callers goes with it.
+pub fn apply_event(
+    setup: Setup,
+    members: &mut [Member],
+    waiting: &mut Waiting,
+    event: &Event,
+) -> Answer
+    requires can { CanApply setup members.old event.now }
+    requires node { node_of event.now ≤ length members.old }
+    requires sent { IfSome (sent_in (kept_of (state_after setup members.old event.now) (node_of event.now))) (λ j. (0 < j) × (j ≤ length members.old)) }
+    requires waiting { IsWaiting members.old waiting.old }
+    ensures after { members.new ≡ state_after setup members.old event.now }
+    ensures answer { result ≡ answer_after members.old event.now }
+    ensures waiting { IsWaiting members.new waiting.new }
+{
+    let node = event.node();
+    let before = members[place_of(node)].sent_to();
+    let answer = apply_to_members(setup, members, event);
+    let after = members[place_of(node)].sent_to();
+    keep_waiting(waiting, node, before, after);
+    answer
+}
+
+// The caller's sent call went to `before`, and goes to `after` now.
+fn keep_waiting(waiting: &mut Waiting, caller: Node, before: Option<Node>, after: Option<Node>)
+    requires before { IfSome before (λ j. j ≤ length waiting.old) }
+    requires after { IfSome after (λ j. j ≤ length waiting.old) }
+    ensures { waiting.new ≡ with_sent caller after (without_sent caller before waiting.old) }
+{
+    if let Some(callee) = before {
+        waiting.remove(callee, caller);
+    }
+    if let Some(callee) = after {
+        waiting.add(callee, caller);
+    }
+}
+
+// An event that nothing refuses is applied.
+fn apply_to_members(setup: Setup, members: &mut [Member], event: &Event) -> Answer
     requires { CanApply setup members.old event.now }
     ensures after { members.new ≡ state_after setup members.old event.now }
     ensures answer { result ≡ answer_after members.old event.now }

@@ -8,7 +8,7 @@ use crate::event::{Event, Refused};
 use crate::member::Member;
 use crate::steps::apply_event;
 use bully_base::{Node, OutOfMemory, Setup};
-use bully_calls::{Answer, Slot};
+use bully_calls::{Answer, Slot, Waiting};
 use bully_handlers::Vector;
 use bully_steps::Point;
 use std::alloc::Global;
@@ -20,16 +20,18 @@ pub struct World {
     setup: Setup,
     events: u32,
     members: Vec<Member>,
+    waiting: Waiting, // for each callee, the callers with a sent call to it
 }
 
 impl Model for World {
     ghost use Rattle.bully_world.specs.State.{WorldState, IsWorld};
+    ghost use Rattle.bully_world.specs.Waiting.{IsWaiting};
 
     ghost Value = { WorldState };
 
     ghost view = { λ w. record { setup = w.setup; events = w.events; members = w.members.items } };
 
-    ghost invariant = { λ w. IsWorld (record { setup = w.setup; events = w.events; members = w.members.items }) };
+    ghost invariant = { λ w. IsWorld (record { setup = w.setup; events = w.events; members = w.members.items }) × IsWaiting w.members.items w.waiting };
 }
 
 impl World {
@@ -42,6 +44,7 @@ impl World {
             setup,
             events: 0,
             members: reserve(alloc, setup)?,
+            waiting: Waiting::new(alloc, setup)?,
         })
     }
 
@@ -97,7 +100,12 @@ impl World {
         ensures tags { KeepsTags event.now self.old self.new }
         ensures setup { self.new.setup ≡ self.old.setup }
     {
-        let answer = apply_event(self.setup, self.members.as_mut_slice(), event);
+        let answer = apply_event(
+            self.setup,
+            self.members.as_mut_slice(),
+            &mut self.waiting,
+            event,
+        );
         self.events += 1;
         answer
     }
@@ -143,13 +151,10 @@ impl World {
         ensures lowest { IfSome result (NobodyWaitsBelow self.now callee) }
         ensures none { IfNone result (NobodyWaits self.now callee) }
     {
-        for before in 0..self.setup.nodes() {
-            let caller = Node::new(before + 1).unwrap();
-            if self.member(caller).has_sent_to(callee) {
-                return Some(caller);
-            }
+        if callee.number() > self.setup.nodes() {
+            return None;
         }
-        None
+        self.waiting.lowest(callee)
     }
 
     /// What is kept of the node. The node is at most the setup's last.

@@ -3,7 +3,6 @@ use Rattle.std.proofs.lemmas.Option.{slice_get_read}
 use Rattle.bully_world.specs.Cause.{cause}
 use Rattle.bully_world.specs.State.{world_of}
 use Rattle.bully_world.specs.Step.{Step}
-use Rattle.bully_agree.specs.Runs.{StopsAt}
 use Rattle.bully_agree.proofs.RunLemmas.{never_stops, run-more, run-stops}
 use Rattle.bully_agree.proofs.runs.run.Goals as goal
 
@@ -22,16 +21,13 @@ loop-index-preserved c =
       end = refl;
     }
 
-stopped : (c : goal.After-drop-world-inside) → StopsAt c.args.setup c.args.events.now c.loop-index.index c.in-Err.cause
-stopped c =
+pub returns-in-Err-clause-stop : goal.returns-in-Err-clause-stop
+returns-in-Err-clause-stop c =
     let w = c.loop-index.world in
     let e = c.index-events-index.result in
     let there = slice_get_read c.args.events.now _ c.loop-index.index e refl c.loop-index-test.true c.index-events-index.is in
     let why : cause c.args.setup (world_of w) w.events e ≡ Some c.in-Err.cause = subst (λ s. cause s (world_of w) w.events e ≡ Some c.in-Err.cause) c.loop-index.invariant.setup c.in-Err.ensures.why in
     run-stops c.args.setup c.args.events.now c.loop-index.index w.events e (world_of w) c.in-Err.cause there c.loop-index.invariant.counted why c.loop-index.invariant.lawful
 
-pub returns-in-Err-clause-stop : goal.returns-in-Err-clause-stop
-returns-in-Err-clause-stop c = stopped c
-
 pub returns-in-Err-clause-lawful_runs : goal.returns-in-Err-clause-lawful_runs
-returns-in-Err-clause-lawful_runs c = λ can. absurd (never_stops c.args.setup c.args.events.now c.loop-index.index c.in-Err.cause can.1.0 can.0 (stopped c) can.1.1)
+returns-in-Err-clause-lawful_runs c = λ can. absurd (never_stops c.args.setup c.args.events.now c.loop-index.index c.in-Err.cause can.1.0 can.0 (returns-in-Err-clause-stop c) can.1.1)

@@ -1,37 +1,33 @@
--- An event other than a Run is applied by its node's own member.
-use Rattle.std.proofs.Common.{arith, sym, ◌∙◌, ap, subst}
-use Rattle.bully_base.proofs.PlaceLemmas.{put_node-place}
-use Rattle.bully_base.specs.Places.{put_node}
+-- The event changes to whom its own node's call is sent, and nobody else's.
+use Rattle.std.proofs.Common.{◌≡◌, ◌≤◌, ◌<◌, ℕ, arith, length, Option, sym, ◌∙◌, ap, subst}
+use Rattle.std.specs.Prelude.{IfSome}
 use Rattle.bully_world.specs.Cause.{node_of}
-use Rattle.bully_world.specs.StateAfter.{CanApplyHere, CanApply, node_after, node_answer}
-use Rattle.bully_world.proofs.ApplyLemmas.{can_here, place_of_node, node_writes}
+use Rattle.bully_world.specs.State.{kept_of}
+use Rattle.bully_world.specs.StateAfter.{state_after}
+use Rattle.bully_world.specs.Waiting.{IsWaiting, sent_in, with_sent, without_sent}
+use Rattle.bully_world.proofs.ApplyLemmas.{place_of_node}
+use Rattle.bully_world.proofs.KeptLemmas.{state_after_length}
+use Rattle.bully_world.proofs.WaitingLemmas.{sent_within, waiting_after}
 use Rattle.bully_world.proofs.steps.apply_event.Goals as goal
 
-pub apply-requires : goal.apply-requires
-apply-requires c =
-    let can = can_here c.args.setup c.args.members.now c.args.event.now c.in_default.not-Run c.requires in
-    let there = place_of_node c.args.members.now (node_of c.args.event.now) c.place_of.result c.index-members-place_of.result can.0 (c.place_of.ensures ∙ c.node.ensures) in
-    let may = subst (CanApplyHere c.args.setup c.args.event.now) there can.1 in
-    record { at = may.at; room = may.room; may = may.may }
+pub keep_waiting-requires-clause-before : goal.keep_waiting-requires-clause-before
+keep_waiting-requires-clause-before c =
+    let i = node_of c.args.event.now in
+    let there = place_of_node c.args.members.now i c.place_of.result c.index-members-place_of.result c.requires.node (c.place_of.ensures ∙ c.node-node.ensures) in
+    let was : sent_in (kept_of c.args.members.now i) ≡ c.sent_to-before.result = ap sent_in there ∙ sym c.sent_to-before.ensures in
+    subst (λ (o : Option ℕ). IfSome o (λ j. j ≤ length c.args.waiting.now)) was (sent_within c.args.members.now c.args.waiting.now i c.requires.waiting)
 
-pub returns-in_default : goal.returns-in_default
-returns-in_default c =
-    let can = can_here c.args.setup c.args.members.now c.args.event.now c.in_default.not-Run c.requires in
-    let place = c.place_of.ensures ∙ c.node.ensures in
-    let there = place_of_node c.args.members.now (node_of c.args.event.now) c.place_of.result c.index-members-place_of.result can.0 place in
-    let writes = node_writes c.args.setup c.args.members.now c.args.event.now c.in_default.not-Run in
-    record {
-      after =
-          sym (put_node-place c.args.members.now c.place_of.result (node_of c.args.event.now) c.apply.new.self place)
-          ∙ ap (put_node c.args.members.now (node_of c.args.event.now)) (c.apply.ensures.after ∙ ap (node_after c.args.setup c.args.event.now) (sym there))
-          ∙ sym writes.0;
-      answer = c.apply.ensures.answer ∙ ap (node_answer c.args.event.now) (sym there) ∙ sym writes.1;
-    }
-
-pub run_call-requires : goal.run_call-requires
-run_call-requires c = subst (CanApply c.args.setup c.args.members.now) c.in-Run.is c.requires
-
-pub bounds-members-place_of : goal.bounds-members-place_of
-bounds-members-place_of c =
-    let can = can_here c.args.setup c.args.members.now c.args.event.now c.in_default.not-Run c.requires in
-    omega (arith, can.0, c.place_of.ensures, c.node.ensures)
+pub returns-clause-waiting : goal.returns-clause-waiting
+returns-clause-waiting c =
+    let ms = c.args.members.now in
+    let i = node_of c.args.event.now in
+    let next = state_after c.args.setup ms c.args.event.now in
+    let there = place_of_node ms i c.place_of.result c.index-members-place_of.result c.requires.node (c.place_of.ensures ∙ c.node-node.ensures) in
+    let was : sent_in (kept_of ms i) ≡ c.sent_to-before.result = ap sent_in there ∙ sym c.sent_to-before.ensures in
+    let room : i ≤ length c.apply_to_members-answer.new.members = omega (arith, c.requires.node, ap length c.apply_to_members-answer.ensures.after, state_after_length c.args.setup ms c.args.event.now) in
+    let then_there = place_of_node c.apply_to_members-answer.new.members i c.place_of-2.result c.index-members-place_of-2.result room (c.place_of-2.ensures ∙ c.node-node.ensures) in
+    let now : sent_in (kept_of next i) ≡ c.sent_to-after.result = ap (λ xs. sent_in (kept_of xs i)) (sym c.apply_to_members-answer.ensures.after) ∙ ap sent_in then_there ∙ sym c.sent_to-after.ensures in
+    let sent = subst (λ (o : Option ℕ). IfSome o (λ j. (0 < j) × (j ≤ length ms))) now c.requires.sent in
+    let kept : c.keep_waiting.new.waiting ≡ with_sent i c.sent_to-after.result (without_sent i c.sent_to-before.result c.args.waiting.now) = c.keep_waiting.ensures ∙ ap (λ k. with_sent k c.sent_to-after.result (without_sent k c.sent_to-before.result c.args.waiting.now)) c.node-node.ensures in
+    subst (λ xs. IsWaiting xs c.keep_waiting.new.waiting) (sym c.apply_to_members-answer.ensures.after)
+    (subst (IsWaiting next) (sym kept) (waiting_after c.args.setup ms c.args.event.now c.args.waiting.now c.sent_to-before.result c.sent_to-after.result c.requires.waiting was now sent))

@@ -6,4 +6,4 @@ use Rattle.bully_world.proofs.world.World.cause.Goals as goal
 
 pub cause_of-requires : goal.cause_of-requires
 cause_of-requires c =
-    subst (λ ms. WorldInvariant c.self.inside.setup (members_of ms)) (sym c.as_slice.ensures.value) (world_fits c.self.inside.setup c.self.inside.events c.self.inside.members.items c.self.invariant)
+    subst (λ ms. WorldInvariant c.self.inside.setup (members_of ms)) (sym c.as_slice.ensures.value) (world_fits c.self.inside.setup c.self.inside.events c.self.inside.members.items c.self.invariant.0)

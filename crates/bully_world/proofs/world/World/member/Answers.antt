@@ -9,7 +9,7 @@ use Rattle.bully_world.proofs.world.World.member.Goals as goal
 use Rattle.bully_world.proofs.world.World.member.Goals.{After-index}
 
 is_world : (c : After-index) → IsWorld c.args.self.now
-is_world c = subst IsWorld c.self.view_is c.self.invariant
+is_world c = subst IsWorld c.self.view_is c.self.invariant.0
 
 there : (c : After-index) → state_at c.args.self.now c.args.node ≡ c.index.result.now
 there c =
