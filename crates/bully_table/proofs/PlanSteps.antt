@@ -1,13 +1,13 @@
 -- Steps of the loops of planning.
-use Rattle.std.proofs.Common.{◌≡◌, ◌≢◌, ℕ, ◌+◌, ◌-◌, ◌<◌, ◌≤◌, ◌⊎◌, inl, inr, Bool, true, false, List, [], ◌∷◌, arith, sym, refl, ◌∙◌, ap, Contains, slice_index_or}
-use Rattle.std.specs.Prelude.{not, ◌==◌, count_by, sum_by}
+use Rattle.std.proofs.Common.{◌≡◌, ◌≢◌, ℕ, ◌+◌, ◌<◌, ◌≤◌, ◌⊎◌, inl, inr, Bool, true, false, List, [], ◌∷◌, arith, sym, refl, ◌∙◌, Contains}
+use Rattle.std.specs.Prelude.{not, ◌==◌, count_by}
 use Rattle.std.specs.List.{list_any}
 use Rattle.std.proofs.lemmas.Bool.Decides.{nat_tests}
 use Rattle.bully_base.specs.NodeSet.{IsFallingBelow, below_node}
 use Rattle.bully_base.specs.Setup.{Setup}
 use Rattle.bully_table.specs.Planning.{owner_at, places_where, room, taker}
 use Rattle.bully_table.proofs.BalanceLemmas.{any_decides}
-use Rattle.bully_table.proofs.TotalLemmas.{total, total-sum_by, total-same, total-above, total-below-member, total-below-other, total-below-same, one}
+use Rattle.bully_table.proofs.TotalLemmas.{total, total-sum_by, total-above, total-below-member, total-below-other, total-below-same, one}
 use Rattle.bully_table.proofs.PlaceCounts.{places-none, places-more}
 use Rattle.bully_table.proofs.StayLemmas.{rooms_below-is, taker-of}
 

@@ -1,5 +1,5 @@
 -- Steps of the loop over the quotas.
-use Rattle.std.proofs.Common.{◌≡◌, ℕ, ◌+◌, ◌-◌, ◌/◌, ◌<◌, ◌≤◌, min, ◌⊎◌, inl, inr, Bool, true, false, List, [], ◌∷◌, length, arith, refl, Contains, slice_index_or, slice_set, count_by}
+use Rattle.std.proofs.Common.{◌≡◌, ℕ, ◌+◌, ◌-◌, ◌/◌, ◌<◌, min, ◌⊎◌, inl, inr, Bool, true, false, List, [], ◌∷◌, length, arith, refl, Contains, slice_index_or, slice_set, count_by}
 use Rattle.std.specs.Prelude.{not, nat_lt}
 use Rattle.std.proofs.lemmas.Bool.Decides.{nat_tests}
 use Rattle.std.proofs.lemmas.Grind.{common_steps}
@@ -7,7 +7,7 @@ use Rattle.bully_base.specs.NodeSet.{IsFallingBelow, below_node}
 use Rattle.bully_base.specs.Setup.{Setup}
 use Rattle.bully_table.specs.Planning.{rest_of, quota}
 use Rattle.bully_table.specs.Takers.{share}
-use Rattle.bully_table.proofs.TotalLemmas.{total, lower, passing, one, total-below-member, total-below-other}
+use Rattle.bully_table.proofs.TotalLemmas.{total, lower, one, total-below-member, total-below-other}
 use Rattle.bully_table.proofs.ShareLemmas.{large, rank, rank-large, rank-small, quota-is}
 use Rattle.bully_table.proofs.PlanSteps.{count-total, count-below-none}
 use Rattle.bully_table.proofs.TakerLemmas.{share-inside, share-outside}

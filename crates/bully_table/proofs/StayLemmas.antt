@@ -1,10 +1,10 @@
 -- What stays in the planned table, and who gets the rest.
-use Rattle.std.proofs.Common.{◌≡◌, ℕ, zero, suc, ◌+◌, ◌-◌, ◌<◌, ◌≤◌, min, ◌⊎◌, inl, inr, Bool, true, false, cond, List, [], ◌∷◌, length, take, arith, refl, ◌∙◌, Contains, add-one, slice_index_or}
+use Rattle.std.proofs.Common.{◌≡◌, ℕ, zero, suc, ◌+◌, ◌-◌, ◌<◌, ◌≤◌, min, ◌⊎◌, inl, inr, Bool, true, false, cond, List, [], ◌∷◌, length, take, arith, refl, ◌∙◌, Contains, add-one}
 use Rattle.std.specs.Prelude.{◌&&◌, not, nat_lt, nat_le, ◌==◌}
 use Rattle.std.proofs.lemmas.Bool.Decides.{nat_tests}
 use Rattle.std.proofs.lemmas.Grind.{common_steps}
 use Rattle.bully_base.specs.NodeSet.{IsFallingBelow, below_node}
-use Rattle.bully_base.specs.Setup.{Setup, IsNodeNumber}
+use Rattle.bully_base.specs.Setup.{Setup}
 use Rattle.bully_table.specs.Balance.{count_of}
 use Rattle.bully_table.specs.Planning.{owner_at, places_where, quota, stays, room, rooms_below, taker, member_where}
 use Rattle.bully_table.proofs.BalanceLemmas.{any_decides, earlier, later}

@@ -1,9 +1,8 @@
-use Rattle.std.proofs.Common.{◌≡◌, ◌-◌, ℕ, refl, arith, cond, ◌∙◌, Contains, slice_index_or}
+use Rattle.std.proofs.Common.{◌≡◌, ◌-◌, refl, arith, ◌∙◌, Contains}
 use Rattle.std.proofs.lemmas.Bool.Decides.{nat_tests}
 use Rattle.std.proofs.lemmas.Grind.{common_steps}
 use Rattle.std.proofs.lemmas.List.{get_or-replicate}
-use Rattle.bully_base.specs.Setup.{IsNodeNumber}
-use Rattle.bully_table.proofs.QuotaSteps.{SharedBelow, shared-none, shared-first, shared-later, shared-skip}
+use Rattle.bully_table.proofs.QuotaSteps.{shared-none, shared-first, shared-later, shared-skip}
 use Rattle.bully_table.proofs.quotas.quotas_of.Goals as goal
 use Rattle.bully_table.proofs.quotas.quotas_of.Goals.{then-has, then-count_at-base, else-count_at-base, else-has}
 

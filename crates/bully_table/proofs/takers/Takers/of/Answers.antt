@@ -1,4 +1,4 @@
-use Rattle.std.proofs.Common.{arith, sym}
+use Rattle.std.proofs.Common.{arith}
 use Rattle.bully_table.specs.Takers.{spare}
 use Rattle.bully_table.proofs.TakerLemmas.{takers-next}
 use Rattle.bully_table.proofs.takers.Takers.of.Goals as goal
