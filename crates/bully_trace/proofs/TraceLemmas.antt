@@ -138,7 +138,7 @@ read-more known rows left now found fields row read takes is low told same next 
           behind = after;
         }
 
--- the header, and the faults at it
+-- the header
 pub header-read : (known : Option (List ℕ)) (left after : Option (List Record)) (found : Bool) (fields : Record) (setup : Setup)
     → left ≡ option_map records_of known → Takes left after found fields → found ≡ true → header_of fields ≡ Some setup
     → HasRead known [] (record { setup = setup; number = 1; records = after })
@@ -150,33 +150,3 @@ header-read known left after found fields setup e takes is told = record { numbe
     by_text (Some bytes) e =
         let (more, all, behind) = took (records_of bytes) after found fields (rw e at takes) is in
         record { header = fields; taken = []; rest = more; all = all; told = told; counted = refl; mean = refl; behind = behind }
-
-pub header-missing : (known : Option (List ℕ)) (left after : Option (List Record)) (found : Bool) (fields : Record)
-    → left ≡ option_map records_of known → Takes left after found fields → found ≡ false → EndsReading known (fault_at 1 TraceCause.BadHeader)
-header-missing known left after found fields e takes is = fault-ends known (fault_at 1 TraceCause.BadHeader) refl (by_text known e)
-  where
-    by_text : (known : Option (List ℕ)) → left ≡ option_map records_of known → IfSome known (λ bytes. trace_of (records_of bytes) ≡ Err (fault_at 1 TraceCause.BadHeader))
-    by_text None e = tt
-    by_text (Some bytes) e = rw (ended (records_of bytes) after found fields (rw e at takes) is) refl
-
-pub header-bad : (known : Option (List ℕ)) (left after : Option (List Record)) (found : Bool) (fields : Record)
-    → left ≡ option_map records_of known → Takes left after found fields → found ≡ true → header_of fields ≡ None → EndsReading known (fault_at 1 TraceCause.BadHeader)
-header-bad known left after found fields e takes is none = fault-ends known (fault_at 1 TraceCause.BadHeader) refl (by_text known e)
-  where
-    by_text : (known : Option (List ℕ)) → left ≡ option_map records_of known → IfSome known (λ bytes. trace_of (records_of bytes) ≡ Err (fault_at 1 TraceCause.BadHeader))
-    by_text None e = tt
-    by_text (Some bytes) e =
-        let (more, all, behind) = took (records_of bytes) after found fields (rw e at takes) is in
-        rw all (rw (none, trace_of) refl)
-
-pub header-failed : (known : Option (List ℕ)) (fault : TraceFault) → IsOutside fault → (fault.cause ≡ TraceCause.Read → fault.row ≡ 1) → EndsReading known fault
-header-failed known fault outside at_row = record {
-  first = λ form. absurd (cc (outside.0, form));
-  behind = λ cause. by_text known (at_row cause);
-  read = outside.1;
-  memory = outside.2;
-}
-  where
-    by_text : (known : Option (List ℕ)) → fault.row ≡ 1 → IfSome known (λ bytes. IsBehind fault.row (records_of bytes))
-    by_text None row = tt
-    by_text (Some bytes) row = ([], records_of bytes, refl, row, tt)
