@@ -164,25 +164,25 @@ impl Node {
         self.has_task = false;
     }
 
-    fn recover(&mut self, me: u8) {
+    pub fn recover(&mut self, me: u8) {
         self.empty_vector(Status::Election);
         self.point = Point::Asking(me + 1);
     }
 
-    fn crash(&mut self) {
+    pub fn crash(&mut self) {
         self.empty_vector(Status::Down);
         self.point = Point::Idle;
         self.slot.phase = Phase::Empty;
         self.generation += 1;
     }
 
-    fn check(&mut self, me: u8, nodes: u8) {
+    pub fn check(&mut self, me: u8, nodes: u8) {
         if self.status == Status::Normal && self.coordinator == Some(me) && nodes > 1 {
             self.point = Point::Checking(if me == 1 { 2 } else { 1 });
         }
     }
 
-    fn time_out(&mut self, me: u8) {
+    pub fn time_out(&mut self, me: u8) {
         match self.status {
             Status::Down => {}
             Status::Election => self.point = Point::Asking(me + 1),
@@ -220,6 +220,12 @@ impl Node {
         if self.slot.phase != Phase::Empty {
             return Err(Refusal::SlotBusy);
         }
+        self.open(callee, kind);
+        Ok(())
+    }
+
+    /// The node starts this call.
+    pub fn open(&mut self, callee: u8, kind: CallKind) {
         self.slot.phase = Phase::Sent;
         self.slot.callee = callee;
         self.slot.kind = kind;
@@ -227,7 +233,6 @@ impl Node {
         if let CallKind::Ready = kind {
             self.slot.table.copy_from_slice(&self.task);
         }
-        Ok(())
     }
 
     fn take_back(&mut self, me: u8, nodes: u8) -> Result<(), Refusal> {
@@ -236,12 +241,17 @@ impl Node {
             Phase::Ran(outcome) => outcome,
             Phase::Failed => Outcome::Failed,
         };
+        self.close(me, nodes, outcome);
+        Ok(())
+    }
+
+    /// The call returns, and the point moves where it isn't an orphan.
+    pub fn close(&mut self, me: u8, nodes: u8, outcome: Outcome) {
         let is_orphan = self.has_orphan();
         self.slot.phase = Phase::Empty;
         if !is_orphan {
             self.proceed(me, nodes, outcome);
         }
-        Ok(())
     }
 
     /// The point moves by the outcome of its call.
@@ -270,6 +280,12 @@ impl Node {
         if self.slot.phase != Phase::Empty {
             return Err(Refusal::SlotBusy);
         }
+        self.advance(me);
+        Ok(())
+    }
+
+    /// The point moves on without a call.
+    pub fn advance(&mut self, me: u8) {
         match self.point {
             Point::Asking(_) => self.stand(me),
             Point::Halting(_) => self.lead(me),
@@ -279,7 +295,6 @@ impl Node {
                 self.point = Point::Idle;
             }
         }
-        Ok(())
     }
 
     fn stand(&mut self, me: u8) {
@@ -305,10 +320,15 @@ impl Node {
         if !is_balanced(owners, self.up | bit(me)) {
             return Err(Refusal::BadTable);
         }
+        self.adopt(owners);
+        Ok(())
+    }
+
+    /// The node has planned a table with these owners.
+    pub fn adopt(&mut self, owners: &[u8]) {
         self.task.copy_from_slice(owners);
         self.has_task = true;
         self.point = Point::Readying(self.up);
-        Ok(())
     }
 
     fn halt(&mut self, caller: u8) {
@@ -389,13 +409,17 @@ impl World {
         &self.nodes[number as usize - 1]
     }
 
+    pub fn node_mut(&mut self, number: u8) -> &mut Node {
+        &mut self.nodes[number as usize - 1]
+    }
+
     /// Applies an event, or tells the first refusal and changes nothing. The owners are those of a Plan.
     pub fn apply(&mut self, action: Action, me: u8, owners: &[u8]) -> Result<(), Refusal> {
         let nodes = self.setup.nodes;
         if me > nodes {
             return Err(Refusal::BadNode);
         }
-        let node = &mut self.nodes[me as usize - 1];
+        let node = self.node_mut(me);
         match (action, node.is_down()) {
             (Action::Recover, true) => node.recover(me),
             (Action::Recover, false) => return Err(Refusal::IsUp),
@@ -420,12 +444,19 @@ impl World {
             return Err(Refusal::NoCall);
         }
         let callee = self.node(caller).slot.callee;
-        let (calling, called) = self.pair(caller, callee);
-        if called.is_down() {
+        if self.node(callee).is_down() {
             return Err(Refusal::CalleeDown);
         }
-        calling.slot.phase = Phase::Ran(called.hear(caller, &calling.slot));
+        self.exchange(caller, callee);
         Ok(())
+    }
+
+    /// The caller's call runs at its callee, which answers so.
+    pub fn exchange(&mut self, caller: u8, callee: u8) -> Outcome {
+        let (calling, called) = self.pair(caller, callee);
+        let outcome = called.hear(caller, &calling.slot);
+        calling.slot.phase = Phase::Ran(outcome);
+        outcome
     }
 
     fn lose(&mut self, caller: u8) -> Result<(), Refusal> {
@@ -436,7 +467,7 @@ impl World {
         if !self.node(slot.callee).is_down() {
             return Err(Refusal::CalleeUp);
         }
-        self.nodes[caller as usize - 1].slot.phase = Phase::Failed;
+        self.node_mut(caller).slot.phase = Phase::Failed;
         Ok(())
     }
 

@@ -81,7 +81,7 @@ fn plan(members: &[u8], old: &[u8; PARTITIONS]) -> Plan {
 }
 
 fn main() {
-    let rounds: usize = env::args().nth(1).and_then(|word| word.parse().ok()).expect("a number of rounds");
+    let rounds: usize = env::args().last().and_then(|word| word.parse().ok()).expect("a number of rounds");
     let mut random = Random(1982);
     let tables: Vec<_> = (0..TABLES).map(|_| random_table(&mut random)).collect();
     let (mut moves, mut bounds, mut print) = (0, 0, 0u64);

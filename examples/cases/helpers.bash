@@ -19,6 +19,24 @@ group() {
     seq -f $'[[fault]]\nat = 1\nnode = "%g"\nkind = "recover"' 1 "$1"
 }
 
+# Plays a group of so many nodes with a period of four turns for each: all recover; after 10 turns for each of them the
+# highest crashes, and after 24 it comes back, where the play is so long. Its length is the second word, in turns for
+# each node. Prints how many nodes are Normal under the highest one that is up.
+resting() {
+    local nodes=$1 turns=$(($1 * $2)) up=$1
+    {
+        group "$nodes" "$turns" | sed "s/^turns.*/&\nperiod = $((4 * nodes))/"
+        for fault in 10,crash 24,recover; do
+            if (($2 > ${fault%,*})); then
+                printf '[[fault]]\nat = %s\nnode = "%s"\nkind = "%s"\n' "$((nodes * ${fault%,*} + 1))" "$nodes" "${fault#*,}"
+                up=$((nodes - 1))
+            fi
+        done
+    } >resting.toml
+    (($2 <= 24)) || up=$nodes
+    bully play resting.toml | bully check | grep -c "^[0-9]* normal $up $up "
+}
+
 # Prints the configuration of one node with a comment of so many bytes.
 comment() {
     cat one_node.toml

@@ -16,11 +16,13 @@ ghost use Rattle.bully_world.specs.declared.event.Event.{Event};
 
 mod runs;
 mod views;
+mod walks;
 mod whole_calls;
 
 pub use runs::{RunFault, run};
 pub use views::View;
 pub use views::making::view;
+pub use walks::Walk;
 pub use whole_calls::{WholeFault, run_whole};
 
 /// The agreement law. Whatever lawful list of events leads to a world, its nodes agree there: all that are in

@@ -1,38 +1,63 @@
-//! Plans for random groups: what `bench/plan` times beside a plain planner.
+//! What the benchmarks time beside plain Rust: plans for random groups, and turns of a group under its lock.
 //!
-//! It stands on bully_base and bully_table. Nothing stands on it.
+//! It stands on bully_group and the crates below it. Nothing stands on it.
 #![tactic(auto)]
 
 mod planning;
+mod player;
 mod random;
+mod turns;
 
 use crate::planning::plan_rounds;
+use crate::turns::take_turns;
+use std::alloc::Global;
 use std::env;
 use std::process::ExitCode;
+use std::sync::Wait;
+
+/// What is asked for.
+#[derive(Clone, Copy)]
+enum Task {
+    Plans(u32),
+    Turns(u16, u32),
+}
 
 fn main(rt: HostRuntime) -> ExitCode {
-    match rounds_asked(&rt) {
-        Some(rounds) => answer(&rt, rounds),
-        None => ExitCode::from(2),
-    }
-}
-
-// The number of rounds, which is the first word behind the program's name.
-fn rounds_asked(rt: &HostRuntime) -> Option<u32> {
-    let word = env::args(rt).ok()?.nth(1)?;
-    word.as_str().parse().ok()
-}
-
-// The status of the rounds, whose sums stand on the output.
-fn answer(rt: &HostRuntime, rounds: u32) -> ExitCode {
-    let Some(sums) = plan_rounds(rt.alloc(), rounds) else {
-        return ExitCode::from(4);
+    let answered = match task_asked(&rt) {
+        Some(Task::Plans(rounds)) => answer_plans(&rt, rounds),
+        Some(Task::Turns(nodes, count)) => answer_turns(&rt, rt.alloc(), nodes, count),
+        None => return ExitCode::from(2),
     };
-    let moves = sums.moves;
-    let bounds = sums.bounds;
-    let owners = sums.owners;
-    match println!(rt; "moves {moves}\nbounds {bounds}\nowners {owners}") {
-        Ok(()) => ExitCode::from(0),
-        Err(_) => ExitCode::from(4),
+    match answered {
+        Some(()) => ExitCode::from(0),
+        None => ExitCode::from(4),
     }
+}
+
+// What the words behind the program's name ask for: `plan ROUNDS` or `turns NODES COUNT`.
+fn task_asked(rt: &HostRuntime) -> Option<Task> {
+    let mut words = env::args(rt).ok()?;
+    match words.nth(1)?.as_str() {
+        "plan" => Some(Task::Plans(words.next()?.as_str().parse().ok()?)),
+        "turns" => {
+            let nodes = words.next()?.as_str().parse().ok()?;
+            let count = words.next()?.as_str().parse().ok()?;
+            Some(Task::Turns(nodes, count))
+        }
+        _ => None,
+    }
+}
+
+// Plans, and prints the sums.
+fn answer_plans(rt: &HostRuntime, rounds: u32) -> Option<()> {
+    let sums = plan_rounds(rt.alloc(), rounds)?;
+    let (moves, bounds, owners) = (sums.moves, sums.bounds, sums.owners);
+    println!(rt; "moves {moves}\nbounds {bounds}\nowners {owners}").ok()
+}
+
+// Takes turns, and prints what they come to.
+fn answer_turns<R: Wait + Print>(rt: &R, alloc: Global, nodes: u16, count: u32) -> Option<()> {
+    let sums = take_turns(rt, alloc, nodes, count)?;
+    let (entries, made) = (sums.entries, sums.made);
+    println!(rt; "entries {entries}\nmade {made}").ok()
 }

@@ -30,6 +30,13 @@ pub record IsLowestDiffering (history : List Entry) (seats : List SeatState) (ac
   pub differs : seat.log ≢ part actor history
   pub lower : All (λ s. s.actor < actor → HasPart history s) seats
 
+-- nothing stands against the finish: seats and passes are all there, the seats are the group's, and have their parts
+abbrev pub CanFinish : LockedState → List SeatState → ℕ → Type 0
+CanFinish s seats passes =
+    AreAll s.world.setup.nodes seats passes
+    × AreOfGroup s.world.setup.nodes seats
+    × All (HasPart s.history) seats
+
 -- when each fault of a finish comes, in their order
 abbrev pub IsFinishFault : LockedState → List SeatState → ℕ → FinishFault → Type 0
 IsFinishFault s seats passes SeatCount = AreAll s.world.setup.nodes seats passes → ⊥
@@ -39,10 +46,7 @@ IsFinishFault s seats passes (Differs actor) =
     AreAll s.world.setup.nodes seats passes
     × AreOfGroup s.world.setup.nodes seats
     × IsLowestDiffering s.history seats actor
-IsFinishFault s seats passes OutOfMemory =
-    AreAll s.world.setup.nodes seats passes
-    × AreOfGroup s.world.setup.nodes seats
-    × All (HasPart s.history) seats
+IsFinishFault s seats passes OutOfMemory = CanFinish s seats passes
 
 -- the entry at this index of the history stands in the log of one seat, and in no other's
 pub record IsInOneLog (seats : List SeatState) (index : ℕ) (e : Entry) : Type 0 where

@@ -5,7 +5,7 @@ use Rattle.bully_steps.specs.ProcedureState.{ProcedureState}
 use Rattle.bully_world.specs.declared.event.Refused.{Refused as Cause}
 use Rattle.bully_world.specs.declared.turn.Next.{Next}
 use Rattle.bully_world.specs.declared.turn.StepKind.{StepKind}
-use Rattle.bully_world.specs.Turn.{turn, event_of, procedure_after, procedure_in}
+use Rattle.bully_world.specs.Turn.{turn, event_of, procedure_after, procedure_in, is_in_step}
 use Rattle.bully_group.specs.declared.locked.step.StepFault.{StepFault}
 use Rattle.bully_group.specs.declared.locked.turn.Turn.{Turn}
 use Rattle.bully_group.specs.declared.locked.turn.Turn.TheVariants.{Went, Waiting, Resynced, Fault}
@@ -84,3 +84,7 @@ Resyncs s seat h h' = MayTurn s seat h × (turn s.world h ≡ Next.Resync) × (h
 -- this fault comes, and it is as it was
 abbrev pub Fails : LockedState → SeatState → ProcedureState → ProcedureState → StepFault → Type 0
 Fails s seat h h' fault = IsTurnFault s seat h fault × (h' ≡ h)
+
+-- unless it is a fault, the procedure that it hands back is in step
+abbrev pub EndsInStep : LockedState → Turn → Type 0
+EndsInStep s t = is_fault t ≡ false → is_in_step s.world (handed_back t) ≡ true

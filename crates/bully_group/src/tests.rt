@@ -6,7 +6,9 @@ mod two_groups;
 
 use crate::tests::asks::{Ask, Told, answered, done, tried};
 use crate::tests::held::Way;
-use crate::tests::two_groups::{with_a_foreign_seat, with_strangers, with_swapped_seats};
+use crate::tests::two_groups::{
+    Foreign, Strange, with_a_foreign_seat, with_a_stranger, with_swapped_seats,
+};
 use crate::{FinishFault, StepFault, ViewFault};
 use bully_base::{Node, NodeSet, Setup, Status};
 use bully_calls::Answer;
@@ -311,52 +313,61 @@ fn a_full_group(rt: HostRuntime) -> Result<(), Fail> {
 #[test]
 fn foreign_seats(rt: HostRuntime) -> Result<(), Fail> {
     let setup = Setup::new(1, 2, 10)?;
+    let wanted = Foreign {
+        own: Some((1, Status::Election)),
+        step: Err(StepFault::Foreign { index: 0 }),
+        view: Some(ViewFault::Foreign { index: 0 }),
+        log: 1,
+    };
     for way in [Way::Bare, Way::Shared] {
-        match with_a_foreign_seat(&rt, rt.alloc(), way, setup) {
-            Some(told) => {
-                assert_eq!(rt; told.own, Some((1, Status::Election)));
-                assert_eq!(rt; told.step, Err(StepFault::Foreign { index: 0 }));
-                assert_eq!(rt; told.view, Some(ViewFault::Foreign { index: 0 }));
-                assert_eq!(rt; told.log, 1);
-            }
-            None => assert!(rt; false),
-        }
+        assert_eq!(rt;
+            with_a_foreign_seat(&rt, rt.alloc(), way, setup),
+            Some(wanted)
+        );
     }
     Ok(())
 }
 
-// An operator without an entry takes a step of another group: neither is finished with its own seats.
+// An operator without an entry takes a step of another group: neither is finished with its own seats, and each is with
+// the other's operator.
 #[test]
 fn swapped_seats(rt: HostRuntime) -> Result<(), Fail> {
     let setup = Setup::new(1, 1, 10)?;
+    let differs = Err(FinishFault::Differs(0));
     for way in [Way::Bare, Way::Shared] {
-        match with_swapped_seats(&rt, rt.alloc(), way, setup) {
-            Some(told) => {
-                assert_eq!(rt; told.first, FinishFault::Differs(0));
-                assert_eq!(rt; told.second, FinishFault::Differs(0));
-                assert_eq!(rt; told.entries, 1);
-            }
-            None => assert!(rt; false),
-        }
+        let own = with_swapped_seats(&rt, rt.alloc(), way, setup, false);
+        assert_eq!(rt; own, Some((differs, differs)));
+        let swapped = with_swapped_seats(&rt, rt.alloc(), way, setup, true);
+        assert_eq!(rt; swapped, Some((Ok(0), Ok(1))));
     }
     Ok(())
 }
 
-// The seat of a node that the group doesn't have, and two operators.
+// The seat of a node that the group doesn't have, and a second operator's.
 #[test]
 fn seats_of_strangers(rt: HostRuntime) -> Result<(), Fail> {
     let (setup, larger) = (Setup::new(1, 1, 10)?, Setup::new(2, 1, 10)?);
+    let node = Strange {
+        serve: Ok(false),
+        step: Err(StepFault::Refused(Refused::BadNode)),
+        turn: Some(StepFault::NotYours),
+        finish: Err(FinishFault::Stranger),
+    };
+    let operator = Strange {
+        serve: Err(StepFault::NotYours),
+        step: Err(StepFault::NotYours),
+        turn: Some(StepFault::NotYours),
+        finish: Err(FinishFault::Stranger),
+    };
     for way in [Way::Bare, Way::Shared] {
-        match with_strangers(&rt, rt.alloc(), way, setup, larger) {
-            Some(told) => {
-                assert_eq!(rt; told.serve, Ok(false));
-                assert_eq!(rt; told.step, Err(StepFault::Refused(Refused::BadNode)));
-                assert_eq!(rt; told.turn, Some(StepFault::NotYours));
-                assert_eq!(rt; told.finish, FinishFault::Stranger);
-                assert_eq!(rt; told.operators, FinishFault::Stranger);
-            }
-            None => assert!(rt; false),
-        }
+        assert_eq!(rt;
+            with_a_stranger(&rt, rt.alloc(), way, setup, larger, 2),
+            Some(node)
+        );
+        assert_eq!(rt;
+            with_a_stranger(&rt, rt.alloc(), way, setup, larger, 0),
+            Some(operator)
+        );
     }
     Ok(())
 }

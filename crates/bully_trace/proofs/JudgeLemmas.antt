@@ -1,7 +1,7 @@
--- What a verdict says of the events of the rows.
+-- The verdict on rows that were judged one by one, and what it says of their events.
 use Rattle.std.proofs.Common.{◌≡◌, ℕ, zero, suc, ◌+◌, ◌≤◌, ◌++◌, take, drop, Bool, true, false, List, [], ◌∷◌, Option, Some, None, MatchOption, length, refl, ap, subst, arith}
 use Rattle.std.specs.Bool.{MatchBool}
-use Rattle.std.proofs.lemmas.List.{length-append}
+use Rattle.std.proofs.lemmas.List.{append-nil, length-append}
 use Rattle.bully_base.specs.Setup.{Setup}
 use Rattle.bully_calls.specs.declared.call.Answer.{Answer}
 use Rattle.bully_world.specs.declared.event.Event.{Event}
@@ -17,7 +17,14 @@ use Rattle.bully_agree.specs.Agreement.{Agreement}
 use Rattle.bully_trace.specs.declared.trace.Row.{Row}
 use Rattle.bully_trace.specs.declared.trace.Trace.{Trace}
 use Rattle.bully_trace.specs.declared.verdict.Verdict.{Verdict}
+use Rattle.bully_trace.specs.Judging.{HasJudged, IsJudgedOn, JudgeState}
 use Rattle.bully_trace.specs.Verdict.{AgreesAfterEachRow, IsJudged, IsVerdict, IsLawfulCount, events_of, is_true}
+
+-- behind the last row
+pub judged-all : (setup : Setup) (rows : List Row) (judge : JudgeState) (verdict : Verdict) (w : World) → IsJudgedOn judge (length rows + 2) [] verdict w
+    → HasJudged setup rows judge → IsJudged setup (first_world setup) 0 2 rows verdict w
+judged-all setup rows judge verdict w is judged =
+    subst (λ all. IsJudged setup (first_world setup) 0 2 all verdict w) (append-nil rows) (judged.judged [] verdict w is)
 
 -- rows that are judged lawful mean events that lead from the world to the last one
 pub record Leads (setup : Setup) (w : World) (before : ℕ) (rows : List Row) (after : ℕ) (w' : World) : Type 0 where

@@ -4,3 +4,4 @@ pub mod RowsLemmas
 pub mod TraceLemmas
 pub mod TextLemmas
 pub mod JudgeLemmas
+pub mod CheckLemmas

@@ -3,13 +3,14 @@ use Rattle.std.proofs.Common.{◌≡◌, ◌⊎◌, inl, inr, ◌+◌, ◌<◌, 
 use Rattle.std.specs.Option.{option_map}
 use Rattle.std.proofs.lemmas.Bool.{cases_Bool}
 use Rattle.csv.specs.Machine.{Read, ends_at_end, field_after, fields_after, is_end, next_record, step}
-use Rattle.csv.specs.Reading.{Reached, ReadRecord, default_config, records_from, source_of}
+use Rattle.csv.specs.Reading.{Reached, ReadRecord, Ready, default_config, has_failed, reader_trim, records_from, source_of}
 use Rattle.csv.specs.declared.parser.Config.{Config}
 use Rattle.csv.specs.declared.parser.State.{State}
 use Rattle.csv.specs.declared.parser.State.TheVariants as st
 use Rattle.csv.specs.declared.reader.Reader.{Reader}
+use Rattle.csv.specs.declared.reader.Trim.TheVariants as trim
 use Rattle.csv.proofs.ReadFacts.{rows-end, rows-more}
-use Rattle.bully_trace.specs.RecordsLeft.{Takes, records_left}
+use Rattle.bully_trace.specs.RecordsLeft.{ReadsPlain, Takes, records_left}
 
 -- a record takes at least one byte, or is the last of the text
 abbrev Shortens : List ℕ → Read → Type 0
@@ -100,3 +101,11 @@ takes-read {R = R} rem a b found fields plain r = known (source_of rem a) found 
     known None found e r = tt
     known (Some y) true e r = found-some y e r
     known (Some y) false e r = found-none y e r
+
+-- the same of a reader that reads plainly where no read of it has failed
+pub takes-left : {R : Type 0} (rem : R → Option (List ℕ)) (a b : Reader R) (found : Bool) (fields : List (List ℕ)) → ReadsPlain a
+    → (reader_trim a ≡ trim.None → Ready a → ReadRecord rem a b found fields) → Takes (records_left rem a) (records_left rem b) found fields
+takes-left rem a b found fields plain r = elim (cases_Bool (has_failed a)) [
+  | inl failed ↦ rw failed tt
+  | inr going ↦ takes-read rem a b found fields (plain going).0 (r (plain going).1 (plain going).2)
+]

@@ -1,14 +1,16 @@
--- A trace, from its header and the rows behind it.
-use Rattle.std.proofs.Common.{◌≡◌, ◌≢◌, ◌⊎◌, inl, inr, ◌∙◌, arith, Bool, true, ℕ, List, [], ◌∷◌, Option, Some, None, Result, Ok, Err, refl, sym, ap}
-use Rattle.std.specs.Prelude.{IfSome, IsTrue}
+-- A trace, from its header and the rows behind it, as far as it was read.
+use Rattle.std.proofs.Common.{◌≡◌, ◌≢◌, ◌⊎◌, inl, inr, ◌∙◌, ◌+◌, ◌≤◌, ◌<◌, ◌++◌, arith, Bool, true, false, ℕ, List, [], ◌∷◌, Option, Some, None, Ok, Err, refl, sym, ap, append_assoc}
+use Rattle.std.specs.Prelude.{IfSome, IsOk, option_map}
+use Rattle.std.proofs.lemmas.List.{append-nil, length-append}
 use Rattle.bully_base.specs.Setup.{Setup}
+use Rattle.bully_trace.specs.declared.TheConstants.{ROWS_MAX}
 use Rattle.bully_trace.specs.declared.trace.Row.{Row}
 use Rattle.bully_trace.specs.declared.trace.Trace.{Trace}
 use Rattle.bully_trace.specs.declared.trace.TraceCause.{TraceCause}
 use Rattle.bully_trace.specs.declared.trace.TraceFault.{TraceFault}
-use Rattle.bully_trace.specs.Rows.{IsBehind, IsBehindRows, Record, header_of, is_of_form, read_as, rows_from, trace_of}
-use Rattle.bully_trace.specs.RecordsLeft.{IsOutside, Takes}
-use Rattle.bully_trace.proofs.RowsLemmas.{ok-over}
+use Rattle.bully_trace.specs.Rows.{IsBehind, IsTraceOf, Record, fault_at, header_of, is_of_form, read_as, records_of, row_of, rows_from, trace_of}
+use Rattle.bully_trace.specs.RecordsLeft.{EndsReading, HasRead, HasTaken, IsOutside, RowsLeft, Takes}
+use Rattle.bully_trace.proofs.RowsLemmas.{bad-first, good-first, late-first, rows-behind}
 
 abbrev as_trace : Setup → List Row → Trace
 as_trace setup rows = record { setup = setup; rows = rows }
@@ -17,44 +19,164 @@ header-first : (setup : Setup) (first : Record) (rest : List Record) → header_
     → trace_of (first ∷ rest) ≡ read_as (as_trace setup) (rows_from setup 2 rest)
 header-first setup first rest e = rw (e, trace_of) refl
 
--- what the rows behind the header come to is what the trace comes to
-trace-behind : (left after : Option (List Record)) (found : Bool) (fields : Record) (setup : Setup) (rows : Result (List Row) TraceFault)
-    → Takes left after found fields → found ≡ true → header_of fields ≡ Some setup → IfSome after (λ rest. rows_from setup 2 rest ≡ rows)
-    → IfSome left (λ rs. trace_of rs ≡ read_as (as_trace setup) rows)
-trace-behind None after found fields setup rows takes is header behind = tt
-trace-behind (Some []) after found fields setup rows takes is header behind = cc (takes, is)
-trace-behind (Some (first ∷ rest)) after found fields setup rows takes is header behind =
-    header-first setup first rest (ap header_of (sym takes.1) ∙ header) ∙ ap (read_as (as_trace setup)) (rw takes.2 at behind)
+-- a read that found a record, and one that found none
+took : (rest : List Record) (after : Option (List Record)) (found : Bool) (fields : Record) → Takes (Some rest) after found fields → found ≡ true
+    → (more : List Record) × (rest ≡ fields ∷ more) × (after ≡ Some more)
+took [] after found fields takes is = cc (takes, is)
+took (first ∷ more) after found fields takes is = (more, ap (λ f. f ∷ more) (sym takes.1), takes.2)
 
-pub trace-read : (left after : Option (List Record)) (found : Bool) (fields : Record) (setup : Setup) (rows : List Row)
-    → Takes left after found fields → found ≡ true → header_of fields ≡ Some setup → IfSome after (λ rest. rows_from setup 2 rest ≡ Ok rows)
-    → IfSome left (λ rs. trace_of rs ≡ Ok (record { setup = setup; rows = rows }))
-trace-read left after found fields setup rows takes is header behind = trace-behind left after found fields setup (Ok rows) takes is header behind
+ended : (rest : List Record) (after : Option (List Record)) (found : Bool) (fields : Record) → Takes (Some rest) after found fields → found ≡ false → rest ≡ []
+ended [] after found fields takes is = refl
+ended (first ∷ more) after found fields takes is = cc (takes.0, is)
 
-pub trace-fault : (left after : Option (List Record)) (found : Bool) (fields : Record) (setup : Setup) (fault : TraceFault)
-    → Takes left after found fields → found ≡ true → header_of fields ≡ Some setup
-    → IsOutside fault ⊎ ((is_of_form fault.cause ≡ true) × IfSome after (λ rest. rows_from setup 2 rest ≡ Err fault))
-    → IsTrue (is_of_form fault.cause) → IfSome left (λ rs. trace_of rs ≡ Err fault)
-trace-fault left after found fields setup fault takes is header (inl outside) form = absurd (cc (outside.0, form))
-trace-fault left after found fields setup fault takes is header (inr behind) form =
-    trace-behind left after found fields setup (Err fault) takes is header behind.1
+-- what the trace comes to is said by the records that are left
+trace-left : (records : List Record) (rows : List Row) (left : RowsLeft) (t : HasTaken records rows left)
+    → trace_of records ≡ read_as (as_trace left.setup) (read_as (λ xs. rows ++ xs) (rows_from left.setup (left.number + 1) t.rest))
+trace-left records rows left t =
+    ap trace_of t.all ∙ header-first left.setup t.header (t.taken ++ t.rest) t.told
+    ∙ ap (read_as (as_trace left.setup)) (rows-behind left.setup 2 (left.number + 1) t.taken t.rest rows (omega (arith, t.counted)) t.mean)
 
--- a read of a row that failed, seen from the header on
-pub trace-failed : (left after : Option (List Record)) (found : Bool) (fields : Record) (setup : Setup) (row : ℕ)
-    → Takes left after found fields → found ≡ true → header_of fields ≡ Some setup → IfSome after (IsBehindRows setup row)
-    → IfSome left (IsBehind row)
-trace-failed None after found fields setup row takes is header behind = tt
-trace-failed (Some []) after found fields setup row takes is header behind = cc (takes, is)
-trace-failed (Some (first ∷ rest)) after found fields setup row takes is header behind =
-    let (taken, more, all, count, ok) = rw takes.2 at behind in
-    let same = header-first setup first taken (ap header_of (sym takes.1) ∙ header) in
-    (first ∷ taken, more, ap (λ rs. first ∷ rs) all, omega (arith, count), rw same (ok-over (as_trace setup) (rows_from setup 2 taken) ok))
+-- the end of the text
+pub read-end : (known : Option (List ℕ)) (rows : List Row) (left : RowsLeft) (after : Option (List Record)) (found : Bool) (fields : Record)
+    → HasRead known rows left → Takes left.records after found fields → found ≡ false → IsTraceOf known (as_trace left.setup rows)
+read-end None rows left after found fields read takes is = tt
+read-end (Some bytes) rows left after found fields read takes is =
+    let t = read.text in
+    let end = ended t.rest after found fields (rw t.behind at takes) is in
+    trace-left (records_of bytes) rows left t ∙ rw end (ap (λ xs. Ok (as_trace left.setup xs)) (append-nil rows))
 
--- no fault of reading comes from writing
-pub no-write : (fault : TraceFault) (known : Type 0) → IsOutside fault ⊎ ((is_of_form fault.cause ≡ true) × known) → fault.cause ≢ TraceCause.Write
-no-write fault known (inl outside) = outside.1
-no-write fault known (inr form) = λ e. absurd (cc (form.0, ap is_of_form e))
+-- a fault of form at the row behind those that were read
+fault-ends : (known : Option (List ℕ)) (fault : TraceFault) → is_of_form fault.cause ≡ true → IfSome known (λ bytes. trace_of (records_of bytes) ≡ Err fault)
+    → EndsReading known fault
+fault-ends known fault form is = record {
+  first = λ _. is;
+  behind = λ e. absurd (cc (form, ap is_of_form e));
+  read = λ e. absurd (cc (form, ap is_of_form e));
+  memory = λ e. absurd (cc (form, ap is_of_form e));
+}
 
-pub memory-row : (fault : TraceFault) (known : Type 0) → IsOutside fault ⊎ ((is_of_form fault.cause ≡ true) × known) → fault.cause ≡ TraceCause.OutOfMemory → fault.row ≡ 0
-memory-row fault known (inl outside) = outside.2
-memory-row fault known (inr form) = λ e. absurd (cc (form.0, ap is_of_form e))
+-- a row too many
+pub read-late : (known : Option (List ℕ)) (rows : List Row) (left : RowsLeft) (after : Option (List Record)) (found : Bool) (fields : Record)
+    → HasRead known rows left → Takes left.records after found fields → found ≡ true → ROWS_MAX + 1 < left.number + 1
+    → EndsReading known (fault_at (left.number + 1) TraceCause.TooManyRows)
+read-late known rows left after found fields read takes is late =
+    fault-ends known (fault_at (left.number + 1) TraceCause.TooManyRows) refl (by_text known read)
+  where
+    by_text : (known : Option (List ℕ)) → HasRead known rows left
+        → IfSome known (λ bytes. trace_of (records_of bytes) ≡ Err (fault_at (left.number + 1) TraceCause.TooManyRows))
+    by_text None read = tt
+    by_text (Some bytes) read =
+        let t = read.text in
+        let (more, rest, after) = took t.rest after found fields (rw t.behind at takes) is in
+        trace-left (records_of bytes) rows left t ∙ rw rest (rw (late-first left.setup (left.number + 1) fields more late) refl)
+
+-- a row of no form
+read-bad : (known : Option (List ℕ)) (rows : List Row) (left : RowsLeft) (after : Option (List Record)) (found : Bool) (fields : Record)
+    → HasRead known rows left → Takes left.records after found fields → found ≡ true → left.number + 1 ≤ ROWS_MAX + 1 → row_of left.setup fields ≡ None
+    → EndsReading known (fault_at (left.number + 1) TraceCause.BadRow)
+read-bad known rows left after found fields read takes is low none =
+    fault-ends known (fault_at (left.number + 1) TraceCause.BadRow) refl (by_text known read)
+  where
+    by_text : (known : Option (List ℕ)) → HasRead known rows left
+        → IfSome known (λ bytes. trace_of (records_of bytes) ≡ Err (fault_at (left.number + 1) TraceCause.BadRow))
+    by_text None read = tt
+    by_text (Some bytes) read =
+        let t = read.text in
+        let (more, rest, after) = took t.rest after found fields (rw t.behind at takes) is in
+        trace-left (records_of bytes) rows left t ∙ rw rest (rw (bad-first left.setup (left.number + 1) fields more low none) refl)
+
+-- a fault from outside, which is at the row behind those that were read where the reader failed
+pub read-failed : (known : Option (List ℕ)) (rows : List Row) (left : RowsLeft) (fault : TraceFault)
+    → HasRead known rows left → IsOutside fault → (fault.cause ≡ TraceCause.Read → fault.row ≡ left.number + 1) → EndsReading known fault
+read-failed known rows left fault read outside at_row = record {
+  first = λ form. absurd (cc (outside.0, form));
+  behind = λ cause. by_text known read (at_row cause);
+  read = outside.1;
+  memory = outside.2;
+}
+  where
+    by_text : (known : Option (List ℕ)) → HasRead known rows left → fault.row ≡ left.number + 1 → IfSome known (λ bytes. IsBehind fault.row (records_of bytes))
+    by_text None read row = tt
+    by_text (Some bytes) read row =
+        let t = read.text in
+        let ok : IsOk (trace_of (t.header ∷ t.taken)) = rw (header-first left.setup t.header t.taken t.told, t.mean) refl in
+        (t.header ∷ t.taken, t.rest, t.all, omega (arith, row, t.counted), ok)
+
+-- a row that isn't told, for memory or as one at fault
+pub read-fault : (known : Option (List ℕ)) (rows : List Row) (left : RowsLeft) (after : Option (List Record)) (found : Bool) (fields : Record) (fault : TraceFault)
+    → HasRead known rows left → Takes left.records after found fields → found ≡ true → left.number + 1 ≤ ROWS_MAX + 1 → fault.cause ≢ TraceCause.Read
+    → IsOutside fault ⊎ ((row_of left.setup fields ≡ None) × (fault ≡ fault_at (left.number + 1) TraceCause.BadRow)) → EndsReading known fault
+read-fault known rows left after found fields fault read takes is low unread (inl outside) =
+    read-failed known rows left fault read outside (λ cause. absurd (unread cause))
+read-fault known rows left after found fields fault read takes is low unread (inr bad) =
+    rw bad.1 (read-bad known rows left after found fields read takes is low bad.0)
+
+-- one more row
+pub read-more : (known : Option (List ℕ)) (rows : List Row) (left now : RowsLeft) (found : Bool) (fields : Record) (row : Row)
+    → HasRead known rows left → Takes left.records now.records found fields → found ≡ true → left.number + 1 ≤ ROWS_MAX + 1 → row_of left.setup fields ≡ Some row
+    → now.setup ≡ left.setup → now.number ≡ left.number + 1 → HasRead known (rows ++ (row ∷ [])) now
+read-more known rows left now found fields row read takes is low told same next = record {
+  number = omega (arith, length-append rows (row ∷ []), read.number, next);
+  within = omega (arith, low, next);
+  text = by_text known read;
+}
+  where
+    by_text : (known : Option (List ℕ)) → HasRead known rows left → IfSome known (λ bytes. HasTaken (records_of bytes) (rows ++ (row ∷ [])) now)
+    by_text None read = tt
+    by_text (Some bytes) read =
+        let t = read.text in
+        let (more, rest, after) = took t.rest now.records found fields (rw t.behind at takes) is in
+        record {
+          header = t.header;
+          taken = t.taken ++ (fields ∷ []);
+          rest = more;
+          all = t.all ∙ ap (λ rs. t.header ∷ (t.taken ++ rs)) rest ∙ ap (λ rs. t.header ∷ rs) (sym (append_assoc t.taken (fields ∷ []) more));
+          told = rw same t.told;
+          counted = omega (arith, length-append t.taken (fields ∷ []), t.counted, next);
+          mean = rw same (rows-behind left.setup 2 (left.number + 1) t.taken (fields ∷ []) rows (omega (arith, t.counted)) t.mean
+              ∙ rw (good-first left.setup (left.number + 1) fields [] row low told) refl);
+          behind = after;
+        }
+
+-- the header, and the faults at it
+pub header-read : (known : Option (List ℕ)) (left after : Option (List Record)) (found : Bool) (fields : Record) (setup : Setup)
+    → left ≡ option_map records_of known → Takes left after found fields → found ≡ true → header_of fields ≡ Some setup
+    → HasRead known [] (record { setup = setup; number = 1; records = after })
+header-read known left after found fields setup e takes is told = record { number = refl; within = omega arith; text = by_text known e }
+  where
+    by_text : (known : Option (List ℕ)) → left ≡ option_map records_of known
+        → IfSome known (λ bytes. HasTaken (records_of bytes) [] (record { setup = setup; number = 1; records = after }))
+    by_text None e = tt
+    by_text (Some bytes) e =
+        let (more, all, behind) = took (records_of bytes) after found fields (rw e at takes) is in
+        record { header = fields; taken = []; rest = more; all = all; told = told; counted = refl; mean = refl; behind = behind }
+
+pub header-missing : (known : Option (List ℕ)) (left after : Option (List Record)) (found : Bool) (fields : Record)
+    → left ≡ option_map records_of known → Takes left after found fields → found ≡ false → EndsReading known (fault_at 1 TraceCause.BadHeader)
+header-missing known left after found fields e takes is = fault-ends known (fault_at 1 TraceCause.BadHeader) refl (by_text known e)
+  where
+    by_text : (known : Option (List ℕ)) → left ≡ option_map records_of known → IfSome known (λ bytes. trace_of (records_of bytes) ≡ Err (fault_at 1 TraceCause.BadHeader))
+    by_text None e = tt
+    by_text (Some bytes) e = rw (ended (records_of bytes) after found fields (rw e at takes) is) refl
+
+pub header-bad : (known : Option (List ℕ)) (left after : Option (List Record)) (found : Bool) (fields : Record)
+    → left ≡ option_map records_of known → Takes left after found fields → found ≡ true → header_of fields ≡ None → EndsReading known (fault_at 1 TraceCause.BadHeader)
+header-bad known left after found fields e takes is none = fault-ends known (fault_at 1 TraceCause.BadHeader) refl (by_text known e)
+  where
+    by_text : (known : Option (List ℕ)) → left ≡ option_map records_of known → IfSome known (λ bytes. trace_of (records_of bytes) ≡ Err (fault_at 1 TraceCause.BadHeader))
+    by_text None e = tt
+    by_text (Some bytes) e =
+        let (more, all, behind) = took (records_of bytes) after found fields (rw e at takes) is in
+        rw all (rw (none, trace_of) refl)
+
+pub header-failed : (known : Option (List ℕ)) (fault : TraceFault) → IsOutside fault → (fault.cause ≡ TraceCause.Read → fault.row ≡ 1) → EndsReading known fault
+header-failed known fault outside at_row = record {
+  first = λ form. absurd (cc (outside.0, form));
+  behind = λ cause. by_text known (at_row cause);
+  read = outside.1;
+  memory = outside.2;
+}
+  where
+    by_text : (known : Option (List ℕ)) → fault.row ≡ 1 → IfSome known (λ bytes. IsBehind fault.row (records_of bytes))
+    by_text None row = tt
+    by_text (Some bytes) row = ([], records_of bytes, refl, row, tt)

@@ -3,3 +3,4 @@ pub mod RecordsLeft
 pub mod Verdict
 pub mod VerdictText
 pub mod TraceText
+pub mod Judging

@@ -1,19 +1,24 @@
 -- The records that a reader still gives.
-use Rattle.std.specs.Prelude.{◌≡◌, ◌≢◌, ℕ, ◌+◌, Bool, true, false, List, [], ◌∷◌, ◌++◌, length, Option, Some, None, IsOk, ⊤, option_map}
-use Rattle.csv.specs.Reading.{Ready, default_config, is_flexible, reader_config, reader_state, reader_trim, records_from, source_of}
+use Rattle.std.specs.Prelude.{◌≡◌, ◌≢◌, ℕ, ◌+◌, ◌≤◌, Bool, true, false, List, [], ◌∷◌, ◌++◌, length, Option, Some, None, Ok, IfSome, ⊤, option_map}
+use Rattle.csv.specs.Reading.{Ready, default_config, has_failed, is_flexible, reader_config, reader_state, reader_trim, records_from, source_of}
 use Rattle.csv.specs.declared.reader.Reader.{Reader}
 use Rattle.csv.specs.declared.reader.Trim.TheVariants as trim
 use Rattle.bully_base.specs.Setup.{Setup}
+use Rattle.bully_trace.specs.declared.TheConstants.{ROWS_MAX}
 use Rattle.bully_trace.specs.declared.trace.Row.{Row}
 use Rattle.bully_trace.specs.declared.trace.TraceCause.{TraceCause}
 use Rattle.bully_trace.specs.declared.trace.TraceFault.{TraceFault}
-use Rattle.bully_trace.specs.Rows.{Record, is_of_form, read_as, rows_from}
+use Rattle.bully_trace.specs.Rows.{IsFirstFault, IsReadAtItsRow, IsTraceOf, Record, header_of, is_of_form, records_of, rows_from}
 
 -- the reader takes the records of a text as they stand, one a read
 abbrev pub IsPlain : {R : Type 0} → Reader R → Type 0
 IsPlain reader = (reader_config reader ≡ default_config) × (reader_trim reader ≡ trim.None) × Ready reader × (is_flexible reader ≡ true)
 
--- the records that the reader still gives, where its bytes are known
+-- it does so where no read of it has failed
+abbrev pub ReadsPlain : {R : Type 0} → Reader R → Type 0
+ReadsPlain reader = has_failed reader ≡ false → IsPlain reader
+
+-- the records that the reader still gives, where its bytes are known and no read of it has failed
 abbrev pub records_left : {R : Type 0} → (R → Option (List ℕ)) → Reader R → Option (List Record)
 records_left remaining reader =
     option_map (λ bytes. records_from default_config (length bytes + 1) (reader_state reader) bytes) (source_of remaining reader)
@@ -24,19 +29,41 @@ Takes None after found fields = ⊤
 Takes (Some []) after found fields = found ≡ false
 Takes (Some (first ∷ rest)) after found fields = (found ≡ true) × (fields ≡ first) × (after ≡ Some rest)
 
--- of the records before, these rows were read; those of the records now come behind them, from this number on
-abbrev pub HasRows : Setup → ℕ → List Row → Option (List Record) → Option (List Record) → Type 0
-HasRows setup number rows None now = ⊤
-HasRows setup number rows (Some before) None = ⊥
-HasRows setup number rows (Some before) (Some now) =
-    rows_from setup 2 before ≡ read_as (λ more. rows ++ more) (rows_from setup number now)
+-- what is still to be read behind the header of a trace: the setup that it tells, the number of the row that was read
+-- last, and the records, where the reader's bytes are known
+pub record RowsLeft : Type 0 where
+  pub setup : Setup
+  pub number : ℕ
+  pub records : Option (List Record)
 
--- the records before are those that were taken, which mean rows without a fault, and then those of now, from this number on
-abbrev pub TookRows : Setup → ℕ → Option (List Record) → Option (List Record) → Type 0
-TookRows setup number None now = ⊤
-TookRows setup number (Some before) None = ⊥
-TookRows setup number (Some before) (Some now) =
-    (taken : List Record) × (before ≡ taken ++ now) × (length taken + 2 ≡ number) × IsOk (rows_from setup 2 taken)
+-- of these records the header and then these rows were taken, without a fault, and the others are left
+pub record HasTaken (records : List Record) (rows : List Row) (left : RowsLeft) : Type 0 where
+  pub header : Record
+  pub taken : List Record
+  pub rest : List Record
+  pub all : records ≡ header ∷ (taken ++ rest)
+  pub told : header_of header ≡ Some left.setup
+  pub counted : length taken + 1 ≡ left.number
+  pub mean : rows_from left.setup 2 taken ≡ Ok rows
+  pub behind : left.records ≡ Some rest
+
+-- these rows were read of a text
+pub record HasRead (known : Option (List ℕ)) (rows : List Row) (left : RowsLeft) : Type 0 where
+  pub number : length rows + 1 ≡ left.number
+  pub within : left.number ≤ ROWS_MAX + 1
+  pub text : IfSome known (λ bytes. HasTaken (records_of bytes) rows left)
+
+-- behind these rows the text has ended, or the row is the next one
+abbrev pub IsNext : Option (List ℕ) → List Row → Option Row → Setup → RowsLeft → Type 0
+IsNext known rows None setup left = IsTraceOf known (record { setup = setup; rows = rows })
+IsNext known rows (Some row) setup left = HasRead known (rows ++ row ∷ []) left
+
+-- a fault that ends the reading of a text
+pub record EndsReading (known : Option (List ℕ)) (fault : TraceFault) : Type 0 where
+  pub first : IsFirstFault known fault
+  pub behind : IsReadAtItsRow known fault
+  pub read : fault.cause ≢ TraceCause.Write
+  pub memory : fault.cause ≡ TraceCause.OutOfMemory → fault.row ≡ 0
 
 -- a fault of reading or of memory
 abbrev pub IsOutside : TraceFault → Type 0

@@ -146,11 +146,6 @@ abbrev pub IsBehind : ℕ → List Record → Type 0
 IsBehind row records =
     (before : List Record) × (rest : List Record) × (records ≡ before ++ rest) × (row ≡ length before + 1) × AreFaultless before
 
--- the same of records behind the header, the first of which is row 2
-abbrev pub IsBehindRows : Setup → ℕ → List Record → Type 0
-IsBehindRows setup row records =
-    (before : List Record) × (rest : List Record) × (records ≡ before ++ rest) × (row ≡ length before + 2) × IsOk (rows_from setup 2 before)
-
 -- what is said of a text holds where the bytes of a reader are known
 
 -- the text means the trace

@@ -1,13 +1,15 @@
-ghost use Rattle.std.specs.Prelude.{◌≡◌, ◌≢◌, ◌⊎◌, ◌++◌, Ok, Err, IfOk, IfErr, IfSome, IsOk, IsTrue, OnOk};
+ghost use Rattle.std.specs.Prelude.{◌≡◌, ◌≢◌, ◌⊎◌, ◌++◌, ℕ, List, Option, IfOk, IfErr, OnOk};
 ghost use Rattle.std.specs.Io.KnownBytes.{Appends};
 ghost use Rattle.std.specs.String.{string_bytes};
 ghost use Rattle.bully_trace.specs.Rows.{HasNoFault, IsFirstFault, IsReadAtItsRow, OfTrace};
+ghost use Rattle.bully_trace.specs.Judging.{AreAllJudged, AreJudged};
+ghost use Rattle.bully_trace.specs.RecordsLeft.{EndsReading};
 ghost use Rattle.bully_trace.specs.Verdict.{IsLawfulCount, AgreesAfterEachRow};
 ghost use Rattle.bully_trace.specs.VerdictText.{IsJudgedAs, verdict_text, node_lines};
 ghost use Rattle.bully_world.specs.State.{world_of};
 
-use crate::judging::judge;
-use crate::reading::read_trace;
+use crate::judging::Judge;
+use crate::row_reader::RowReader;
 use crate::text::{push_node_line, push_verdict_head};
 use crate::writing::not_written;
 use crate::{TraceCause, TraceFault, Verdict};
@@ -16,10 +18,11 @@ use bully_world::World;
 use std::alloc::Global;
 use std::io::{Read, Write};
 
-/// Judges a trace and writes the verdict, and where it is lawful a line for each node. All rows are read before
-/// anything is written. Refused as [`read_trace`] refuses the trace, and then nothing was written, whatever the
-/// verdict on the rows before the faulty one; then as `OutOfMemory`, with nothing written; then as `Write`, and
-/// then a prefix of the text may have been written. The last two are at row 0.
+/// Judges a trace and writes the verdict, and where it is lawful a line for each node. Each row is judged as it is
+/// read, and none is kept: the memory that it takes is that of a world. All rows are read before anything is written.
+/// Refused as [`crate::read_trace`] refuses the trace, and then nothing was written, whatever the verdict on the rows
+/// before the faulty one; as `OutOfMemory` where the world or the text can't be made, with nothing written; then as
+/// `Write`, and then a prefix of the text may have been written. The last two are at row 0.
 pub fn check<R: Read + Drop, W: Write>(
     alloc: Global,
     reader: R,
@@ -40,12 +43,24 @@ pub fn check<R: Read + Drop, W: Write>(
     ensures row { IfErr result (λ fault.
         (fault.cause ≡ TraceCause.Write) ⊎ (fault.cause ≡ TraceCause.OutOfMemory) → fault.row ≡ 0) }
 {
-    let trace = read_trace(alloc, reader)?;
-    let mut world = World::new(alloc, trace.setup)?;
-    let verdict = judge(&mut world, trace.rows.as_slice());
-    let text = text_of(alloc, verdict, &world)?;
+    let mut rows = RowReader::open(alloc, reader)?;
+    let mut judge = Judge::new(alloc, rows.setup())?;
+    judge_rows(&mut rows, &mut judge)?;
+    let verdict = judge.verdict();
+    let text = text_of(alloc, verdict, judge.world())?;
     writer.write_all(text.as_bytes()).map_err(not_written)?;
     Ok(verdict)
+}
+
+// Has all rows judged that are still to be read.
+fn judge_rows<R: Read + Drop>(rows: &mut RowReader<R>, judge: &mut Judge) -> Result<(), TraceFault>
+    ensures judged { (known : Option (List ℕ)) → AreJudged known rows.old judge.old → OnOk result (AreAllJudged known rows.old.setup judge.new) }
+    ensures fault { (known : Option (List ℕ)) → AreJudged known rows.old judge.old → IfErr result (EndsReading known) }
+{
+    while let Some(row) = rows.next_row()? {
+        judge.take(rows.number(), &row);
+    }
+    Ok(())
 }
 
 // The text of the verdict, after which the world is so.

@@ -1,35 +1,93 @@
-ghost use Rattle.std.specs.Prelude.{◌≡◌, ◌+◌, ◌≤◌, ℕ, length, drop};
-ghost use Rattle.bully_trace.specs.declared.TheConstants.{ROWS_MAX};
+ghost use Rattle.std.specs.Prelude.{◌≡◌, ◌+◌, ◌++◌, ◌∷◌, [], List, length, IfOk};
+ghost use Rattle.bully_base.specs.Setup.{Setup as SetupState};
+ghost use Rattle.bully_trace.specs.declared.trace.Row.{Row as RowState};
+ghost use Rattle.bully_trace.specs.declared.verdict.Verdict.{Verdict as VerdictState};
+ghost use Rattle.bully_trace.specs.Judging.{HasJudged, IsJudgedOn};
 ghost use Rattle.bully_trace.specs.Verdict.{IsJudged, is_true};
 ghost use Rattle.bully_world.specs.State.{world_of};
+ghost use Rattle.bully_world.specs.World.{World as WorldOf, first_world};
 
 use crate::{Claim, Row, Verdict};
+use bully_agree::Walk;
+use bully_base::{OutOfMemory, Setup};
 use bully_world::World;
+use std::alloc::Global;
+use std::marker::Model;
 
-/// Takes the rows in order: the first event that the world refuses, or the first claim that is false of it,
-/// decides; else the verdict is the number of the events. The rows are those after the header: they count from 2.
-pub fn judge(world: &mut World, rows: &[Row]) -> Verdict
-    requires { length rows.now ≤ ROWS_MAX }
-    ensures verdict { IsJudged world.old.setup (world_of world.old) world.old.events 2 rows.now result (world_of world.new) }
-    ensures setup { world.new.setup ≡ world.old.setup }
+/// The judge of rows that come one by one.
+#[derive(Drop)]
+pub struct Judge {
+    walk: Walk,
+    // The first verdict that isn't lawful.
+    stopped: Option<Verdict>,
+}
+
+impl Model for Judge {
+    ghost use Rattle.bully_trace.specs.Judging.{JudgeState};
+
+    ghost Value = { JudgeState };
+
+    ghost view = { λ j. record { world = j.walk; stopped = j.stopped } };
+}
+
+impl Judge {
+    /// A judge before any row. Refused where an allocation fails.
+    pub fn new(alloc: Global, setup: Setup) -> Result<Judge, OutOfMemory>
+        ensures { IfOk result (HasJudged setup []) }
+    {
+        Ok(Judge {
+            walk: Walk::new(alloc, setup)?,
+            stopped: None,
+        })
+    }
+
+    /// Takes the row of this number. The first event that the world refuses, or the first claim that is false of it,
+    /// decides, and no later row changes anything.
+    pub fn take(&mut self, number: u32, row: &Row)
+        ensures { (setup : SetupState) (rows : List RowState) → length rows + 2 ≡ number → HasJudged setup rows self.old → HasJudged setup (rows ++ row.now ∷ []) self.new }
+    {
+        if self.stopped.is_none() {
+            self.stopped = fault_of(&mut self.walk, number, row);
+        }
+    }
+
+    /// The verdict on the rows that were taken: lawful with the number of their events, where no other one came first.
+    pub fn verdict(&self) -> Verdict
+        ensures { (setup : SetupState) (rows : List RowState) → HasJudged setup rows self.now → IsJudged setup (first_world setup) 0 2 rows result (world_of self.now.world) }
+    {
+        match self.stopped {
+            Some(verdict) => verdict,
+            None => Verdict::Lawful(self.world().events()),
+        }
+    }
+
+    /// The world that the rows were taken to.
+    pub fn world(&self) -> &World
+        ensures { result.now ≡ self.now.world }
+    {
+        self.walk.world()
+    }
+}
+
+// Takes the row of this number to the world: the verdict, where that isn't lawful.
+fn fault_of(walk: &mut Walk, number: u32, row: &Row) -> Option<Verdict>
+    ensures judged { (more : List RowState) (verdict : VerdictState) (w : WorldOf) → IsJudgedOn (record { world = walk.new; stopped = result }) (number + 1) more verdict w
+        → IsJudged walk.old.setup (world_of walk.old) walk.old.events number (row.now ∷ more) verdict w }
+    ensures setup { walk.new.setup ≡ walk.old.setup }
 {
-    let mut number: u32 = 2;
-    for row in rows {
-        match row {
-            Row::Event(event) => {
-                if let Err(why) = world.apply(event) {
-                    return Verdict::Refused(number, why);
-                }
-            }
-            Row::Claim(claim) => {
-                if !holds(world, claim) {
-                    return Verdict::Differs(number);
-                }
+    match row {
+        Row::Event(event) => match walk.apply(event) {
+            Ok(_) => None,
+            Err(why) => Some(Verdict::Refused(number, why)),
+        },
+        Row::Claim(claim) => {
+            if holds(walk.world(), claim) {
+                None
+            } else {
+                Some(Verdict::Differs(number))
             }
         }
-        number += 1;
     }
-    Verdict::Lawful(world.events())
 }
 
 // Whether the claim is true of the world.

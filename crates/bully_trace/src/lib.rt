@@ -11,6 +11,7 @@ mod checking;
 mod judging;
 mod reading;
 mod row;
+mod row_reader;
 mod text;
 mod trace;
 mod verdict;

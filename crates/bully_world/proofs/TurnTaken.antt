@@ -1,11 +1,10 @@
 -- The steps of a world's turns, as its readers have them.
-use Rattle.std.proofs.Common.{◌≡◌, ℕ, ◌+◌, ◌<◌, Bool, true, false, None, Result, Ok, IfOk, OnOk, arith, refl, sym, ◌∙◌, ap, subst}
+use Rattle.std.proofs.Common.{◌≡◌, ℕ, ◌+◌, ◌<◌, Bool, true, false, None, arith, refl, sym, ◌∙◌, ap, subst}
 use Rattle.std.specs.Prelude.{IfSome, if◌then◌else◌}
 use Rattle.std.specs.Option.{option_map_or}
 use Rattle.bully_calls.specs.declared.call.Answer.{Answer}
 use Rattle.bully_steps.specs.ProcedureState.{ProcedureState, IsProcedureState, CanResume, resumed}
 use Rattle.bully_world.specs.declared.event.Event.{Event}
-use Rattle.bully_world.specs.declared.event.Refused.{Refused}
 use Rattle.bully_world.specs.declared.turn.Next.{Next}
 use Rattle.bully_world.specs.declared.turn.StepKind.{StepKind}
 use Rattle.bully_world.specs.State.{WorldState, IsReached, state_at, member_of, world_of, cause_in, raises}
@@ -78,16 +77,13 @@ own_generation StepKind.Return w h i g k e = omega (arith, e)
 own_generation StepKind.Move w h i g k e = omega (arith, e)
 own_generation StepKind.Plan w h i g k e = omega (arith, e)
 
--- the same, of an event that `apply` applied
-pub applied_goes_on : (w w' : WorldState) (h : ProcedureState) (kind : StepKind) (e : Event) (result : Result Answer Refused) (answer : Answer) → IsReached w → h.setup ≡ w.setup → turn w h ≡ Next.Take kind → e ≡ event_of kind h → w'.setup ≡ w.setup
-    → result ≡ Ok answer → IfOk result (λ a. Step w.setup (world_of w) e (world_of w') a)
-    → OnOk result ((i : ℕ) → (state_at w' i).generation ≡ (state_at w i).generation + (if raises (world_of w) e i then 1 else 0))
+-- the same, of an event that was applied
+pub applied_goes_on : (w w' : WorldState) (h : ProcedureState) (kind : StepKind) (e : Event) (answer : Answer) → IsReached w → h.setup ≡ w.setup → turn w h ≡ Next.Take kind → e ≡ event_of kind h → w'.setup ≡ w.setup
+    → Step w.setup (world_of w) e (world_of w') answer
+    → ((i : ℕ) → (state_at w' i).generation ≡ (state_at w i).generation + (if raises (world_of w) e i then 1 else 0))
     → (is_in_step w' (procedure_after kind answer h) ≡ true) × IfSome (outcome_after kind answer) (CanResume h)
-applied_goes_on w w' h kind e result answer reached se t named same ok step raised =
-    let s : Step w.setup (world_of w) e (world_of w') answer = subst (λ r. IfOk r (λ a. Step w.setup (world_of w) e (world_of w') a)) ok step in
-    let g : (i : ℕ) → (state_at w' i).generation ≡ (state_at w i).generation + (if raises (world_of w) e i then 1 else 0) =
-    subst (λ r. OnOk r ((i : ℕ) → (state_at w' i).generation ≡ (state_at w i).generation + (if raises (world_of w) e i then 1 else 0))) ok raised in
+applied_goes_on w w' h kind e answer reached se t named same step raised =
     goes_on_taken w w' h kind answer reached se t same
     (λ i. own_generation kind (world_of w) h i (state_at w' i).generation (state_at w i).generation
-    (subst (λ x. (state_at w' i).generation ≡ (state_at w i).generation + (if raises (world_of w) x i then 1 else 0)) named (g i)))
-    (subst (λ x. Step w.setup (world_of w) x (world_of w') answer) named s)
+    (subst (λ x. (state_at w' i).generation ≡ (state_at w i).generation + (if raises (world_of w) x i then 1 else 0)) named (raised i)))
+    (subst (λ x. Step w.setup (world_of w) x (world_of w') answer) named step)

@@ -2,6 +2,7 @@
 -- what the turn rule has it do.
 use Rattle.std.specs.Prelude.{◌≡◌, ℕ, ◌==◌, ◌&&◌, Bool, true, false, not, List, [], Option, Some, None, bytes_eq, unwrap_or, if◌then◌else◌}
 use Rattle.std.specs.Option.{option_map_or, option_eq}
+use Rattle.bully_base.specs.Setup.{Setup}
 use Rattle.bully_calls.specs.declared.call.Answer.{Answer}
 use Rattle.bully_calls.specs.declared.call.Outcome.{Outcome}
 use Rattle.bully_calls.specs.declared.call.Phase.{Phase}
@@ -18,7 +19,7 @@ use Rattle.bully_world.specs.declared.turn.Next.TheVariants.{Resync, Rest, Take}
 use Rattle.bully_world.specs.declared.turn.StepKind.{StepKind}
 use Rattle.bully_world.specs.declared.turn.StepKind.TheVariants.{Start, Lose, Return, Move, Plan}
 use Rattle.bully_world.specs.Cause.{is_down_at}
-use Rattle.bully_world.specs.State.{WorldState, state_at, member_of, world_of}
+use Rattle.bully_world.specs.State.{WorldState, MemberState, state_at, member_of, world_of}
 use Rattle.bully_world.specs.World.{World}
 
 -- a live call is pending
@@ -26,11 +27,15 @@ abbrev pub is_live_in : Option Pending → Bool
 is_live_in None = false
 is_live_in (Some c) = c.is_live
 
--- the procedure of node i that the world shows; it awaits exactly where a live call of i is pending
+-- the procedure of node i that what is kept of it shows; it awaits exactly where a live call of i is pending
+abbrev pub procedure_by : Setup → ℕ → MemberState → ProcedureState
+procedure_by setup i s =
+    let m = member_of s in
+    procedure_state setup i s.generation m.point m.vector.up m.vector.coordinator (is_live_in m.pending)
+
+-- and that the world shows
 abbrev pub procedure_in : WorldState → ℕ → ProcedureState
-procedure_in w i =
-    let m = member_of (state_at w i) in
-    procedure_state w.setup i (state_at w i).generation m.point m.vector.up m.vector.coordinator (is_live_in m.pending)
+procedure_in w i = procedure_by w.setup i (state_at w i)
 
 abbrev pub same_flag : Bool → Bool → Bool
 same_flag true b = b

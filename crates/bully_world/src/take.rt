@@ -52,7 +52,7 @@ impl World {
             return Err((procedure, Refused::Full));
         }
         let (event, left) = event_by(kind, procedure);
-        let answer = self.apply(&event).unwrap();
+        let answer = self.apply_allowed(&event);
         Ok(TakenStep {
             event,
             answer,

@@ -1,12 +1,13 @@
 ghost use Rattle.std.specs.Prelude.{◌≡◌, ◌≤◌, true, IsSome, bytes_eq};
 ghost use Rattle.bully_calls.specs.Slot.{pending_in};
-ghost use Rattle.bully_steps.specs.ProcedureState.{IsProcedureState, want_of};
+ghost use Rattle.bully_steps.specs.ProcedureState.{IsProcedureState, want_of, up_at, coordinator_at};
 ghost use Rattle.bully_steps.specs.Procedure.{state_of};
-ghost use Rattle.bully_world.specs.Turn.{event_at, is_live_in, procedure_in, is_in_step, agree, same_point, same_set, same_node, turn, turn_of_call, turn_of_want, has_table};
+ghost use Rattle.bully_world.specs.Turn.{event_at, is_live_in, procedure_by, procedure_in, is_in_step, agree, same_point, same_set, same_node, turn, turn_of_call, turn_of_want, has_table};
 ghost use Rattle.bully_world.specs.declared.turn.StepKind.{StepKind};
 
 use crate::World;
 use crate::event::Event;
+use crate::member::Member;
 use bully_base::{Node, NodeSet, Status};
 use bully_calls::{Phase, Slot};
 use bully_steps::{Point, Procedure, Want};
@@ -84,10 +85,11 @@ impl World {
         ensures { result ≡ turn self.now (state_of procedure.now) }
     {
         let node = procedure.node();
-        if !agree_on_all(procedure, &self.procedure(node)) {
+        let member = self.member(node);
+        if !agrees_with(procedure, member) {
             return Next::Resync;
         }
-        let slot = self.member(node).slot();
+        let slot = member.slot();
         match (slot.call(), slot.phase()) {
             (Some(call), Some(phase)) => {
                 next_of_call(self.vector(call.callee).status() == Status::Down, phase)
@@ -130,15 +132,41 @@ fn next_of_want(procedure: &Procedure) -> Next
     }
 }
 
-// Whether the procedures agree on generation, point and call, and on the up set or the coordinator that they hold.
-fn agree_on_all(procedure: &Procedure, shown: &Procedure) -> bool
-    ensures { result ≡ agree (state_of procedure.now) (state_of shown.now) }
+// Whether the procedure agrees with what is kept of its node on generation, point and call, and on the up set or the
+// coordinator that is held at the point.
+fn agrees_with(procedure: &Procedure, member: &Member) -> bool
+    ensures { result ≡ agree (state_of procedure.now) (procedure_by (state_of procedure.now).setup (state_of procedure.now).node member.now) }
 {
-    procedure.generation() == shown.generation()
-        && is_same_point(&procedure.point(), &shown.point())
-        && procedure.awaits() == shown.awaits()
-        && is_same_set(procedure.up(), shown.up())
-        && is_same_node(procedure.coordinator(), shown.coordinator())
+    let point = member.point();
+    let vector = member.vector();
+    procedure.generation() == member.generation()
+        && is_same_point(&procedure.point(), &point)
+        && procedure.awaits() == holds_live_call(member.slot(), member.generation())
+        && is_same_set(procedure.up(), up_at(&point, vector.up()))
+        && is_same_node(
+            procedure.coordinator(),
+            coordinator_at(&point, vector.coordinator()),
+        )
+}
+
+// The up set, where a procedure holds it at this point.
+fn up_at(point: &Point, up: &NodeSet) -> Option<NodeSet>
+    ensures { result ≡ up_at point.now up.now }
+{
+    match point {
+        Point::Halting(_) | Point::Announcing(_) | Point::Planning => Some(*up),
+        _ => None,
+    }
+}
+
+// The coordinator, where a procedure holds it at this point.
+fn coordinator_at(point: &Point, coordinator: Option<Node>) -> Option<Node>
+    ensures { result ≡ coordinator_at point.now coordinator }
+{
+    match point {
+        Point::Inquiring => coordinator,
+        _ => None,
+    }
 }
 
 // Whether the points are the same, with the same sets.

@@ -84,9 +84,22 @@ impl World {
         if let Some(why) = self.cause(event) {
             return Err(why);
         }
+        Ok(self.apply_allowed(event))
+    }
+
+    /// Applies the event, which `cause` doesn't refuse, and answers it. Takes no memory.
+    pub fn apply_allowed(&mut self, event: &Event) -> Answer
+        requires { cause_in self.old event.now ≡ None }
+        ensures step { StepsTo self.old event.now self.new result }
+        ensures counted { self.new.events ≡ self.old.events + 1 }
+        ensures room { self.old.events < self.old.setup.events_max }
+        ensures generations { RaisesGenerations event.now self.old self.new }
+        ensures tags { KeepsTags event.now self.old self.new }
+        ensures setup { self.new.setup ≡ self.old.setup }
+    {
         let answer = apply_event(self.setup, self.members.as_mut_slice(), event);
         self.events += 1;
-        Ok(answer)
+        answer
     }
 
     /// The node's vector; its task, if any, has the setup's partitions. The node is at most the setup's last.

@@ -1,9 +1,8 @@
 ghost use Rattle.std.specs.Prelude.{◌≡◌, ◌↔◌, ◌<◌, ◌==◌, IsTrue, false, IfOk, OnOk, IfErr, IfSome, MatchOption, All, length, map, sum, vec_len};
 ghost use Rattle.std.specs.List.{AllByRecursion};
-ghost use Rattle.bully_group.specs.Finish.{AreAll, AreOfGroup, HasPart, IsLowestDiffering, IsFinishFault, EachInOneLog};
+ghost use Rattle.bully_group.specs.Finish.{AreAll, AreOfGroup, HasPart, IsLowestDiffering, CanFinish, IsFinishFault, EachInOneLog};
 ghost use Rattle.bully_group.specs.Locked.{view_in};
 ghost use Rattle.bully_group.specs.Seat.{actor_of};
-ghost use Rattle.bully_group.specs.declared.locked.finish.FinishFault.{FinishFault};
 ghost use Rattle.bully_watch.specs.History.{part};
 
 use super::Locked;
@@ -67,7 +66,7 @@ impl<L: Naming> Locked<L> {
 
     // Why it can't be finished with these seats and so many passes, memory aside.
     fn fault(&self, seats: &[Seat], passes: usize) -> Option<FinishFault>
-        ensures { MatchOption result (IsFinishFault self.now seats.now passes FinishFault.OutOfMemory) (IsFinishFault self.now seats.now passes) }
+        ensures { MatchOption result (CanFinish self.now seats.now passes) (IsFinishFault self.now seats.now passes) }
     {
         let nodes = self.world.setup().nodes();
         let count = usize::from(nodes) + 1;

@@ -103,7 +103,7 @@ impl<L: Naming> Locked<L> {
         if self.history.reserve(1).is_err() || seat.log.reserve(1).is_err() {
             return Err(StepFault::OutOfMemory);
         }
-        let answer = self.world.apply(&event).unwrap();
+        let answer = self.world.apply_allowed(&event);
         pass.count(&mut self.book);
         let entry = Entry {
             actor: seat.actor,

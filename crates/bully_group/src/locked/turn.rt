@@ -1,9 +1,9 @@
 ghost use Rattle.std.specs.Prelude.{◌≡◌, ◌+◌, ◌⊎◌, IfOk, true, false, if◌then◌else◌};
 ghost use Rattle.bully_group.specs.Seat.{IsKnown};
-ghost use Rattle.bully_group.specs.Turns.{handed_back, IfWent, IfWaiting, IfResynced, IfFault, is_went, is_fault, MayTurn, Goes, Waits, Resyncs, Fails};
+ghost use Rattle.bully_group.specs.Turns.{handed_back, IfWent, IfWaiting, IfResynced, IfFault, is_went, is_fault, MayTurn, Goes, Waits, Resyncs, Fails, EndsInStep};
 ghost use Rattle.bully_steps.specs.Procedure.{state_of};
 ghost use Rattle.bully_steps.specs.ProcedureState.{HasSameNode};
-ghost use Rattle.bully_world.specs.Turn.{turn, has_table, event_of, procedure_in, is_in_step};
+ghost use Rattle.bully_world.specs.Turn.{turn, has_table, event_of, procedure_in};
 ghost use Rattle.bully_world.specs.declared.turn.Next.{Next};
 ghost use Rattle.bully_world.specs.declared.turn.StepKind.{StepKind};
 
@@ -42,7 +42,7 @@ impl<L: Naming> Locked<L> {
         ensures waiting { IfWaiting result (Waits self.old seat.old (state_of procedure)) }
         ensures resynced { IfResynced result (Resyncs self.old seat.old (state_of procedure)) }
         ensures fault { IfFault result (Fails self.old seat.old (state_of procedure)) }
-        ensures in_step { is_fault result ≡ false → is_in_step self.new.world (handed_back result) ≡ true }
+        ensures in_step { EndsInStep self.new result }
         ensures same_node { HasSameNode (state_of procedure) (handed_back result) }
         ensures unchanged { is_went result ≡ false → (self.new ≡ self.old) × (seat.new ≡ seat.old) }
         ensures pass { pass.new ≡ (if is_went result then pass.old + 1 else pass.old) }
@@ -76,7 +76,7 @@ impl<L: Naming> Locked<L> {
         ensures went { IfWent result (Goes self.old seat.old (state_of procedure) self.new seat.new) }
         ensures one { (is_went result ≡ true) ⊎ (is_fault result ≡ true) }
         ensures fault { IfFault result (Fails self.old seat.old (state_of procedure)) }
-        ensures in_step { is_fault result ≡ false → is_in_step self.new.world (handed_back result) ≡ true }
+        ensures in_step { EndsInStep self.new result }
         ensures same_node { HasSameNode (state_of procedure) (handed_back result) }
         ensures unchanged { is_went result ≡ false → (self.new ≡ self.old) × (seat.new ≡ seat.old) }
         ensures pass { pass.new ≡ (if is_went result then pass.old + 1 else pass.old) }

@@ -3,7 +3,7 @@
 ghost use Rattle.std.specs.Prelude.{◌≡◌, ◌≤◌, ◌+◌};
 ghost use Rattle.bully_steps.specs.Procedure.{state_of};
 
-use crate::tests::held::{Opened, Way, finished, open, refused};
+use crate::tests::held::{Held, Opened, Way, finished, open, refused};
 use crate::{Closed, FinishFault, Naming, Seat, StepFault, Turn};
 use bully_base::{Node, Setup, Status};
 use bully_calls::Answer;
@@ -121,27 +121,42 @@ fn tried_by<L: Naming, R: Wait>(
     for each in asks {
         let (next, answer) = perform(rt, alloc, &mut opened, procedure, each);
         procedure = next;
-        told.push(answer).ok()?;
+        // Where this fails, less is told.
+        let _ = told.push(answer);
     }
-    ended(opened, told)
-}
-
-// The finish without the last seat, without the last pass, and with all.
-fn ended<L: Naming>(opened: Opened<L>, told: Vec<Told>) -> Option<Trial> {
-    let mut opened = opened;
-    let seat = opened.seats.pop()?;
-    let (one_seat_less, mut opened) = refused(opened)?;
-    opened.seats.push(seat).ok()?;
-    let pass = opened.passes.pop()?;
-    let (one_pass_less, mut opened) = refused(opened)?;
-    opened.passes.push(pass).ok()?;
-    let closed = finished(opened)?;
+    let (one_seat_less, one_pass_less, closed) = ended(opened)?;
     Some(Trial {
         told,
         one_seat_less,
         one_pass_less,
         closed,
     })
+}
+
+// The finish without the last seat, without the last pass, and with all.
+fn ended<L: Naming>(opened: Opened<L>) -> Option<(FinishFault, FinishFault, Closed)> {
+    let (one_seat_less, opened) = without_a_seat(opened)?;
+    let (one_pass_less, opened) = without_a_pass(opened)?;
+    match finished(opened) {
+        Ok(closed) => Some((one_seat_less, one_pass_less, closed)),
+        Err(_) => None,
+    }
+}
+
+fn without_a_seat<L: Naming>(opened: Opened<L>) -> Option<(FinishFault, Opened<L>)> {
+    let mut opened = opened;
+    let seat = opened.seats.pop()?;
+    let (fault, mut opened) = refused(opened)?;
+    let _ = opened.seats.push(seat);
+    Some((fault, opened))
+}
+
+fn without_a_pass<L: Naming>(opened: Opened<L>) -> Option<(FinishFault, Opened<L>)> {
+    let mut opened = opened;
+    let pass = opened.passes.pop()?;
+    let (fault, mut opened) = refused(opened)?;
+    let _ = opened.passes.push(pass);
+    Some((fault, opened))
 }
 
 // One ask. The procedure stays one of the group.
@@ -223,7 +238,7 @@ fn view<L: Naming, R: Wait>(rt: &R, opened: &Opened<L>, actor: usize, node: Node
     let Some(seat) = opened.seats.get(actor) else {
         return Told::Nothing;
     };
-    match viewed(rt, opened, seat, node) {
+    match viewed(rt, &opened.held, seat, node) {
         Some((events, status)) => Told::Viewed(events, status),
         None => Told::Nothing,
     }
@@ -232,11 +247,11 @@ fn view<L: Naming, R: Wait>(rt: &R, opened: &Opened<L>, actor: usize, node: Node
 /// The count of events and the node's status, as the seat sees them.
 pub fn viewed<L: Naming, R: Wait>(
     rt: &R,
-    opened: &Opened<L>,
+    held: &Held<L>,
     seat: &Seat,
     node: Node,
 ) -> Option<(u32, Status)> {
-    let Ok(view) = opened.held.view(rt, seat) else {
+    let Ok(view) = held.view(rt, seat) else {
         return None;
     };
     if node.number() > view.nodes() {

@@ -86,15 +86,24 @@ pub fn refused<L: Naming>(opened: Opened<L>) -> Option<(FinishFault, Opened<L>)>
     }
 }
 
-pub fn finished<L: Naming>(opened: Opened<L>) -> Option<Closed> {
+/// Its finish, or why it has none.
+pub fn finished<L: Naming>(opened: Opened<L>) -> Result<Closed, FinishFault> {
     let Opened {
         held,
         seats,
         passes,
     } = opened;
     match held.closed().finish(seats, passes) {
-        Ok(closed) => Some(closed),
-        Err(_) => None,
+        Ok(closed) => Ok(closed),
+        Err((_, _, _, fault)) => Err(fault),
+    }
+}
+
+/// The same, with the number of entries.
+pub fn ends<L: Naming>(opened: Opened<L>) -> Result<usize, FinishFault> {
+    match finished(opened) {
+        Ok(closed) => Ok(closed.history().len()),
+        Err(fault) => Err(fault),
     }
 }
 

@@ -3,31 +3,20 @@
 ghost use Rattle.std.specs.Prelude.{◌≡◌, ◌+◌};
 
 use crate::tests::asks::viewed;
-use crate::tests::held::{Opened, Way, finished, open, refused};
+use crate::tests::held::{Opened, Way, ends, open};
 use crate::{FinishFault, Naming, Seat, StepFault, Turn, ViewFault};
 use bully_base::{Node, Setup, Status};
 use bully_steps::Procedure;
 use bully_world::Event;
 use std::alloc::Global;
 use std::marker::Brand;
+use std::mem;
 use std::sync::Wait;
 use std::sync::ledger::Blank;
 
-// A step with the seat, and the pass of the group's actor of this number.
-fn stepped<L: Naming, R: Wait>(
-    rt: &R,
-    group: &mut Opened<L>,
-    seat: &mut Seat,
-    actor: usize,
-    event: &Event,
-) -> Option<Result<(), StepFault>> {
-    let pass = group.passes.get_mut(actor)?;
-    Some(group.held.step(rt, seat, event, pass))
-}
-
-/// What a seat's own group shows after its one entry, what another group tells of a step and of a view with it, and of
+/// What a seat's own group shows after its one entry, what another group tells of a step and of a view with it, and
 /// how many entries the seat tells then.
-#[derive(Drop)]
+#[derive(Clone, Copy, PartialEq, Eq, Debug)]
 pub struct Foreign {
     pub own: Option<(u32, Status)>,
     pub step: Result<(), StepFault>,
@@ -58,19 +47,26 @@ fn foreign_by<L: Naming, M: Naming, R: Wait>(
     requires parts { (blank.parts ≡ L.parts) × (L.parts ≡ L.setup.nodes + 1) }
     requires other_parts { (other.parts ≡ M.parts) × (M.parts ≡ M.setup.nodes + 1) }
 {
-    let one = Node::new(1).unwrap();
     let mut first = open::<L>(alloc, way, setup, blank)?;
     let mut second = open::<M>(alloc, way, setup, other)?;
-    first.seats.truncate(1);
-    let mut seat = first.seats.pop()?;
+    with_its_seat(rt, &mut first, &mut second)
+}
+
+// Node 1 recovers in the first group, and then the same is tried in the second with that seat.
+fn with_its_seat<L: Naming, M: Naming, R: Wait>(
+    rt: &R,
+    first: &mut Opened<L>,
+    second: &mut Opened<M>,
+) -> Option<Foreign> {
+    let one = Node::new(1).unwrap();
     let recover = Event::Recover(one);
-    stepped(rt, &mut first, &mut seat, 0, &recover)?.ok()?;
-    let own = viewed(rt, &first, &seat, one);
-    let step = stepped(rt, &mut second, &mut seat, 0, &recover)?;
-    let view = match second.held.view(rt, &seat) {
-        Ok(_) => None,
-        Err(fault) => Some(fault),
-    };
+    let seat = first.seats.get_mut(0)?;
+    let pass = first.passes.get_mut(0)?;
+    first.held.step(rt, seat, &recover, pass).ok()?;
+    let own = viewed(rt, &first.held, seat, one);
+    let pass = second.passes.get_mut(0)?;
+    let step = second.held.step(rt, seat, &recover, pass);
+    let view = second.held.view(rt, seat).err();
     Some(Foreign {
         own,
         step,
@@ -79,23 +75,25 @@ fn foreign_by<L: Naming, M: Naming, R: Wait>(
     })
 }
 
-/// The finishes of two groups, where the first one's operator took a step of the second: of the first with its own
-/// seats, of the second with its own, and of the second with the first one's operator, as a number of entries.
-#[derive(Drop)]
-pub struct Swapped {
-    pub first: FinishFault,
-    pub second: FinishFault,
-    pub entries: usize,
-}
-
+/// The finishes of two groups, where the first one's operator took a step of the second: each with its own seats, or
+/// with the operators' seats swapped. A finish is told by its number of entries.
 pub fn with_swapped_seats<R: Wait>(
     rt: &R,
     alloc: Global,
     way: Way,
     setup: Setup,
-) -> Option<Swapped> {
+    swaps: bool,
+) -> Option<(Result<usize, FinishFault>, Result<usize, FinishFault>)> {
     let count = u64::from(setup.nodes()) + 1;
-    swapped_by::<Brand, Brand, R>(rt, alloc, way, setup, Blank::new(count), Blank::new(count))
+    swapped_by::<Brand, Brand, R>(
+        rt,
+        alloc,
+        way,
+        setup,
+        swaps,
+        Blank::new(count),
+        Blank::new(count),
+    )
 }
 
 fn swapped_by<L: Naming, M: Naming, R: Wait>(
@@ -103,9 +101,10 @@ fn swapped_by<L: Naming, M: Naming, R: Wait>(
     alloc: Global,
     way: Way,
     setup: Setup,
+    swaps: bool,
     blank: Blank,
     other: Blank,
-) -> Option<Swapped>
+) -> Option<(Result<usize, FinishFault>, Result<usize, FinishFault>)>
     requires setup { (setup ≡ L.setup) × (setup ≡ M.setup) }
     requires name { (blank.name ≡ L.name) × (other.name ≡ M.name) }
     requires parts { (blank.parts ≡ L.parts) × (L.parts ≡ L.setup.nodes + 1) }
@@ -113,62 +112,66 @@ fn swapped_by<L: Naming, M: Naming, R: Wait>(
 {
     let mut first = open::<L>(alloc, way, setup, blank)?;
     let mut second = open::<M>(alloc, way, setup, other)?;
-    let recover = Event::Recover(Node::new(1).unwrap());
-    let seat = first.seats.get_mut(0)?;
-    stepped(rt, &mut second, seat, 0, &recover)?.ok()?;
-    let (first_fault, mut first) = refused(first)?;
-    let (second_fault, mut second) = refused(second)?;
-    first.seats.truncate(1);
-    let operator = first.seats.pop()?;
-    let node = second.seats.pop()?;
-    second.seats.truncate(0);
-    second.seats.push(node).ok()?;
-    second.seats.push(operator).ok()?;
-    let closed = finished(second)?;
-    Some(Swapped {
-        first: first_fault,
-        second: second_fault,
-        entries: closed.history().len(),
-    })
+    let _crossed = crossed(rt, &mut first, &mut second, swaps);
+    Some((ends(first), ends(second)))
 }
 
-/// What a group of one node tells of the seat of a second node: of a serve, of a step of its own, of a turn of node 1,
-/// and of a finish with it; and what it tells of a finish with two operators.
-#[derive(Drop)]
+// The first group's operator recovers node 1 of the second.
+fn crossed<L: Naming, M: Naming, R: Wait>(
+    rt: &R,
+    first: &mut Opened<L>,
+    second: &mut Opened<M>,
+    swaps: bool,
+) -> Option<()> {
+    let recover = Event::Recover(Node::new(1).unwrap());
+    let seat = first.seats.get_mut(0)?;
+    let pass = second.passes.get_mut(0)?;
+    second.held.step(rt, seat, &recover, pass).ok()?;
+    if swaps {
+        mem::swap(seat, second.seats.get_mut(0)?);
+    }
+    Some(())
+}
+
+/// What a group of one node tells of the seat of a larger group's actor: of a serve, of a check of node 2, of a turn of
+/// node 1, and of a finish with it in place of node 1's.
+#[derive(Clone, Copy, PartialEq, Eq, Debug)]
 pub struct Strange {
     pub serve: Result<bool, StepFault>,
     pub step: Result<(), StepFault>,
     pub turn: Option<StepFault>,
-    pub finish: FinishFault,
-    pub operators: FinishFault,
+    pub finish: Result<usize, FinishFault>,
 }
 
-pub fn with_strangers<R: Wait>(
+pub fn with_a_stranger<R: Wait>(
     rt: &R,
     alloc: Global,
     way: Way,
     setup: Setup,
     larger: Setup,
+    actor: usize,
 ) -> Option<Strange> {
     let count = u64::from(setup.nodes()) + 1;
     let more = u64::from(larger.nodes()) + 1;
-    strangers_by::<Brand, Brand, R>(
+    stranger_by::<Brand, Brand, R>(
         rt,
         alloc,
         way,
         setup,
         larger,
+        actor,
         Blank::new(count),
         Blank::new(more),
     )
 }
 
-fn strangers_by<L: Naming, M: Naming, R: Wait>(
+fn stranger_by<L: Naming, M: Naming, R: Wait>(
     rt: &R,
     alloc: Global,
     way: Way,
     setup: Setup,
     larger: Setup,
+    actor: usize,
     blank: Blank,
     other: Blank,
 ) -> Option<Strange>
@@ -179,60 +182,55 @@ fn strangers_by<L: Naming, M: Naming, R: Wait>(
 {
     let mut group = open::<L>(alloc, way, setup, blank)?;
     let mut others = open::<M>(alloc, way, larger, other)?;
-    let mut stranger = others.seats.pop()?;
-    others.seats.truncate(1);
-    let operator = others.seats.pop()?;
-    let serve = served(rt, &mut group, &mut stranger)?;
-    let check = Event::Check(Node::new(2).unwrap());
-    let step = stepped(rt, &mut group, &mut stranger, 1, &check)?;
-    let turn = turned(rt, &mut group, setup, &mut stranger);
-    let (finish, group) = refused_with(group, stranger)?;
-    let (operators, _group) = refused_with(group, operator)?;
-    Some(Strange {
-        serve,
-        step,
-        turn,
-        finish,
-        operators,
-    })
+    let told = tried_with(rt, &mut group, setup, &mut others.seats, actor);
+    let finish = ends(group);
+    match told {
+        Some((serve, step, turn)) => Some(Strange {
+            serve,
+            step,
+            turn,
+            finish,
+        }),
+        None => None,
+    }
 }
 
-// Why the group isn't finished with its operator's seat and this one.
-fn refused_with<L: Naming>(group: Opened<L>, seat: Seat) -> Option<(FinishFault, Opened<L>)> {
-    let mut group = group;
-    group.seats.truncate(1);
-    group.seats.push(seat).ok()?;
-    refused(group)
-}
-
-// A serve with the seat, and the last pass.
-fn served<L: Naming, R: Wait>(
-    rt: &R,
-    group: &mut Opened<L>,
-    seat: &mut Seat,
-) -> Option<Result<bool, StepFault>> {
-    let pass = group.passes.get_mut(1)?;
-    Some(group.held.serve(rt, seat, pass))
-}
-
-// The fault of a turn of node 1 with the seat, if it is one.
-fn turned<L: Naming, R: Wait>(
+// The calls with the actor's seat of the others, which then comes to the place of node 1's.
+fn tried_with<L: Naming, R: Wait>(
     rt: &R,
     group: &mut Opened<L>,
     setup: Setup,
-    seat: &mut Seat,
-) -> Option<StepFault>
+    others: &mut [Seat],
+    actor: usize,
+) -> Option<
+    (
+        Result<bool, StepFault>,
+        Result<(), StepFault>,
+        Option<StepFault>,
+    ),
+>
     requires { setup ≡ L.setup }
 {
+    let seat = others.get_mut(actor)?;
     let pass = group.passes.get_mut(1)?;
+    let serve = group.held.serve(rt, seat, pass);
+    let check = Event::Check(Node::new(2).unwrap());
+    let step = group.held.step(rt, seat, &check, pass);
     let one = Node::new(1).unwrap();
     if one.number() > setup.nodes() {
         return None;
     }
-    match group
-        .held
-        .turn(rt, seat, Procedure::idle(setup, one, 0), pass)
-    {
+    let turn = fault_of(
+        group
+            .held
+            .turn(rt, seat, Procedure::idle(setup, one, 0), pass),
+    );
+    mem::swap(seat, group.seats.get_mut(1)?);
+    Some((serve, step, turn))
+}
+
+fn fault_of(turn: Turn) -> Option<StepFault> {
+    match turn {
         Turn::Fault(_, fault) => Some(fault),
         _ => None,
     }

@@ -15,20 +15,20 @@ pub invariant_of-self-2 : goal.invariant_of-self-2
 invariant_of-self-2 g c =
     let w = c.self.inside.world in
     let s : LockedState = record { world = w; history = c.self.inside.history.items; counted = c.self.inside.book.total } in
-    let e : Entry = record { actor = c.seat.inside.actor; event = c.in-Ok.event; answer = c.unwrap-answer.result } in
+    let e : Entry = record { actor = c.seat.inside.actor; event = c.in-Ok.event; answer = c.apply_allowed-answer.result } in
     let free : cause_in w c.args.event.now ≡ None = search rules in
     let room : w.events < w.setup.events_max = room_of w.setup (world_of w) w.events c.args.event.now free in
-    let step : Step w.setup (world_of w) e.event (world_of c.apply.new.self) e.answer = search rules in
+    let step : Step w.setup (world_of w) e.event (world_of c.apply_allowed-answer.new.self) e.answer = search rules in
     let yours : whose (world_of w) e.event ≡ Some e.actor = search rules in
-    let same : c.apply.new.self.setup ≡ w.setup = search rules in
-    let counted : c.apply.new.self.events ≡ w.events + 1 = search rules in
+    let same : c.apply_allowed-answer.new.self.setup ≡ w.setup = search rules in
+    let counted : c.apply_allowed-answer.new.self.events ≡ w.events + 1 = search rules in
     let made : c.add.new.history.items ≡ s.history ++ e ∷ [] = search rules in
     let total : c.count.new.book.total ≡ s.counted + 1 = search rules in
-    rw (made, total) (locked_more g.L.Naming.setup g.L.Ledger.parts s e c.apply.new.self c.self.invariant room step yours same counted)
+    rw (made, total) (locked_more g.L.Naming.setup g.L.Ledger.parts s e c.apply_allowed-answer.new.self c.self.invariant room step yours same counted)
 
 pub returns-clause-entry : goal.returns-clause-entry
 returns-clause-entry g c = record {
-  answer = c.unwrap-answer.result;
+  answer = c.apply_allowed-answer.result;
   step = search rules;
   history = search rules;
   log = search rules;
@@ -41,7 +41,7 @@ pub invariant_of-seat-2 : goal.invariant_of-seat-2
 invariant_of-seat-2 g c =
     let s : SeatState = record { actor = c.seat.inside.actor; log = c.seat.inside.log.items } in
     let history = c.self.inside.history.items in
-    let e : Entry = record { actor = c.seat.inside.actor; event = c.in-Ok.event; answer = c.unwrap-answer.result } in
+    let e : Entry = record { actor = c.seat.inside.actor; event = c.in-Ok.event; answer = c.apply_allowed-answer.result } in
     let known : IsKnown history s = search rules in
     let made : c.add.new.log.items ≡ s.log ++ (length history, e) ∷ [] = search rules in
     rw made (seat_more s history e c.seat.invariant known refl)

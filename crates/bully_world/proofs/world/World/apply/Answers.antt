@@ -1,66 +1,7 @@
--- What is kept after the event is what the definitions' step makes of it.
-use Rattle.std.proofs.Common.{◌≡◌, ◌+◌, ◌<◌, ◌^◌, rules, None, sym, ◌∙◌, ap, subst, length, take, drop, ◌++◌}
-use Rattle.std.specs.Prelude.{if◌then◌else◌}
-use Rattle.bully_base.specs.Places.{at_node}
-use Rattle.bully_world.specs.Cause.{cause}
-use Rattle.bully_world.specs.State.{IsWorld, members_of, state_at, world_of, cause_in, empty_state, raises, tag_in}
-use Rattle.bully_world.specs.Step.{Step}
-use Rattle.bully_world.specs.StateAfter.{CanApply, state_after, answer_after}
-use Rattle.bully_world.proofs.ApplyLemmas.{room_of}
-use Rattle.bully_world.proofs.ExchangeLemmas.{can_apply}
-use Rattle.bully_world.proofs.GenerationLemmas.{state_after_generations}
-use Rattle.bully_world.proofs.KeptLemmas.{state_after_length}
-use Rattle.bully_world.proofs.TagLemmas.{state_after_tags}
-use Rattle.bully_world.proofs.WorldLemmas.{world_fits, world_steps, next_world, put_back, none_from}
+-- There is no cause.
+use Rattle.std.proofs.Common.{sym, ◌∙◌}
+use Rattle.bully_world.proofs.WorldLemmas.{none_from}
 use Rattle.bully_world.proofs.world.World.apply.Goals as goal
 
-pub apply_event-answer-requires : goal.apply_event-answer-requires
-apply_event-answer-requires c =
-    let ms = c.self.inside.members.items in
-    let free : cause c.self.inside.setup (members_of ms) c.self.inside.events c.args.event.now ≡ None = subst (λ s. cause_in s c.args.event.now ≡ None) (sym c.self.view_is) (sym c.cause.ensures ∙ none_from c.cause.result c.in_default.not-Some) in
-    let room : c.self.inside.events + 1 < 2 ^ 32 = search rules in
-    subst (λ xs. CanApply c.self.inside.setup xs c.args.event.now) (sym c.as_mut_slice.ensures.value)
-    (can_apply c.self.inside.setup c.self.inside.events ms (world_fits c.self.inside.setup c.self.inside.events ms c.self.invariant) c.self.invariant.kept room c.args.event.now free)
-
-pub invariant_of-self : goal.invariant_of-self
-invariant_of-self c =
-    let ms = c.self.inside.members.items in
-    let free : cause c.self.inside.setup (members_of ms) c.self.inside.events c.args.event.now ≡ None = subst (λ s. cause_in s c.args.event.now ≡ None) (sym c.self.view_is) (sym c.cause.ensures ∙ none_from c.cause.result c.in_default.not-Some) in
-    let next : c.apply_event-answer.new.members ≡ state_after c.self.inside.setup ms c.args.event.now = c.apply_event-answer.ensures.after ∙ ap (λ xs. state_after c.self.inside.setup xs c.args.event.now) c.as_mut_slice.ensures.value in
-    let back = put_back c.self.inside.members.len c.apply_event-answer.new.members ms (ap length next ∙ state_after_length c.self.inside.setup ms c.args.event.now ∙ sym c.self.inside.members.ok.0) (sym c.self.inside.members.ok.0) ∙ next in
-    subst (λ xs. IsWorld (record { setup = c.self.inside.setup; events = c.self.inside.events + 1; members = xs })) (sym back) (next_world c.self.inside.setup c.self.inside.events ms c.args.event.now c.self.invariant free)
-
-pub returns-clause-step : goal.returns-clause-step
-returns-clause-step c =
-    let ms = c.self.inside.members.items in
-    let free : cause c.self.inside.setup (members_of ms) c.self.inside.events c.args.event.now ≡ None = subst (λ s. cause_in s c.args.event.now ≡ None) (sym c.self.view_is) (sym c.cause.ensures ∙ none_from c.cause.result c.in_default.not-Some) in
-    let next : c.apply_event-answer.new.members ≡ state_after c.self.inside.setup ms c.args.event.now = c.apply_event-answer.ensures.after ∙ ap (λ xs. state_after c.self.inside.setup xs c.args.event.now) c.as_mut_slice.ensures.value in
-    let back = put_back c.self.inside.members.len c.apply_event-answer.new.members ms (ap length next ∙ state_after_length c.self.inside.setup ms c.args.event.now ∙ sym c.self.inside.members.ok.0) (sym c.self.inside.members.ok.0) ∙ next in
-    let answer = c.apply_event-answer.ensures.answer ∙ ap (λ xs. answer_after xs c.args.event.now) c.as_mut_slice.ensures.value in
-    let step = world_steps c.self.inside.setup c.self.inside.events ms c.args.event.now c.self.invariant free in
-    subst (λ s. Step s.setup (world_of s) c.args.event.now (members_of (take c.self.inside.members.len (c.apply_event-answer.new.members ++ drop (length c.apply_event-answer.new.members) ms))) c.apply_event-answer.result) c.self.view_is
-    (subst (λ a. Step c.self.inside.setup (members_of ms) c.args.event.now (members_of (take c.self.inside.members.len (c.apply_event-answer.new.members ++ drop (length c.apply_event-answer.new.members) ms))) a) (sym answer)
-    (subst (λ xs. Step c.self.inside.setup (members_of ms) c.args.event.now (members_of xs) (answer_after ms c.args.event.now)) (sym back) step))
-
-pub returns-clause-generations : goal.returns-clause-generations
-returns-clause-generations c =
-    let ms = c.self.inside.members.items in
-    let free : cause c.self.inside.setup (members_of ms) c.self.inside.events c.args.event.now ≡ None = subst (λ s. cause_in s c.args.event.now ≡ None) (sym c.self.view_is) (sym c.cause.ensures ∙ none_from c.cause.result c.in_default.not-Some) in
-    let next : c.apply_event-answer.new.members ≡ state_after c.self.inside.setup ms c.args.event.now = c.apply_event-answer.ensures.after ∙ ap (λ xs. state_after c.self.inside.setup xs c.args.event.now) c.as_mut_slice.ensures.value in
-    let back = put_back c.self.inside.members.len c.apply_event-answer.new.members ms (ap length next ∙ state_after_length c.self.inside.setup ms c.args.event.now ∙ sym c.self.inside.members.ok.0) (sym c.self.inside.members.ok.0) ∙ next in
-    let raised = state_after_generations c.self.inside.setup c.self.inside.events ms c.args.event.now c.self.invariant.count (world_fits c.self.inside.setup c.self.inside.events ms c.self.invariant) free in
-    λ i. subst (λ s. (at_node (empty_state 0) (take c.self.inside.members.len (c.apply_event-answer.new.members ++ drop (length c.apply_event-answer.new.members) ms)) i).generation ≡ (state_at s i).generation + (if raises (world_of s) c.args.event.now i then 1 else 0)) c.self.view_is
-    (subst (λ xs. (at_node (empty_state 0) xs i).generation ≡ (at_node (empty_state 0) ms i).generation + (if raises (members_of ms) c.args.event.now i then 1 else 0)) (sym back) (raised i))
-
-pub returns-clause-tags : goal.returns-clause-tags
-returns-clause-tags c =
-    let ms = c.self.inside.members.items in
-    let next : c.apply_event-answer.new.members ≡ state_after c.self.inside.setup ms c.args.event.now = c.apply_event-answer.ensures.after ∙ ap (λ xs. state_after c.self.inside.setup xs c.args.event.now) c.as_mut_slice.ensures.value in
-    let back = put_back c.self.inside.members.len c.apply_event-answer.new.members ms (ap length next ∙ state_after_length c.self.inside.setup ms c.args.event.now ∙ sym c.self.inside.members.ok.0) (sym c.self.inside.members.ok.0) ∙ next in
-    λ i other. subst (λ s. tag_in (at_node (empty_state 0) (take c.self.inside.members.len (c.apply_event-answer.new.members ++ drop (length c.apply_event-answer.new.members) ms)) i) ≡ tag_in (state_at s i)) c.self.view_is
-    (subst (λ xs. tag_in (at_node (empty_state 0) xs i) ≡ tag_in (at_node (empty_state 0) ms i)) (sym back) (state_after_tags c.self.inside.setup ms c.args.event.now i other))
-
-pub returns-clause-room : goal.returns-clause-room
-returns-clause-room c =
-    let w = c.args.self.now in
-    room_of w.setup (world_of w) w.events c.args.event.now (sym c.cause.ensures ∙ none_from c.cause.result c.in_default.not-Some)
+pub apply_allowed-requires : goal.apply_allowed-requires
+apply_allowed-requires c = sym c.cause.ensures ∙ none_from c.cause.result c.in_default.not-Some

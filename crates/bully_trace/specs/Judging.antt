@@ -1,0 +1,37 @@
+-- A judge of rows that come one by one.
+use Rattle.std.specs.Prelude.{◌≡◌, ℕ, ◌+◌, List, ◌++◌, length, Option, MatchOption}
+use Rattle.bully_base.specs.Setup.{Setup}
+use Rattle.bully_world.specs.State.{WorldState, world_of}
+use Rattle.bully_world.specs.World.{World, first_world}
+use Rattle.bully_trace.specs.declared.trace.Row.{Row}
+use Rattle.bully_trace.specs.declared.verdict.Verdict.{Verdict}
+use Rattle.bully_trace.specs.RecordsLeft.{HasRead, RowsLeft}
+use Rattle.bully_trace.specs.Rows.{IsTraceOf}
+use Rattle.bully_trace.specs.Verdict.{IsJudged}
+
+-- the world that the rows were taken to, and the first verdict that isn't lawful
+pub record JudgeState : Type 0 where
+  pub world : WorldState
+  pub stopped : Option Verdict
+
+-- behind further rows, the first of which has this number, the verdict and the last world are these
+abbrev pub IsJudgedOn : JudgeState → ℕ → List Row → Verdict → World → Type 0
+IsJudgedOn judge number more verdict w =
+    MatchOption judge.stopped
+    (IsJudged judge.world.setup (world_of judge.world) judge.world.events number more verdict w)
+    (λ first. (verdict ≡ first) × (w ≡ world_of judge.world))
+
+-- the rows of a trace were judged: what it comes to behind further rows, all of them come to from the first world
+pub record HasJudged (setup : Setup) (rows : List Row) (judge : JudgeState) : Type 0 where
+  pub same : judge.world.setup ≡ setup
+  pub judged : (more : List Row) (verdict : Verdict) (w : World) → IsJudgedOn judge (length rows + 2) more verdict w
+      → IsJudged setup (first_world setup) 0 2 (rows ++ more) verdict w
+
+-- the rows that were read of a text were judged
+abbrev pub AreJudged : Option (List ℕ) → RowsLeft → JudgeState → Type 0
+AreJudged known left judge = (rows : List Row) × HasRead known rows left × HasJudged left.setup rows judge
+
+-- all rows of a text were judged
+abbrev pub AreAllJudged : Option (List ℕ) → Setup → JudgeState → Type 0
+AreAllJudged known setup judge =
+    (rows : List Row) × IsTraceOf known (record { setup = setup; rows = rows }) × HasJudged setup rows judge

@@ -1,0 +1,160 @@
+ghost use Rattle.std.specs.Prelude.{◌≡◌, ◌≢◌, ◌⊎◌, ◌+◌, ◌≤◌, ℕ, List, [], Option, None, Some, IfErr, IfOk, IfSome, option_map};
+ghost use Rattle.csv.specs.Records.{fields_of};
+ghost use Rattle.bully_trace.specs.Rows.{fault_at, records_of, row_of};
+ghost use Rattle.bully_trace.specs.declared.TheConstants.{ROWS_MAX};
+ghost use Rattle.bully_trace.specs.declared.trace.Row.{Row};
+ghost use Rattle.bully_trace.specs.RecordsLeft.{EndsReading, HasRead, IsNext, IsOutside, ReadsPlain, Takes, records_left};
+
+use crate::ROWS_MAX;
+use crate::row::{read_header, read_row};
+use crate::trace::{Row, TraceCause, TraceFault};
+use bully_base::Setup;
+use csv::{ByteRecord, ErrorKind, Reader, ReaderBuilder};
+use std::alloc::{AllocError, Global};
+use std::io::Read;
+use std::marker::Model;
+
+/// The rows of a trace that are still to be read. Its header was read.
+#[derive(Drop)]
+pub struct RowReader<R: Read> {
+    alloc: Global,
+    setup: Setup,
+    records: Reader<R>,
+    // The record that was read last.
+    record: ByteRecord,
+    // The number of the row that was read last.
+    number: u32,
+}
+
+impl<R: Read> Model for RowReader<R> {
+    ghost use Rattle.std.specs.Prelude.{◌+◌, ◌≤◌};
+    ghost use Rattle.bully_trace.specs.declared.TheConstants.{ROWS_MAX};
+    ghost use Rattle.bully_trace.specs.RecordsLeft.{ReadsPlain, RowsLeft, records_left};
+
+    ghost Value = { RowsLeft };
+
+    ghost view = { λ r. record { setup = r.setup; number = r.number; records = records_left R.remaining r.records } };
+
+    ghost invariant = { λ r. ReadsPlain r.records × (r.number ≤ ROWS_MAX + 1) };
+}
+
+impl<R: Read + Drop> RowReader<R> {
+    /// Reads the trace's header. Refused as [`crate::read_trace`] refuses it there.
+    pub fn open(alloc: Global, reader: R) -> Result<RowReader<R>, TraceFault>
+        ensures opened { IfOk result (HasRead (R.remaining reader) []) }
+        ensures fault { IfErr result (EndsReading (R.remaining reader)) }
+    {
+        let mut records = ReaderBuilder::new()
+            .has_headers(false)
+            .flexible(true)
+            .from_reader(alloc, reader);
+        let mut record = ByteRecord::new(alloc);
+        let setup = next_header(&mut records, &mut record)?;
+        Ok(RowReader {
+            alloc,
+            setup,
+            records,
+            record,
+            number: 1,
+        })
+    }
+
+    /// The setup that the header tells.
+    pub fn setup(&self) -> Setup
+        ensures { result ≡ self.now.setup }
+    {
+        self.setup
+    }
+
+    /// The number of the row that was read last. The header's is 1.
+    pub fn number(&self) -> u32
+        ensures { result ≡ self.now.number }
+    {
+        self.number
+    }
+
+    /// Takes the next row; none where the trace has ended. Refused as [`crate::read_trace`] refuses it at that row.
+    pub fn next_row(&mut self) -> Result<Option<Row>, TraceFault>
+        ensures next { (known : Option (List ℕ)) (rows : List Row) → HasRead known rows self.old → IfOk result (λ next. IsNext known rows next self.old.setup self.new) }
+        ensures fault { (known : Option (List ℕ)) (rows : List Row) → HasRead known rows self.old → IfErr result (EndsReading known) }
+        ensures counted { IfOk result (λ next. IfSome next (λ row. (self.old.number ≤ ROWS_MAX) × (self.new.number ≡ self.old.number + 1))) }
+        ensures setup { self.new.setup ≡ self.old.setup }
+    {
+        let number = self.number + 1;
+        if !next_record(&mut self.records, &mut self.record, number)? {
+            return Ok(None);
+        }
+        if number > ROWS_MAX + 1 {
+            return Err(fault(number, TraceCause::TooManyRows));
+        }
+        let row = good_row(self.alloc, self.setup, &self.record, number)?;
+        self.number = number;
+        Ok(Some(row))
+    }
+}
+
+// The setup of the record that the reader gives next, which is the header.
+fn next_header<R: Read + Drop>(
+    records: &mut Reader<R>,
+    record: &mut ByteRecord,
+) -> Result<Setup, TraceFault>
+    requires { ReadsPlain records.old }
+    ensures plain { ReadsPlain records.new }
+    ensures opened { (known : Option (List ℕ)) → records_left R.remaining records.old ≡ option_map records_of known
+        → IfOk result (λ setup. HasRead known [] (record { setup = setup; number = 1; records = records_left R.remaining records.new })) }
+    ensures fault { (known : Option (List ℕ)) → records_left R.remaining records.old ≡ option_map records_of known → IfErr result (EndsReading known) }
+{
+    if !next_record(records, record, 1)? {
+        return Err(fault(1, TraceCause::BadHeader));
+    }
+    match read_header(record) {
+        Some(setup) => Ok(setup),
+        None => Err(fault(1, TraceCause::BadHeader)),
+    }
+}
+
+// Reads the record of the row of this number; tells whether there is one.
+fn next_record<R: Read + Drop>(
+    records: &mut Reader<R>,
+    record: &mut ByteRecord,
+    number: u32,
+) -> Result<bool, TraceFault>
+    requires { ReadsPlain records.old }
+    ensures plain { ReadsPlain records.new }
+    ensures takes { IfOk result (λ found. Takes (records_left R.remaining records.old) (records_left R.remaining records.new) found (fields_of record.new)) }
+    ensures fault { IfErr result IsOutside }
+    ensures read { IfErr result (λ f. f.cause ≡ TraceCause.Read → f.row ≡ number) }
+{
+    match records.read_byte_record(record) {
+        Ok(found) => Ok(found),
+        Err(error) => match error.into_kind() {
+            ErrorKind::Io(_) => Err(fault(number, TraceCause::Read)),
+            ErrorKind::OutOfMemory => Err(TraceFault::from(AllocError)),
+            _ => unreachable!(),
+        },
+    }
+}
+
+// The row of this number, which the record tells.
+fn good_row(
+    alloc: Global,
+    setup: Setup,
+    record: &ByteRecord,
+    number: u32,
+) -> Result<Row, TraceFault>
+    ensures ok { IfOk result (λ r. row_of setup (fields_of record.now) ≡ Some r) }
+    ensures fault { IfErr result (λ f. IsOutside f ⊎ ((row_of setup (fields_of record.now) ≡ None) × (f ≡ fault_at number TraceCause.BadRow))) }
+    ensures read { IfErr result (λ f. f.cause ≢ TraceCause.Read) }
+{
+    match read_row(alloc, setup, record)? {
+        Some(told) => Ok(told),
+        None => Err(fault(number, TraceCause::BadRow)),
+    }
+}
+
+// The fault at a row.
+fn fault(row: u32, cause: TraceCause) -> TraceFault
+    ensures { result ≡ fault_at row cause }
+{
+    TraceFault { row, cause }
+}
