@@ -1,5 +1,5 @@
--- What the program answers to `play`, to `run` and to `table` where the configuration's file holds these bytes: the status, and what
--- then stands on the output and on the errors.
+-- What the program answers to `play`, `run` and `table` where the configuration's file holds these bytes: the status,
+-- and what then stands on the output and on the errors.
 use Rattle.std.specs.Prelude.{◌≡◌, ◌≢◌, ◌⊎◌, ℕ, List, Option, Ok, Err, codes}
 use Rattle.std.specs.Io.KnownBytes.{Appends, Keeps}
 use Rattle.bully_config.specs.Configuration.{Configuration}
@@ -52,8 +52,8 @@ IsPlayAnswer bytes output output' errors errors' status =
     IsPlayed bytes output output' errors errors' status
     ⊎ IsNotDone bytes output output' errors errors' status
 
--- the configuration is run in threads, and a trace stands on the output: its events are lawful within the configuration's
--- bound, and each crash and each recovery of them is one of its faults
+-- the configuration is run in threads, and a trace stands on the output: its events are lawful within the bound of the
+-- configuration, and each crash and each recovery of them is one of its faults
 abbrev pub IsRun : List ℕ → KnownBytes → KnownBytes → KnownBytes → KnownBytes → ℕ → Type 0
 IsRun bytes output output' errors errors' status =
     (config : Configuration) × (events : List Event) × ReadsAs bytes (Ok config) × IsPlay config events

@@ -7,7 +7,7 @@ use Rattle.clap.specs.declared.error.Error.{Error}
 use Rattle.clap.specs.declared.error.kind.ErrorKind.{ErrorKind}
 use Rattle.clap.specs.declared.error.kind.ErrorKind.TheVariants as kind
 use Rattle.clap.proofs.OnLiterals.{clap_on_literals}
-use Rattle.bully_words.specs.Words.{ParsesAsCheck, is_help, is_filled, is_mistake}
+use Rattle.bully_words.specs.Words.{ParsesAsCheck, is_help, is_filled}
 
 -- the one word `check` parses as `check`
 pub check-parses : ParsesAsCheck (codes "check" ∷ [])
