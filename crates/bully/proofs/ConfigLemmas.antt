@@ -166,7 +166,7 @@ play-answered written told bytes config output output' errors errors' status rea
 pub run-answered : {W E : Type 0} (written : W → KnownBytes) (told : E → KnownBytes) (bytes : List ℕ) (config : Configuration) (output output' : W) (errors errors' : E) (status : ℕ)
     → ReadsAs bytes (Ok config)
     → ((status ≡ 0) × (errors' ≡ errors) × ((events : List Event) × IsPlay config events × Appends (written output) (written output') (trace_text (trace_with config.setup events))))
-    ⊎ ((status ≡ 4) × (fault : NodesFault) × IsNodesFault config.setup fault × (output' ≡ output) × Tells (told errors) (told errors') (nodes_line fault))
+    ⊎ ((status ≡ 4) × (fault : NodesFault) × IsNodesFault fault × (output' ≡ output) × Tells (told errors) (told errors') (nodes_line fault))
     ⊎ ((status ≡ 4) × (stop : Stop) × (stop ≢ Stop.Write → output' ≡ output) × Tells (told errors) (told errors') (stop_line stop))
     → IsRunAnswer bytes (written output) (written output') (told errors) (told errors') status
 run-answered written told bytes config output output' errors errors' status reads (inl (done, same, (events, play, text))) =

@@ -68,7 +68,7 @@ nodes_line NodesFault.OutOfMemory = stop_line Stop.OutOfMemory
 -- the run ends without its history: why is told on the errors, and nothing stands on the output
 abbrev pub IsUnfinished : List ℕ → KnownBytes → KnownBytes → KnownBytes → KnownBytes → ℕ → Type 0
 IsUnfinished bytes output output' errors errors' status =
-    (config : Configuration) × (fault : NodesFault) × ReadsAs bytes (Ok config) × IsNodesFault config.setup fault
+    (config : Configuration) × (fault : NodesFault) × ReadsAs bytes (Ok config) × IsNodesFault fault
     × Keeps output output' × Tells errors errors' (nodes_line fault) × (status ≡ 4)
 
 -- the answer to `run`

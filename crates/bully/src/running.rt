@@ -66,7 +66,7 @@ fn run_config<H: AllocGlobal + Threads + Wait + Sync, W: Write, E: Write>(
 ) -> u8
     ensures { ((result ≡ 0) × (errors.new ≡ errors.old)
         × ((events : List Event) × IsPlay config.now events × Appends (W.contents output.old) (W.contents output.new) (trace_text (trace_with config.now.setup events))))
-        ⊎ ((result ≡ 4) × (fault : NodesFault) × IsNodesFault config.now.setup fault × (output.new ≡ output.old) × Tells (E.contents errors.old) (E.contents errors.new) (nodes_line fault))
+        ⊎ ((result ≡ 4) × (fault : NodesFault) × IsNodesFault fault × (output.new ≡ output.old) × Tells (E.contents errors.old) (E.contents errors.new) (nodes_line fault))
         ⊎ ((result ≡ 4) × (stop : Stop) × (stop ≢ Stop.Write → output.new ≡ output.old) × Tells (E.contents errors.old) (E.contents errors.new) (stop_line stop)) }
 {
     match run_nodes(rt, rt.alloc(), config, &OpenGate) {

@@ -3,11 +3,11 @@ use Rattle.std.proofs.Common.{◌≡◌, ◌≢◌, ℕ, ◌+◌, ◌<◌, ◌==
 use Rattle.std.specs.Bool.{MatchBool}
 use Rattle.bully_config.specs.declared.config.Fault.{Fault}
 use Rattle.bully_nodes.specs.Play.{event_of_fault}
-use Rattle.bully_nodes.specs.Recording.{RecordingState, Applies}
-use Rattle.bully_nodes.specs.Turns.{Operates}
+use Rattle.bully_nodes.specs.Turns.{OperatesOn}
 use Rattle.bully_world.specs.declared.event.Event.{Event}
 
-at_place : (faults : List Fault) (place : ℕ) (fault : Fault) → place < length faults → fault ≡ get_or faults place fault → drop place faults ≡ fault ∷ drop (place + 1) faults
+-- from the fault at this place on
+pub at_place : (faults : List Fault) (place : ℕ) (fault : Fault) → place < length faults → fault ≡ get_or faults place fault → drop place faults ≡ fault ∷ drop (place + 1) faults
 at_place faults place fault below is = grind (arith, drop-cons faults place fault below, is)
 
 if_true : (b : Bool) (P Q : Type 0) → b ≡ true → P → MatchBool b P Q
@@ -19,13 +19,13 @@ if_false false P Q e x = x
 if_false true P Q e x = absurd (grind (arith, e))
 
 -- a fault of this turn is applied
-pub operates_now : (number : ℕ) (faults : List Fault) (place : ℕ) (fault : Fault) (e : Event) (before mid after : RecordingState) → place < length faults → fault ≡ get_or faults place fault → fault.at ≡ number → e ≡ event_of_fault fault → Applies e before mid
-    → Operates number (drop (place + 1) faults) mid after → Operates number (drop place faults) before after
-operates_now number faults place fault e before mid after below is due named does rest =
+pub operates_now : {S : Type 0} (applies : Event → S → S → Type 0) (number : ℕ) (faults : List Fault) (place : ℕ) (fault : Fault) (e : Event) (before mid after : S) → place < length faults → fault ≡ get_or faults place fault → fault.at ≡ number → e ≡ event_of_fault fault → applies e before mid
+    → OperatesOn applies number (drop (place + 1) faults) mid after → OperatesOn applies number (drop place faults) before after
+operates_now applies number faults place fault e before mid after below is due named does rest =
     rw (at_place faults place fault below is) (if_true (fault.at == number) _ _ (grind (arith, due)) (mid, rw (← named) does, rest))
 
 -- one of another turn isn't
-pub operates_later : (number : ℕ) (faults : List Fault) (place : ℕ) (fault : Fault) (before after : RecordingState) → place < length faults → fault ≡ get_or faults place fault → fault.at ≢ number
-    → Operates number (drop (place + 1) faults) before after → Operates number (drop place faults) before after
-operates_later number faults place fault before after below is other rest =
+pub operates_later : {S : Type 0} (applies : Event → S → S → Type 0) (number : ℕ) (faults : List Fault) (place : ℕ) (fault : Fault) (before after : S) → place < length faults → fault ≡ get_or faults place fault → fault.at ≢ number
+    → OperatesOn applies number (drop (place + 1) faults) before after → OperatesOn applies number (drop place faults) before after
+operates_later applies number faults place fault before after below is other rest =
     rw (at_place faults place fault below is) (if_false (fault.at == number) _ _ (grind (arith, other)) rest)

@@ -1,6 +1,8 @@
 -- What is recorded stays a lawful list, event by event.
-use Rattle.std.proofs.Common.{◌≡◌, ◌∙◌, ℕ, ◌+◌, ◌<◌, inl, inr, List, [], ◌∷◌, ◌++◌, Option, Some, None, MatchOption, if◌then◌else◌, Result, Ok, Err, IfOk, OnOk, get_or, length, length-append, arith, refl, sym, ap, subst}
+use Rattle.std.proofs.Common.{◌≡◌, ◌∙◌, ℕ, ◌+◌, ◌<◌, ◌==◌, Bool, true, false, inl, inr, drop, List, [], ◌∷◌, ◌++◌, Option, Some, None, MatchOption, if◌then◌else◌, Result, Ok, Err, IfOk, OnOk, get_or, length, length-append, arith, refl, sym, ap, subst}
+use Rattle.std.proofs.lemmas.Grind.{common_steps}
 use Rattle.std.proofs.lemmas.List.{map-append}
+use Rattle.std.specs.Bool.{MatchBool}
 use Rattle.std.proofs.lemmas.List.Elements.{All-nil, All-push}
 use Rattle.bully_base.specs.declared.TheConstants.{EVENTS_MAX}
 use Rattle.bully_base.specs.Setup.{Setup, IsSetup}
@@ -10,9 +12,11 @@ use Rattle.bully_config.specs.declared.config.Fault.{Fault}
 use Rattle.bully_config.specs.declared.config.FaultKind.{FaultKind}
 use Rattle.bully_nodes.specs.Play.{HasFault, IsDue, IsPlay, event_of_kind, event_of_fault, trace_setup, trace_with}
 use Rattle.bully_nodes.specs.Recording.{RecordingState, IsRecorded, Records, Applies, Steps, Continues}
-use Rattle.bully_nodes.specs.Turns.{Rounds, IsScheduled, first_recording, idle_first}
+use Rattle.bully_nodes.specs.Turns.{Serves, Proceeds, ProceedsIn, GoesOn, Follows, IsTurn, Operates, Rounds, IsScheduled, first_recording, idle_first}
 use Rattle.bully_nodes.proofs.LawfulLemmas.{lawful-bound}
-use Rattle.bully_steps.specs.declared.procedure.Procedure.{Procedure}
+use Rattle.bully_nodes.proofs.OperatorLemmas.{at_place}
+use Rattle.bully_steps.specs.declared.driver.Choice.{Choice}
+use Rattle.bully_steps.specs.Driver.{chosen_every}
 use Rattle.bully_steps.specs.ProcedureState.{ProcedureState}
 use Rattle.bully_steps.specs.Procedure.{state_of}
 use Rattle.bully_trace.specs.declared.trace.Row.{Row}
@@ -21,7 +25,8 @@ use Rattle.bully_world.specs.declared.event.Event.{Event}
 use Rattle.bully_world.specs.declared.event.Refused.{Refused}
 use Rattle.bully_world.specs.State.{WorldState, state_at, world_of, first_state, cause_in, raises}
 use Rattle.bully_world.specs.Step.{Step}
-use Rattle.bully_world.specs.Turn.{event_of, procedure_after}
+use Rattle.bully_world.specs.Turn.{event_of, procedure_after, turn}
+use Rattle.bully_world.specs.declared.turn.Next.{Next}
 use Rattle.bully_world.specs.declared.turn.StepKind.{StepKind}
 use Rattle.bully_world.specs.declared.turn.StepKind.TheVariants.{Start, Lose, Return, Move, Plan}
 use Rattle.bully_world.proofs.LawfulLemmas.{lawful_more}
@@ -73,23 +78,46 @@ continues_then before mid after one two = record {
 }
 
 -- a node's own step needs no fault
-step_due : (c : Configuration) (kind : StepKind) (h : ProcedureState) → IsDue c.faults (event_of kind h)
-step_due c Start h = tt
-step_due c Lose h = tt
-step_due c Return h = tt
-step_due c Move h = tt
-step_due c Plan h = tt
+pub step_due : (faults : List Fault) (kind : StepKind) (h : ProcedureState) → IsDue faults (event_of kind h)
+step_due faults Start h = tt
+step_due faults Lose h = tt
+step_due faults Return h = tt
+step_due faults Move h = tt
+step_due faults Plan h = tt
 
 pub steps_continue : (kind : StepKind) (before : RecordingState) (h : ProcedureState) (after : RecordingState) (h' : ProcedureState) → Steps kind before h after h' → Continues before after
 steps_continue kind before h after h' (inl taken) = record {
   setup = taken.0.setup;
-  recorded = λ c is. recorded_more c (event_of kind h) before after taken.0 (step_due c kind h) is;
+  recorded = λ c is. recorded_more c (event_of kind h) before after taken.0 (step_due c.faults kind h) is;
 }
 steps_continue kind before h after h' (inr full) = rw full.1 (nothing_continues before)
 
-pub ok_continues : {E : Type 0} (result : Result Procedure E) (kind : StepKind) (before : RecordingState) (h : ProcedureState) (after : RecordingState) → IfOk result (λ p. Steps kind before h after (state_of p)) → OnOk result (Continues before after)
-ok_continues (Ok p) kind before h after steps = steps_continue kind before h after (state_of p) steps
-ok_continues (Err e) kind before h after steps = tt
+-- a node's turn
+serves_continue : (before : RecordingState) (i : ℕ) (served : Bool) (after : RecordingState) → Serves before i served after → Continues before after
+serves_continue before i true after does = applied_continues (Event.Run does.0) before after does.3 (λ c. tt)
+serves_continue before i false after does = rw does.0 (nothing_continues before)
+
+proceeds_continue : (next : Next) (before : RecordingState) (h : ProcedureState) (after : RecordingState) (h' : ProcedureState) → Proceeds next before h after h' → Continues before after
+proceeds_continue Next.Resync before h after h' does = rw does.0 (nothing_continues before)
+proceeds_continue Next.Rest before h after h' does = rw does.0 (nothing_continues before)
+proceeds_continue (Next.Take kind) before h after h' does = steps_continue kind before h after h' does
+
+goes_on_continues : (choice : Choice) (before : RecordingState) (h : ProcedureState) (after : RecordingState) (h' : ProcedureState) → GoesOn Applies ProceedsIn choice before h after h' → Continues before after
+goes_on_continues Choice.Check before h after h' does = applied_continues (Event.Check h.node) before after does.0 (λ c. tt)
+goes_on_continues Choice.Timeout before h after h' does = applied_continues (Event.Timeout h.node) before after does.0 (λ c. tt)
+goes_on_continues Choice.Proceed before h after h' does = proceeds_continue (turn before.world h) before h after h' does
+
+follows_continues : (served : Bool) (period number : ℕ) (before : RecordingState) (h : ProcedureState) (after : RecordingState) (h' : ProcedureState) → Follows Applies ProceedsIn served period number before h after h' → Continues before after
+follows_continues true period number before h after h' does = rw does.0 (nothing_continues before)
+follows_continues false period number before h after h' does = goes_on_continues (chosen_every period number h.point) before h after h' does
+
+turn_continues : (period number : ℕ) (before : RecordingState) (h : ProcedureState) (after : RecordingState) (h' : ProcedureState) → IsTurn period number before h after h' → Continues before after
+turn_continues period number before h after h' does =
+    continues_then before does.2 after (serves_continue before h.node does.1 does.2 does.4) (follows_continues does.1 period number does.2 does.0 after h' does.5)
+
+pub turn_ok : {A E : Type 0} (result : Result A E) (period number : ℕ) (before : RecordingState) (h : ProcedureState) (after : RecordingState) (h' : ProcedureState) → OnOk result (IsTurn period number before h after h') → OnOk result (Continues before after)
+turn_ok (Ok x) period number before h after h' does = turn_continues period number before h after h' does
+turn_ok (Err e) period number before h after h' does = tt
 
 -- a node's own step stops nobody
 generation_stays : (kind : StepKind) (h : ProcedureState) (before after : WorldState) (i : ℕ) → (state_at after i).generation ≡ (state_at before i).generation
@@ -111,13 +139,30 @@ due_of_kind : (faults : List Fault) (kind : FaultKind) (node : ℕ) → HasFault
 due_of_kind faults FaultKind.Crash node has = has
 due_of_kind faults FaultKind.Recover node has = has
 
-fault_due : (faults : List Fault) (place : ℕ) (fault : Fault) → place < length faults → fault ≡ get_or faults place fault → IsDue faults (event_of_fault fault)
-fault_due faults place fault below is = due_of_kind faults fault.kind fault.node (place, fault, below, sym is, (refl, refl))
+pub faults_due : (faults : List Fault) (place : ℕ) (fault : Fault) (rest : List Fault) → drop place faults ≡ fault ∷ rest → IsDue faults (event_of_fault fault)
+faults_due faults place fault rest is = due_of_kind faults fault.kind fault.node (place, fault, grind (arith, common_steps, is), grind (arith, common_steps, is), (refl, refl))
 
-pub fault_recorded : (faults : List Fault) (place : ℕ) (fault : Fault) (e : Event) (before after : RecordingState) → place < length faults → fault ≡ get_or faults place fault → e ≡ event_of_fault fault → Applies e before after
-    → (c : Configuration) → c.faults ≡ faults → IsRecorded c before → IsRecorded c after
-fault_recorded faults place fault e before after below is named does c same =
-    applied_recorded c e before after does (rw (same, named) (fault_due faults place fault below is))
+-- the faults after the one at this place
+pub later_place : (faults : List Fault) (place : ℕ) (fault : Fault) (rest : List Fault) → drop place faults ≡ fault ∷ rest → drop (place + 1) faults ≡ rest
+later_place faults place fault rest is =
+    let below : place < length faults = grind (arith, common_steps, is) in
+    let there : fault ≡ get_or faults place fault = grind (arith, common_steps, is) in
+    grind (arith, at_place faults place fault below there, is)
+
+-- the operator's turn, from the fault at this place on
+operates_recorded : (c : Configuration) (number place : ℕ) (faults : List Fault) (before after : RecordingState) → drop place c.faults ≡ faults → Operates number faults before after → IsRecorded c before → IsRecorded c after
+operates_recorded c number place [] before after at does is = rw does is
+operates_recorded c number place (fault ∷ faults) before after at does is =
+    let next : drop (place + 1) c.faults ≡ faults = later_place c.faults place fault faults at in
+    by_turn (fault.at == number) does (faults_due c.faults place fault faults at) (λ mid rest was. operates_recorded c number (place + 1) faults mid after next rest was)
+  where
+    by_turn : (b : Bool) → MatchBool b ((mid : RecordingState) × Applies (event_of_fault fault) before mid × Operates number faults mid after) (Operates number faults before after) → IsDue c.faults (event_of_fault fault)
+        → ((mid : RecordingState) → Operates number faults mid after → IsRecorded c mid → IsRecorded c after) → IsRecorded c after
+    by_turn true now due later = later now.0 now.2 (applied_recorded c (event_of_fault fault) before now.0 now.1 due is)
+    by_turn false now due later = later before now is
+
+pub operator_recorded : (c : Configuration) (number : ℕ) (before after : RecordingState) → Operates number c.faults before after → IsRecorded c before → IsRecorded c after
+operator_recorded c number before after does is = operates_recorded c number 0 c.faults before after refl does is
 
 -- what is recorded is a play
 pub recorded_play : (c : Configuration) (r : RecordingState) → IsSetup c.setup → (is : IsRecorded c r) → IsPlay c is.events

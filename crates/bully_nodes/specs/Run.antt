@@ -1,18 +1,63 @@
--- When a run in threads ends without its history.
-use Rattle.std.specs.Prelude.{◌≤◌}
-use Rattle.bully_base.specs.Setup.{Setup}
+-- What a thread of a run does to its seat and its pass, what these come back as, and when a run ends without its history.
+use Rattle.std.specs.Prelude.{◌≡◌, ◌≢◌, ◌+◌, ◌⊎◌, ℕ, Bool, true, false, List, All, Option, length}
+use Rattle.bully_config.specs.declared.config.Fault.{Fault}
 use Rattle.bully_group.specs.declared.locked.finish.FinishFault.{FinishFault}
-use Rattle.bully_group.specs.declared.locked.finish.FinishFault.TheVariants.{Differs}
+use Rattle.bully_group.specs.Locked.{LockedState}
+use Rattle.bully_group.specs.Seat.{SeatState}
+use Rattle.bully_group.specs.Steps.{Records}
 use Rattle.bully_nodes.specs.declared.running.NodesFault.{NodesFault}
 use Rattle.bully_nodes.specs.declared.running.NodesFault.TheVariants.{Spawn, Finish, OutOfMemory}
+use Rattle.bully_nodes.specs.Play.{IsDue}
+use Rattle.bully_nodes.specs.Turns.{prepared_from}
+use Rattle.bully_steps.specs.ProcedureState.{ProcedureState}
+use Rattle.bully_watch.specs.declared.entry.Entry.{Entry}
+use Rattle.bully_world.specs.declared.event.Event.{Event}
+use Rattle.bully_world.specs.Turn.{event_of, procedure_after}
+use Rattle.bully_world.specs.declared.turn.StepKind.{StepKind}
 
--- the finish refuses nothing but the log of an actor: it is given each actor's own seat and every pass
-abbrev pub IsFinishing : Setup → FinishFault → Type 0
-IsFinishing setup (Differs actor) = actor ≤ setup.nodes
-IsFinishing setup _ = ⊥
+-- a seat, and how many entries are counted by the pass beside it
+pub record Held : Type 0 where
+  pub seat : SeatState
+  pub counted : ℕ
 
--- its want of memory is told as such
-abbrev pub IsNodesFault : Setup → NodesFault → Type 0
-IsNodesFault setup Spawn = Unit {0}
-IsNodesFault setup (Finish fault) = IsFinishing setup fault
-IsNodesFault setup OutOfMemory = Unit {0}
+-- in some state of the group the event is recorded, and the pass counts it
+pub record Logs (e : Event) (before after : Held) : Type 0 where
+  pub from : LockedState
+  pub to : LockedState
+  pub records : Records from before.seat e to after.seat
+  pub counted : after.counted ≡ before.counted + 1
+
+-- the event is recorded, or refused
+abbrev pub Tries : Event → Held → Held → Type 0
+Tries e before after = Logs e before after ⊎ (after ≡ before)
+
+-- a procedure is prepared from a task that was shown, or stays as it is
+abbrev pub PreparesAt : Held → ProcedureState → ProcedureState → Type 0
+PreparesAt before h ready = ((old : Option (List ℕ)) × (ready ≡ prepared_from old h)) ⊎ (ready ≡ h)
+
+-- a node's turn ends with its serve, which runs a call or is refused; or nothing happens
+abbrev pub ServesAt : Held → ℕ → Bool → Held → Type 0
+ServesAt before node true after = ((caller : ℕ) × Logs (Event.Run caller) before after) ⊎ (after ≡ before)
+ServesAt before node false after = after ≡ before
+
+-- the procedure takes a step and goes on by it, or no entry is added
+abbrev pub ProceedsAt : Held → ProcedureState → Held → ProcedureState → Type 0
+ProceedsAt before h after h' =
+    ((kind : StepKind) × (logs : Logs (event_of kind h) before after) × (h' ≡ procedure_after kind logs.records.answer h))
+    ⊎ (after ≡ before)
+
+-- the crashes and recoveries in a seat's log are faults of the configuration
+abbrev pub HasDueLog : List Fault → SeatState → Type 0
+HasDueLog faults seat = All (λ (told : ℕ × Entry). IsDue faults told.1.event) seat.log
+
+-- what the thread of actor i gives back: its own seat, and a pass that counts its log
+pub record IsKept (faults : List Fault) (i : ℕ) (h : Held) : Type 0 where
+  pub actor : h.seat.actor ≡ i
+  pub due : HasDueLog faults h.seat
+  pub counted : h.counted ≡ length h.seat.log
+
+-- the finish's want of memory is told as such
+abbrev pub IsNodesFault : NodesFault → Type 0
+IsNodesFault Spawn = Unit {0}
+IsNodesFault (Finish fault) = fault ≢ FinishFault.OutOfMemory
+IsNodesFault OutOfMemory = Unit {0}

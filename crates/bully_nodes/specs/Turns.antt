@@ -46,35 +46,61 @@ Serves before i false after =
     (after ≡ before)
     × (((state_at before.world i).vector.vector.status ≡ Down) ⊎ ((j : ℕ) → is_sent_to i (pending (world_of before.world) j) ≡ false))
 
--- the procedure goes on by the turn rule
+-- what the procedure does where the turn rule offers this
 abbrev pub Proceeds : Next → RecordingState → ProcedureState → RecordingState → ProcedureState → Type 0
 Proceeds Next.Resync before h after h' = (after ≡ before) × (h' ≡ procedure_in before.world h.node)
 Proceeds Next.Rest before h after h' = (after ≡ before) × (h' ≡ h)
 Proceeds (Next.Take kind) before h after h' = Steps kind before h after h'
 
+-- What a turn is, over any state S of what it is taken on. There `applies` is what an event does, `prepares` which
+-- procedure another one is prepared to, `serves` whether a node serves a call and what that does, and `proceeds` what a
+-- procedure does by the turn rule
+
 -- the node does what it chooses
-abbrev pub GoesOn : Choice → RecordingState → ProcedureState → RecordingState → ProcedureState → Type 0
-GoesOn Choice.Check before h after h' = Applies (Event.Check h.node) before after × (h' ≡ h)
-GoesOn Choice.Timeout before h after h' = Applies (Event.Timeout h.node) before after × (h' ≡ h)
-GoesOn Choice.Proceed before h after h' = Proceeds (turn before.world h) before h after h'
+abbrev pub GoesOn : {S : Type 0} → (Event → S → S → Type 0) → (S → ProcedureState → S → ProcedureState → Type 0) → Choice → S → ProcedureState → S → ProcedureState → Type 0
+GoesOn applies proceeds Choice.Check before h after h' = applies (Event.Check h.node) before after × (h' ≡ h)
+GoesOn applies proceeds Choice.Timeout before h after h' = applies (Event.Timeout h.node) before after × (h' ≡ h)
+GoesOn applies proceeds Choice.Proceed before h after h' = proceeds before h after h'
 
 -- a node that served does nothing else in its turn
-abbrev pub Follows : Bool → ℕ → ℕ → RecordingState → ProcedureState → RecordingState → ProcedureState → Type 0
-Follows true period number before h after h' = (after ≡ before) × (h' ≡ h)
-Follows false period number before h after h' = GoesOn (chosen_every period number h.point) before h after h'
+abbrev pub Follows : {S : Type 0} → (Event → S → S → Type 0) → (S → ProcedureState → S → ProcedureState → Type 0) → Bool → ℕ → ℕ → S → ProcedureState → S → ProcedureState → Type 0
+Follows applies proceeds true period number before h after h' = (after ≡ before) × (h' ≡ h)
+Follows applies proceeds false period number before h after h' = GoesOn applies proceeds (chosen_every period number h.point) before h after h'
 
--- a node's turn of this number, with the procedure that it holds, where a node checks once in a period
-abbrev pub IsTurn : ℕ → ℕ → RecordingState → ProcedureState → RecordingState → ProcedureState → Type 0
-IsTurn period number before h after h' =
-    (mid : RecordingState) × (served : Bool) × Serves before h.node served mid × Follows served period number mid (prepared before.world h) after h'
+-- a node's turn of this number, with the procedure that it holds: it is prepared, then the node serves, and then it goes
+-- on, where a node checks once in a period
+abbrev pub IsTurnOn : {S : Type 0} → (Event → S → S → Type 0) → (S → ProcedureState → ProcedureState → Type 0) → (S → ℕ → Bool → S → Type 0) → (S → ProcedureState → S → ProcedureState → Type 0) → ℕ → ℕ → S → ProcedureState → S → ProcedureState → Type 0
+IsTurnOn {S} applies prepares serves proceeds period number before h after h' =
+    (ready : ProcedureState)
+    × (served : Bool)
+    × (mid : S)
+    × prepares before h ready
+    × serves before h.node served mid
+    × Follows applies proceeds served period number mid ready after h'
 
 -- the operator's turn: the faults of that turn, one after the other
-abbrev pub Operates : ℕ → List Fault → RecordingState → RecordingState → Type 0
-Operates number [] before after = after ≡ before
-Operates number (fault ∷ faults) before after =
+abbrev pub OperatesOn : {S : Type 0} → (Event → S → S → Type 0) → ℕ → List Fault → S → S → Type 0
+OperatesOn {S} applies number [] before after = after ≡ before
+OperatesOn {S} applies number (fault ∷ faults) before after =
     MatchBool (fault.at == number)
-    ((mid : RecordingState) × Applies (event_of_fault fault) before mid × Operates number faults mid after)
-    (Operates number faults before after)
+    ((mid : S) × applies (event_of_fault fault) before mid × OperatesOn applies number faults mid after)
+    (OperatesOn applies number faults before after)
+
+-- Turns on a world whose events are recorded
+
+-- a procedure is prepared from the task that its node has
+abbrev pub Prepares : RecordingState → ProcedureState → ProcedureState → Type 0
+Prepares before h ready = ready ≡ prepared before.world h
+
+-- the procedure goes on by the turn rule
+abbrev pub ProceedsIn : RecordingState → ProcedureState → RecordingState → ProcedureState → Type 0
+ProceedsIn before h after h' = Proceeds (turn before.world h) before h after h'
+
+abbrev pub IsTurn : ℕ → ℕ → RecordingState → ProcedureState → RecordingState → ProcedureState → Type 0
+IsTurn period number before h after h' = IsTurnOn Applies Prepares Serves ProceedsIn period number before h after h'
+
+abbrev pub Operates : ℕ → List Fault → RecordingState → RecordingState → Type 0
+Operates number faults before after = OperatesOn Applies number faults before after
 
 -- the turns of the nodes that hold these procedures, one after the other
 abbrev pub TakeTurns : ℕ → ℕ → RecordingState → List ProcedureState → RecordingState → List ProcedureState → Type 0

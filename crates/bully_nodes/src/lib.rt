@@ -5,8 +5,10 @@
 #![tactic(auto)]
 
 mod playing;
+mod post;
 mod recording;
 mod running;
+mod stage;
 #[cfg(test)]
 mod tests;
 mod turns;

@@ -1,9 +1,10 @@
-ghost use Rattle.std.specs.Prelude.{◌≡◌, List, Err, All, map, IfOk, OnOk};
+ghost use Rattle.std.specs.Prelude.{◌≡◌, ◌<◌, List, Err, All, map, IfOk, OnOk};
 ghost use Rattle.std.specs.Io.KnownBytes.{Appends};
 ghost use Rattle.bully_nodes.specs.Play.{IsPlay, trace_with, fault_of};
-ghost use Rattle.bully_nodes.specs.Recording.{IsRecorded};
-ghost use Rattle.bully_nodes.specs.Turns.{IsRound, IsScheduled, idle_first};
+ghost use Rattle.bully_nodes.specs.Recording.{IsRecorded, Continues};
+ghost use Rattle.bully_nodes.specs.Turns.{IsTurn, IsRound, IsScheduled, idle_first};
 ghost use Rattle.bully_steps.specs.Procedure.{state_of};
+ghost use Rattle.bully_steps.specs.ProcedureState.{HasSameNode};
 ghost use Rattle.bully_trace.specs.TraceText.{trace_text};
 ghost use Rattle.bully_world.specs.declared.event.Event.{Event};
 
@@ -66,7 +67,7 @@ fn trace_of(alloc: Global, config: &Config) -> Result<Trace, OutOfMemory>
     let mut recording = Recording::new(alloc, setup)?;
     let mut procedures = idle_procedures(alloc, setup)?;
     for before in 0..config.turns() {
-        take_round(alloc, config, before + 1, &mut recording, &mut procedures)?;
+        take_round(config, before + 1, &mut recording, &mut procedures)?;
     }
     Ok(recording.into_trace())
 }
@@ -85,8 +86,8 @@ fn idle_procedures(alloc: Global, setup: Setup) -> Result<Vec<Procedure>, OutOfM
 }
 
 // A round: the operator's turn, and then each node's.
+#[tactic(auto, using(crate::proofs::RecordingLemmas::operator_recorded))]
 fn take_round(
-    alloc: Global,
     config: &Config,
     turn: u32,
     recording: &mut Recording,
@@ -101,7 +102,23 @@ fn take_round(
     operator_turn(recording, config.faults(), turn)?;
     let period = config.period();
     for procedure in procedures.iter_mut() {
-        take_turn(recording, alloc, period, turn, procedure)?;
+        node_turn(recording, period, turn, procedure)?;
     }
     Ok(())
+}
+
+// The turn of the node that holds the procedure.
+fn node_turn(
+    recording: &mut Recording,
+    period: u32,
+    turn: u32,
+    place: &mut Procedure,
+) -> Result<(), OutOfMemory>
+    requires setup { (state_of place.old).setup ≡ recording.old.world.setup }
+    requires period { 0 < period }
+    ensures turn { OnOk result (IsTurn period turn recording.old (state_of place.old) recording.new (state_of place.new)) }
+    ensures recorded { OnOk result (Continues recording.old recording.new) }
+    ensures same_node { OnOk result (HasSameNode (state_of place.old) (state_of place.new)) }
+{
+    take_turn(recording, period, turn, place)
 }

@@ -1,6 +1,6 @@
 ghost use Rattle.std.specs.Prelude.{◌≡◌, ◌≤◌, ◌++◌, ◌∷◌, [], length, IfOk, OnOk};
 ghost use Rattle.bully_nodes.specs.Play.{trace_setup};
-ghost use Rattle.bully_nodes.specs.Recording.{Applies, Steps};
+ghost use Rattle.bully_nodes.specs.Recording.{Steps};
 ghost use Rattle.bully_steps.specs.Procedure.{state_of};
 ghost use Rattle.bully_steps.specs.ProcedureState.{HasSameNode};
 ghost use Rattle.bully_trace.specs.declared.TheConstants.{ROWS_MAX};
@@ -8,11 +8,13 @@ ghost use Rattle.bully_world.specs.State.{first_state};
 ghost use Rattle.bully_world.specs.Turn.{turn};
 ghost use Rattle.bully_world.specs.declared.turn.Next.{Next};
 
+use crate::stage::Stage;
+use crate::turns::prepared_from;
 use crate::writing::trace_with;
-use bully_base::{OutOfMemory, Setup};
+use bully_base::{Node, OutOfMemory, Setup, Status};
 use bully_steps::Procedure;
 use bully_trace::{Row, Trace};
-use bully_world::{Event, StepKind, World};
+use bully_world::{Event, Next, StepKind, World};
 use std::alloc::Global;
 use std::marker::Model;
 
@@ -42,27 +44,9 @@ impl Recording {
         })
     }
 
-    /// The world.
-    pub fn world(&self) -> &World
-        ensures { result.now ≡ self.now.world }
-    {
-        &self.world
-    }
-
-    /// Applies the event and records it. One that the world refuses is passed over. Refused where an
-    /// allocation fails.
-    pub fn apply(&mut self, event: Event) -> Result<(), OutOfMemory>
-        ensures { OnOk result (Applies event self.old self.new) }
-    {
-        match self.world.apply(&event) {
-            Ok(_) => self.record(event),
-            Err(_) => Ok(()),
-        }
-    }
-
-    /// Takes a step that the turn rule offers, and records its event: the procedure as the step leaves it. Where
-    /// the world refuses the step, nothing changes. Refused where an allocation fails.
-    pub fn take(&mut self, kind: StepKind, procedure: Procedure) -> Result<Procedure, OutOfMemory>
+    // Takes a step that the turn rule offers, and records its event: the procedure as the step leaves it. Where
+    // the world refuses the step, nothing changes. Refused where an allocation fails.
+    fn take(&mut self, kind: StepKind, procedure: Procedure) -> Result<Procedure, OutOfMemory>
         requires setup { (state_of procedure).setup ≡ self.old.world.setup }
         requires offered { turn self.old.world (state_of procedure) ≡ Next.Take kind }
         ensures steps { IfOk result (λ p. Steps kind self.old (state_of procedure) self.new (state_of p)) }
@@ -91,5 +75,53 @@ impl Recording {
     {
         self.rows.push(Row::Event(event))?;
         Ok(())
+    }
+}
+
+impl Stage for Recording {
+    ghost use Rattle.bully_nodes.specs.Recording.{Applies};
+    ghost use Rattle.bully_nodes.specs.Turns.{Prepares, Serves, ProceedsIn};
+
+    ghost setup = { λ r. r.world.setup };
+
+    ghost applies = { Applies };
+
+    ghost prepares = { Prepares };
+
+    ghost serves = { Serves };
+
+    ghost proceeds = { ProceedsIn };
+
+    // An event that the world refuses isn't recorded.
+    fn apply(&mut self, event: Event) -> Result<(), OutOfMemory> {
+        match self.world.apply(&event) {
+            Ok(_) => self.record(event),
+            Err(_) => Ok(()),
+        }
+    }
+
+    fn prepare(&mut self, procedure: Procedure) -> Result<Procedure, OutOfMemory> {
+        let task = self.world.vector(procedure.node()).task();
+        prepared_from(*self.rows.allocator(), task, procedure)
+    }
+
+    // A Down node serves nobody. Of several calls the lowest caller's runs.
+    fn serve(&mut self, node: Node) -> Result<bool, OutOfMemory> {
+        if self.world.vector(node).status() == Status::Down {
+            return Ok(false);
+        }
+        let Some(caller) = self.world.waiting_for(node) else {
+            return Ok(false);
+        };
+        self.apply(Event::Run(caller))?;
+        Ok(true)
+    }
+
+    fn proceed(&mut self, procedure: Procedure) -> Result<Procedure, OutOfMemory> {
+        match self.world.next(&procedure) {
+            Next::Resync => Ok(self.world.procedure(procedure.node())),
+            Next::Rest => Ok(procedure),
+            Next::Take(kind) => self.take(kind, procedure),
+        }
     }
 }

@@ -1,5 +1,7 @@
 //! What `play` writes of the worked configurations, with the bytes that this project's profile gives.
 
+mod threads;
+
 use crate::{PlayFault, play};
 use bully_config::Config;
 use std::io;

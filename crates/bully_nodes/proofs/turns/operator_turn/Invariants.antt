@@ -1,12 +1,9 @@
 use Rattle.std.proofs.Common.{◌≡◌, drop}
-use Rattle.bully_config.specs.Configuration.{Configuration}
-use Rattle.bully_nodes.specs.Recording.{RecordingState, IsRecorded}
-use Rattle.bully_nodes.specs.Turns.{Operates}
+use Rattle.bully_nodes.specs.Turns.{OperatesOn}
 use Rattle.bully_nodes.proofs.turns.operator_turn.Given as goal
 
 abbrev pub invariant-loop-fault : goal.invariant-loop-fault
-invariant-loop-fault l = record {
-  setup : l.recording.world.setup ≡ l.fn.recording.world.setup;
-  operates : (after : RecordingState) → Operates l.turn (drop l.fault-index l.faults) l.recording after → Operates l.turn l.faults l.fn.recording after;
-  recorded : (c : Configuration) → c.faults ≡ l.faults → IsRecorded c l.fn.recording → IsRecorded c l.recording;
+invariant-loop-fault g l = record {
+  setup : g.S.Stage.setup l.stage ≡ g.S.Stage.setup l.fn.stage;
+  operates : (after : _) → OperatesOn g.S.Stage.applies l.turn (drop l.fault-index l.faults) l.stage after → OperatesOn g.S.Stage.applies l.turn l.faults l.fn.stage after;
 }

@@ -1,0 +1,216 @@
+//! Node threads: that they run at once, that each takes its turns, and what a gate can order.
+
+use crate::{Gate, NodesFault, run_nodes};
+use bully_config::Config;
+use bully_group::Closed;
+use bully_world::Event;
+use std::sync::atomic::{AtomicBool, Ordering};
+use std::test::Fail;
+
+/// How often a flag is polled, at most.
+const POLLS: u32 = 2_000_000_000;
+
+/// One node, which recovers.
+const ONE_NODE: &str = "nodes = 1
+partitions = 2
+events = 100
+turns = 6
+names = [\"a\"]
+[[fault]]
+at = 1
+node = \"a\"
+kind = \"recover\"
+";
+
+/// Two nodes, which stay down.
+const TWO_NODES: &str = "nodes = 2
+partitions = 1
+events = 100
+turns = 2
+names = [\"a\", \"b\"]
+";
+
+/// Three nodes, which all recover.
+const ALL_RECOVER: &str = "nodes = 3
+partitions = 3
+events = 100000
+turns = 2000
+names = [\"a\", \"b\", \"c\"]
+[[fault]]
+at = 1
+node = \"a\"
+kind = \"recover\"
+[[fault]]
+at = 1
+node = \"b\"
+kind = \"recover\"
+[[fault]]
+at = 1
+node = \"c\"
+kind = \"recover\"
+";
+
+/// One node that recovers, in a group of at most one event.
+const FULL: &str = "nodes = 1
+partitions = 1
+events = 1
+turns = 50
+names = [\"a\"]
+[[fault]]
+at = 1
+node = \"a\"
+kind = \"recover\"
+";
+
+/// A gate that nobody waits at.
+struct Open;
+
+impl Gate for Open {
+    fn before(&self, _actor: u16, _turn: u32) {}
+
+    fn after(&self, _actor: u16, _turn: u32) {}
+}
+
+// Whether the flag is set before so many polls are over.
+fn is_seen(flag: &AtomicBool) -> bool {
+    for _ in 0..POLLS {
+        if flag.load(Ordering::SeqCst) {
+            return true;
+        }
+    }
+    false
+}
+
+/// Nodes 1 and 2 wait for each other before their first turns.
+struct Meeting {
+    first: AtomicBool,
+    second: AtomicBool,
+    missed: AtomicBool,
+}
+
+impl Gate for Meeting {
+    fn before(&self, actor: u16, turn: u32) {
+        if turn != 1 {
+            return;
+        }
+        let met = match actor {
+            1 => {
+                self.first.store(true, Ordering::SeqCst);
+                is_seen(&self.second)
+            }
+            2 => {
+                self.second.store(true, Ordering::SeqCst);
+                is_seen(&self.first)
+            }
+            _ => true,
+        };
+        if !met {
+            self.missed.store(true, Ordering::SeqCst);
+        }
+    }
+
+    fn after(&self, _actor: u16, _turn: u32) {}
+}
+
+#[test]
+fn two_threads_meet(rt: HostRuntime) -> Result<(), Fail> {
+    let config = Config::read(rt.alloc(), TWO_NODES)?;
+    let gate = Meeting {
+        first: AtomicBool::new(false),
+        second: AtomicBool::new(false),
+        missed: AtomicBool::new(false),
+    };
+    let ended = run_nodes(&rt, rt.alloc(), &config, &gate);
+    assert!(rt; ended.is_ok());
+    assert!(rt; gate.first.load(Ordering::SeqCst) && gate.second.load(Ordering::SeqCst));
+    assert!(rt; !gate.missed.load(Ordering::SeqCst));
+    Ok(())
+}
+
+/// Node 1 waits before its first turn until the operator has taken its own.
+struct OperatorFirst {
+    taken: AtomicBool,
+    missed: AtomicBool,
+}
+
+impl Gate for OperatorFirst {
+    fn before(&self, actor: u16, turn: u32) {
+        if actor == 1 && turn == 1 && !is_seen(&self.taken) {
+            self.missed.store(true, Ordering::SeqCst);
+        }
+    }
+
+    fn after(&self, actor: u16, turn: u32) {
+        if actor == 0 && turn == 1 {
+            self.taken.store(true, Ordering::SeqCst);
+        }
+    }
+}
+
+#[test]
+fn a_gate_orders_two_threads(rt: HostRuntime) -> Result<(), Fail> {
+    let config = Config::read(rt.alloc(), ONE_NODE)?;
+    let gate = OperatorFirst {
+        taken: AtomicBool::new(false),
+        missed: AtomicBool::new(false),
+    };
+    match run_nodes(&rt, rt.alloc(), &config, &gate) {
+        Ok(closed) => assert!(rt; is_alone(&closed)),
+        Err(_) => assert!(rt; false),
+    }
+    assert!(rt; !gate.missed.load(Ordering::SeqCst));
+    Ok(())
+}
+
+// Whether the history is one node's election: the operator recovers it, and then it takes five steps.
+fn is_alone(closed: &Closed) -> bool {
+    match closed.history() {
+        [recover, one, two, three, plan, last] => {
+            matches!(recover.event, Event::Recover(_))
+                && matches!(one.event, Event::Move(_))
+                && matches!(two.event, Event::Move(_))
+                && matches!(three.event, Event::Move(_))
+                && matches!(plan.event, Event::Plan(_, _))
+                && matches!(last.event, Event::Move(_))
+                && recover.actor == 0
+                && [one.actor, two.actor, three.actor, plan.actor, last.actor] == [1; 5]
+        }
+        _ => false,
+    }
+}
+
+#[test]
+fn all_recover(rt: HostRuntime) -> Result<(), Fail> {
+    let config = Config::read(rt.alloc(), ALL_RECOVER)?;
+    match run_nodes(&rt, rt.alloc(), &config, &Open) {
+        Ok(closed) => {
+            for number in 1..4u16 {
+                assert!(rt; has_recovery(&closed, number), "of node {number}");
+            }
+        }
+        Err(_) => assert!(rt; false),
+    }
+    Ok(())
+}
+
+// Whether the operator recovers the node.
+fn has_recovery(closed: &Closed, number: u16) -> bool {
+    closed.history().iter().any(|entry| match entry.event {
+        Event::Recover(node) => entry.actor == 0 && node.number() == number,
+        _ => false,
+    })
+}
+
+// The bound on events is reached by the recovery.
+#[test]
+fn a_full_group(rt: HostRuntime) -> Result<(), Fail> {
+    let config = Config::read(rt.alloc(), FULL)?;
+    match run_nodes(&rt, rt.alloc(), &config, &Open) {
+        Ok(closed) => {
+            assert_eq!(rt; closed.history().len(), 1);
+            assert!(rt; has_recovery(&closed, 1));
+        }
+        Err(fault) => assert_eq!(rt; fault, NodesFault::Spawn),
+    }
+    Ok(())
+}
