@@ -82,6 +82,7 @@ fn is_seen(flag: &AtomicBool) -> bool {
 }
 
 /// Nodes 1 and 2 wait for each other before their first turns.
+#[derive(Drop)]
 struct Meeting {
     first: AtomicBool,
     second: AtomicBool,
@@ -128,6 +129,7 @@ fn two_threads_meet(rt: HostRuntime) -> Result<(), Fail> {
 }
 
 /// Node 1 waits before its first turn until the operator has taken its own.
+#[derive(Drop)]
 struct OperatorFirst {
     taken: AtomicBool,
     missed: AtomicBool,
