@@ -1,5 +1,6 @@
 //! What `play` writes of the worked configurations, with the bytes that this project's profile gives.
 
+mod rounds;
 mod threads;
 
 use crate::{PlayFault, play};
