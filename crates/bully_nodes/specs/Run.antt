@@ -1,9 +1,10 @@
 -- What a thread of a run does to its seat and its pass, what these come back as, and when a run ends without its history.
 use Rattle.std.specs.Prelude.{◌≡◌, ◌≢◌, ◌+◌, ◌⊎◌, ℕ, Bool, true, false, List, All, Option, length}
+use Rattle.bully_agree.specs.View.{shown}
 use Rattle.bully_config.specs.declared.config.Fault.{Fault}
 use Rattle.bully_group.specs.declared.locked.finish.FinishFault.{FinishFault}
-use Rattle.bully_group.specs.Locked.{LockedState}
-use Rattle.bully_group.specs.Seat.{SeatState}
+use Rattle.bully_group.specs.Locked.{LockedState, view_in}
+use Rattle.bully_group.specs.Seat.{SeatState, IsKnown}
 use Rattle.bully_group.specs.Steps.{Records}
 use Rattle.bully_nodes.specs.declared.running.NodesFault.{NodesFault}
 use Rattle.bully_nodes.specs.declared.running.NodesFault.TheVariants.{Spawn, Finish, OutOfMemory}
@@ -31,9 +32,12 @@ pub record Logs (e : Event) (before after : Held) : Type 0 where
 abbrev pub Tries : Event → Held → Held → Type 0
 Tries e before after = Logs e before after ⊎ (after ≡ before)
 
--- a procedure is prepared from a task that was shown, or stays as it is
+-- a procedure is prepared from the task that a view shows of its node, in some state of the group that the seat is known
+-- in; or it stays as it is
 abbrev pub PreparesAt : Held → ProcedureState → ProcedureState → Type 0
-PreparesAt before h ready = ((old : Option (List ℕ)) × (ready ≡ prepared_from old h)) ⊎ (ready ≡ h)
+PreparesAt before h ready =
+    ((s : LockedState) × IsKnown s.history before.seat × (ready ≡ prepared_from (shown (view_in s) h.node).task h))
+    ⊎ (ready ≡ h)
 
 -- a node's turn ends with its serve, which runs a call or is refused; or nothing happens
 abbrev pub ServesAt : Held → ℕ → Bool → Held → Type 0
