@@ -1,6 +1,7 @@
 //! Node threads: that they run at once, that each takes its turns, and what a gate can order.
 
-use crate::{Gate, NodesFault, run_nodes};
+use super::Narrow;
+use crate::{Gate, NodesFault, PlayFault, run_nodes, write_history};
 use bully_config::Config;
 use bully_group::Closed;
 use bully_world::Event;
@@ -61,6 +62,9 @@ at = 1
 node = \"a\"
 kind = \"recover\"
 ";
+
+/// What is written of it.
+const FULL_WRITTEN: &str = "bully,1,1,1\nrecover,1\n";
 
 /// A gate that nobody waits at.
 struct Open;
@@ -211,6 +215,14 @@ fn a_full_group(rt: HostRuntime) -> Result<(), Fail> {
         Ok(closed) => {
             assert_eq!(rt; closed.history().len(), 1);
             assert!(rt; has_recovery(&closed, 1));
+            let mut text = Vec::new(rt.alloc());
+            assert_eq!(rt; write_history(rt.alloc(), &mut text, &closed), Ok(()));
+            assert_eq!(rt; text.as_slice(), FULL_WRITTEN.as_bytes());
+            for room in 0..FULL_WRITTEN.len() {
+                let mut narrow = Narrow { room };
+                let ended = write_history(rt.alloc(), &mut narrow, &closed);
+                assert_eq!(rt; ended, Err(PlayFault::Write), "with room for {room}");
+            }
         }
         Err(fault) => assert_eq!(rt; fault, NodesFault::Spawn),
     }
