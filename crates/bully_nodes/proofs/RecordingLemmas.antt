@@ -1,9 +1,9 @@
 -- What is recorded stays a lawful list, event by event.
-use Rattle.std.proofs.Common.{◌≡◌, ◌∙◌, ℕ, ◌+◌, ◌<◌, ◌==◌, Bool, true, false, inl, inr, drop, List, [], ◌∷◌, ◌++◌, Option, Some, None, MatchOption, if◌then◌else◌, Result, Ok, Err, IfOk, OnOk, get_or, length, length-append, arith, refl, sym, ap, subst}
+use Rattle.std.proofs.Common.{◌≡◌, ◌∙◌, ℕ, ◌+◌, ◌<◌, ◌==◌, Bool, true, false, inl, inr, drop, List, [], ◌∷◌, ◌++◌, Option, Some, None, MatchOption, if◌then◌else◌, Result, Ok, Err, OnOk, get_or, length, length-append, arith, refl, sym, ap, subst}
 use Rattle.std.proofs.lemmas.Grind.{common_steps}
 use Rattle.std.proofs.lemmas.List.{map-append}
 use Rattle.std.specs.Bool.{MatchBool}
-use Rattle.std.proofs.lemmas.List.Elements.{All-nil, All-push}
+use Rattle.std.proofs.lemmas.List.Elements.{All-push}
 use Rattle.bully_base.specs.declared.TheConstants.{EVENTS_MAX}
 use Rattle.bully_base.specs.Setup.{Setup, IsSetup}
 use Rattle.bully_calls.specs.declared.call.Answer.{Answer}
@@ -18,19 +18,17 @@ use Rattle.bully_nodes.proofs.OperatorLemmas.{at_place}
 use Rattle.bully_steps.specs.declared.driver.Choice.{Choice}
 use Rattle.bully_steps.specs.Driver.{chosen_every}
 use Rattle.bully_steps.specs.ProcedureState.{ProcedureState}
-use Rattle.bully_steps.specs.Procedure.{state_of}
 use Rattle.bully_trace.specs.declared.trace.Row.{Row}
 use Rattle.bully_trace.specs.declared.trace.Trace.{Trace}
 use Rattle.bully_world.specs.declared.event.Event.{Event}
 use Rattle.bully_world.specs.declared.event.Refused.{Refused}
-use Rattle.bully_world.specs.State.{WorldState, state_at, world_of, first_state, cause_in, raises}
+use Rattle.bully_world.specs.State.{WorldState, state_at, world_of, cause_in, raises}
 use Rattle.bully_world.specs.Step.{Step}
 use Rattle.bully_world.specs.Turn.{event_of, procedure_after, turn}
 use Rattle.bully_world.specs.declared.turn.Next.{Next}
 use Rattle.bully_world.specs.declared.turn.StepKind.{StepKind}
 use Rattle.bully_world.specs.declared.turn.StepKind.TheVariants.{Start, Lose, Return, Move, Plan}
 use Rattle.bully_world.proofs.LawfulLemmas.{lawful_more}
-use Rattle.bully_world.proofs.WorldLemmas.{first_is}
 
 -- an event more
 pub recorded_more : (c : Configuration) (e : Event) (before after : RecordingState) → Records e before after → IsDue c.faults e → IsRecorded c before → IsRecorded c after

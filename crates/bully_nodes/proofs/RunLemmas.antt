@@ -1,5 +1,5 @@
 -- What a thread's turns keep, and what the seats of all threads make of the history.
-use Rattle.std.proofs.Common.{OnOk, ◌≡◌, ◌∙◌, ℕ, zero, suc, ◌+◌, ◌<◌, ◌≤◌, ◌==◌, ◌⊎◌, inl, inr, Bool, true, false, List, [], ◌∷◌, ◌++◌, Option, Some, None, Result, Ok, Err, IfOk, IfSome, All, get_or, map, drop, length, length-append, if◌then◌else◌, arith, refl, sym, ap, subst}
+use Rattle.std.proofs.Common.{OnOk, ◌≡◌, ◌∙◌, ℕ, zero, suc, ◌+◌, ◌≤◌, ◌==◌, inl, inr, Bool, true, false, List, [], ◌∷◌, Option, Some, None, Result, Ok, Err, IfOk, IfSome, All, get_or, map, drop, length, length-append, if◌then◌else◌, arith, refl, sym, ap, subst}
 use Rattle.std.specs.Prelude.{slice_get}
 use Rattle.std.specs.Bool.{MatchBool}
 use Rattle.std.proofs.lemmas.List.Elements.{All-push, All-nil, All-cons}
@@ -7,7 +7,7 @@ use Rattle.std.proofs.lemmas.Option.{slice_get_within, get_or_from_slice_get, sl
 use Rattle.bully_agree.specs.View.{View, Shown, IsViewed, shown}
 use Rattle.bully_agree.proofs.ViewLemmas.{shown_there}
 use Rattle.bully_base.specs.declared.TheConstants.{EVENTS_MAX}
-use Rattle.bully_base.specs.Setup.{Setup, IsSetup}
+use Rattle.bully_base.specs.Setup.{IsSetup}
 use Rattle.bully_config.specs.Configuration.{Configuration}
 use Rattle.bully_config.specs.declared.config.Fault.{Fault}
 use Rattle.bully_group.specs.declared.locked.turn.Turn.{Turn}
@@ -26,13 +26,12 @@ use Rattle.bully_steps.specs.declared.procedure.Procedure.{Procedure}
 use Rattle.bully_steps.specs.ProcedureState.{ProcedureState}
 use Rattle.bully_steps.specs.Procedure.{state_of}
 use Rattle.bully_watch.specs.declared.entry.Entry.{Entry}
-use Rattle.bully_watch.specs.History.{IsHistory, event_of as entry_event, answer_of}
+use Rattle.bully_watch.specs.History.{event_of as entry_event, answer_of}
 use Rattle.bully_world.specs.declared.event.Event.{Event}
-use Rattle.bully_world.specs.declared.turn.StepKind.{StepKind}
 use Rattle.bully_world.specs.State.{world_of}
 use Rattle.bully_world.specs.World.{member}
 use Rattle.bully_world.proofs.NodeInvariantLemmas.{lawful_fits}
-use Rattle.bully_world.specs.Turn.{event_of, procedure_after}
+use Rattle.bully_world.specs.Turn.{event_of}
 
 abbrev held : SeatState → ℕ → Held
 held seat counted = record { seat = seat; counted = counted }
