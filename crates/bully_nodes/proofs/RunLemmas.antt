@@ -14,7 +14,7 @@ use Rattle.bully_group.specs.declared.locked.turn.Turn.{Turn}
 use Rattle.bully_group.specs.Finish.{EachInOneLog}
 use Rattle.bully_group.specs.Locked.{LockedState, IsLocked}
 use Rattle.bully_group.specs.Seat.{SeatState, AreNewSeats}
-use Rattle.bully_group.specs.Turns.{IfWent, is_went, handed_back, Goes}
+use Rattle.bully_group.specs.Turns.{IfWent, IfWaiting, IfResynced, IfFault, is_went, handed_back, Goes, Waits, Resyncs, Fails}
 use Rattle.bully_nodes.specs.Play.{IsDue, IsPlay, event_of_fault}
 use Rattle.bully_nodes.specs.Run.{Held, Logs, Tries, PreparesAt, ServesAt, ProceedsAt, HasDueLog, IsKept}
 use Rattle.bully_nodes.specs.Turns.{GoesOn, Follows, IsTurnOn, OperatesOn}
@@ -37,18 +37,21 @@ abbrev held : SeatState → ℕ → Held
 held seat counted = record { seat = seat; counted = counted }
 
 -- what the calls of a locked group do to a seat and a pass
-turned : (answer : Turn) (s s' : LockedState) (seat seat' : SeatState) (h h' : ProcedureState) (n n' : ℕ) → IfWent answer (Goes s seat h s' seat') → (is_went answer ≡ false → (s' ≡ s) × (seat' ≡ seat)) → n' ≡ (if is_went answer then n + 1 else n) → h' ≡ handed_back answer
+turned : (answer : Turn) (s s' : LockedState) (seat seat' : SeatState) (h h' : ProcedureState) (n n' : ℕ) → IfWent answer (Goes s seat h s' seat') → IfWaiting answer (Waits s seat h) → IfResynced answer (Resyncs s seat h) → IfFault answer (Fails s seat h) → (is_went answer ≡ false → (s' ≡ s) × (seat' ≡ seat)) → n' ≡ (if is_went answer then n + 1 else n) → h' ≡ handed_back answer
     → ProceedsAt (held seat n) h (held seat' n') h'
-turned (Turn.Went p) s s' seat seat' h h' n n' goes same counted back =
-    inl (goes.1, record { from = s; to = s'; records = goes.4; counted = counted }, back ∙ goes.5)
-turned (Turn.Waiting p) s s' seat seat' h h' n n' goes same counted back = inr (rw ((same refl).1, counted) refl)
-turned (Turn.Resynced p) s s' seat seat' h h' n n' goes same counted back = inr (rw ((same refl).1, counted) refl)
-turned (Turn.Fault p f) s s' seat seat' h h' n n' goes same counted back = inr (rw ((same refl).1, counted) refl)
+turned (Turn.Went p) s s' seat seat' h h' n n' goes waits resyncs fails same counted back =
+    inl (goes.1, record { from = s; to = s'; records = goes.4; counted = counted }, back ∙ goes.5, goes.2)
+turned (Turn.Waiting p) s s' seat seat' h h' n n' goes waits resyncs fails same counted back =
+    inr (rw ((same refl).1, counted) refl, s, inl (rw back waits))
+turned (Turn.Resynced p) s s' seat seat' h h' n n' goes waits resyncs fails same counted back =
+    inr (rw ((same refl).1, counted) refl, s, inr (inl (rw back resyncs)))
+turned (Turn.Fault p f) s s' seat seat' h h' n n' goes waits resyncs fails same counted back =
+    inr (rw ((same refl).1, counted) refl, s, inr (inr (f, rw back fails)))
 
-pub turned_ok : {E : Type 0} (result : Result Procedure E) (answer : Turn) (s s' : LockedState) (seat seat' : SeatState) (h : ProcedureState) (n n' : ℕ) → IfWent answer (Goes s seat h s' seat') → (is_went answer ≡ false → (s' ≡ s) × (seat' ≡ seat)) → n' ≡ (if is_went answer then n + 1 else n)
+pub turned_ok : {E : Type 0} (result : Result Procedure E) (answer : Turn) (s s' : LockedState) (seat seat' : SeatState) (h : ProcedureState) (n n' : ℕ) → IfWent answer (Goes s seat h s' seat') → IfWaiting answer (Waits s seat h) → IfResynced answer (Resyncs s seat h) → IfFault answer (Fails s seat h) → (is_went answer ≡ false → (s' ≡ s) × (seat' ≡ seat)) → n' ≡ (if is_went answer then n + 1 else n)
     → IfOk result (λ p. state_of p ≡ handed_back answer) → IfOk result (λ p. ProceedsAt (held seat n) h (held seat' n') (state_of p))
-turned_ok (Ok p) answer s s' seat seat' h n n' goes same counted back = turned answer s s' seat seat' h (state_of p) n n' goes same counted back
-turned_ok (Err e) answer s s' seat seat' h n n' goes same counted back = tt
+turned_ok (Ok p) answer s s' seat seat' h n n' goes waits resyncs fails same counted back = turned answer s s' seat seat' h (state_of p) n n' goes waits resyncs fails same counted back
+turned_ok (Err e) answer s s' seat seat' h n n' goes waits resyncs fails same counted back = tt
 
 -- a task that is shown has the setup's partitions
 sized : (n : ℕ) (task : Option (List ℕ)) → ((table : List ℕ) → task ≡ Some table → length table ≡ n) → IfSome task (λ t. length t ≡ n)
@@ -70,16 +73,16 @@ logs_keep faults actor e before after due logs kept = record {
 
 tries_keep : (faults : List Fault) (actor : ℕ) (e : Event) (before after : Held) → IsDue faults e → Tries e before after → IsKept faults actor before → IsKept faults actor after
 tries_keep faults actor e before after due (inl logs) kept = logs_keep faults actor e before after due logs kept
-tries_keep faults actor e before after due (inr same) kept = rw same kept
+tries_keep faults actor e before after due (inr same) kept = rw same.0 kept
 
 serves_keep : (faults : List Fault) (actor node : ℕ) (served : Bool) (before after : Held) → ServesAt before node served after → IsKept faults actor before → IsKept faults actor after
 serves_keep faults actor node true before after (inl ran) kept = logs_keep faults actor (Event.Run ran.0) before after tt ran.1 kept
-serves_keep faults actor node true before after (inr same) kept = rw same kept
-serves_keep faults actor node false before after same kept = rw same kept
+serves_keep faults actor node true before after (inr same) kept = rw same.0 kept
+serves_keep faults actor node false before after same kept = rw same.0 kept
 
 proceeds_keep : (faults : List Fault) (actor : ℕ) (before : Held) (h : ProcedureState) (after : Held) (h' : ProcedureState) → ProceedsAt before h after h' → IsKept faults actor before → IsKept faults actor after
 proceeds_keep faults actor before h after h' (inl taken) kept = logs_keep faults actor (event_of taken.0 h) before after (step_due faults taken.0 h) taken.1 kept
-proceeds_keep faults actor before h after h' (inr same) kept = rw same kept
+proceeds_keep faults actor before h after h' (inr same) kept = rw same.0 kept
 
 module _ {S : Type 0} (at : S → Held) (faults : List Fault) (actor : ℕ) where
   abbrev applies : Event → S → S → Type 0
