@@ -71,7 +71,7 @@ read-late known rows left after found fields read takes is late =
         trace-left (records_of bytes) rows left t ∙ rw rest (rw (late-first left.setup (left.number + 1) fields more late) refl)
 
 -- a row of no form
-read-bad : (known : Option (List ℕ)) (rows : List Row) (left : RowsLeft) (after : Option (List Record)) (found : Bool) (fields : Record)
+pub read-bad : (known : Option (List ℕ)) (rows : List Row) (left : RowsLeft) (after : Option (List Record)) (found : Bool) (fields : Record)
     → HasRead known rows left → Takes left.records after found fields → found ≡ true → left.number + 1 ≤ ROWS_MAX + 1 → row_of left.setup fields ≡ None
     → EndsReading known (fault_at (left.number + 1) TraceCause.BadRow)
 read-bad known rows left after found fields read takes is low none =
@@ -101,15 +101,6 @@ read-failed known rows left fault read outside at_row = record {
         let t = read.text in
         let ok : IsOk (trace_of (t.header ∷ t.taken)) = rw (header-first left.setup t.header t.taken t.told, t.mean) refl in
         (t.header ∷ t.taken, t.rest, t.all, omega (arith, row, t.counted), ok)
-
--- a row that isn't told, for memory or as one at fault
-pub read-fault : (known : Option (List ℕ)) (rows : List Row) (left : RowsLeft) (after : Option (List Record)) (found : Bool) (fields : Record) (fault : TraceFault)
-    → HasRead known rows left → Takes left.records after found fields → found ≡ true → left.number + 1 ≤ ROWS_MAX + 1 → fault.cause ≢ TraceCause.Read
-    → IsOutside fault ⊎ ((row_of left.setup fields ≡ None) × (fault ≡ fault_at (left.number + 1) TraceCause.BadRow)) → EndsReading known fault
-read-fault known rows left after found fields fault read takes is low unread (inl outside) =
-    read-failed known rows left fault read outside (λ cause. absurd (unread cause))
-read-fault known rows left after found fields fault read takes is low unread (inr bad) =
-    rw bad.1 (read-bad known rows left after found fields read takes is low bad.0)
 
 -- one more row
 pub read-more : (known : Option (List ℕ)) (rows : List Row) (left now : RowsLeft) (found : Bool) (fields : Record) (row : Row)

@@ -57,10 +57,13 @@ fn judge_rows<R: Read + Drop>(rows: &mut RowReader<R>, judge: &mut Judge) -> Res
     ensures judged { (known : Option (List ℕ)) → AreJudged known rows.old judge.old → OnOk result (AreAllJudged known rows.old.setup judge.new) }
     ensures fault { (known : Option (List ℕ)) → AreJudged known rows.old judge.old → IfErr result (EndsReading known) }
 {
-    while let Some(row) = rows.next_row()? {
-        judge.take(rows.number(), &row);
+    loop {
+        match &rows.next_row() {
+            Ok(Some(row)) => judge.take(rows.number(), row),
+            Ok(None) => return Ok(()),
+            Err(fault) => return Err(*fault),
+        }
     }
-    Ok(())
 }
 
 // The text of the verdict, after which the world is so.

@@ -3,6 +3,7 @@ ghost use Rattle.std.specs.Option.{option_and_then, option_map};
 ghost use Rattle.csv.specs.Records.{fields_of, field_at};
 ghost use Rattle.bully_base.specs.Setup.{Setup as SetupState};
 ghost use Rattle.bully_table.specs.Numeral.{number_of};
+ghost use Rattle.bully_trace.specs.declared.trace.Row.{Row};
 ghost use Rattle.bully_trace.specs.Rows.{header_of, row_of, within, node_in, event_named, status_named, coordinator_in, plan_in, claim_in};
 
 use crate::trace::{Claim, Row};
@@ -30,7 +31,7 @@ pub fn read_row(alloc: Global, setup: Setup, row: &ByteRecord) -> Result<Option<
     ensures { IfOk result (λ r. r ≡ row_of setup (fields_of row.now)) }
 {
     match row.len() {
-        2 => Ok(event_row(field(row, 0), field(row, 1))),
+        2 => event_row(field(row, 0), field(row, 1)),
         3 => plan_row(alloc, setup, field(row, 0), field(row, 1), field(row, 2)),
         4 => Ok(claim_row(field(row, 0), field(row, 1), field(row, 2), field(row, 3))),
         _ => Ok(None),
@@ -58,11 +59,13 @@ fn setup_in(word: &[u8], version: &[u8], nodes: &[u8], partitions: &[u8]) -> Opt
 }
 
 // What two fields mean.
-fn event_row(word: &[u8], node: &[u8]) -> Option<Row>
-    ensures { (setup : SetupState) → result ≡ row_of setup (word.now ∷ node.now ∷ []) }
+fn event_row(word: &[u8], node: &[u8]) -> Result<Option<Row>, OutOfMemory>
+    ensures { (setup : SetupState) → IfOk result (λ r. r ≡ row_of setup (word.now ∷ node.now ∷ [])) }
 {
-    let node = read_node(node)?;
-    Some(Row::Event(event_of(word, node)?))
+    let Some(node) = read_node(node) else {
+        return Ok(None);
+    };
+    row_named(word, node)
 }
 
 // What three fields mean.
@@ -105,30 +108,30 @@ fn claim_row(word: &[u8], node: &[u8], status: &[u8], coordinator: &[u8]) -> Opt
     }))
 }
 
-// The event of this word at the node.
-fn event_of(word: &[u8], node: Node) -> Option<Event>
-    ensures { result ≡ event_named word.now node }
+// The row of the event of this word at the node.
+fn row_named(word: &[u8], node: Node) -> Result<Option<Row>, OutOfMemory>
+    ensures { IfOk result (λ r. r ≡ option_map Row.Event (event_named word.now node)) }
 {
     if word == b"recover".as_slice() {
-        Some(Event::Recover(node))
+        Ok(Some(Row::Event(Event::Recover(node))))
     } else if word == b"crash".as_slice() {
-        Some(Event::Crash(node))
+        Ok(Some(Row::Event(Event::Crash(node))))
     } else if word == b"check".as_slice() {
-        Some(Event::Check(node))
+        Ok(Some(Row::Event(Event::Check(node))))
     } else if word == b"timeout".as_slice() {
-        Some(Event::Timeout(node))
+        Ok(Some(Row::Event(Event::Timeout(node))))
     } else if word == b"start".as_slice() {
-        Some(Event::Start(node))
+        Ok(Some(Row::Event(Event::Start(node))))
     } else if word == b"run".as_slice() {
-        Some(Event::Run(node))
+        Ok(Some(Row::Event(Event::Run(node))))
     } else if word == b"lose".as_slice() {
-        Some(Event::Lose(node))
+        Ok(Some(Row::Event(Event::Lose(node))))
     } else if word == b"return".as_slice() {
-        Some(Event::Return(node))
+        Ok(Some(Row::Event(Event::Return(node))))
     } else if word == b"move".as_slice() {
-        Some(Event::Move(node))
+        Ok(Some(Row::Event(Event::Move(node))))
     } else {
-        None
+        Ok(None)
     }
 }
 

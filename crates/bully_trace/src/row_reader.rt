@@ -87,9 +87,13 @@ impl<R: Read + Drop> RowReader<R> {
         if number > ROWS_MAX + 1 {
             return Err(fault(number, TraceCause::TooManyRows));
         }
-        let row = good_row(self.alloc, self.setup, &self.record, number)?;
-        self.number = number;
-        Ok(Some(row))
+        match read_row(self.alloc, self.setup, &self.record)? {
+            Some(row) => {
+                self.number = number;
+                Ok(Some(row))
+            }
+            None => Err(fault(number, TraceCause::BadRow)),
+        }
     }
 }
 
@@ -132,23 +136,6 @@ fn next_record<R: Read + Drop>(
             ErrorKind::OutOfMemory => Err(TraceFault::from(AllocError)),
             _ => unreachable!(),
         },
-    }
-}
-
-// The row of this number, which the record tells.
-fn good_row(
-    alloc: Global,
-    setup: Setup,
-    record: &ByteRecord,
-    number: u32,
-) -> Result<Row, TraceFault>
-    ensures ok { IfOk result (λ r. row_of setup (fields_of record.now) ≡ Some r) }
-    ensures fault { IfErr result (λ f. IsOutside f ⊎ ((row_of setup (fields_of record.now) ≡ None) × (f ≡ fault_at number TraceCause.BadRow))) }
-    ensures read { IfErr result (λ f. f.cause ≢ TraceCause.Read) }
-{
-    match read_row(alloc, setup, record)? {
-        Some(told) => Ok(told),
-        None => Err(fault(number, TraceCause::BadRow)),
     }
 }
 

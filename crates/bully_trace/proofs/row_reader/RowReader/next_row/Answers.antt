@@ -1,6 +1,6 @@
-use Rattle.std.proofs.Common.{refl, rules}
+use Rattle.std.proofs.Common.{◌∙◌, refl, rules, sym}
 use Rattle.std.proofs.lemmas.Result.{err_from_is_err_and}
-use Rattle.bully_trace.proofs.TraceLemmas.{read-failed, read-fault, read-late, read-more}
+use Rattle.bully_trace.proofs.TraceLemmas.{read-bad, read-failed, read-late, read-more}
 use Rattle.bully_trace.proofs.row_reader.RowReader.next_row.Goals as goal
 
 pub returns-in_err-next_record-clause-fault : goal.returns-in_err-next_record-clause-fault
@@ -14,15 +14,14 @@ returns-then-number-clause-fault g c =
     rw (← c.self.view_is, c.fault.ensures) (λ known rows read.
     read-late known rows _ _ c.in_ok-next_record.field-0 _ read c.in_ok-next_record.ensures.takes (search rules) (search rules))
 
-pub returns-in_err-row-clause-fault : goal.returns-in_err-row-clause-fault
-returns-in_err-row-clause-fault g c =
-    let told = err_from_is_err_and c.from_residual-in_err-row.result c.from_residual-in_err-row.ensures.1 in
-    rw (← c.self.view_is, told.1, told.2) (λ known rows read.
-    read-fault known rows _ _ c.in_ok-next_record.field-0 _ c.in_err-row.field-0.0 read c.in_ok-next_record.ensures.takes (search rules) (search rules)
-    c.in_err-row.ensures.read c.in_err-row.ensures.fault)
+pub returns-in-None-clause-fault : goal.returns-in-None-clause-fault
+returns-in-None-clause-fault g c =
+    rw (← c.self.view_is, c.fault-in-None.ensures) (λ known rows read.
+    read-bad known rows _ _ c.in_ok-next_record.field-0 _ read c.in_ok-next_record.ensures.takes (search rules) (search rules)
+    (sym c.in_ok-row.ensures ∙ c.in-None.is))
 
-pub returns-clause-next : goal.returns-clause-next
-returns-clause-next g c =
+pub returns-in-Some-clause-next : goal.returns-in-Some-clause-next
+returns-in-Some-clause-next g c =
     rw (← c.self.view_is) (λ known rows read.
-    read-more known rows _ _ c.in_ok-next_record.field-0 _ c.in_ok-row.row read c.in_ok-next_record.ensures.takes (search rules) (search rules)
-    c.in_ok-row.ensures.ok refl refl)
+    read-more known rows _ _ c.in_ok-next_record.field-0 _ c.in-Some.row read c.in_ok-next_record.ensures.takes (search rules) (search rules)
+    (sym c.in_ok-row.ensures ∙ c.in-Some.is) refl refl)
