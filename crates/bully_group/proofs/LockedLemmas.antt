@@ -6,7 +6,7 @@ use Rattle.bully_watch.specs.History.{whose, event_of, answer_of}
 use Rattle.bully_watch.proofs.HistoryLemmas.{history_more}
 use Rattle.bully_world.specs.State.{WorldState, world_of}
 use Rattle.bully_world.specs.Step.{Step}
-use Rattle.bully_agree.specs.View.{ViewAgrees, view_of}
+use Rattle.bully_agree.specs.View.{ViewAgrees}
 use Rattle.bully_agree.proofs.ViewLemmas.{lawful_agrees}
 use Rattle.bully_group.specs.Locked.{LockedState, IsLocked, ClosedState, IsClosed}
 

@@ -6,7 +6,7 @@ use Rattle.std.proofs.lemmas.List.Elements.{All-contains}
 use Rattle.bully_base.proofs.NodeSetLemmas.{with_node-members, without_node-members}
 use Rattle.bully_base.proofs.PlaceLemmas.{at_node_same, at_node_other, at_node_past, at_node_replicate, length-put_node}
 use Rattle.bully_base.specs.NodeSet.{lowest_of, with_node, without_node}
-use Rattle.bully_base.specs.Places.{at_node, put_node}
+use Rattle.bully_base.specs.Places.{put_node}
 use Rattle.bully_base.specs.Setup.{Setup, IsNode}
 use Rattle.bully_calls.specs.declared.call.CallKind.{CallKind}
 use Rattle.bully_calls.specs.declared.call.CallKind.TheVariants.{AreYouUp, AreYouNormal, Halt, NewCoordinator, Ready}
@@ -21,7 +21,7 @@ use Rattle.bully_world.specs.NodeInvariant.{NodeInvariant, WorldInvariant, Suits
 use Rattle.bully_world.specs.State.{MemberState, WorldState, empty_state, kept_of, member_of, members_of, new_members, waits_for, NobodyWaits, NobodyWaitsBelow}
 use Rattle.bully_world.specs.StateAfter.{state_after, state_after_run, phased_state, callee_state_after, stopped_state_by, with_vector, replied}
 use Rattle.bully_world.specs.Waiting.{sent_callee, sent_in, IsWaiting, with_sent, without_sent}
-use Rattle.bully_world.specs.World.{Member, member, is_sent_to}
+use Rattle.bully_world.specs.World.{Member, is_sent_to}
 use Rattle.bully_world.proofs.KeptLemmas.{state_after_length}
 use Rattle.bully_world.proofs.MembersOf.{at_node-put_cases, member-members_of}
 
