@@ -11,7 +11,7 @@ use std::os::raw::{c_int, c_long};
 use std::process::{Command, ExitCode, Stdio};
 use std::time::Instant;
 
-const RUNS: usize = 5;
+const RUNS: usize = 9;
 
 /// What `wait4` tells of a process, as the C library lays it out on 64-bit Linux.
 #[repr(C)]
