@@ -1,12 +1,14 @@
-//! A group in threads, in plain Rust: what `bench/run` compares `bully run` with.
+//! A group in plain Rust, in threads or in rounds on one thread: what `bench/run` and `bench/play` compare `bully` with.
 //!
-//!     runner NODES PARTITIONS TURNS > TRACE
+//!     runner run CONFIG > TRACE
+//!     runner play CONFIG > TRACE
 //!
-//! One thread for the operator, in whose first turn all nodes recover, and one for each node. They share the world and
-//! its history under one lock. In a turn a node plans first, where it has to; then it serves the lowest call that waits
-//! for it; if there is none it begins a check or a timeout, or takes the step that its procedure offers. For each of
-//! these it takes the lock anew, and after a turn without an event it gives its processor away, as `bully run` does. In
-//! the end the history is written as a trace.
+//! Of the configuration it reads the numbers of nodes, of partitions and of turns; all nodes recover in the first turn, and
+//! a node checks at each sixteenth. `run` has a thread for the operator and one for each node. They share the world and its
+//! history under one lock. In a turn a node plans first, where it has to; then it serves the lowest call that waits for it;
+//! if there is none it begins a check or a timeout, or takes the step that its procedure offers. For each of these it takes
+//! the lock anew, and after a turn without an event it gives its processor away, as `bully run` does. `play` takes the same
+//! turns in rounds, without a lock. In the end the history is written as a trace.
 
 // The other calls of it are the checker's.
 #[allow(dead_code)]
@@ -14,6 +16,7 @@
 mod world;
 
 use std::env;
+use std::fs;
 use std::io::{self, stdout, BufWriter, Write};
 use std::process::ExitCode;
 use std::sync::Mutex;
@@ -31,6 +34,23 @@ struct Entry {
 struct Group {
     world: World,
     history: Vec<Entry>,
+}
+
+/// What turns are taken on: a group, or one under a lock, which each call takes anew.
+trait Hold {
+    fn hold<T>(&mut self, does: impl FnOnce(&mut Group) -> T) -> T;
+}
+
+impl Hold for Group {
+    fn hold<T>(&mut self, does: impl FnOnce(&mut Group) -> T) -> T {
+        does(self)
+    }
+}
+
+impl Hold for &Mutex<Group> {
+    fn hold<T>(&mut self, does: impl FnOnce(&mut Group) -> T) -> T {
+        does(&mut self.lock().unwrap())
+    }
 }
 
 /// What a node holds between its turns: its procedure, and the table that it planned.
@@ -170,56 +190,64 @@ fn plan(setup: Setup, members: &[u8], old: Option<&[u8]>) -> Vec<u8> {
 }
 
 /// The table that the node plans, from its own task.
-fn planned(setup: Setup, group: &Mutex<Group>, procedure: &Procedure) -> Vec<u8> {
-    let old = {
-        let group = group.lock().unwrap();
+fn planned(setup: Setup, group: &mut impl Hold, procedure: &Procedure) -> Vec<u8> {
+    let old = group.hold(|group| {
         let node = group.world.node(procedure.me);
         node.has_task.then(|| node.task.clone())
-    };
+    });
     let set = procedure.up | bit(procedure.me);
     let members: Vec<u8> = (1..=setup.nodes).filter(|&node| set & bit(node) != 0).collect();
     plan(setup, &members, old.as_deref())
 }
 
 /// One turn of a node; whether there was an event.
-fn take_turn(setup: Setup, group: &Mutex<Group>, turn: u32, procedure: &mut Procedure) -> bool {
+fn take_turn(setup: Setup, group: &mut impl Hold, turn: u32, procedure: &mut Procedure) -> bool {
     let me = procedure.me;
     if procedure.point == Point::Planning && procedure.table.is_none() {
         procedure.table = Some(planned(setup, group, procedure));
     }
-    if group.lock().unwrap().serve(me) {
+    if group.hold(|group| group.serve(me)) {
         return true;
     }
-    match (procedure.point, turn % 16) {
-        (Point::Idle, 0) => group.lock().unwrap().step(Action::Check, me, &[]),
-        (Point::Idle, 8) => group.lock().unwrap().step(Action::Timeout, me, &[]),
-        _ => group.lock().unwrap().proceed(procedure),
+    group.hold(|group| match (procedure.point, turn % 16) {
+        (Point::Idle, 0) => group.step(Action::Check, me, &[]),
+        (Point::Idle, 8) => group.step(Action::Timeout, me, &[]),
+        _ => group.proceed(procedure),
+    })
+}
+
+/// The first turn of the operator.
+fn recover_all(setup: Setup, group: &mut impl Hold) {
+    for node in 1..=setup.nodes {
+        group.hold(|group| group.step(Action::Recover, node, &[]));
     }
 }
 
-fn run_node(setup: Setup, group: &Mutex<Group>, turns: u32, me: u8) {
+fn run_node(setup: Setup, mut group: &Mutex<Group>, turns: u32, me: u8) {
     let mut procedure = Procedure::of(me, World::new(setup).node(me));
     for turn in 1..=turns {
-        if !take_turn(setup, group, turn, &mut procedure) {
+        if !take_turn(setup, &mut group, turn, &mut procedure) {
             thread::yield_now();
         }
     }
 }
 
-fn run_operator(setup: Setup, group: &Mutex<Group>, turns: u32) {
-    for node in 1..=setup.nodes {
-        group.lock().unwrap().step(Action::Recover, node, &[]);
-    }
+fn run_operator(setup: Setup, mut group: &Mutex<Group>, turns: u32) {
+    recover_all(setup, &mut group);
     for _ in 1..turns {
         thread::yield_now();
     }
 }
 
-fn run(setup: Setup, turns: u32) -> Group {
-    let group = Mutex::new(Group {
+fn opening(setup: Setup) -> Group {
+    Group {
         world: World::new(setup),
         history: Vec::new(),
-    });
+    }
+}
+
+fn run(setup: Setup, turns: u32) -> Group {
+    let group = Mutex::new(opening(setup));
     thread::scope(|scope| {
         scope.spawn(|| run_operator(setup, &group, turns));
         for me in 1..=setup.nodes {
@@ -228,6 +256,19 @@ fn run(setup: Setup, turns: u32) -> Group {
         }
     });
     group.into_inner().unwrap()
+}
+
+fn play(setup: Setup, turns: u32) -> Group {
+    let mut group = opening(setup);
+    let idle = |me| Procedure::of(me, World::new(setup).node(me));
+    let mut procedures: Vec<Procedure> = (1..=setup.nodes).map(idle).collect();
+    recover_all(setup, &mut group);
+    for turn in 1..=turns {
+        for procedure in &mut procedures {
+            take_turn(setup, &mut group, turn, procedure);
+        }
+    }
+    group
 }
 
 fn word(action: Action) -> &'static str {
@@ -259,17 +300,31 @@ fn write(setup: Setup, history: &[Entry]) -> io::Result<()> {
     output.flush()
 }
 
+/// The number at a key of the configuration.
+fn number_at(key: &str, config: &str) -> Option<u32> {
+    let value = |line: &str| line.strip_prefix(key)?.trim_start().strip_prefix('=')?.trim().parse().ok();
+    config.lines().find_map(value)
+}
+
+fn asked() -> Option<(Setup, u32, bool)> {
+    let words: Vec<String> = env::args().skip(1).collect();
+    let [command, path] = words.as_slice() else {
+        return None;
+    };
+    let config = fs::read_to_string(path).ok()?;
+    let setup = Setup {
+        nodes: number_at("nodes", &config)? as u8,
+        partitions: number_at("partitions", &config)? as usize,
+    };
+    Some((setup, number_at("turns", &config)?, command == "run"))
+}
+
 fn main() -> ExitCode {
-    let words: Vec<u32> = env::args().skip(1).filter_map(|word| word.parse().ok()).collect();
-    let &[nodes @ 1..=64, partitions @ 1..=256, turns] = words.as_slice() else {
-        eprintln!("usage: runner NODES PARTITIONS TURNS");
+    let Some((setup, turns, in_threads)) = asked() else {
+        eprintln!("usage: runner run|play CONFIG");
         return ExitCode::from(2);
     };
-    let setup = Setup {
-        nodes: nodes as u8,
-        partitions: partitions as usize,
-    };
-    let group = run(setup, turns);
+    let group = if in_threads { run(setup, turns) } else { play(setup, turns) };
     match write(setup, &group.history) {
         Ok(()) => ExitCode::SUCCESS,
         Err(_) => ExitCode::FAILURE,
