@@ -2,7 +2,7 @@
 
 use crate::checking::{or_dash, status_word};
 use crate::random::Random;
-use crate::world::{bit, Action, CallKind, Node, Offer, Phase, Point, Setup, World};
+use crate::world::{action_word, bit, Action, CallKind, Node, Offer, Phase, Point, Setup, World};
 use std::fmt;
 use std::io::{self, Write};
 
@@ -209,19 +209,4 @@ fn offered_step(offer: Offer) -> Option<Action> {
 
 fn has_live_call(node: &Node) -> bool {
     node.slot.phase != Phase::Empty && !node.has_orphan()
-}
-
-fn action_word(action: Action) -> &'static str {
-    match action {
-        Action::Recover => "recover",
-        Action::Crash => "crash",
-        Action::Check => "check",
-        Action::Timeout => "timeout",
-        Action::Start => "start",
-        Action::Run => "run",
-        Action::Lose => "lose",
-        Action::Return => "return",
-        Action::Move => "move",
-        Action::Plan => "plan",
-    }
 }

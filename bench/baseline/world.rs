@@ -116,6 +116,22 @@ pub struct World {
     nodes: Vec<Node>,
 }
 
+/// The word of an event in a trace.
+pub fn action_word(action: Action) -> &'static str {
+    match action {
+        Action::Recover => "recover",
+        Action::Crash => "crash",
+        Action::Check => "check",
+        Action::Timeout => "timeout",
+        Action::Start => "start",
+        Action::Run => "run",
+        Action::Lose => "lose",
+        Action::Return => "return",
+        Action::Move => "move",
+        Action::Plan => "plan",
+    }
+}
+
 pub fn bit(node: u8) -> u64 {
     1 << (node - 1)
 }

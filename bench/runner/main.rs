@@ -14,14 +14,17 @@
 #[allow(dead_code)]
 #[path = "../baseline/world.rs"]
 mod world;
+#[path = "../planning.rs"]
+mod planning;
 
+use planning::plan;
 use std::env;
 use std::fs;
 use std::io::{self, stdout, BufWriter, Write};
 use std::process::ExitCode;
 use std::sync::Mutex;
 use std::thread;
-use world::{bit, Action, Node, Offer, Phase, Point, Setup, World};
+use world::{action_word, bit, Action, Node, Offer, Phase, Point, Setup, World};
 
 const EVENTS_MAX: u32 = 1_000_000;
 
@@ -153,51 +156,13 @@ fn awaits(node: &Node) -> bool {
     node.slot.phase != Phase::Empty && !node.has_orphan()
 }
 
-/// A balanced table over the members, with the fewest moves from the old one.
-fn plan(setup: Setup, members: &[u8], old: Option<&[u8]>) -> Vec<u8> {
-    let mut held = [0; 65];
-    for &owner in old.unwrap_or_default() {
-        held[owner as usize] += 1;
-    }
-    let base = setup.partitions / members.len();
-    let mut rest = setup.partitions % members.len();
-    let mut room = [0; 65];
-    for holds_more in [true, false] {
-        for &member in members {
-            if (held[member as usize] > base) == holds_more {
-                let more = usize::from(rest > 0);
-                room[member as usize] = base + more;
-                rest -= more;
-            }
-        }
-    }
-    let mut owners = vec![0; setup.partitions];
-    for (new, &owner) in owners.iter_mut().zip(old.unwrap_or_default()) {
-        if room[owner as usize] > 0 {
-            room[owner as usize] -= 1;
-            *new = owner;
-        }
-    }
-    let mut next = 0;
-    for new in owners.iter_mut().filter(|new| **new == 0) {
-        while room[members[next] as usize] == 0 {
-            next += 1;
-        }
-        room[members[next] as usize] -= 1;
-        *new = members[next];
-    }
-    owners
-}
-
 /// The table that the node plans, from its own task.
 fn planned(setup: Setup, group: &mut impl Hold, procedure: &Procedure) -> Vec<u8> {
     let old = group.hold(|group| {
         let node = group.world.node(procedure.me);
         node.has_task.then(|| node.task.clone())
     });
-    let set = procedure.up | bit(procedure.me);
-    let members: Vec<u8> = (1..=setup.nodes).filter(|&node| set & bit(node) != 0).collect();
-    plan(setup, &members, old.as_deref())
+    plan(setup.partitions, procedure.up | bit(procedure.me), old.as_deref()).into_vec()
 }
 
 /// One turn of a node; whether there was an event.
@@ -271,26 +236,11 @@ fn play(setup: Setup, turns: u32) -> Group {
     group
 }
 
-fn word(action: Action) -> &'static str {
-    match action {
-        Action::Recover => "recover",
-        Action::Crash => "crash",
-        Action::Check => "check",
-        Action::Timeout => "timeout",
-        Action::Start => "start",
-        Action::Run => "run",
-        Action::Lose => "lose",
-        Action::Return => "return",
-        Action::Move => "move",
-        Action::Plan => "plan",
-    }
-}
-
 fn write(setup: Setup, history: &[Entry]) -> io::Result<()> {
     let mut output = BufWriter::new(stdout().lock());
     writeln!(output, "bully,1,{},{}", setup.nodes, setup.partitions)?;
     for entry in history {
-        write!(output, "{},{}", word(entry.action), entry.node)?;
+        write!(output, "{},{}", action_word(entry.action), entry.node)?;
         for (place, owner) in entry.owners.iter().enumerate() {
             let before = if place == 0 { ',' } else { ' ' };
             write!(output, "{before}{owner}")?;

@@ -10,6 +10,7 @@
 #[path = "../baseline/world.rs"]
 mod world;
 
+#[path = "../planning.rs"]
 mod planning;
 
 use planning::plan;

@@ -1,6 +1,6 @@
 //! Tables by the rule of quotas, for any number of partitions. Nodes are numbers from 1 on.
 
-use super::world::{bit, NODES_MAX};
+use crate::world::{bit, NODES_MAX};
 
 /// The owners of a balanced table over these members, with the fewest moves from the old one.
 pub fn plan(partitions: usize, members: u64, old: Option<&[u8]>) -> Box<[u8]> {
