@@ -1,10 +1,10 @@
 -- What a thread of a run does to its seat and its pass, what these come back as, and when a run ends without its history.
-use Rattle.std.specs.Prelude.{◌≡◌, ◌≢◌, ◌+◌, ◌⊎◌, ℕ, Bool, true, false, List, All, length}
+use Rattle.std.specs.Prelude.{◌≡◌, ◌≢◌, ◌+◌, ◌⊎◌, ℕ, Bool, true, false, List, All, Option, length}
 use Rattle.bully_agree.specs.View.{shown}
 use Rattle.bully_config.specs.declared.config.Fault.{Fault}
 use Rattle.bully_group.specs.declared.locked.finish.FinishFault.{FinishFault}
 use Rattle.bully_group.specs.Locked.{LockedState, view_in}
-use Rattle.bully_group.specs.Seat.{SeatState, IsKnown}
+use Rattle.bully_group.specs.Seat.{SeatState, IsKnown, IsForeign}
 use Rattle.bully_group.specs.declared.locked.step.StepFault.{StepFault}
 use Rattle.bully_group.specs.Steps.{Records, IsStepFault, IsServeFault, MayServe, NoneServed}
 use Rattle.bully_group.specs.Turns.{Waits, Resyncs, Fails}
@@ -38,12 +38,16 @@ Tries e before after =
     Logs e before after
     ⊎ ((after ≡ before) × (s : LockedState) × (fault : StepFault) × IsStepFault s before.seat e fault)
 
+-- no task makes another procedure of it: it isn't at Planning, or has its table
+abbrev pub IsReady : ProcedureState → Type 0
+IsReady h = (old : Option (List ℕ)) → prepared_from old h ≡ h
+
 -- a procedure is prepared from the task that a view shows of its node, in some state of the group that the seat is known
--- in; or it stays as it is
+-- in; or it stays as it is, since it is ready, or since the seat is foreign in some state of the group
 abbrev pub PreparesAt : Held → ProcedureState → ProcedureState → Type 0
 PreparesAt before h ready =
     ((s : LockedState) × IsKnown s.history before.seat × (ready ≡ prepared_from (shown (view_in s) h.node).task h))
-    ⊎ (ready ≡ h)
+    ⊎ ((ready ≡ h) × (IsReady h ⊎ ((s : LockedState) × (index : ℕ) × IsForeign s.history before.seat index)))
 
 -- a node's turn ends with its serve, which runs a call or is refused in some state of the group; or in some state there
 -- is no call to be served

@@ -1,6 +1,7 @@
-ghost use Rattle.std.specs.Prelude.{◌≡◌, IfOk};
+ghost use Rattle.std.specs.Prelude.{◌≡◌, true, IfOk};
 ghost use Rattle.bully_agree.specs.View.{shown as shown_at};
 ghost use Rattle.bully_group.specs.Turns.{handed_back};
+ghost use Rattle.bully_nodes.specs.Run.{IsReady};
 ghost use Rattle.bully_nodes.specs.Turns.{prepared_from};
 ghost use Rattle.bully_steps.specs.Procedure.{state_of};
 ghost use Rattle.bully_steps.specs.ProcedureState.{HasSameNode};
@@ -51,7 +52,7 @@ impl<'a, L: Naming, R: Wait> Stage for Post<'a, L, R> {
 
     // The lock is held for the view alone.
     fn prepare(&mut self, procedure: Procedure) -> Result<Procedure, OutOfMemory> {
-        if !matches!(procedure, Procedure::Planning(_)) {
+        if is_ready(&procedure) {
             return Ok(procedure);
         }
         let guard = self.group.locked.lock(self.rt);
@@ -82,6 +83,13 @@ impl<'a, L: Naming, R: Wait> Stage for Post<'a, L, R> {
         MutexGuard::unlock(guard);
         handed_back(turn)
     }
+}
+
+// Whether the procedure isn't at Planning, or has its table.
+fn is_ready(procedure: &Procedure) -> bool
+    ensures { result ≡ true → IsReady (state_of procedure.now) }
+{
+    !matches!(procedure, Procedure::Planning(_))
 }
 
 // The procedure, prepared from the task that is shown of its node.
