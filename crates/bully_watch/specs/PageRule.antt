@@ -1,10 +1,9 @@
 -- The rule over the shown copy of the world and what each seat of the kit's table knows of the history.
-use Rattle.std.specs.Prelude.{◌≡◌, ◌+◌, ℕ, List, [], ◌++◌, length, Option, Some, None, Bool, true, false}
+use Rattle.std.specs.Prelude.{◌≡◌, ◌+◌, ℕ, List, [], ◌++◌, length, Option, Some, None, true, false}
 use mathlib.Core.Option.{some}
 use mathlib.Core.List.{IsPrefix}
 use lib.ListN.{get_elem?}
 use Rattle.bully_base.specs.Setup.{Setup}
-use Rattle.bully_calls.specs.declared.call.Answer.{Answer}
 use Rattle.bully_world.specs.Cause.{cause}
 use Rattle.bully_world.specs.declared.event.Refused.{Refused}
 use Rattle.bully_world.specs.State.{WorldState, world_of}
@@ -14,7 +13,6 @@ use Rattle.bully_watch.specs.History.{IsHistory}
 use Rattle.bully_watch.specs.Observation.{Prefix}
 use Rattle.bully_watch.specs.declared.entry.Entry.{Entry}
 use Rattle.bully_watch.specs.declared.knowledge.Knowledge.{Knowledge}
-use Rattle.bully_watch.specs.declared.knowledge.PublisherId.{PublisherId}
 
 -- what both copies have in common
 pub record PageState : Type 0 where
