@@ -1,20 +1,32 @@
-//! A plain checker of traces, to compare `bully check` with, and a maker of long traces.
+//! A plain checker of traces, to compare `bully check` with, and a maker of long traces and of spoiled ones.
 //!
 //!     baseline check < TRACE
+//!     baseline answers FOLDER
 //!     baseline generate NODES PARTITIONS ROWS SEED > TRACE
+//!     baseline spoil FOLDER COUNT SEED
 //!
 //! `check` answers as `bully check` does. It takes rows as lines without quotes, as traces are written.
+//! `answers` does so for each file of the folder, in the order of their names, and takes the text as csv does: standard
+//! output has the file's name behind `== `, its verdict if it has one, and the status behind `= `; standard error has the
+//! lines of the faults. `spoil` writes so many traces into the folder, most of which aren't lawful.
 
 mod checking;
+mod csv_text;
 mod generating;
 #[path = "../random.rs"]
 mod random;
 mod rows;
+mod spoiling;
 mod world;
 
 use checking::{check, write_verdict, Fault, Verdict};
+use csv_text::plain_lines;
 use generating::generate;
-use std::io::{stdin, stdout, BufReader, BufWriter};
+use random::Random;
+use spoiling::spoiled_trace;
+use std::fs;
+use std::io::{self, stderr, stdin, stdout, BufRead, BufReader, BufWriter, Write};
+use std::path::{Path, PathBuf};
 use std::process::ExitCode;
 use world::{Setup, NODES_MAX, PARTITIONS_MAX};
 
@@ -25,38 +37,86 @@ fn main() -> ExitCode {
     let words: Vec<&str> = words.iter().map(String::as_str).collect();
     match words.as_slice() {
         ["check"] => ExitCode::from(check_input()),
+        ["answers", folder] => exit_code(answer_folder(Path::new(folder))),
         ["generate", nodes, partitions, rows, seed] => generate_output(nodes, partitions, rows, seed),
+        ["spoil", folder, count, seed] => spoil(Path::new(folder), count, seed),
         _ => refuse_words(),
     }
 }
 
 fn refuse_words() -> ExitCode {
-    eprintln!("usage: baseline check | baseline generate NODES PARTITIONS ROWS SEED");
+    eprintln!("usage: baseline check | answers FOLDER | generate NODES PARTITIONS ROWS SEED | spoil FOLDER COUNT SEED");
     ExitCode::from(2)
 }
 
-/// Checks standard input. The exit status is 0 for lawful, 1 for refused or differs, 3 for a fault of form, 4 for a
-/// stream that failed.
+fn exit_code(done: io::Result<()>) -> ExitCode {
+    match done {
+        Ok(()) => ExitCode::SUCCESS,
+        Err(_) => ExitCode::from(4),
+    }
+}
+
 fn check_input() -> u8 {
-    let verdict = match check(BufReader::with_capacity(BUFFER, stdin().lock())) {
-        Ok(verdict) => verdict,
-        Err(Fault::Form(row, cause)) => {
-            eprintln!("bully: trace row {row}: {cause}");
-            return 3;
-        }
-        Err(Fault::Read) => {
-            eprintln!("bully: Read");
-            return 4;
-        }
-    };
-    if write_verdict(BufWriter::new(stdout().lock()), &verdict).is_err() {
-        eprintln!("bully: Write");
-        return 4;
+    let input = BufReader::with_capacity(BUFFER, stdin().lock());
+    answer(input, &mut BufWriter::new(stdout().lock()), &mut stderr())
+}
+
+/// Checks a trace. The status is 0 for lawful, 1 for refused or differs, 3 for a fault of form, 4 for a stream that
+/// failed.
+fn answer<R: BufRead, W: Write, E: Write>(input: R, output: &mut W, errors: &mut E) -> u8 {
+    match check(input) {
+        Ok(verdict) => answer_verdict(&verdict, output, errors),
+        Err(Fault::Form(row, cause)) => tell(errors, &format!("trace row {row}: {cause}"), 3),
+        Err(Fault::Read) => tell(errors, "Read", 4),
+    }
+}
+
+fn answer_verdict<W: Write, E: Write>(verdict: &Verdict, output: &mut W, errors: &mut E) -> u8 {
+    if write_verdict(output, verdict).is_err() {
+        return tell(errors, "Write", 4);
     }
     match verdict {
         Verdict::Lawful(_) => 0,
         Verdict::Refused(..) | Verdict::Differs(_) => 1,
     }
+}
+
+fn tell<E: Write>(errors: &mut E, what: &str, status: u8) -> u8 {
+    let _ = writeln!(errors, "bully: {what}");
+    status
+}
+
+/// Answers for each trace in the folder.
+fn answer_folder(folder: &Path) -> io::Result<()> {
+    let entries: io::Result<Vec<PathBuf>> = fs::read_dir(folder)?.map(|entry| Ok(entry?.path())).collect();
+    let mut paths = entries?;
+    paths.sort();
+    let mut output = BufWriter::new(stdout().lock());
+    let mut errors = BufWriter::new(stderr().lock());
+    for path in paths {
+        let lines = plain_lines(&fs::read(&path)?);
+        writeln!(output, "== {}", path.file_name().unwrap_or_default().to_string_lossy())?;
+        let status = answer(lines.as_slice(), &mut output, &mut errors);
+        writeln!(output, "= {status}")?;
+    }
+    output.flush()?;
+    errors.flush()
+}
+
+fn spoil(folder: &Path, count: &str, seed: &str) -> ExitCode {
+    match (count.parse(), seed.parse()) {
+        (Ok(count), Ok(seed)) => exit_code(write_spoiled(folder, count, seed)),
+        _ => refuse_words(),
+    }
+}
+
+/// Writes so many spoiled traces, each into a file whose name is its number.
+fn write_spoiled(folder: &Path, count: u32, seed: u64) -> io::Result<()> {
+    let mut random = Random(seed | 1 << 63);
+    for number in 1..=count {
+        fs::write(folder.join(format!("{number:05}")), spoiled_trace(&mut random)?)?;
+    }
+    Ok(())
 }
 
 fn setup_of(nodes: &str, partitions: &str) -> Option<Setup> {

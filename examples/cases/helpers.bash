@@ -51,6 +51,22 @@ without_reader() {
     "$@" >&"$pipe"
 }
 
+# Runs a command into a file that takes K bytes and no more, for each K below the number of bytes that it writes. Prints
+# how many times the command told so, with status 4, and the first K bytes were taken, and how many times it was run.
+narrowed() {
+    local size room right=0
+    eval "$1" >whole
+    size=$(wc -c <whole)
+    for ((room = 0; room < size; room++)); do
+        # (the file may have 1,024 bytes, of which all but K are there)
+        head -c $((1024 - room)) /dev/zero >file
+        (trap '' XFSZ && ulimit -f 1 && eval "$1" >>file 2>told)
+        [[ $? == 4 && $(<told) == 'bully: Write' ]] &&
+            tail -c "$room" file | cmp -s - <(head -c "$room" whole) && right=$((right + 1))
+    done
+    echo "$right of $size"
+}
+
 # Runs a command as a user to whom no file of others is open: root reads every file.
 as_nobody() {
     if [[ $EUID == 0 ]]; then

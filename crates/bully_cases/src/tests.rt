@@ -6,6 +6,7 @@ mod playing;
 mod rest;
 mod runs;
 mod scripts;
+mod streams;
 
 use bully_base::{Node, NodeSet, Setup, SetupFault, Status};
 use bully_calls::{Answer, Call, CallKind, Outcome, Slot, Tag};
@@ -18,8 +19,6 @@ use scripts::{
     REPLY_LOST,
 };
 use std::alloc::Global;
-use std::io;
-use std::io::{ErrorKind, Read};
 use std::process::Abort;
 use std::test::Fail;
 
@@ -197,30 +196,6 @@ fn rows(rt: HostRuntime) -> Result<(), Fail> {
         assert_writes(&rt, alloc, text.as_bytes(), expected.as_bytes());
     }
     Ok(())
-}
-
-// A reader that fails at each call.
-#[derive(Clone, Copy)]
-struct Broken;
-
-impl Read for Broken {
-    fn read(&mut self, _buf: &mut [u8]) -> io::Result<usize> {
-        Err(io::Error::from(ErrorKind::Other))
-    }
-}
-
-#[test]
-fn failed_read(rt: HostRuntime) {
-    let input = "bully,1,1,1\nrecover,1\nmove,1\n".as_bytes().chain(Broken);
-    let mut output = Vec::new(rt.alloc());
-    assert_eq!(rt;
-        check(rt.alloc(), input, &mut output),
-        Err(TraceFault {
-            row: 4,
-            cause: TraceCause::Read
-        })
-    );
-    assert!(rt; output.is_empty());
 }
 
 #[test]

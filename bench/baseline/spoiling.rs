@@ -1,0 +1,209 @@
+//! Makes traces that are mostly not lawful: random rows, random bytes, and lawful traces that were changed.
+
+use crate::generating::generate;
+use crate::random::Random;
+use crate::world::Setup;
+use std::io::{self, Write};
+
+const WORDS: [&str; 14] = [
+    "recover", "recover", "recover", "crash", "check", "timeout", "start", "run", "lose", "return", "move", "plan",
+    "saw", "halt",
+];
+const STATUSES: [&str; 5] = ["down", "election", "reorganization", "normal", "up"];
+/// The bytes of traces, and some that are near to them.
+const ALPHABET: &[u8] = b"bully,1recovsatdmpn-0 23\n\n\r\"";
+
+/// One trace; each such call draws another one.
+pub fn spoiled_trace(random: &mut Random) -> io::Result<Vec<u8>> {
+    match random.below(10) {
+        0 => random_rows(random),
+        1 => Ok(random_bytes(random)),
+        2 => lawful_trace(random, 600),
+        3 | 4 => changed_bytes(random),
+        _ => changed_rows(random),
+    }
+}
+
+/// A lawful trace that is cut behind any byte, or of which one or two bytes become another of the alphabet.
+fn changed_bytes(random: &mut Random) -> io::Result<Vec<u8>> {
+    let mut text = lawful_trace(random, 60)?;
+    if random.once_in(2) {
+        text.truncate(random.below(1 + text.len() as u32) as usize);
+        return Ok(text);
+    }
+    for _ in 0..1 + random.below(2) {
+        let place = random.below(text.len() as u32) as usize;
+        text[place] = ALPHABET[random.below(ALPHABET.len() as u32) as usize];
+    }
+    Ok(text)
+}
+
+/// A lawful trace whose rows are changed.
+fn changed_rows(random: &mut Random) -> io::Result<Vec<u8>> {
+    let text = lawful_trace(random, 60)?;
+    let mut lines: Vec<Vec<u8>> = text
+        .split_inclusive(|&byte| byte == b'\n')
+        .map(<[u8]>::to_vec)
+        .collect();
+    match random.below(6) {
+        0 | 1 => swap_rows(random, &mut lines),
+        2 => cut_rows(random, &mut lines),
+        3 => dress(random, &mut lines),
+        _ => change_number(random, &mut lines),
+    }
+    Ok(lines.concat())
+}
+
+fn any_setup(random: &mut Random) -> Setup {
+    Setup {
+        nodes: 1 + random.below(5) as u8,
+        partitions: 1 + random.below(7) as usize,
+    }
+}
+
+/// A number from 1 to the limit; now and then one that is higher, or no number at all.
+fn number(random: &mut Random, limit: u32) -> String {
+    if !random.once_in(40) {
+        return (1 + random.below(limit)).to_string();
+    }
+    match random.below(6) {
+        0 => "0".to_string(),
+        1 => "01".to_string(),
+        2 => "-".to_string(),
+        3 => String::new(),
+        4 => (limit + 1).to_string(),
+        _ => (60 + random.below(10)).to_string(),
+    }
+}
+
+fn random_rows(random: &mut Random) -> io::Result<Vec<u8>> {
+    let setup = any_setup(random);
+    let (nodes, partitions) = (setup.nodes as u32, setup.partitions as u32);
+    let told = if random.once_in(20) {
+        number(random, 64)
+    } else {
+        nodes.to_string()
+    };
+    let mut text = Vec::new();
+    writeln!(text, "bully,1,{told},{partitions}")?;
+    for _ in 0..random.below(16) {
+        let word = WORDS[random.below(WORDS.len() as u32) as usize];
+        write!(text, "{word},{}", number(random, nodes))?;
+        match word {
+            "plan" => write_owners(random, &mut text, nodes, partitions)?,
+            "saw" => write_claim(random, &mut text, nodes)?,
+            _ => {}
+        }
+        writeln!(text, "{}", if random.once_in(80) { "," } else { "" })?;
+    }
+    Ok(text)
+}
+
+fn write_owners(random: &mut Random, text: &mut Vec<u8>, nodes: u32, partitions: u32) -> io::Result<()> {
+    for place in 0..partitions {
+        write!(text, "{}{}", if place == 0 { ',' } else { ' ' }, number(random, nodes))?;
+    }
+    Ok(())
+}
+
+fn write_claim(random: &mut Random, text: &mut Vec<u8>, nodes: u32) -> io::Result<()> {
+    let status = STATUSES[random.below(STATUSES.len() as u32) as usize];
+    if random.once_in(2) {
+        return write!(text, ",{status},-");
+    }
+    write!(text, ",{status},{}", number(random, nodes))
+}
+
+/// Bytes of any kind or of the alphabet, half of them behind a header.
+fn random_bytes(random: &mut Random) -> Vec<u8> {
+    let mut text = Vec::new();
+    if random.once_in(2) {
+        text.extend_from_slice(b"bully,1,2,2\n");
+    }
+    let of_any_kind = random.once_in(2);
+    for _ in 0..random.below(100) {
+        text.push(if of_any_kind {
+            random.below(256) as u8
+        } else {
+            ALPHABET[random.below(ALPHABET.len() as u32) as usize]
+        });
+    }
+    text
+}
+
+/// A lawful trace of any setup, with up to so many rows behind its header.
+fn lawful_trace(random: &mut Random, most: u32) -> io::Result<Vec<u8>> {
+    let mut text = Vec::new();
+    let rows = 1 + random.below(most);
+    generate(any_setup(random), rows, random.next(), &mut text)?;
+    Ok(text)
+}
+
+fn any_row(random: &mut Random, lines: &[Vec<u8>]) -> usize {
+    1 + random.below(lines.len() as u32 - 1) as usize
+}
+
+/// A row changes places with one behind it, mostly the next.
+fn swap_rows(random: &mut Random, lines: &mut [Vec<u8>]) {
+    let row = any_row(random, lines);
+    let other = if random.once_in(3) {
+        any_row(random, lines)
+    } else {
+        (row + 1).min(lines.len() - 1)
+    };
+    lines.swap(row, other);
+}
+
+/// One to three rows in a sequence are taken out, or all from a row on.
+fn cut_rows(random: &mut Random, lines: &mut Vec<Vec<u8>>) {
+    let first = any_row(random, lines);
+    let count = if random.once_in(3) {
+        lines.len()
+    } else {
+        1 + random.below(3) as usize
+    };
+    let last = (first + count).min(lines.len());
+    lines.drain(first..last);
+}
+
+/// A digit of a row becomes another one: mostly in a plan or a claim, if there is one.
+fn change_number(random: &mut Random, lines: &mut [Vec<u8>]) {
+    let told = |line: &Vec<u8>| line.starts_with(b"plan") || line.starts_with(b"saw");
+    let rows: Vec<usize> = (1..lines.len()).filter(|&row| told(&lines[row])).collect();
+    let row = if rows.is_empty() || random.once_in(4) {
+        any_row(random, lines)
+    } else {
+        rows[random.below(rows.len() as u32) as usize]
+    };
+    let digits: Vec<usize> = (0..lines[row].len())
+        .filter(|&place| lines[row][place].is_ascii_digit())
+        .collect();
+    let place = digits[random.below(digits.len() as u32) as usize];
+    lines[row][place] = b'1' + random.below(5) as u8;
+}
+
+/// Rows get quotes, other line ends or blank lines, by which `csv` reads on as before.
+fn dress(random: &mut Random, lines: &mut [Vec<u8>]) {
+    for line in lines.iter_mut() {
+        match random.below(8) {
+            0 => *line = in_quotes(line),
+            1 => line.insert(line.len() - 1, b'\r'),
+            2 => line.extend_from_slice(b"\r\n\n"),
+            3 => *line.last_mut().expect("a line feed") = b'\r',
+            _ => {}
+        }
+    }
+    if random.once_in(4) {
+        lines[0].splice(0..0, *b"\xef\xbb\xbf");
+    }
+}
+
+/// Each field of the row in quotes.
+fn in_quotes(line: &[u8]) -> Vec<u8> {
+    let row = &line[..line.len() - 1];
+    let fields: Vec<Vec<u8>> = row
+        .split(|&byte| byte == b',')
+        .map(|field| [b"\"", field, b"\""].concat())
+        .collect();
+    [fields.join(&b','), b"\n".to_vec()].concat()
+}
