@@ -40,7 +40,7 @@ fn changed_bytes(random: &mut Random) -> io::Result<Vec<u8>> {
 
 /// A lawful trace whose rows are changed.
 fn changed_rows(random: &mut Random) -> io::Result<Vec<u8>> {
-    let text = lawful_trace(random, 60)?;
+    let text = lawful_trace(random, 150)?;
     let mut lines: Vec<Vec<u8>> = text
         .split_inclusive(|&byte| byte == b'\n')
         .map(<[u8]>::to_vec)
@@ -166,20 +166,22 @@ fn cut_rows(random: &mut Random, lines: &mut Vec<Vec<u8>>) {
     lines.drain(first..last);
 }
 
-/// A digit of a row becomes another one: mostly in a plan or a claim, if there is one.
+/// A digit of a row becomes another one: half of the time in an owner of a plan or in a claim, if there is one.
 fn change_number(random: &mut Random, lines: &mut [Vec<u8>]) {
-    let told = |line: &Vec<u8>| line.starts_with(b"plan") || line.starts_with(b"saw");
-    let rows: Vec<usize> = (1..lines.len()).filter(|&row| told(&lines[row])).collect();
-    let row = if rows.is_empty() || random.once_in(4) {
-        any_row(random, lines)
+    let word: &[u8] = if random.once_in(4) { b"saw" } else { b"plan" };
+    let rows: Vec<usize> = (1..lines.len()).filter(|&row| lines[row].starts_with(word)).collect();
+    let (row, first) = if rows.is_empty() || random.once_in(2) {
+        (any_row(random, lines), 0)
     } else {
-        rows[random.below(rows.len() as u32) as usize]
+        (rows[random.below(rows.len() as u32) as usize], word.len() + 2)
     };
-    let digits: Vec<usize> = (0..lines[row].len())
-        .filter(|&place| lines[row][place].is_ascii_digit())
+    let line = &mut lines[row];
+    let digits: Vec<usize> = (first..line.len())
+        .filter(|&place| line[place].is_ascii_digit())
         .collect();
-    let place = digits[random.below(digits.len() as u32) as usize];
-    lines[row][place] = b'1' + random.below(5) as u8;
+    if !digits.is_empty() {
+        line[digits[random.below(digits.len() as u32) as usize]] = b'1' + random.below(5) as u8;
+    }
 }
 
 /// Rows get quotes, other line ends or blank lines, by which `csv` reads on as before.
