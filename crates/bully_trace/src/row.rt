@@ -31,7 +31,7 @@ pub fn read_row(alloc: Global, setup: Setup, row: &ByteRecord) -> Result<Option<
     ensures { IfOk result (λ r. r ≡ row_of setup (fields_of row.now)) }
 {
     match row.len() {
-        2 => event_row(field(row, 0), field(row, 1)),
+        2 => Ok(event_row(field(row, 0), field(row, 1))),
         3 => plan_row(alloc, setup, field(row, 0), field(row, 1), field(row, 2)),
         4 => Ok(claim_row(field(row, 0), field(row, 1), field(row, 2), field(row, 3))),
         _ => Ok(None),
@@ -59,13 +59,12 @@ fn setup_in(word: &[u8], version: &[u8], nodes: &[u8], partitions: &[u8]) -> Opt
 }
 
 // What two fields mean.
-fn event_row(word: &[u8], node: &[u8]) -> Result<Option<Row>, OutOfMemory>
-    ensures { (setup : SetupState) → IfOk result (λ r. r ≡ row_of setup (word.now ∷ node.now ∷ [])) }
+fn event_row(word: &[u8], node: &[u8]) -> Option<Row>
+    ensures { (setup : SetupState) → result ≡ row_of setup (word.now ∷ node.now ∷ []) }
 {
-    let Some(node) = read_node(node) else {
-        return Ok(None);
-    };
-    row_named(word, node)
+    let node = read_node(node)?;
+    let event = event_of(word, node)?;
+    Some(Row::Event(event))
 }
 
 // What three fields mean.
@@ -108,30 +107,30 @@ fn claim_row(word: &[u8], node: &[u8], status: &[u8], coordinator: &[u8]) -> Opt
     }))
 }
 
-// The row of the event of this word at the node.
-fn row_named(word: &[u8], node: Node) -> Result<Option<Row>, OutOfMemory>
-    ensures { IfOk result (λ r. r ≡ option_map Row.Event (event_named word.now node)) }
+// The event of this word at the node.
+fn event_of(word: &[u8], node: Node) -> Option<Event>
+    ensures { result ≡ event_named word.now node }
 {
     if word == b"recover".as_slice() {
-        Ok(Some(Row::Event(Event::Recover(node))))
+        Some(Event::Recover(node))
     } else if word == b"crash".as_slice() {
-        Ok(Some(Row::Event(Event::Crash(node))))
+        Some(Event::Crash(node))
     } else if word == b"check".as_slice() {
-        Ok(Some(Row::Event(Event::Check(node))))
+        Some(Event::Check(node))
     } else if word == b"timeout".as_slice() {
-        Ok(Some(Row::Event(Event::Timeout(node))))
+        Some(Event::Timeout(node))
     } else if word == b"start".as_slice() {
-        Ok(Some(Row::Event(Event::Start(node))))
+        Some(Event::Start(node))
     } else if word == b"run".as_slice() {
-        Ok(Some(Row::Event(Event::Run(node))))
+        Some(Event::Run(node))
     } else if word == b"lose".as_slice() {
-        Ok(Some(Row::Event(Event::Lose(node))))
+        Some(Event::Lose(node))
     } else if word == b"return".as_slice() {
-        Ok(Some(Row::Event(Event::Return(node))))
+        Some(Event::Return(node))
     } else if word == b"move".as_slice() {
-        Ok(Some(Row::Event(Event::Move(node))))
+        Some(Event::Move(node))
     } else {
-        Ok(None)
+        None
     }
 }
 

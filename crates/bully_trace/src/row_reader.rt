@@ -100,7 +100,7 @@ impl<R: Read + Drop> RowReader<R> {
 // The setup of the record that the reader gives next, which is the header.
 fn next_header<R: Read + Drop>(
     records: &mut Reader<R>,
-    record: &mut ByteRecord,
+    fields: &mut ByteRecord,
 ) -> Result<Setup, TraceFault>
     requires { ReadsPlain records.old }
     ensures plain { ReadsPlain records.new }
@@ -108,10 +108,10 @@ fn next_header<R: Read + Drop>(
         → IfOk result (λ setup. HasRead known [] (record { setup = setup; number = 1; records = records_left R.remaining records.new })) }
     ensures fault { (known : Option (List ℕ)) → records_left R.remaining records.old ≡ option_map records_of known → IfErr result (EndsReading known) }
 {
-    if !next_record(records, record, 1)? {
+    if !next_record(records, fields, 1)? {
         return Err(fault(1, TraceCause::BadHeader));
     }
-    match read_header(record) {
+    match read_header(fields) {
         Some(setup) => Ok(setup),
         None => Err(fault(1, TraceCause::BadHeader)),
     }
@@ -120,16 +120,16 @@ fn next_header<R: Read + Drop>(
 // Reads the record of the row of this number; tells whether there is one.
 fn next_record<R: Read + Drop>(
     records: &mut Reader<R>,
-    record: &mut ByteRecord,
+    fields: &mut ByteRecord,
     number: u32,
 ) -> Result<bool, TraceFault>
     requires { ReadsPlain records.old }
     ensures plain { ReadsPlain records.new }
-    ensures takes { IfOk result (λ found. Takes (records_left R.remaining records.old) (records_left R.remaining records.new) found (fields_of record.new)) }
+    ensures takes { IfOk result (λ found. Takes (records_left R.remaining records.old) (records_left R.remaining records.new) found (fields_of fields.new)) }
     ensures fault { IfErr result IsOutside }
     ensures read { IfErr result (λ f. f.cause ≡ TraceCause.Read → f.row ≡ number) }
 {
-    match records.read_byte_record(record) {
+    match records.read_byte_record(fields) {
         Ok(found) => Ok(found),
         Err(error) => match error.into_kind() {
             ErrorKind::Io(_) => Err(fault(number, TraceCause::Read)),

@@ -9,7 +9,7 @@ pub returns-in-2 : goal.returns-in-2
 returns-in-2 c =
     let two = fields-two (fields_of c.args.row.now) c.field.result.now c.field-in-2.result.now
     (search rules) c.field.ensures c.field-in-2.ensures in
-    subst (λ (fs : List (List ℕ)). IfOk c.event_row.result (λ r. r ≡ row_of c.args.setup fs)) (sym two) (c.event_row.ensures c.args.setup)
+    c.event_row.ensures c.args.setup ∙ sym (ap (row_of c.args.setup) two)
 
 pub returns-in-3 : goal.returns-in-3
 returns-in-3 c =
