@@ -19,10 +19,10 @@ use std::sync::Wait;
 use std::sync::ledger::Blank;
 
 /// So many observers may see one publisher. The rule: this project's profile.
-pub const OBSERVERS_MAX: u16 = 8;
+pub(crate) const OBSERVERS_MAX: u16 = 8;
 
 /// So many told prefixes may be neither learned nor dropped. The rule: this project's profile, docs/DECISIONS.md.
-pub const TOLD_MAX: usize = 120;
+pub(crate) const TOLD_MAX: usize = 120;
 
 /// Who shows a group's history to observers. Contracts see it as which publisher it is, the entries that it shows,
 /// and those that it took in. It isn't `Drop`: end it by `end`.
