@@ -207,7 +207,10 @@ fn with_120_told_a_publish_is_refused_and_shows_nothing(rt: HostRuntime) -> Resu
     let views = looks_in(&rt, rt.alloc(), &AllAreKept);
     assert!(rt; views.is_some());
     if let Some((views, _last)) = views {
-        assert_eq!(rt; views.as_slice(), [down(0), up(1), up(1), down(2)].as_slice());
+        assert_eq!(rt;
+            views.as_slice(),
+            [down(0), up(1), up(1), down(2)].as_slice()
+        );
     }
     Ok(())
 }

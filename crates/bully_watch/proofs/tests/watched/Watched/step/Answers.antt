@@ -15,7 +15,8 @@ invariant_of-self-2 c =
     let entries = c.self.inside.entries.items in
     let taken = c.self.inside.publisher.taken in
     let e : Entry = record { actor = 0; event = c.args.event; answer = c.apply_allowed-answer.result } in
-    let all : c.push_reserved.new.self.items ≡ entries ++ e ∷ [] = c.push_reserved.ensures.items ∙ ap (λ l. l ++ e ∷ []) c.reserve.ensures.items in
-    (before.0 ∙ sym after.setup,
-    subst (λ l. LeadsToPage l next) (sym all) (page_more entries world next e before.1 after.room after.step (c.requires _) after.setup after.counted),
-    subst (λ l. IsPrefix taken l) (sym all) (prefix_more taken entries e before.2))
+    let all : c.push_reserved.new.self.items ≡ entries ++ e ∷ [] = c.push_reserved.ensures.items ∙ ap (λ l. l ++ e ∷ []) c.reserve.ensures.items in (
+      before.0 ∙ sym after.setup,
+      subst (λ l. LeadsToPage l next) (sym all) (page_more entries world next e before.1 after.room after.step (c.requires _) after.setup after.counted),
+      subst (λ l. IsPrefix taken l) (sym all) (prefix_more taken entries e before.2),
+    )
