@@ -55,7 +55,7 @@ impl Walk {
 
     /// The world as it is now. It takes no memory.
     pub fn world(&self) -> &World
-        ensures { result.now ≡ self.now }
+        ensures world { result.now ≡ self.now }
     {
         &self.world
     }

@@ -23,6 +23,8 @@ pub fn place_of(node: Node) -> usize
 }
 
 /// Why the event is refused with so many events applied, the first that holds; none where it isn't.
+// (inlined, as `World::cause` is)
+#[inline(always)]
 pub fn cause_of(setup: Setup, events: u32, members: &[Member], event: &Event) -> Option<Refused>
     requires { WorldInvariant setup (members_of members.now) }
     ensures { result ≡ cause setup (members_of members.now) events event.now }
@@ -43,6 +45,7 @@ pub fn cause_of(setup: Setup, events: u32, members: &[Member], event: &Event) ->
 }
 
 // The same of a node that is up, from the refusals behind IsUp on.
+#[inline(always)]
 fn later_cause(setup: Setup, members: &[Member], event: &Event) -> Option<Refused>
     requires fits { WorldInvariant setup (members_of members.now) }
     requires node { IsNode setup (node_of event.now) }

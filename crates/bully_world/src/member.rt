@@ -249,6 +249,8 @@ impl Member {
     }
 
     /// An event of this node, other than a Run, that nothing refuses.
+    // (inlined, as `World::apply_allowed` is)
+    #[inline(always)]
     pub fn apply(&mut self, setup: Setup, event: &Event) -> Answer
         requires at { IsPointOf setup (node_of event.now) self.old.point }
         requires room { self.old.generation + 1 < 2 ^ 32 }

@@ -14,6 +14,8 @@ use bully_base::{Node, Setup};
 use bully_calls::{Answer, Phase, Waiting};
 
 /// An event that nothing refuses is applied, and the map of the waiting callers goes with it.
+// (inlined, as `World::apply_allowed` is)
+#[inline(always)]
 pub fn apply_event(
     setup: Setup,
     members: &mut [Member],
@@ -51,6 +53,7 @@ fn keep_waiting(waiting: &mut Waiting, caller: Node, before: Option<Node>, after
 }
 
 // An event that nothing refuses is applied.
+#[inline(always)]
 fn apply_to_members(setup: Setup, members: &mut [Member], event: &Event) -> Answer
     requires { CanApply setup members.old event.now }
     ensures after { members.new ≡ state_after setup members.old event.now }

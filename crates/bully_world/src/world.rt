@@ -65,6 +65,8 @@ impl World {
     }
 
     /// Why `apply` would refuse the event, the first refusal that holds; none where it wouldn't.
+    // (inlined with what it calls, so that an event that was just read or made stays in registers)
+    #[inline(always)]
     pub fn cause(&self, event: &Event) -> Option<Refused>
         ensures { result ≡ cause_in self.now event.now }
     {
@@ -73,6 +75,8 @@ impl World {
 
     /// Applies the event and answers it. Refused with its cause, and then nothing changes.
     /// The refusals come in the one order of [`Refused`]. Takes no memory.
+    // (inlined, as `cause` is)
+    #[inline(always)]
     pub fn apply(&mut self, event: &Event) -> Result<Answer, Refused>
         ensures step { IfOk result (StepsTo self.old event.now self.new) }
         ensures exact { IsOk result ↔ (cause_in self.old event.now ≡ None) }
@@ -91,6 +95,8 @@ impl World {
     }
 
     /// Applies the event, which `cause` doesn't refuse, and answers it. Takes no memory.
+    // (inlined, as `cause` is)
+    #[inline(always)]
     pub fn apply_allowed(&mut self, event: &Event) -> Answer
         requires { cause_in self.old event.now ≡ None }
         ensures step { StepsTo self.old event.now self.new result }

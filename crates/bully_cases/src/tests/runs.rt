@@ -2,7 +2,7 @@
 
 use super::scripts::{ALL_UP, ALONE, ORPHAN_HALT, ORPHAN_READY};
 use super::{node, setup};
-use bully_agree::{RunFault, View, WholeFault, run, run_whole, view};
+use bully_agree::{RunFault, View, Walk, WholeFault, run, run_whole, view};
 use bully_base::{Setup, Status};
 use bully_table::Table;
 use bully_trace::{Row, read_trace};
@@ -146,5 +146,19 @@ fn view_of_a_new_world(rt: HostRuntime) -> Result<(), Fail> {
     for number in 1..=2 {
         assert_shown(&rt, &shown, number, Status::Down, None, None);
     }
+    Ok(())
+}
+
+#[test]
+fn views_of_a_walk(rt: HostRuntime) -> Result<(), Fail> {
+    let alloc = rt.alloc();
+    let mut walk = Walk::new(alloc, setup(&rt, 1, 2, 9))?;
+    let shown = walk.view(alloc)?;
+    assert_eq!(rt; shown.events(), 0);
+    assert_shown(&rt, &shown, 1, Status::Down, None, None);
+    assert!(rt; walk.apply(&Event::Recover(node(&rt, 1))).is_ok());
+    let shown = walk.view(alloc)?;
+    assert_eq!(rt; shown.events(), 1);
+    assert_shown(&rt, &shown, 1, Status::Election, None, None);
     Ok(())
 }
