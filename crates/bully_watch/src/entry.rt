@@ -1,5 +1,6 @@
-ghost use Rattle.std.specs.Prelude.{◌≡◌, ◌↔◌, IsTrue};
+ghost use Rattle.std.specs.Prelude.{◌≡◌, ◌↔◌, IsTrue, IfOk};
 
+use bully_base::OutOfMemory;
 use bully_calls::Answer;
 use bully_world::Event;
 
@@ -15,6 +16,17 @@ pub struct Entry {
 }
 
 impl Entry {
+    /// The same entry. Only a plan takes memory, for its table; refused where an allocation fails.
+    pub fn copy(&self) -> Result<Entry, OutOfMemory>
+        ensures { IfOk result (λ entry. entry ≡ self.now) }
+    {
+        Ok(Entry {
+            actor: self.actor,
+            event: self.event.copy()?,
+            answer: self.answer,
+        })
+    }
+
     /// Whether both are the same entry: of one actor, with one event and one answer.
     pub fn is_same(&self, other: &Entry) -> bool
         ensures { IsTrue result ↔ (self.now ≡ other.now) }

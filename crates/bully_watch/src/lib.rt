@@ -1,9 +1,19 @@
-//! The history of a group: what was taken in, entry by entry, and who may take it.
+//! The history of a group: what was taken in, entry by entry, who may take it, and observers of it that never wait.
 //!
-//! It stands on bully_world and the crates below it. The crates above rely on the definition of a history, whose
-//! events are lawful, and on entries being told apart.
+//! It stands on bully_world, bully_agree and the crates below them, and on the kit's `left_right`. The crates above
+//! rely on the definition of a history, whose events are lawful, on entries being told apart, and on each look being
+//! the view after a prefix of the publisher's history.
 #![tactic(auto)]
 
 mod entry;
+mod knowledge;
+mod observer;
+mod page;
+mod publisher;
+mod told;
 
 pub use entry::Entry;
+pub use knowledge::PublisherId;
+pub use observer::{LookFault, Observer};
+pub use publisher::{OpenFault, Publisher};
+pub use told::Told;

@@ -1,0 +1,105 @@
+ghost use Rattle.std.specs.Prelude.{◌≡◌, [], IfOk, length, true};
+ghost use mathlib.Core.List.{IsPrefix};
+ghost use Rattle.left_right.specs.Sides.{view};
+ghost use Rattle.bully_watch.specs.Observation.{longer, Looks};
+ghost use Rattle.bully_watch.specs.PageRule.{prefix_of};
+
+use crate::page::{Look, PageReader};
+use crate::told::Told;
+use bully_agree::{View, view};
+use core::mem::replace_with;
+use std::alloc::Global;
+use std::marker::Model;
+
+/// Who looks at a publisher's history, with no lock and no wait. Contracts see it as its publisher and the entries
+/// that it saw or learned of so far.
+#[derive(Drop)]
+pub struct Observer {
+    reader: PageReader,
+    count: usize, // how many entries it saw or learned of
+}
+
+impl Model for Observer {
+    ghost use Rattle.std.specs.Prelude.{◌≡◌, length, true};
+    ghost use Rattle.left_right.specs.Sides.{view as seat_view};
+    ghost use Rattle.bully_watch.specs.Observation.{Prefix};
+    ghost use Rattle.bully_watch.specs.PageRule.{prefix_of};
+
+    ghost Value = { Prefix };
+
+    ghost view = { λ o. prefix_of (seat_view o.reader.place) };
+
+    ghost invariant = { λ o. ((seat_view o.reader.place).is_named ≡ true) × (o.count ≡ length (seat_view o.reader.place).seen) };
+}
+
+/// Why a look gives no view, in the order of refusals. The rule: this project's profile.
+#[derive(Clone, Copy, PartialEq, Eq, Debug)]
+pub enum LookFault {
+    /// The publisher was ended.
+    Gone,
+    /// An allocation failed.
+    OutOfMemory,
+}
+
+impl Observer {
+    // An observer that saw nothing yet.
+    pub(crate) fn of(reader: PageReader) -> Observer
+        requires named { (view reader.place).is_named ≡ true }
+        requires empty { (view reader.place).seen ≡ [] }
+        ensures { result ≡ prefix_of (view reader.place) }
+    {
+        Observer { reader, count: 0 }
+    }
+
+    /// From now on it sees no less than was told. What was told is of its own publisher. Takes no memory.
+    /// The rule: this project's profile.
+    pub fn learn(&mut self, told: Told)
+        requires { told.publisher ≡ self.old.publisher }
+        ensures publisher { self.new.publisher ≡ self.old.publisher }
+        ensures entries { self.new.entries ≡ longer self.old.entries told.entries }
+    {
+        let count = told.count();
+        if self.count < count {
+            *self = Observer {
+                reader: told.into_reader(),
+                count,
+            };
+        }
+    }
+
+    /// The view after a prefix of the publisher's history, at least as long as what it saw or learned of before.
+    /// It takes no lock and never waits. Refused with `Gone` where the publisher was ended, and with `OutOfMemory`
+    /// where an allocation fails. The rule: this project's profile.
+    pub fn look(&mut self, alloc: Global) -> Result<View, LookFault>
+        ensures publisher { self.new.publisher ≡ self.old.publisher }
+        ensures goes_on { IsPrefix self.old.entries self.new.entries }
+        ensures view { IfOk result (Looks self.old.publisher self.new.entries) }
+    {
+        replace_with(
+            self,
+            alloc,
+            |observer: Observer, alloc| observer.looked(alloc),
+        )
+    }
+
+    // `look`, where the observer comes back.
+    fn looked(self, alloc: Global) -> (Observer, Result<View, LookFault>)
+        ensures publisher { result.0.publisher ≡ self.publisher }
+        ensures goes_on { IsPrefix self.entries result.0.entries }
+        ensures view { IfOk result.1 (Looks self.publisher result.0.entries) }
+    {
+        let Observer { reader, count } = self;
+        match reader.enter_as::<Look>() {
+            Err(reader) => (Observer { reader, count }, Err(LookFault::Gone)),
+            Ok(reading) => {
+                let count = reading.get().world.events() as usize;
+                let seen = view(alloc, &reading.get().world);
+                let reader = reading.leave();
+                match seen {
+                    Ok(view) => (Observer { reader, count }, Ok(view)),
+                    Err(_) => (Observer { reader, count }, Err(LookFault::OutOfMemory)),
+                }
+            }
+        }
+    }
+}
