@@ -70,7 +70,11 @@ fn run_config<H: AllocGlobal + Threads + Wait + Sync, W: Write, E: Write>(
         ⊎ ((result ≡ 4) × (stop : Stop) × (stop ≢ Stop.Write → output.new ≡ output.old) × Tells (E.contents errors.old) (E.contents errors.new) (stop_line stop)) }
 {
     match run_nodes(rt, rt.alloc(), config, &OpenGate) {
-        Ok(closed) => answer_history(rt.alloc(), &closed, output, errors),
+        Ok(closed) => {
+            let status = answer_history(rt.alloc(), &closed, output, errors);
+            closed.end(rt);
+            status
+        }
         Err(fault) => answer_unfinished(fault, errors),
     }
 }

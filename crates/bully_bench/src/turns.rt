@@ -1,4 +1,4 @@
-ghost use Rattle.std.specs.Prelude.{◌≡◌, ◌+◌};
+ghost use Rattle.std.specs.Prelude.{◌≡◌, ◌+◌, None};
 
 use crate::player::Player;
 use bully_base::{EVENTS_MAX, Node, Setup};
@@ -38,26 +38,45 @@ fn turns_by<L: Naming, R: Wait>(
     count: u32,
 ) -> Option<TurnSums>
     requires setup { setup ≡ L.setup }
+    requires unwatched { L.publisher ≡ None }
     requires name { blank.name ≡ L.name }
     requires parts { (blank.parts ≡ L.parts) × (L.parts ≡ L.setup.nodes + 1) }
 {
-    let Ok((group, seats, passes)) = Group::<L>::open(alloc, setup, blank) else {
+    let Ok((group, mut seats, mut passes)) = Group::<L>::open(alloc, setup, blank) else {
         return None;
     };
-    let mut seats = seats;
-    let mut passes = passes;
-    let mut players = players_of(alloc, setup, &mut seats, &mut passes)?;
+    let played = played(rt, alloc, &group, setup, &mut seats, &mut passes, count);
+    let locked = group.close();
+    let sums = sums_of(locked.history());
+    locked.end(rt);
+    played?;
+    Some(sums)
+}
+
+// So many turns of the group.
+fn played<L: Naming, R: Wait>(
+    rt: &R,
+    alloc: Global,
+    group: &Group<L>,
+    setup: Setup,
+    seats: &mut Vec<Seat>,
+    passes: &mut Vec<Pass<L>>,
+    count: u32,
+) -> Option<()>
+    requires { setup ≡ L.setup }
+{
+    let mut players = players_of(alloc, setup, seats, passes)?;
     let (mut seat, mut pass) = (seats.pop()?, passes.pop()?);
     let nodes = u32::from(setup.nodes());
     for turn in 0..count {
         let round = turn / nodes + 1;
         if turn % nodes == 0 {
-            operate(rt, &group, setup, round, &mut seat, &mut pass)?;
+            operate(rt, group, setup, round, &mut seat, &mut pass)?;
         }
         let place = usize::try_from(turn % nodes).ok()?;
-        players.get_mut(place)?.turn(rt, alloc, &group, round)?;
+        players.get_mut(place)?.turn(rt, alloc, group, round)?;
     }
-    Some(sums_of(group.close().history()))
+    Some(())
 }
 
 // A player for each node in rising order, with its seat and its pass. The operator's are left.

@@ -4,3 +4,4 @@ pub mod Locked
 pub mod Steps
 pub mod Turns
 pub mod Finish
+pub mod Publish

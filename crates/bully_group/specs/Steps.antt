@@ -19,7 +19,7 @@ abbrev pub entry_of : SeatState → Event → Answer → Entry
 entry_of seat e answer = record { actor = seat.actor; event = e; answer = answer }
 
 -- One entry more: the event is one step of the world, with the answer that it names, and raises generations as its kind
--- does; the entry is the last of the history and, beside its index, of the seat
+-- does; the entry is the last of the history and, beside its index, of the seat. Nothing of it is published yet
 pub record Records (s : LockedState) (seat : SeatState) (e : Event) (s' : LockedState) (seat' : SeatState) : Type 0 where
   pub answer : Answer
   pub step : Step s.world.setup (world_of s.world) e (world_of s'.world) answer
@@ -27,6 +27,7 @@ pub record Records (s : LockedState) (seat : SeatState) (e : Event) (s' : Locked
   pub log : seat'.log ≡ seat.log ++ (length s.history, entry_of seat e answer) ∷ []
   pub actor : seat'.actor ≡ seat.actor
   pub setup : s'.world.setup ≡ s.world.setup
+  pub publisher : s'.publisher ≡ s.publisher
   pub generations : RaisesGenerations e s.world s'.world
 
 -- the event is the seat's actor's in the group's world

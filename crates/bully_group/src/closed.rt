@@ -4,15 +4,16 @@ ghost use Rattle.bully_group.specs.Locked.{IsClosed};
 
 use bully_agree::View;
 use bully_base::Setup;
-use bully_watch::Entry;
+use bully_watch::{Entry, Publisher};
 use std::marker::Model;
+use std::sync::Wait;
 
-/// A finished group. Its type keeps that its entries are a history, and that its view is that of the world that the
-/// history leads to.
-#[derive(Drop, Debug)]
+/// A finished group, with the publisher of one that was watched. Its type keeps that its entries are a history, and that
+/// its view is that of the world that the history leads to. It isn't `Drop`: [`Closed::end`] ends it.
 pub struct Closed {
     history: Vec<Entry>,
     view: View,
+    publisher: Option<Publisher>,
 }
 
 impl Model for Closed {
@@ -20,9 +21,9 @@ impl Model for Closed {
 
     ghost Value = { ClosedState };
 
-    ghost view = { λ c. record { history = c.history.items; view = c.view } };
+    ghost view = { λ c. record { history = c.history.items; view = c.view; publisher = c.publisher } };
 
-    ghost invariant = { λ c. IsClosed (record { history = c.history.items; view = c.view }) };
+    ghost invariant = { λ c. IsClosed (record { history = c.history.items; view = c.view; publisher = c.publisher }) };
 }
 
 impl Closed {
@@ -50,11 +51,33 @@ impl Closed {
         &self.view
     }
 
-    // The end of a group with this history, which leads to a world with this view.
-    pub(crate) fn of(history: Vec<Entry>, view: View) -> Closed
-        requires { IsClosed (record { history = history.items; view = view }) }
-        ensures { result ≡ record { history = history.items; view = view } }
+    /// Ends its publisher, if it has one: from then on observers are told that it is gone. Drops the rest.
+    pub fn end<R: Wait>(self, rt: &R) {
+        let Closed {
+            history: _history,
+            view: _view,
+            publisher,
+        } = self;
+        end_publisher(publisher, rt);
+    }
+
+    // The end of a group with this history, which leads to a world with this view, and with this publisher.
+    pub(crate) fn of(history: Vec<Entry>, view: View, publisher: Option<Publisher>) -> Closed
+        requires { IsClosed (record { history = history.items; view = view; publisher = publisher }) }
+        ensures { result ≡ record { history = history.items; view = view; publisher = publisher } }
     {
-        Closed { history, view }
+        Closed {
+            history,
+            view,
+            publisher,
+        }
+    }
+}
+
+/// Ends the publisher, if there is one.
+pub(crate) fn end_publisher<R: Wait>(publisher: Option<Publisher>, rt: &R) {
+    match publisher {
+        None => {}
+        Some(publisher) => publisher.end(rt),
     }
 }

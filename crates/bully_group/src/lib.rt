@@ -1,4 +1,4 @@
-//! A group under one lock: its world, its history, and the book that counts the entries.
+//! A group under one lock: its world, its history, the book that counts the entries, and the publisher that shows them.
 //!
 //! It stands on bully_watch, bully_agree and the crates below them. The crates above rely on each step being one entry
 //! of the history and of its seat, answered as the definitions say, and on a finished group's seats having all of it.
@@ -15,6 +15,7 @@ pub use closed::Closed;
 pub use group::Group;
 pub use locked::Locked;
 pub use locked::finish::FinishFault;
+pub use locked::publish::PublishFault;
 pub use locked::shown::ViewFault;
 pub use locked::step::StepFault;
 pub use locked::turn::Turn;

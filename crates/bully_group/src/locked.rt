@@ -1,33 +1,37 @@
-ghost use Rattle.std.specs.Prelude.{◌≡◌, ◌+◌, ◌≤◌, ◌<◌, [], IfOk, IfErr, vec_capacity, replicate};
+ghost use Rattle.std.specs.Prelude.{◌≡◌, ◌+◌, ◌≤◌, ◌<◌, [], IfOk, IfErr, None, vec_capacity, replicate};
 ghost use Rattle.bully_base.specs.Setup.{IsSetup};
 ghost use Rattle.bully_base.specs.declared.TheConstants.{NODES_MAX};
-ghost use Rattle.bully_group.specs.Locked.{IsLocked};
+ghost use Rattle.bully_group.specs.Locked.{IsLocked, FollowsHistory, name_of};
 ghost use Rattle.bully_group.specs.Seat.{AreNewSeats};
 ghost use Rattle.bully_world.specs.State.{first_state};
 
 pub mod finish;
+pub mod publish;
 pub mod shown;
 pub mod step;
 pub mod turn;
 
+use crate::closed::end_publisher;
 use crate::naming::Naming;
 use crate::pass::Pass;
 use crate::seat::Seat;
 use bully_base::{OutOfMemory, Setup};
-use bully_watch::Entry;
+use bully_watch::{Entry, Publisher};
 use bully_world::World;
 use std::alloc::{AllocError, Global};
 use std::marker::Model;
+use std::sync::Wait;
 use std::sync::ledger::{Blank, Book, Share};
 
-/// What lies under the lock of a group: its world, its history and the book that counts the entries. Its type keeps that
-/// the entries are a history of the setup that `L` names, that the world is the one that it leads to, and that the book
-/// counts them.
-#[derive(Drop)]
+/// What lies under the lock of a group: its world, its history, the book that counts the entries, and the publisher of a
+/// watched one. Its type keeps that the entries are a history of the setup that `L` names, that the world is the one that
+/// it leads to, that the book counts them, and that the publisher is the one that `L` names, and shows a beginning of the
+/// history. It isn't `Drop`: [`Locked::finish`] or [`Locked::end`] ends it.
 pub struct Locked<L: Naming> {
     world: World,
     history: Vec<Entry>,
     book: Book<L>,
+    publisher: Option<Publisher>,
 }
 
 impl<L: Naming> Model for Locked<L> {
@@ -35,38 +39,68 @@ impl<L: Naming> Model for Locked<L> {
 
     ghost Value = { LockedState };
 
-    ghost view = { λ s. record { world = s.world; history = s.history.items; counted = s.book.total } };
+    ghost view = { λ s. record { world = s.world; history = s.history.items; counted = s.book.total; publisher = s.publisher } };
 
-    ghost invariant = { λ s. IsLocked L.setup L.parts (record { world = s.world; history = s.history.items; counted = s.book.total }) };
+    ghost invariant = { λ s. IsLocked L.setup L.publisher L.parts (record { world = s.world; history = s.history.items; counted = s.book.total; publisher = s.publisher }) };
 }
 
 impl<L: Naming> Locked<L> {
-    /// A group before any event, with a seat for the operator and then one for each node, and as many passes. Setup
-    /// and blank are `L`'s, and the blank has a part for each seat. Refused where an allocation fails, and then the
-    /// blank is handed back.
+    /// A group before any event that nobody watches, with a seat for the operator and then one for each node, and as
+    /// many passes. Setup and blank are `L`'s, which names no publisher, and the blank has a part for each seat. Refused
+    /// where an allocation fails, and then the blank is handed back.
     pub fn open(
         alloc: Global,
         setup: Setup,
         blank: Blank,
     ) -> Result<(Locked<L>, Vec<Seat>, Vec<Pass<L>>), (OutOfMemory, Blank)>
         requires setup { setup ≡ L.setup }
+        requires unwatched { L.publisher ≡ None }
         requires name { blank.name ≡ L.name }
         requires parts { (blank.parts ≡ L.parts) × (L.parts ≡ L.setup.nodes + 1) }
         ensures world { IfOk result (λ opened. opened.0.world ≡ first_state setup) }
         ensures history { IfOk result (λ opened. opened.0.history ≡ []) }
+        ensures publisher { IfOk result (λ opened. opened.0.publisher ≡ None) }
         ensures seats { IfOk result (λ opened. AreNewSeats (setup.nodes + 1) opened.1.items) }
         ensures passes { IfOk result (λ opened. opened.2.items ≡ replicate (setup.nodes + 1) 0) }
         ensures blank { IfErr result (λ fault. fault.1 ≡ blank) }
     {
+        match Locked::opened(alloc, setup, None, blank) {
+            Ok(opened) => Ok(opened),
+            Err((none, blank)) => {
+                no_publisher(none);
+                Err((AllocError, blank))
+            }
+        }
+    }
+
+    // The same, also with a publisher that showed nothing yet. Everything is allocated before the blank is opened.
+    pub(crate) fn opened(
+        alloc: Global,
+        setup: Setup,
+        publisher: Option<Publisher>,
+        blank: Blank,
+    ) -> Result<(Locked<L>, Vec<Seat>, Vec<Pass<L>>), (Option<Publisher>, Blank)>
+        requires setup { setup ≡ L.setup }
+        requires publisher { name_of publisher ≡ L.publisher }
+        requires follows { FollowsHistory setup [] publisher }
+        requires name { blank.name ≡ L.name }
+        requires parts { (blank.parts ≡ L.parts) × (L.parts ≡ L.setup.nodes + 1) }
+        ensures world { IfOk result (λ opened. opened.0.world ≡ first_state setup) }
+        ensures history { IfOk result (λ opened. opened.0.history ≡ []) }
+        ensures publisher { IfOk result (λ opened. opened.0.publisher ≡ publisher) }
+        ensures seats { IfOk result (λ opened. AreNewSeats (setup.nodes + 1) opened.1.items) }
+        ensures passes { IfOk result (λ opened. opened.2.items ≡ replicate (setup.nodes + 1) 0) }
+        ensures back { IfErr result (λ fault. (fault.0 ≡ publisher) × (fault.1 ≡ blank)) }
+    {
         let count = setup.nodes() + 1;
         let Ok(world) = World::new(alloc, setup) else {
-            return Err((AllocError, blank));
+            return Err((publisher, blank));
         };
         let Ok(seats) = new_seats(alloc, count) else {
-            return Err((AllocError, blank));
+            return Err((publisher, blank));
         };
         let Ok(passes) = Vec::with_capacity(alloc, usize::from(count)) else {
-            return Err((AllocError, blank));
+            return Err((publisher, blank));
         };
         let (book, share) = blank.open::<L>();
         let passes = deal(share, passes, count);
@@ -74,8 +108,20 @@ impl<L: Naming> Locked<L> {
             world,
             history: Vec::new(alloc),
             book,
+            publisher,
         };
         Ok((locked, seats, passes))
+    }
+
+    /// Ends its publisher, if it has one: from then on observers are told that it is gone. Drops the rest.
+    pub fn end<R: Wait>(self, rt: &R) {
+        let Locked {
+            world: _world,
+            history: _history,
+            book: _book,
+            publisher,
+        } = self;
+        end_publisher(publisher, rt);
     }
 
     /// What the group was set up with.
@@ -89,7 +135,7 @@ impl<L: Naming> Locked<L> {
     /// The entries from the first one on. They are a history, and the world is the one that it leads to.
     pub fn history(&self) -> &[Entry]
         ensures history { result.now ≡ self.now.history }
-        ensures locked { IsLocked L.setup L.parts self.now }
+        ensures locked { IsLocked L.setup L.publisher L.parts self.now }
     {
         self.history.as_slice()
     }
@@ -99,6 +145,16 @@ impl<L: Naming> Locked<L> {
         ensures { result.now ≡ self.now.world }
     {
         &self.world
+    }
+}
+
+// No publisher is let go.
+fn no_publisher(none: Option<Publisher>)
+    requires { none ≡ None }
+{
+    match none {
+        None => {}
+        Some(_) => unreachable!(),
     }
 }
 

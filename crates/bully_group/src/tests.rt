@@ -3,23 +3,28 @@
 mod asks;
 mod held;
 mod two_groups;
+mod watched;
 
 use crate::tests::asks::{Ask, Told, answered, done, tried};
 use crate::tests::held::Way;
 use crate::tests::two_groups::{
     Foreign, Strange, with_a_foreign_seat, with_a_stranger, with_swapped_seats,
 };
-use crate::{FinishFault, StepFault, ViewFault};
+use crate::tests::watched::{
+    Refusal, Seen, counts_of_two_threads, with_a_foreign_publish, with_many_tolds,
+    with_one_observer,
+};
+use crate::{FinishFault, PublishFault, StepFault, ViewFault};
 use bully_base::{Node, NodeSet, Setup, Status};
 use bully_calls::Answer;
 use bully_steps::Point;
 use bully_table::Table;
-use bully_watch::Entry;
+use bully_watch::LookFault;
 use bully_world::{Event, Refused};
 use std::test::Fail;
 
-// Node 1 recovers, is resynced and moves. The view after a step; what isn't its actor's, what is refused, and a serve
-// without a call. Its finish with one seat, with one pass, and with all.
+// Node 1 recovers, is resynced and moves. The view after a step; what isn't its actor's, what is refused, a serve without
+// a call, and a publish where nobody watches. Its finish with one seat, with one pass, and with all.
 #[test]
 fn a_small_group_and_its_finish(rt: HostRuntime) -> Result<(), Fail> {
     let one = Node::new(1).unwrap();
@@ -32,6 +37,7 @@ fn a_small_group_and_its_finish(rt: HostRuntime) -> Result<(), Fail> {
         Ask::Step(0, Event::Recover(one)),
         Ask::Serve(1),
         Ask::Serve(0),
+        Ask::Publish(0),
     ];
     let told = [
         Told::Stepped,
@@ -42,6 +48,7 @@ fn a_small_group_and_its_finish(rt: HostRuntime) -> Result<(), Fail> {
         Told::Fault(StepFault::Refused(Refused::IsUp)),
         Told::Served(false),
         Told::Fault(StepFault::NotYours),
+        Told::Unpublished(PublishFault::NotWatched),
     ];
     let entries = [done(0, Event::Recover(one)), done(1, Event::Move(one))];
     let trials = tried(&rt, rt.alloc(), Setup::new(1, 2, 10)?, one, asks.as_slice()).unwrap_or(
@@ -52,7 +59,7 @@ fn a_small_group_and_its_finish(rt: HostRuntime) -> Result<(), Fail> {
         assert_eq!(rt; trial.told.as_slice(), told.as_slice());
         assert_eq!(rt; trial.one_seat_less, FinishFault::SeatCount);
         assert_eq!(rt; trial.one_pass_less, FinishFault::SeatCount);
-        assert!(rt; trial.ends_in(entries.as_slice(), one, Status::Election));
+        assert!(rt; trial.ends_in(entries.as_slice(), Status::Election));
     }
     Ok(())
 }
@@ -100,7 +107,7 @@ fn alone_by_turns(rt: HostRuntime) -> Result<(), Fail> {
     assert_eq!(rt; trials.len(), 2);
     for trial in trials.as_slice() {
         assert_eq!(rt; trial.told.as_slice(), told.as_slice());
-        assert!(rt; trial.ends_in(entries.as_slice(), one, Status::Normal));
+        assert!(rt; trial.ends_in(entries.as_slice(), Status::Normal));
     }
     Ok(())
 }
@@ -165,7 +172,7 @@ fn turns_and_a_stop(rt: HostRuntime) -> Result<(), Fail> {
     assert_eq!(rt; trials.len(), 2);
     for trial in trials.as_slice() {
         assert_eq!(rt; trial.told.as_slice(), told.as_slice());
-        assert!(rt; trial.ends_in(entries.as_slice(), one, Status::Election));
+        assert!(rt; trial.ends_in(entries.as_slice(), Status::Election));
     }
     Ok(())
 }
@@ -239,7 +246,7 @@ fn a_stale_plan(rt: HostRuntime) -> Result<(), Fail> {
     assert_eq!(rt; trials.len(), 2);
     for trial in trials.as_slice() {
         assert_eq!(rt; trial.told.as_slice(), told.as_slice());
-        assert!(rt; trial.ends_in_so_many(23, two, Status::Reorganization));
+        assert!(rt; trial.ends_in_so_many(23, Status::Reorganization));
     }
     Ok(())
 }
@@ -279,7 +286,7 @@ fn kept_procedures(rt: HostRuntime) -> Result<(), Fail> {
     assert_eq!(rt; trials.len(), 2);
     for trial in trials.as_slice() {
         assert_eq!(rt; trial.told.as_slice(), told.as_slice());
-        assert!(rt; trial.ends_in_so_many(4, one, Status::Down));
+        assert!(rt; trial.ends_in_so_many(4, Status::Down));
     }
     Ok(())
 }
@@ -304,7 +311,7 @@ fn a_full_group(rt: HostRuntime) -> Result<(), Fail> {
     assert_eq!(rt; trials.len(), 2);
     for trial in trials.as_slice() {
         assert_eq!(rt; trial.told.as_slice(), told.as_slice());
-        assert!(rt; trial.ends_in_so_many(1, one, Status::Election));
+        assert!(rt; trial.ends_in_so_many(1, Status::Election));
     }
     Ok(())
 }
@@ -369,5 +376,52 @@ fn seats_of_strangers(rt: HostRuntime) -> Result<(), Fail> {
             Some(operator)
         );
     }
+    Ok(())
+}
+
+// What an observer sees after a recovery and after a crash, once the group is finished, and once its end is ended.
+#[test]
+fn one_observer_and_an_ended_publisher(rt: HostRuntime) -> Result<(), Fail> {
+    let wanted = [
+        Seen::Shown(1, Status::Election),
+        Seen::Shown(2, Status::Down),
+        Seen::Shown(2, Status::Down),
+        Seen::Fault(LookFault::Gone),
+    ];
+    for way in [Way::Bare, Way::Shared] {
+        assert_eq!(rt; with_one_observer(&rt, rt.alloc(), way), Some(wanted));
+    }
+    Ok(())
+}
+
+// A seat that has two entries of another group publishes nothing.
+#[test]
+fn a_foreign_publish(rt: HostRuntime) -> Result<(), Fail> {
+    for way in [Way::Bare, Way::Shared] {
+        let fault = with_a_foreign_publish(&rt, rt.alloc(), way);
+        assert_eq!(rt; fault, Some(PublishFault::Foreign { index: 1 }));
+    }
+    Ok(())
+}
+
+// 120 tolds may be kept, and 130 are asked for. Then a crash isn't shown, until they are let go.
+#[test]
+fn a_refused_publish(rt: HostRuntime) -> Result<(), Fail> {
+    let wanted = Refusal {
+        before: Seen::Shown(1, Status::Election),
+        refused: 10,
+        fault: Some(PublishFault::OutOfMemory),
+        kept: Seen::Shown(1, Status::Election),
+        after: Seen::Shown(2, Status::Down),
+    };
+    assert_eq!(rt; with_many_tolds(&rt, rt.alloc()), Some(wanted));
+    Ok(())
+}
+
+// One thread steps and publishes, and another looks on.
+#[test]
+fn counts_never_fall(rt: HostRuntime) -> Result<(), Fail> {
+    let counts = counts_of_two_threads(&rt, rt.alloc());
+    assert_eq!(rt; counts, Some((true, Seen::Shown(100, Status::Down))));
     Ok(())
 }

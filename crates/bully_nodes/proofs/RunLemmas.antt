@@ -26,6 +26,7 @@ use Rattle.bully_steps.specs.declared.procedure.Procedure.{Procedure}
 use Rattle.bully_steps.specs.ProcedureState.{ProcedureState}
 use Rattle.bully_steps.specs.Procedure.{state_of}
 use Rattle.bully_watch.specs.declared.entry.Entry.{Entry}
+use Rattle.bully_watch.specs.declared.knowledge.PublisherId.{PublisherId}
 use Rattle.bully_watch.specs.History.{event_of as entry_event, answer_of}
 use Rattle.bully_world.specs.declared.event.Event.{Event}
 use Rattle.bully_world.specs.State.{world_of}
@@ -154,8 +155,8 @@ due_all faults [] each = All-nil (IsDue faults)
 due_all faults (e ∷ history) each = All-cons (IsDue faults) e.event (map entry_event history) (each zero e refl) (due_all faults history (λ k f there. each (suc k) f there))
 
 -- the history of all seats is a play
-pub seats_play : (c : Configuration) (s : LockedState) (parts : ℕ) (seats : List SeatState) → IsSetup c.setup → IsLocked c.setup parts s → All (HasDueLog c.faults) seats → EachInOneLog s.history seats → IsPlay c (map entry_event s.history)
-seats_play c s parts seats within is own once = record {
+pub seats_play : (c : Configuration) (s : LockedState) (named : Option PublisherId) (parts : ℕ) (seats : List SeatState) → IsSetup c.setup → IsLocked c.setup named parts s → All (HasDueLog c.faults) seats → EachInOneLog s.history seats → IsPlay c (map entry_event s.history)
+seats_play c s named parts seats within is own once = record {
   answers = map answer_of s.history;
   world = world_of s.world;
   lawful = is.history.lawful;

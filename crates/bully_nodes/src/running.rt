@@ -1,5 +1,6 @@
-ghost use Rattle.std.specs.Prelude.{◌≡◌, ◌+◌, ◌<◌, ◌≤◌, [], ℕ, All, map, IfOk, IfErr, OnOk};
+ghost use Rattle.std.specs.Prelude.{◌≡◌, ◌+◌, ◌<◌, ◌≤◌, [], ℕ, None, All, map, IfOk, IfErr, OnOk};
 ghost use Rattle.std.specs.Option.{IfSome};
+ghost use Rattle.bully_group.specs.Seat.{AreNewSeats};
 ghost use Rattle.bully_nodes.specs.Play.{IsPlay};
 ghost use Rattle.bully_nodes.specs.Run.{IsKept, HasDueLog, IsNodesFault};
 ghost use Rattle.bully_steps.specs.Procedure.{state_of};
@@ -41,8 +42,8 @@ pub enum NodesFault {
 }
 
 /// Runs the configuration in threads, one for each node and one for the operator, each with its own seat and all of the
-/// configuration's turns, and finishes the group: its history. Refused as `Spawn` where a thread isn't made, as
-/// `Finish` where the group isn't finished, and as `OutOfMemory` where an allocation fails; each comes
+/// configuration's turns, and finishes the group, which nobody watches: its history. Refused as `Spawn` where a thread
+/// isn't made, as `Finish` where the group isn't finished, and as `OutOfMemory` where an allocation fails; each comes
 /// once all threads have ended. The rule: docs/ALGORITHM.md.
 pub fn run_nodes<R: Threads + Wait + Sync, G: Gate>(
     rt: &R,
@@ -98,6 +99,7 @@ fn run_group<L: Scheduled + Send + Sync, R: Threads + Wait + Sync, G: Gate>(
     blank: Blank,
 ) -> Result<Closed, NodesFault>
     requires setup { config.now.setup ≡ L.setup }
+    requires unwatched { L.publisher ≡ None }
     requires faults { config.now.faults ≡ L.faults }
     requires name { blank.name ≡ L.name }
     requires parts { (blank.parts ≡ L.parts) × (L.parts ≡ L.setup.nodes + 1) }
@@ -108,16 +110,46 @@ fn run_group<L: Scheduled + Send + Sync, R: Threads + Wait + Sync, G: Gate>(
     let Ok((group, seats, passes)) = Group::<L>::open(alloc, config.setup(), blank) else {
         return Err(NodesFault::OutOfMemory);
     };
-    let Ok(jobs) = jobs_for(alloc, seats, passes) else {
-        return Err(NodesFault::OutOfMemory);
-    };
-    let done = in_threads(rt, alloc, &group, config, gate, jobs)?;
-    let Ok((seats, passes)) = apart(alloc, done) else {
-        return Err(NodesFault::OutOfMemory);
+    let (seats, passes) = match worked(rt, alloc, &group, config, gate, seats, passes) {
+        Ok(back) => back,
+        Err(fault) => {
+            group.close().end(rt);
+            return Err(fault);
+        }
     };
     match group.close().finish(seats, passes) {
         Ok(closed) => Ok(closed),
-        Err((_, _, _, fault)) => Err(told(fault)),
+        Err((locked, _seats, _passes, fault)) => {
+            locked.end(rt);
+            Err(told(fault))
+        }
+    }
+}
+
+// A thread for each seat, with a pass. What they give back, once all have ended and none wanted for memory.
+fn worked<L: Scheduled + Send + Sync, R: Threads + Wait + Sync, G: Gate>(
+    rt: &R,
+    alloc: Global,
+    group: &Group<L>,
+    config: &Config,
+    gate: &G,
+    seats: Vec<Seat>,
+    passes: Vec<Pass<L>>,
+) -> Result<(Vec<Seat>, Vec<Pass<L>>), NodesFault>
+    requires setup { config.now.setup ≡ L.setup }
+    requires faults { config.now.faults ≡ L.faults }
+    requires seats { AreNewSeats (config.now.setup.nodes + 1) seats.items }
+    requires passes { All (λ p. p ≡ 0) passes.items }
+    ensures due { IfOk result (λ back. All (HasDueLog L.faults) back.0.items) }
+    ensures fault { IfErr result IsNodesFault }
+{
+    let Ok(jobs) = jobs_for(alloc, seats, passes) else {
+        return Err(NodesFault::OutOfMemory);
+    };
+    let done = in_threads(rt, alloc, group, config, gate, jobs)?;
+    match apart(alloc, done) {
+        Ok(back) => Ok(back),
+        Err(_) => Err(NodesFault::OutOfMemory),
     }
 }
 

@@ -29,8 +29,8 @@ pub enum FinishFault {
 
 impl<L: Naming> Locked<L> {
     /// Ends the group, with all its seats, in any order, and all its passes. Each seat's log is its actor's part of the
-    /// history. Refused, in this order, as `SeatCount`, `Stranger`, `Differs` and `OutOfMemory`; then everything is
-    /// handed back.
+    /// history. The finished group keeps the publisher. Refused, in this order, as `SeatCount`, `Stranger`, `Differs` and
+    /// `OutOfMemory`; then everything is handed back.
     pub fn finish(
         self,
         seats: Vec<Seat>,
@@ -38,6 +38,7 @@ impl<L: Naming> Locked<L> {
     ) -> Result<Closed, (Locked<L>, Vec<Seat>, Vec<Pass<L>>, FinishFault)>
         ensures history { IfOk result (λ closed. closed.history ≡ self.history) }
         ensures view { IfOk result (λ closed. closed.view ≡ view_in self) }
+        ensures publisher { IfOk result (λ closed. closed.publisher ≡ self.publisher) }
         ensures all { OnOk result (AreAll self.world.setup.nodes seats.items (vec_len passes)) }
         ensures own { OnOk result (AreOfGroup self.world.setup.nodes seats.items) }
         ensures logs { OnOk result (All (HasPart self.history) seats.items) }
@@ -59,9 +60,10 @@ impl<L: Naming> Locked<L> {
             world: _,
             history,
             book,
+            publisher,
         } = self;
         add_up(book, passes);
-        Ok(Closed::of(history, shown))
+        Ok(Closed::of(history, shown, publisher))
     }
 
     // Why it can't be finished with these seats and so many passes, memory aside.

@@ -25,7 +25,7 @@ impl<L: Naming> Locked<L> {
     pub fn view(&self, seat: &Seat) -> Result<View, ViewFault>
         ensures view { IfOk result (λ v. v ≡ view_in self.now) }
         ensures agrees { IfOk result ViewAgrees }
-        ensures locked { IsLocked L.setup L.parts self.now }
+        ensures locked { IsLocked L.setup L.publisher L.parts self.now }
         ensures known { OnOk result (IsKnown self.now.history seat.now) }
         ensures fault { IfErr result (IsViewFault self.now seat.now) }
     {

@@ -1,10 +1,10 @@
 //! A list of asks, taken one by one, what is told of each, and the finish.
 
-ghost use Rattle.std.specs.Prelude.{◌≡◌, ◌≤◌, ◌+◌};
+ghost use Rattle.std.specs.Prelude.{◌≡◌, ◌≤◌, ◌+◌, None};
 ghost use Rattle.bully_steps.specs.Procedure.{state_of};
 
 use crate::tests::held::{Held, Opened, Way, finished, open, refused};
-use crate::{Closed, FinishFault, Naming, Seat, StepFault, Turn};
+use crate::{Closed, FinishFault, Naming, PublishFault, Seat, StepFault, Turn};
 use bully_base::{Node, Setup, Status};
 use bully_calls::Answer;
 use bully_steps::{Point, Procedure};
@@ -22,6 +22,7 @@ pub enum Ask {
     Serve(usize),
     Turn(usize),
     View(usize),
+    Publish(usize),
     /// The procedure that is held is prepared, without an old table.
     Prepare,
 }
@@ -38,33 +39,33 @@ pub enum Told {
     Viewed(u32, Status),
     Prepared,
     Fault(StepFault),
+    Unpublished(PublishFault),
     /// There is no such seat, no view, or nothing to prepare.
     Nothing,
 }
 
-/// What was told; why the group isn't finished without its last seat, and why not without its last pass; and its end
-/// with all of them.
+/// What was told; why the group isn't finished without its last seat, and why not without its last pass; and of its
+/// end with all of them the history and the node's status.
 #[derive(Drop)]
 pub struct Trial {
     pub told: Vec<Told>,
     pub one_seat_less: FinishFault,
     pub one_pass_less: FinishFault,
-    pub closed: Closed,
+    pub history: Vec<Entry>,
+    pub status: Status,
 }
 
 impl Trial {
     /// Whether the finished group has these entries, and the node this status.
-    pub fn ends_in(&self, entries: &[Entry], node: Node, status: Status) -> bool {
-        let mut pairs = self.closed.history().iter().zip(entries.iter());
+    pub fn ends_in(&self, entries: &[Entry], status: Status) -> bool {
+        let mut pairs = self.history.iter().zip(entries.iter());
         pairs.all(|(entry, wanted)| entry.is_same(wanted))
-            && self.ends_in_so_many(entries.len(), node, status)
+            && self.ends_in_so_many(entries.len(), status)
     }
 
     /// Whether the finished group has so many entries, and the node this status.
-    pub fn ends_in_so_many(&self, entries: usize, node: Node, status: Status) -> bool {
-        self.closed.history().len() == entries
-            && node.number() <= self.closed.setup().nodes()
-            && self.closed.view().status(node) == status
+    pub fn ends_in_so_many(&self, entries: usize, status: Status) -> bool {
+        self.history.len() == entries && self.status == status
     }
 }
 
@@ -111,6 +112,7 @@ fn tried_by<L: Naming, R: Wait>(
     asks: &[Ask],
 ) -> Option<Trial>
     requires setup { setup ≡ L.setup }
+    requires unwatched { L.publisher ≡ None }
     requires name { blank.name ≡ L.name }
     requires parts { (blank.parts ≡ L.parts) × (L.parts ≡ L.setup.nodes + 1) }
     requires node { node ≤ setup.nodes }
@@ -124,39 +126,68 @@ fn tried_by<L: Naming, R: Wait>(
         // Where this fails, less is told.
         let _ = told.push(answer);
     }
-    let (one_seat_less, one_pass_less, closed) = ended(opened)?;
+    let (one_seat_less, one_pass_less, closed) = ended(rt, opened)?;
+    let left = left_by(alloc, &closed, node);
+    closed.end(rt);
+    let (history, status) = left?;
     Some(Trial {
         told,
         one_seat_less,
         one_pass_less,
-        closed,
+        history,
+        status,
     })
 }
 
 // The finish without the last seat, without the last pass, and with all.
-fn ended<L: Naming>(opened: Opened<L>) -> Option<(FinishFault, FinishFault, Closed)> {
-    let (one_seat_less, opened) = without_a_seat(opened)?;
-    let (one_pass_less, opened) = without_a_pass(opened)?;
-    match finished(opened) {
+fn ended<L: Naming, R: Wait>(
+    rt: &R,
+    opened: Opened<L>,
+) -> Option<(FinishFault, FinishFault, Closed)> {
+    let (one_seat_less, opened) = without_a_seat(rt, opened)?;
+    let (one_pass_less, opened) = without_a_pass(rt, opened)?;
+    match finished(rt, opened) {
         Ok(closed) => Some((one_seat_less, one_pass_less, closed)),
         Err(_) => None,
     }
 }
 
-fn without_a_seat<L: Naming>(opened: Opened<L>) -> Option<(FinishFault, Opened<L>)> {
+fn without_a_seat<L: Naming, R: Wait>(
+    rt: &R,
+    opened: Opened<L>,
+) -> Option<(FinishFault, Opened<L>)> {
     let mut opened = opened;
-    let seat = opened.seats.pop()?;
-    let (fault, mut opened) = refused(opened)?;
-    let _ = opened.seats.push(seat);
+    let seat = opened.seats.pop();
+    let (fault, mut opened) = refused(rt, opened)?;
+    if let Some(seat) = seat {
+        let _ = opened.seats.push(seat);
+    }
     Some((fault, opened))
 }
 
-fn without_a_pass<L: Naming>(opened: Opened<L>) -> Option<(FinishFault, Opened<L>)> {
+fn without_a_pass<L: Naming, R: Wait>(
+    rt: &R,
+    opened: Opened<L>,
+) -> Option<(FinishFault, Opened<L>)> {
     let mut opened = opened;
-    let pass = opened.passes.pop()?;
-    let (fault, mut opened) = refused(opened)?;
-    let _ = opened.passes.push(pass);
+    let pass = opened.passes.pop();
+    let (fault, mut opened) = refused(rt, opened)?;
+    if let Some(pass) = pass {
+        let _ = opened.passes.push(pass);
+    }
     Some((fault, opened))
+}
+
+// The history of a finished group, and the node's status.
+fn left_by(alloc: Global, closed: &Closed, node: Node) -> Option<(Vec<Entry>, Status)> {
+    if node.number() > closed.view().nodes() {
+        return None;
+    }
+    let mut history = Vec::new(alloc);
+    for entry in closed.history() {
+        history.push(entry.copy().ok()?).ok()?;
+    }
+    Some((history, closed.view().status(node)))
 }
 
 // One ask. The procedure stays one of the group.
@@ -178,6 +209,7 @@ fn perform<L: Naming, R: Wait>(
             let told = view(rt, opened, *actor, procedure.node());
             (procedure, told)
         }
+        Ask::Publish(actor) => (procedure, publish(rt, opened, *actor)),
         Ask::Prepare => prepare(alloc, procedure),
     }
 }
@@ -241,6 +273,16 @@ fn view<L: Naming, R: Wait>(rt: &R, opened: &Opened<L>, actor: usize, node: Node
     match viewed(rt, &opened.held, seat, node) {
         Some((events, status)) => Told::Viewed(events, status),
         None => Told::Nothing,
+    }
+}
+
+fn publish<L: Naming, R: Wait>(rt: &R, opened: &mut Opened<L>, actor: usize) -> Told {
+    let Some(seat) = opened.seats.get(actor) else {
+        return Told::Nothing;
+    };
+    match opened.held.publish(rt, seat) {
+        Ok(_) => Told::Nothing,
+        Err(fault) => Told::Unpublished(fault),
     }
 }
 

@@ -1,13 +1,17 @@
 //! A group that is called without a lock, or each time through its lock.
 
-ghost use Rattle.std.specs.Prelude.{◌≡◌, ◌+◌};
+ghost use Rattle.std.specs.Prelude.{◌≡◌, ◌+◌, [], IfOk, Some, None};
 ghost use Rattle.bully_group.specs.Turns.{handed_back};
 ghost use Rattle.bully_steps.specs.Procedure.{state_of};
 
-use crate::{Closed, FinishFault, Group, Locked, Naming, Pass, Seat, StepFault, Turn, ViewFault};
+use crate::{
+    Closed, FinishFault, Group, Locked, Naming, Pass, PublishFault, Seat, StepFault, Turn,
+    ViewFault,
+};
 use bully_agree::View;
 use bully_base::Setup;
 use bully_steps::Procedure;
+use bully_watch::{Publisher, Told};
 use bully_world::Event;
 use std::alloc::Global;
 use std::sync::ledger::Blank;
@@ -19,32 +23,47 @@ pub enum Way {
     Shared,
 }
 
-#[derive(Drop)]
 pub enum Held<L: Naming> {
     Bare(Locked<L>),
     Shared(Group<L>),
 }
 
 /// A group with its seats and passes.
-#[derive(Drop)]
 pub struct Opened<L: Naming> {
     pub held: Held<L>,
     pub seats: Vec<Seat>,
     pub passes: Vec<Pass<L>>,
 }
 
+impl<L: Naming> Opened<L> {
+    fn of(way: Way, locked: Locked<L>, seats: Vec<Seat>, passes: Vec<Pass<L>>) -> Opened<L> {
+        Opened {
+            held: Held::of(way, locked),
+            seats,
+            passes,
+        }
+    }
+
+    pub fn end<R: Wait>(self, rt: &R) {
+        let Opened {
+            held,
+            seats: _seats,
+            passes: _passes,
+        } = self;
+        held.closed().end(rt);
+    }
+}
+
+/// A group that nobody watches.
 pub fn open<L: Naming>(alloc: Global, way: Way, setup: Setup, blank: Blank) -> Option<Opened<L>>
     requires setup { setup ≡ L.setup }
+    requires unwatched { L.publisher ≡ None }
     requires name { blank.name ≡ L.name }
     requires parts { (blank.parts ≡ L.parts) × (L.parts ≡ L.setup.nodes + 1) }
 {
     match way {
         Way::Bare => match Locked::<L>::open(alloc, setup, blank) {
-            Ok((locked, seats, passes)) => Some(Opened {
-                held: Held::Bare(locked),
-                seats,
-                passes,
-            }),
+            Ok((locked, seats, passes)) => Some(Opened::of(way, locked, seats, passes)),
             Err(_) => None,
         },
         Way::Shared => match Group::<L>::open(alloc, setup, blank) {
@@ -58,36 +77,51 @@ pub fn open<L: Naming>(alloc: Global, way: Way, setup: Setup, blank: Blank) -> O
     }
 }
 
+/// A group with this publisher. Where there is none, the publisher is ended.
+pub fn open_watched<L: Naming, R: Wait>(
+    rt: &R,
+    alloc: Global,
+    way: Way,
+    setup: Setup,
+    publisher: Publisher,
+    blank: Blank,
+) -> Option<Opened<L>>
+    requires setup { (setup ≡ L.setup) × (publisher.publisher.setup ≡ setup) }
+    requires publisher { L.publisher ≡ Some publisher.publisher }
+    requires new { (publisher.shown ≡ []) × (publisher.taken ≡ []) }
+    requires name { blank.name ≡ L.name }
+    requires parts { (blank.parts ≡ L.parts) × (L.parts ≡ L.setup.nodes + 1) }
+{
+    match Group::<L>::open_watched(alloc, setup, publisher, blank) {
+        Ok((group, seats, passes)) => Some(Opened::of(way, group.close(), seats, passes)),
+        Err((publisher, _, _)) => {
+            publisher.end(rt);
+            None
+        }
+    }
+}
+
 /// Why the group isn't finished with its seats and passes. It is given back, called as before.
-pub fn refused<L: Naming>(opened: Opened<L>) -> Option<(FinishFault, Opened<L>)> {
+pub fn refused<L: Naming, R: Wait>(rt: &R, opened: Opened<L>) -> Option<(FinishFault, Opened<L>)> {
     let Opened {
         held,
         seats,
         passes,
     } = opened;
-    let shared = held.is_shared();
+    let way = held.way();
     match held.closed().finish(seats, passes) {
-        Ok(_) => None,
+        Ok(closed) => {
+            closed.end(rt);
+            None
+        }
         Err((locked, seats, passes, fault)) => {
-            let held = if shared {
-                Held::Shared(Group {
-                    locked: Mutex::new(locked),
-                })
-            } else {
-                Held::Bare(locked)
-            };
-            let opened = Opened {
-                held,
-                seats,
-                passes,
-            };
-            Some((fault, opened))
+            Some((fault, Opened::of(way, locked, seats, passes)))
         }
     }
 }
 
 /// Its finish, or why it has none.
-pub fn finished<L: Naming>(opened: Opened<L>) -> Result<Closed, FinishFault> {
+pub fn finished<L: Naming, R: Wait>(rt: &R, opened: Opened<L>) -> Result<Closed, FinishFault> {
     let Opened {
         held,
         seats,
@@ -95,14 +129,21 @@ pub fn finished<L: Naming>(opened: Opened<L>) -> Result<Closed, FinishFault> {
     } = opened;
     match held.closed().finish(seats, passes) {
         Ok(closed) => Ok(closed),
-        Err((_, _, _, fault)) => Err(fault),
+        Err((locked, _seats, _passes, fault)) => {
+            locked.end(rt);
+            Err(fault)
+        }
     }
 }
 
 /// The same, with the number of entries.
-pub fn ends<L: Naming>(opened: Opened<L>) -> Result<usize, FinishFault> {
-    match finished(opened) {
-        Ok(closed) => Ok(closed.history().len()),
+pub fn ends<L: Naming, R: Wait>(rt: &R, opened: Opened<L>) -> Result<usize, FinishFault> {
+    match finished(rt, opened) {
+        Ok(closed) => {
+            let entries = closed.history().len();
+            closed.end(rt);
+            Ok(entries)
+        }
         Err(fault) => Err(fault),
     }
 }
@@ -176,10 +217,33 @@ impl<L: Naming> Held<L> {
         }
     }
 
-    fn is_shared(&self) -> bool {
+    pub fn publish<R: Wait>(&mut self, rt: &R, seat: &Seat) -> Result<Told, PublishFault>
+        ensures { IfOk result (λ told. L.publisher ≡ Some told.publisher) }
+    {
         match self {
-            Held::Bare(_) => false,
-            Held::Shared(_) => true,
+            Held::Bare(locked) => locked.publish(rt, seat),
+            Held::Shared(group) => {
+                let mut guard = group.locked.lock(rt);
+                let answer = guard.publish(rt, seat);
+                MutexGuard::unlock(guard);
+                answer
+            }
+        }
+    }
+
+    fn of(way: Way, locked: Locked<L>) -> Held<L> {
+        match way {
+            Way::Bare => Held::Bare(locked),
+            Way::Shared => Held::Shared(Group {
+                locked: Mutex::new(locked),
+            }),
+        }
+    }
+
+    fn way(&self) -> Way {
+        match self {
+            Held::Bare(_) => Way::Bare,
+            Held::Shared(_) => Way::Shared,
         }
     }
 

@@ -1,6 +1,6 @@
 //! Seats that are used on another group. Both groups are called in the same way.
 
-ghost use Rattle.std.specs.Prelude.{◌≡◌, ◌+◌};
+ghost use Rattle.std.specs.Prelude.{◌≡◌, ◌+◌, None};
 
 use crate::tests::asks::viewed;
 use crate::tests::held::{Opened, Way, ends, open};
@@ -43,13 +43,42 @@ fn foreign_by<L: Naming, M: Naming, R: Wait>(
     other: Blank,
 ) -> Option<Foreign>
     requires setup { (setup ≡ L.setup) × (setup ≡ M.setup) }
+    requires unwatched { (L.publisher ≡ None) × (M.publisher ≡ None) }
     requires name { (blank.name ≡ L.name) × (other.name ≡ M.name) }
     requires parts { (blank.parts ≡ L.parts) × (L.parts ≡ L.setup.nodes + 1) }
     requires other_parts { (other.parts ≡ M.parts) × (M.parts ≡ M.setup.nodes + 1) }
 {
-    let mut first = open::<L>(alloc, way, setup, blank)?;
-    let mut second = open::<M>(alloc, way, setup, other)?;
-    with_its_seat(rt, &mut first, &mut second)
+    let (mut first, mut second) = open_both::<L, M, R>(rt, alloc, way, setup, setup, blank, other)?;
+    let told = with_its_seat(rt, &mut first, &mut second);
+    first.end(rt);
+    second.end(rt);
+    told
+}
+
+// Two groups, or none.
+fn open_both<L: Naming, M: Naming, R: Wait>(
+    rt: &R,
+    alloc: Global,
+    way: Way,
+    setup: Setup,
+    other_setup: Setup,
+    blank: Blank,
+    other: Blank,
+) -> Option<(Opened<L>, Opened<M>)>
+    requires setup { (setup ≡ L.setup) × (other_setup ≡ M.setup) }
+    requires unwatched { (L.publisher ≡ None) × (M.publisher ≡ None) }
+    requires name { (blank.name ≡ L.name) × (other.name ≡ M.name) }
+    requires parts { (blank.parts ≡ L.parts) × (L.parts ≡ L.setup.nodes + 1) }
+    requires other_parts { (other.parts ≡ M.parts) × (M.parts ≡ M.setup.nodes + 1) }
+{
+    let first = open::<L>(alloc, way, setup, blank)?;
+    match open::<M>(alloc, way, other_setup, other) {
+        Some(second) => Some((first, second)),
+        None => {
+            first.end(rt);
+            None
+        }
+    }
 }
 
 // Node 1 recovers in the first group, and then the same is tried in the second with that seat.
@@ -106,14 +135,14 @@ fn swapped_by<L: Naming, M: Naming, R: Wait>(
     other: Blank,
 ) -> Option<(Result<usize, FinishFault>, Result<usize, FinishFault>)>
     requires setup { (setup ≡ L.setup) × (setup ≡ M.setup) }
+    requires unwatched { (L.publisher ≡ None) × (M.publisher ≡ None) }
     requires name { (blank.name ≡ L.name) × (other.name ≡ M.name) }
     requires parts { (blank.parts ≡ L.parts) × (L.parts ≡ L.setup.nodes + 1) }
     requires other_parts { (other.parts ≡ M.parts) × (M.parts ≡ M.setup.nodes + 1) }
 {
-    let mut first = open::<L>(alloc, way, setup, blank)?;
-    let mut second = open::<M>(alloc, way, setup, other)?;
+    let (mut first, mut second) = open_both::<L, M, R>(rt, alloc, way, setup, setup, blank, other)?;
     let _crossed = crossed(rt, &mut first, &mut second, swaps);
-    Some((ends(first), ends(second)))
+    Some((ends(rt, first), ends(rt, second)))
 }
 
 // The first group's operator recovers node 1 of the second.
@@ -176,14 +205,17 @@ fn stranger_by<L: Naming, M: Naming, R: Wait>(
     other: Blank,
 ) -> Option<Strange>
     requires setup { (setup ≡ L.setup) × (larger ≡ M.setup) }
+    requires unwatched { (L.publisher ≡ None) × (M.publisher ≡ None) }
     requires name { (blank.name ≡ L.name) × (other.name ≡ M.name) }
     requires parts { (blank.parts ≡ L.parts) × (L.parts ≡ L.setup.nodes + 1) }
     requires other_parts { (other.parts ≡ M.parts) × (M.parts ≡ M.setup.nodes + 1) }
 {
-    let mut group = open::<L>(alloc, way, setup, blank)?;
-    let mut others = open::<M>(alloc, way, larger, other)?;
+    let (mut group, mut others) = open_both::<L, M, R>(
+        rt, alloc, way, setup, larger, blank, other,
+    )?;
     let told = tried_with(rt, &mut group, setup, &mut others.seats, actor);
-    let finish = ends(group);
+    let finish = ends(rt, group);
+    others.end(rt);
     match told {
         Some((serve, step, turn)) => Some(Strange {
             serve,

@@ -77,7 +77,11 @@ fn threads_in_rounds_do_what_play_does(rt: HostRuntime) -> Result<(), Fail> {
     };
     let mut run = Vec::new(rt.alloc());
     match run_nodes(&rt, rt.alloc(), &config, &gate) {
-        Ok(closed) => assert!(rt; write_history(rt.alloc(), &mut run, &closed).is_ok()),
+        Ok(closed) => {
+            let written = write_history(rt.alloc(), &mut run, &closed);
+            closed.end(&rt);
+            assert!(rt; written.is_ok());
+        }
         Err(_) => assert!(rt; false),
     }
     assert!(rt; !gate.missed.load(Ordering::SeqCst));

@@ -5,6 +5,7 @@ use crate::{Gate, NodesFault, PlayFault, run_nodes, write_history};
 use bully_config::Config;
 use bully_group::Closed;
 use bully_world::Event;
+use std::alloc::Global;
 use std::sync::atomic::{AtomicBool, Ordering};
 use std::test::Fail;
 
@@ -125,8 +126,10 @@ fn two_threads_meet(rt: HostRuntime) -> Result<(), Fail> {
         second: AtomicBool::new(false),
         missed: AtomicBool::new(false),
     };
-    let ended = run_nodes(&rt, rt.alloc(), &config, &gate);
-    assert!(rt; ended.is_ok());
+    match run_nodes(&rt, rt.alloc(), &config, &gate) {
+        Ok(closed) => closed.end(&rt),
+        Err(_) => assert!(rt; false),
+    }
     assert!(rt; gate.first.load(Ordering::SeqCst) && gate.second.load(Ordering::SeqCst));
     assert!(rt; !gate.missed.load(Ordering::SeqCst));
     Ok(())
@@ -161,7 +164,11 @@ fn a_gate_orders_two_threads(rt: HostRuntime) -> Result<(), Fail> {
         missed: AtomicBool::new(false),
     };
     match run_nodes(&rt, rt.alloc(), &config, &gate) {
-        Ok(closed) => assert!(rt; is_alone(&closed)),
+        Ok(closed) => {
+            let alone = is_alone(&closed);
+            closed.end(&rt);
+            assert!(rt; alone);
+        }
         Err(_) => assert!(rt; false),
     }
     assert!(rt; !gate.missed.load(Ordering::SeqCst));
@@ -190,9 +197,9 @@ fn all_recover(rt: HostRuntime) -> Result<(), Fail> {
     let config = Config::read(rt.alloc(), ALL_RECOVER)?;
     match run_nodes(&rt, rt.alloc(), &config, &Open) {
         Ok(closed) => {
-            for number in 1..4u16 {
-                assert!(rt; has_recovery(&closed, number), "of node {number}");
-            }
+            let recovered = [1, 2, 3].map(|number: u16| has_recovery(&closed, number));
+            closed.end(&rt);
+            assert_eq!(rt; recovered, [true; 3]);
         }
         Err(_) => assert!(rt; false),
     }
@@ -213,18 +220,25 @@ fn a_full_group(rt: HostRuntime) -> Result<(), Fail> {
     let config = Config::read(rt.alloc(), FULL)?;
     match run_nodes(&rt, rt.alloc(), &config, &Open) {
         Ok(closed) => {
-            assert_eq!(rt; closed.history().len(), 1);
-            assert!(rt; has_recovery(&closed, 1));
-            let mut text = Vec::new(rt.alloc());
-            assert_eq!(rt; write_history(rt.alloc(), &mut text, &closed), Ok(()));
-            assert_eq!(rt; text.as_slice(), FULL_WRITTEN.as_bytes());
-            for room in 0..FULL_WRITTEN.len() {
-                let mut narrow = Narrow { room };
-                let ended = write_history(rt.alloc(), &mut narrow, &closed);
-                assert_eq!(rt; ended, Err(PlayFault::Write), "with room for {room}");
-            }
+            let recovered = closed.history().len() == 1 && has_recovery(&closed, 1);
+            let written = written_whole(rt.alloc(), &closed);
+            let fails = fails_where_narrow(rt.alloc(), &closed);
+            closed.end(&rt);
+            assert!(rt; recovered && written && fails);
         }
         Err(fault) => assert_eq!(rt; fault, NodesFault::Spawn),
     }
     Ok(())
+}
+
+// Whether the text of the full group is written.
+fn written_whole(alloc: Global, closed: &Closed) -> bool {
+    let mut text = Vec::new(alloc);
+    write_history(alloc, &mut text, closed).is_ok() && text.as_slice() == FULL_WRITTEN.as_bytes()
+}
+
+// Whether a writer with less room than the text fails, whatever its room is.
+fn fails_where_narrow(alloc: Global, closed: &Closed) -> bool {
+    let mut rooms = 0..FULL_WRITTEN.len();
+    rooms.all(|room| write_history(alloc, &mut Narrow { room }, closed) == Err(PlayFault::Write))
 }

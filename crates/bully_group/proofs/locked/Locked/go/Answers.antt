@@ -21,7 +21,7 @@ pub invariant_of-self-2 : goal.invariant_of-self-2
 invariant_of-self-2 g c =
     let w = c.self.inside.world in
     let h = state_of c.args.procedure in
-    let s : LockedState = record { world = w; history = c.self.inside.history.items; counted = c.self.inside.book.total } in
+    let s : LockedState = record { world = w; history = c.self.inside.history.items; counted = c.self.inside.book.total; publisher = c.self.inside.publisher } in
     let e : Entry = record { actor = c.seat.inside.actor; event = c.in-Ok-take.taken.event; answer = c.in-Ok-take.taken.answer } in
     let room : w.events < w.setup.events_max = search rules in
     let step : Step w.setup (world_of w) e.event (world_of c.take.new.self) e.answer = search rules in
@@ -32,7 +32,7 @@ invariant_of-self-2 g c =
     let counted : c.take.new.self.events ≡ w.events + 1 = search rules in
     let made : c.add.new.history.items ≡ s.history ++ e ∷ [] = search rules in
     let total : c.count.new.book.total ≡ s.counted + 1 = search rules in
-    rw (made, total) (locked_more g.L.Naming.setup g.L.Ledger.parts s e c.take.new.self c.self.invariant room step yours same counted)
+    rw (made, total) (locked_more g.L.Naming.setup g.L.Naming.publisher g.L.Ledger.parts s e c.take.new.self c.self.invariant room step yours same counted)
 
 pub returns-clause-went : goal.returns-clause-went
 returns-clause-went g c = (
@@ -47,6 +47,7 @@ returns-clause-went g c = (
     log = search rules;
     actor = search rules;
     setup = search rules;
+    publisher = search rules;
     generations = no_turn_raises c.args.self.now.world c.take.new.self c.args.kind (state_of c.args.procedure) (search rules);
   },
   search rules,

@@ -14,7 +14,7 @@ use Rattle.bully_group.proofs.locked.Locked.take_in.Goals as goal
 pub invariant_of-self-2 : goal.invariant_of-self-2
 invariant_of-self-2 g c =
     let w = c.self.inside.world in
-    let s : LockedState = record { world = w; history = c.self.inside.history.items; counted = c.self.inside.book.total } in
+    let s : LockedState = record { world = w; history = c.self.inside.history.items; counted = c.self.inside.book.total; publisher = c.self.inside.publisher } in
     let e : Entry = record { actor = c.seat.inside.actor; event = c.in-Ok.event; answer = c.apply_allowed-answer.result } in
     let free : cause_in w c.args.event.now ≡ None = search rules in
     let room : w.events < w.setup.events_max = room_of w.setup (world_of w) w.events c.args.event.now free in
@@ -24,7 +24,7 @@ invariant_of-self-2 g c =
     let counted : c.apply_allowed-answer.new.self.events ≡ w.events + 1 = search rules in
     let made : c.add.new.history.items ≡ s.history ++ e ∷ [] = search rules in
     let total : c.count.new.book.total ≡ s.counted + 1 = search rules in
-    rw (made, total) (locked_more g.L.Naming.setup g.L.Ledger.parts s e c.apply_allowed-answer.new.self c.self.invariant room step yours same counted)
+    rw (made, total) (locked_more g.L.Naming.setup g.L.Naming.publisher g.L.Ledger.parts s e c.apply_allowed-answer.new.self c.self.invariant room step yours same counted)
 
 pub returns-clause-entry : goal.returns-clause-entry
 returns-clause-entry g c = record {
@@ -34,6 +34,7 @@ returns-clause-entry g c = record {
   log = search rules;
   actor = search rules;
   setup = search rules;
+  publisher = search rules;
   generations = search rules;
 }
 
