@@ -1,4 +1,5 @@
-//! What the benchmarks time beside plain Rust: plans for random groups, and turns of a group under its lock.
+//! What the benchmarks time beside plain Rust: plans for random groups, turns of a group under its lock, and looks of
+//! observers; and a watched group in threads.
 //!
 //! It stands on bully_group and the crates below it. Nothing stands on it.
 #![tactic(auto)]
@@ -7,25 +8,36 @@ mod planning;
 mod player;
 mod random;
 mod turns;
+mod watching;
 
 use crate::planning::plan_rounds;
 use crate::turns::take_turns;
+use crate::watching::{THREADS, Watching, watch_group};
 use std::alloc::Global;
 use std::env;
 use std::process::ExitCode;
 use std::sync::Wait;
+use std::thread::Threads;
 
 /// What is asked for.
 #[derive(Clone, Copy)]
 enum Task {
     Plans(u32),
     Turns(u16, u32),
+    Watch(u16, u16, Watching),
 }
 
 fn main(rt: HostRuntime) -> ExitCode {
     let answered = match task_asked(&rt) {
         Some(Task::Plans(rounds)) => answer_plans(&rt, rounds),
         Some(Task::Turns(nodes, count)) => answer_turns(&rt, rt.alloc(), nodes, count),
+        Some(Task::Watch(nodes, observers, task)) => answer_watch(
+            &rt,
+            rt.alloc(),
+            nodes,
+            observers,
+            task,
+        ),
         None => return ExitCode::from(2),
     };
     match answered {
@@ -34,16 +46,22 @@ fn main(rt: HostRuntime) -> ExitCode {
     }
 }
 
-// What the words behind the program's name ask for: `plan ROUNDS` or `turns NODES COUNT`.
+// What the words behind the program's name ask for: `plan ROUNDS`, `turns NODES COUNT`, `quiet NODES LOOKS`,
+// `publishing NODES LOOKS` or `watch TURNS`.
 fn task_asked(rt: &HostRuntime) -> Option<Task> {
     let mut words = env::args(rt).ok()?;
-    match words.nth(1)?.as_str() {
-        "plan" => Some(Task::Plans(words.next()?.as_str().parse().ok()?)),
-        "turns" => {
-            let nodes = words.next()?.as_str().parse().ok()?;
-            let count = words.next()?.as_str().parse().ok()?;
-            Some(Task::Turns(nodes, count))
-        }
+    let task = words.nth(1)?;
+    let first: u32 = words.next()?.as_str().parse().ok()?;
+    let nodes = u16::try_from(first).ok();
+    let count = words
+        .next()
+        .and_then(|word| word.as_str().parse::<u32>().ok());
+    match task.as_str() {
+        "plan" => Some(Task::Plans(first)),
+        "turns" => Some(Task::Turns(nodes?, count?)),
+        "quiet" => Some(Task::Watch(nodes?, 1, Watching::Quiet(count?))),
+        "publishing" => Some(Task::Watch(nodes?, 1, Watching::Publishing(count?))),
+        "watch" => Some(Task::Watch(THREADS, THREADS, Watching::Threads(first))),
         _ => None,
     }
 }
@@ -60,4 +78,22 @@ fn answer_turns<R: Wait + Print>(rt: &R, alloc: Global, nodes: u16, count: u32) 
     let sums = take_turns(rt, alloc, nodes, count)?;
     let (entries, made) = (sums.entries, sums.made);
     println!(rt; "entries {entries}\nmade {made}").ok()
+}
+
+// Does something with a watched group, and prints what came of it.
+fn answer_watch<R: Threads + Wait + Sync + Print>(
+    rt: &R,
+    alloc: Global,
+    nodes: u16,
+    observers: u16,
+    task: Watching,
+) -> Option<()> {
+    let watched = watch_group(rt, alloc, nodes, observers, task)?;
+    let (looks, publishes, made) = (watched.looks, watched.publishes, watched.made);
+    let (entries, seen) = (watched.entries, watched.seen);
+    match task {
+        Watching::Quiet(_) => println!(rt; "looks {looks}\nmade {made}").ok(),
+        Watching::Publishing(_) => println!(rt; "looks {looks}\npublishes {publishes}").ok(),
+        Watching::Threads(_) => println!(rt; "entries {entries}\nlooks {looks}\nseen {seen}").ok(),
+    }
 }
