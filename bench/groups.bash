@@ -1,4 +1,4 @@
-# Configurations for the scripts beside this one, written line by line.
+# For the scripts beside this one: configurations, written line by line, and what a run takes.
 
 # Begins one: nodes, partitions and turns. The nodes are named by their numbers.
 group() {
@@ -19,4 +19,17 @@ all_recover() {
     for node in $(seq 1 "$1"); do
         fault 1 "$node" recover
     done
+}
+
+# Runs a command whose output goes to this file, and prints its peak of memory in KiB.
+peak_of() {
+    local process peak=0 line
+    "${@:2}" > "$1" &
+    process=$!
+    while line=$(grep VmHWM "/proc/$process/status" 2> "$folder/ended"); do
+        peak=${line//[^0-9]/}
+        sleep 0.1
+    done
+    wait "$process"
+    echo "$peak"
 }

@@ -2,9 +2,9 @@ ghost use Rattle.std.specs.Prelude.{◌≡◌, ◌≤◌, length};
 ghost use Rattle.std.specs.Option.{IfSome, option_copied};
 ghost use Rattle.bully_steps.specs.Procedure.{state_of};
 
-use crate::turns::step;
+use crate::turns::{publish, step};
 use bully_base::{Node, Setup};
-use bully_group::{Group, Locked, Naming, Pass, Seat, Turn};
+use bully_group::{Group, Locked, Naming, Pass, Seat, StepFault, Turn};
 use bully_steps::{Choice, Driver, Procedure};
 use bully_table::Table;
 use bully_world::Event;
@@ -48,7 +48,8 @@ impl<L: Naming> Player<L> {
         }
     }
 
-    /// The node's turn in this round: it serves, or else does what it chooses. None where that can't be done.
+    /// The node's turn in this round: it serves, or else does what it chooses. What the world refuses, as a full history,
+    /// is passed over. None where the turn can't be taken.
     pub fn turn<R: Wait>(
         &mut self,
         rt: &R,
@@ -59,8 +60,10 @@ impl<L: Naming> Player<L> {
         let mut guard = group.locked.lock(rt);
         let served = guard.serve(&mut self.seat, &mut self.pass);
         MutexGuard::unlock(guard);
-        if served.ok()? {
-            return Some(());
+        match served {
+            Ok(true) => return Some(()),
+            Ok(false) | Err(StepFault::Refused(_)) => {}
+            Err(_) => return None,
         }
         let event = match Driver::choose(round, &self.procedure) {
             Choice::Check => Event::Check(self.node),
@@ -68,6 +71,16 @@ impl<L: Naming> Player<L> {
             Choice::Proceed => return self.proceed(rt, alloc, group),
         };
         step(rt, group, &mut self.seat, &event, &mut self.pass)
+    }
+
+    /// How many entries are its own.
+    pub fn entries(&self) -> u64 {
+        self.pass.amount()
+    }
+
+    /// The group's history is shown to its observers.
+    pub fn publish<R: Wait>(&self, rt: &R, group: &Group<L>) -> Option<()> {
+        publish(rt, group, &self.seat)
     }
 
     // The procedure goes on by the turn rule, with a table where it is Planning.
@@ -80,6 +93,10 @@ impl<L: Naming> Player<L> {
         MutexGuard::unlock(guard);
         match turn {
             Turn::Went(procedure) | Turn::Waiting(procedure) | Turn::Resynced(procedure) => {
+                self.procedure = procedure;
+                Some(())
+            }
+            Turn::Fault(procedure, StepFault::Refused(_)) => {
                 self.procedure = procedure;
                 Some(())
             }

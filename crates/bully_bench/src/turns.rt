@@ -42,10 +42,11 @@ fn turns_by<L: Naming, R: Wait>(
     requires name { blank.name ≡ L.name }
     requires parts { (blank.parts ≡ L.parts) × (L.parts ≡ L.setup.nodes + 1) }
 {
-    let Ok((group, mut seats, mut passes)) = Group::<L>::open(alloc, setup, blank) else {
+    let Ok((group, seats, passes)) = Group::<L>::open(alloc, setup, blank) else {
         return None;
     };
-    let played = played(rt, alloc, &group, setup, &mut seats, &mut passes, count);
+    let team = Team::new(alloc, setup, seats, passes);
+    let played = played(rt, alloc, &group, team, count);
     let locked = group.close();
     let sums = sums_of(locked.history());
     locked.end(rt);
@@ -53,34 +54,80 @@ fn turns_by<L: Naming, R: Wait>(
     Some(sums)
 }
 
+/// All that take turns in a group, one after the other: a player for each node in rising order, and the operator.
+#[derive(Drop)]
+pub struct Team<L: Naming> {
+    setup: Setup,
+    players: Vec<Player<L>>,
+    seat: Seat,
+    pass: Pass<L>,
+}
+
+impl<L: Naming> Team<L> {
+    /// All of a new group, with its seats and passes.
+    pub fn new(
+        alloc: Global,
+        setup: Setup,
+        seats: Vec<Seat>,
+        passes: Vec<Pass<L>>,
+    ) -> Option<Team<L>>
+        requires { setup ≡ L.setup }
+    {
+        let (mut seats, mut passes) = (seats, passes);
+        let players = players_of(alloc, setup, &mut seats, &mut passes)?;
+        Some(Team {
+            setup,
+            players,
+            seat: seats.pop()?,
+            pass: passes.pop()?,
+        })
+    }
+
+    /// How many turns of nodes there are in so many rounds, from 0 to the largest number.
+    pub fn turns_in(&self, rounds: u16) -> u32 {
+        u32::from(rounds).saturating_mul(u32::from(self.setup.nodes()))
+    }
+
+    /// The turn of this number, from 0 on. The operator comes before node 1.
+    pub fn turn<R: Wait>(
+        &mut self,
+        rt: &R,
+        alloc: Global,
+        group: &Group<L>,
+        turn: u32,
+    ) -> Option<()> {
+        let nodes = u32::from(self.setup.nodes());
+        let round = (turn / nodes).saturating_add(1);
+        if turn % nodes == 0 {
+            operate(rt, group, self.setup, round, &mut self.seat, &mut self.pass)?;
+        }
+        let place = usize::try_from(turn % nodes).ok()?;
+        self.players.get_mut(place)?.turn(rt, alloc, group, round)
+    }
+
+    /// The group's history is shown to its observers.
+    pub fn publish<R: Wait>(&self, rt: &R, group: &Group<L>) -> Option<()> {
+        publish(rt, group, &self.seat)
+    }
+}
+
 // So many turns of the group.
 fn played<L: Naming, R: Wait>(
     rt: &R,
     alloc: Global,
     group: &Group<L>,
-    setup: Setup,
-    seats: &mut Vec<Seat>,
-    passes: &mut Vec<Pass<L>>,
+    team: Option<Team<L>>,
     count: u32,
-) -> Option<()>
-    requires { setup ≡ L.setup }
-{
-    let mut players = players_of(alloc, setup, seats, passes)?;
-    let (mut seat, mut pass) = (seats.pop()?, passes.pop()?);
-    let nodes = u32::from(setup.nodes());
+) -> Option<()> {
+    let mut team = team?;
     for turn in 0..count {
-        let round = turn / nodes + 1;
-        if turn % nodes == 0 {
-            operate(rt, group, setup, round, &mut seat, &mut pass)?;
-        }
-        let place = usize::try_from(turn % nodes).ok()?;
-        players.get_mut(place)?.turn(rt, alloc, group, round)?;
+        team.turn(rt, alloc, group, turn)?;
     }
     Some(())
 }
 
-// A player for each node in rising order, with its seat and its pass. The operator's are left.
-fn players_of<L: Naming>(
+/// A player for each node in rising order, with its seat and its pass. The operator's are left.
+pub fn players_of<L: Naming>(
     alloc: Global,
     setup: Setup,
     seats: &mut Vec<Seat>,
@@ -127,7 +174,7 @@ fn operate<L: Naming, R: Wait>(
     Some(())
 }
 
-// One event, under the lock. One that the world refuses is passed over.
+/// One event, under the lock. One that the world refuses is passed over.
 pub fn step<L: Naming, R: Wait>(
     rt: &R,
     group: &Group<L>,
@@ -140,6 +187,17 @@ pub fn step<L: Naming, R: Wait>(
     MutexGuard::unlock(guard);
     match stepped {
         Ok(()) | Err(StepFault::Refused(_)) => Some(()),
+        Err(_) => None,
+    }
+}
+
+/// The history is shown to the group's observers, under the lock. What is told is dropped.
+pub fn publish<L: Naming, R: Wait>(rt: &R, group: &Group<L>, seat: &Seat) -> Option<()> {
+    let mut guard = group.locked.lock(rt);
+    let told = guard.publish(rt, seat);
+    MutexGuard::unlock(guard);
+    match told {
+        Ok(_told) => Some(()),
         Err(_) => None,
     }
 }
@@ -169,7 +227,7 @@ fn made_with(made: u64, entry: &Entry) -> u64 {
     made
 }
 
-fn joined(made: u64, number: u64) -> u64 {
+pub fn joined(made: u64, number: u64) -> u64 {
     made.wrapping_mul(31).wrapping_add(number)
 }
 

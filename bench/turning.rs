@@ -1,0 +1,294 @@
+//! Turns of a group in plain Rust, behind a lock. It has the same state as the locked group, the world with a history and a
+//! log for each actor, and asks no step whether it may be taken.
+
+use crate::planning::plan;
+use crate::world::{bit, Action, Node, Offer, Outcome, Phase, Point, Setup, World};
+use std::sync::Mutex;
+
+/// How often the last node crashes: once in so many rounds.
+const PERIOD: u32 = 1024;
+
+#[derive(Clone, Copy)]
+pub enum Answer {
+    Done,
+    Yes,
+    No,
+    Failed,
+    Discarded,
+}
+
+#[derive(Clone)]
+pub struct Entry {
+    pub actor: u8,
+    pub action: Action,
+    pub node: u8,
+    pub answer: Answer,
+    pub owners: Option<Box<[u8]>>,
+}
+
+/// What an actor has: its entries beside their indices, and how many there are.
+#[derive(Default)]
+struct Seat {
+    actor: u8,
+    log: Vec<(usize, Entry)>,
+    count: u64,
+}
+
+/// What lies under the lock.
+struct Locked {
+    world: World,
+    history: Vec<Entry>,
+    count: u64,
+}
+
+/// The procedure that a node holds: where it stands, and what it holds there.
+#[derive(Clone, Copy, PartialEq)]
+struct Procedure {
+    generation: u32,
+    point: Point,
+    up: u64,
+    coordinator: Option<u8>,
+    awaits: bool,
+}
+
+struct Player {
+    node: u8,
+    seat: Seat,
+    procedure: Procedure,
+}
+
+/// A group, and all that take turns in it.
+pub struct Group {
+    setup: Setup,
+    locked: Mutex<Locked>,
+    operator: Seat,
+    players: Vec<Player>,
+}
+
+fn answer_of(outcome: Outcome) -> Answer {
+    match outcome {
+        Outcome::Yes => Answer::Yes,
+        Outcome::No => Answer::No,
+        Outcome::Failed => Answer::Failed,
+    }
+}
+
+/// The procedure that the world shows of a node.
+fn shown(node: &Node) -> Procedure {
+    let (up, coordinator) = match node.point {
+        Point::Halting(_) | Point::Announcing(_) | Point::Planning => (node.up, None),
+        Point::Inquiring => (0, node.coordinator),
+        _ => (0, None),
+    };
+    Procedure {
+        generation: node.generation,
+        point: node.point,
+        up,
+        coordinator,
+        awaits: node.slot.phase != Phase::Empty && !node.has_orphan(),
+    }
+}
+
+impl Locked {
+    fn record(&mut self, seat: &mut Seat, action: Action, node: u8, answer: Answer, owners: Option<Box<[u8]>>) {
+        let entry = Entry {
+            actor: seat.actor,
+            action,
+            node,
+            answer,
+            owners,
+        };
+        seat.log.push((self.history.len(), entry.clone()));
+        self.history.push(entry);
+        self.count += 1;
+        seat.count += 1;
+    }
+
+    /// The operator's step, or an idle node's own; one that can't be is passed over.
+    fn step(&mut self, seat: &mut Seat, action: Action, number: u8) {
+        let nodes = self.world.setup.nodes;
+        let node = self.world.node_mut(number);
+        match action {
+            Action::Recover if node.is_down() => node.recover(number),
+            Action::Crash if !node.is_down() => node.crash(),
+            Action::Check if !node.is_down() && node.point == Point::Idle => node.check(number, nodes),
+            Action::Timeout if !node.is_down() && node.point == Point::Idle => node.time_out(number),
+            _ => return,
+        }
+        self.record(seat, action, number, Answer::Done, None);
+    }
+
+    /// Runs the call of the lowest caller that waits for the seat's node, if any.
+    fn serve(&mut self, seat: &mut Seat) -> bool {
+        let me = seat.actor;
+        if self.world.node(me).is_down() {
+            return false;
+        }
+        let waits = |&caller: &u8| {
+            let slot = &self.world.node(caller).slot;
+            slot.phase == Phase::Sent && slot.callee == me
+        };
+        let Some(caller) = (1..=self.world.setup.nodes).find(waits) else {
+            return false;
+        };
+        let outcome = self.world.exchange(caller, me);
+        self.record(seat, Action::Run, caller, answer_of(outcome), None);
+        true
+    }
+
+    /// The turn of the seat's node, with the procedure that it holds.
+    fn turn(&mut self, seat: &mut Seat, procedure: &mut Procedure) {
+        let me = seat.actor;
+        if *procedure != shown(self.world.node(me)) {
+            *procedure = shown(self.world.node(me));
+            return;
+        }
+        match self.world.node(me).slot.phase {
+            Phase::Empty => self.go(seat),
+            Phase::Sent => self.lose(seat),
+            Phase::Ran(outcome) => self.take_back(seat, outcome),
+            Phase::Failed => self.take_back(seat, Outcome::Failed),
+        }
+        *procedure = shown(self.world.node(me));
+    }
+
+    fn lose(&mut self, seat: &mut Seat) {
+        let callee = self.world.node(seat.actor).slot.callee;
+        if self.world.node(callee).is_down() {
+            self.world.node_mut(seat.actor).slot.phase = Phase::Failed;
+            self.record(seat, Action::Lose, seat.actor, Answer::Done, None);
+        }
+    }
+
+    fn take_back(&mut self, seat: &mut Seat, outcome: Outcome) {
+        let nodes = self.world.setup.nodes;
+        let node = self.world.node_mut(seat.actor);
+        let answer = if node.has_orphan() {
+            Answer::Discarded
+        } else {
+            answer_of(outcome)
+        };
+        node.close(seat.actor, nodes, outcome);
+        self.record(seat, Action::Return, seat.actor, answer, None);
+    }
+
+    /// What the node's point offers.
+    fn go(&mut self, seat: &mut Seat) {
+        let Setup { nodes, partitions } = self.world.setup;
+        let me = seat.actor;
+        let node = self.world.node_mut(me);
+        match node.offer(nodes) {
+            Offer::Nothing => {}
+            Offer::Call(callee, kind) => {
+                node.open(callee, kind);
+                self.record(seat, Action::Start, me, Answer::Done, None);
+            }
+            Offer::Move => {
+                node.advance(me);
+                self.record(seat, Action::Move, me, Answer::Done, None);
+            }
+            Offer::Plan => {
+                let old = node.has_task.then_some(node.task.as_slice());
+                let owners = plan(partitions, node.up | bit(me), old);
+                node.adopt(&owners);
+                self.record(seat, Action::Plan, me, Answer::Done, Some(owners));
+            }
+        }
+    }
+}
+
+impl Player {
+    fn new(node: u8) -> Player {
+        let procedure = Procedure {
+            generation: 0,
+            point: Point::Idle,
+            up: 0,
+            coordinator: None,
+            awaits: false,
+        };
+        let seat = Seat {
+            actor: node,
+            ..Seat::default()
+        };
+        Player { node, seat, procedure }
+    }
+
+    /// The node's turn in this round: it serves, or else does what it chooses.
+    fn turn(&mut self, group: &Mutex<Locked>, round: u32) {
+        if group.lock().unwrap().serve(&mut self.seat) {
+            return;
+        }
+        let idle = self.procedure.point == Point::Idle;
+        let mut locked = group.lock().unwrap();
+        match round % 16 {
+            0 if idle => locked.step(&mut self.seat, Action::Check, self.node),
+            8 if idle => locked.step(&mut self.seat, Action::Timeout, self.node),
+            _ => locked.turn(&mut self.seat, &mut self.procedure),
+        }
+    }
+}
+
+/// The operator's turn: all recover in the first round; the last node crashes once in a period, and recovers half way
+/// between.
+fn operate(group: &Mutex<Locked>, nodes: u8, round: u32, seat: &mut Seat) {
+    if round == 1 {
+        for node in 1..=nodes {
+            group.lock().unwrap().step(seat, Action::Recover, node);
+        }
+    } else if round % PERIOD == 0 {
+        group.lock().unwrap().step(seat, Action::Crash, nodes);
+    } else if round % PERIOD == PERIOD / 2 {
+        group.lock().unwrap().step(seat, Action::Recover, nodes);
+    }
+}
+
+impl Group {
+    /// A new group with four partitions for each node.
+    pub fn new(nodes: u8) -> Group {
+        let setup = Setup {
+            nodes,
+            partitions: 4 * nodes as usize,
+        };
+        let locked = Mutex::new(Locked {
+            world: World::new(setup),
+            history: Vec::new(),
+            count: 0,
+        });
+        Group {
+            setup,
+            locked,
+            operator: Seat::default(),
+            players: (1..=nodes).map(Player::new).collect(),
+        }
+    }
+
+    /// Takes the turn of this number, from 0 on, of one node after the other; the operator comes before node 1. The node.
+    pub fn turn(&mut self, turn: u32) -> u8 {
+        let nodes = self.setup.nodes;
+        let round = turn / u32::from(nodes) + 1;
+        let place = turn % u32::from(nodes);
+        if place == 0 {
+            operate(&self.locked, nodes, round, &mut self.operator);
+        }
+        self.players[place as usize].turn(&self.locked, round);
+        place as u8 + 1
+    }
+
+    /// How many events there were.
+    pub fn events(&self) -> u64 {
+        self.locked.lock().unwrap().count
+    }
+
+    /// Reads the world under the lock.
+    pub fn read<T>(&self, read: impl FnOnce(&World) -> T) -> T {
+        read(&self.locked.lock().unwrap().world)
+    }
+
+    /// The history, which has as many entries as all took.
+    pub fn history(self) -> Vec<Entry> {
+        let locked = self.locked.into_inner().unwrap();
+        let counted: u64 = self.operator.count + self.players.iter().map(|player| player.seat.count).sum::<u64>();
+        assert_eq!(counted, locked.count);
+        locked.history
+    }
+}
