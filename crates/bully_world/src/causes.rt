@@ -128,6 +128,7 @@ fn step_cause(member: &Member, offered: bool) -> Option<Refused>
 }
 
 // Why a Plan with this table is refused.
+#[inline(always)]
 fn plan_cause(setup: Setup, member: &Member, node: Node, table: &Table) -> Option<Refused>
     requires { IsPointOf setup node member.now.point }
     ensures { result ≡ (if not (is_plan (offered setup member.now.vector.vector.coordinator member.now.point)) then Some Refused.NoStep
@@ -142,6 +143,7 @@ fn plan_cause(setup: Setup, member: &Member, node: Node, table: &Table) -> Optio
 }
 
 // The table has the setup's partitions, and is balanced over the node and its up set.
+#[inline(always)]
 fn suits(setup: Setup, member: &Member, node: Node, table: &Table) -> bool
     ensures { result ≡ (length table.now == setup.partitions) && is_balanced setup table.now (with_node node member.now.vector.vector.up) }
 {

@@ -288,6 +288,7 @@ impl Member {
     }
 
     /// The node has planned this table.
+    #[inline(always)]
     pub fn plan(&mut self, table: &Table)
         requires { length table.now ≡ self.old.vector.room }
         ensures { self.new ≡ planned_state table.now self.old }
