@@ -327,7 +327,8 @@ fn work<L: Naming, R: Wait>(
     Some(Watched::default())
 }
 
-// Looks until none is left of those that take turns. None where a count falls.
+// Looks until none is left of those that take turns, and gives the processor away after each look, since a publish waits
+// for a look that has begun. None where a count falls.
 fn look_on(alloc: Global, observer: Observer, left: &AtomicU64) -> Option<Watched> {
     let mut observer = observer;
     let mut seen = 0;
@@ -344,6 +345,7 @@ fn look_on(alloc: Global, observer: Observer, left: &AtomicU64) -> Option<Watche
             return None;
         }
         seen = view.events();
+        thread::yield_now();
     }
     None
 }
