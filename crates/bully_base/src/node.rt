@@ -8,7 +8,7 @@ use std::marker::Model;
 /// A node's number, from 1 to [`NODES_MAX`]. A larger number has priority.
 #[derive(Clone, Copy, PartialEq, Eq, PartialOrd, Ord, Debug)]
 pub struct Node {
-    number: u16,
+    number: u8, // as tables have one for each partition
 }
 
 impl Model for Node {
@@ -30,7 +30,9 @@ impl Node {
         ensures { SomeIff result (IsNodeNumber number) number }
     {
         if 0 < number && number <= NODES_MAX {
-            Some(Node { number })
+            Some(Node {
+                number: number as u8,
+            })
         } else {
             None
         }
@@ -41,7 +43,7 @@ impl Node {
         ensures number { result ≡ self }
         ensures within { IsNodeNumber self }
     {
-        self.number
+        u16::from(self.number)
     }
 }
 
