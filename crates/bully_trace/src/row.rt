@@ -1,9 +1,8 @@
 ghost use Rattle.std.specs.Prelude.{◌≡◌, ◌<◌, ◌∷◌, [], length, IfOk, Some};
-ghost use Rattle.std.specs.Option.{option_and_then, option_map};
+ghost use Rattle.std.specs.Option.{option_and_then};
 ghost use Rattle.csv.specs.Records.{fields_of, field_at};
 ghost use Rattle.bully_base.specs.Setup.{Setup as SetupState};
 ghost use Rattle.bully_table.specs.Numeral.{number_of};
-ghost use Rattle.bully_trace.specs.declared.trace.Row.{Row};
 ghost use Rattle.bully_trace.specs.Rows.{header_of, row_of, within, node_in, event_named, status_named, coordinator_in, plan_in, claim_in};
 
 use crate::trace::{Claim, Row};

@@ -20,8 +20,8 @@ pub struct RowReader<R: Read> {
     alloc: Global,
     setup: Setup,
     records: Reader<R>,
-    // The record that was read last.
-    record: ByteRecord,
+    // The fields of the record that was read last.
+    fields: ByteRecord,
     // The number of the row that was read last.
     number: u32,
 }
@@ -48,13 +48,13 @@ impl<R: Read + Drop> RowReader<R> {
             .has_headers(false)
             .flexible(true)
             .from_reader(alloc, reader);
-        let mut record = ByteRecord::new(alloc);
-        let setup = next_header(&mut records, &mut record)?;
+        let mut fields = ByteRecord::new(alloc);
+        let setup = next_header(&mut records, &mut fields)?;
         Ok(RowReader {
             alloc,
             setup,
             records,
-            record,
+            fields,
             number: 1,
         })
     }
@@ -81,13 +81,13 @@ impl<R: Read + Drop> RowReader<R> {
         ensures setup { self.new.setup ≡ self.old.setup }
     {
         let number = self.number + 1;
-        if !next_record(&mut self.records, &mut self.record, number)? {
+        if !next_record(&mut self.records, &mut self.fields, number)? {
             return Ok(None);
         }
         if number > ROWS_MAX + 1 {
             return Err(fault(number, TraceCause::TooManyRows));
         }
-        match read_row(self.alloc, self.setup, &self.record)? {
+        match read_row(self.alloc, self.setup, &self.fields)? {
             Some(row) => {
                 self.number = number;
                 Ok(Some(row))
