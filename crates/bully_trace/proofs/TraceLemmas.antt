@@ -1,6 +1,6 @@
 -- A trace, from its header and the rows behind it, as far as it was read.
-use Rattle.std.proofs.Common.{◌≡◌, ◌∙◌, ◌+◌, ◌≤◌, ◌<◌, ◌++◌, arith, Bool, true, false, ℕ, List, [], ◌∷◌, Option, Some, None, Ok, Err, refl, sym, ap, append_assoc}
-use Rattle.std.specs.Prelude.{IfSome, IsOk, option_map}
+use Rattle.std.proofs.Common.{inl, inr, ◌≡◌, ◌∙◌, ◌+◌, ◌≤◌, ◌<◌, ◌++◌, arith, Bool, true, false, ℕ, List, [], ◌∷◌, Option, Some, None, Ok, Err, refl, sym, ap, append_assoc}
+use Rattle.std.specs.Prelude.{IfErr, IfOk, IfSome, IsOk, Result, option_map}
 use Rattle.std.proofs.lemmas.List.{append-nil, length-append}
 use Rattle.bully_base.specs.Setup.{Setup}
 use Rattle.bully_trace.specs.declared.TheConstants.{ROWS_MAX}
@@ -8,8 +8,8 @@ use Rattle.bully_trace.specs.declared.trace.Row.{Row}
 use Rattle.bully_trace.specs.declared.trace.Trace.{Trace}
 use Rattle.bully_trace.specs.declared.trace.TraceCause.{TraceCause}
 use Rattle.bully_trace.specs.declared.trace.TraceFault.{TraceFault}
-use Rattle.bully_trace.specs.Rows.{IsBehind, IsTraceOf, Record, fault_at, header_of, is_of_form, read_as, records_of, row_of, rows_from, trace_of}
-use Rattle.bully_trace.specs.RecordsLeft.{EndsReading, HasRead, HasTaken, IsOutside, RowsLeft, Takes}
+use Rattle.bully_trace.specs.Rows.{IsBehind, IsReadAs, IsTraceOf, Record, fault_at, header_of, is_of_form, read_as, records_of, row_of, rows_from, trace_of}
+use Rattle.bully_trace.specs.RecordsLeft.{EndsReading, HasRead, HasTaken, IsNext, IsOutside, RowsLeft, Takes}
 use Rattle.bully_trace.proofs.RowsLemmas.{bad-first, good-first, late-first, rows-behind}
 
 abbrev as_trace : Setup → List Row → Trace
@@ -71,7 +71,7 @@ read-late known rows left after found fields read takes is late =
         trace-left (records_of bytes) rows left t ∙ rw rest (rw (late-first left.setup (left.number + 1) fields more late) refl)
 
 -- a row of no form
-pub read-bad : (known : Option (List ℕ)) (rows : List Row) (left : RowsLeft) (after : Option (List Record)) (found : Bool) (fields : Record)
+read-bad : (known : Option (List ℕ)) (rows : List Row) (left : RowsLeft) (after : Option (List Record)) (found : Bool) (fields : Record)
     → HasRead known rows left → Takes left.records after found fields → found ≡ true → left.number + 1 ≤ ROWS_MAX + 1 → row_of left.setup fields ≡ None
     → EndsReading known (fault_at (left.number + 1) TraceCause.BadRow)
 read-bad known rows left after found fields read takes is low none =
@@ -103,7 +103,7 @@ read-failed known rows left fault read outside at_row = record {
         (t.header ∷ t.taken, t.rest, t.all, omega (arith, row, t.counted), ok)
 
 -- one more row
-pub read-more : (known : Option (List ℕ)) (rows : List Row) (left now : RowsLeft) (found : Bool) (fields : Record) (row : Row)
+read-more : (known : Option (List ℕ)) (rows : List Row) (left now : RowsLeft) (found : Bool) (fields : Record) (row : Row)
     → HasRead known rows left → Takes left.records now.records found fields → found ≡ true → left.number + 1 ≤ ROWS_MAX + 1 → row_of left.setup fields ≡ Some row
     → now.setup ≡ left.setup → now.number ≡ left.number + 1 → HasRead known (rows ++ (row ∷ [])) now
 read-more known rows left now found fields row read takes is low told same next = record {
@@ -128,6 +128,23 @@ read-more known rows left now found fields row read takes is low told same next 
               ∙ rw (good-first left.setup (left.number + 1) fields [] row low told) refl);
           behind = after;
         }
+
+-- the row that the fields mean is the next one
+pub read-next : (known : Option (List ℕ)) (rows : List Row) (left now : RowsLeft) (found : Bool) (fields : Record) (made : Result (Option Row) TraceFault)
+    → HasRead known rows left → Takes left.records now.records found fields → found ≡ true → left.number + 1 ≤ ROWS_MAX + 1 → IsReadAs left.setup (left.number + 1) fields made
+    → now.setup ≡ left.setup → now.number ≡ left.number + 1 → IfOk made (λ next. IsNext known rows next left.setup now)
+read-next known rows left now found fields (Ok None) read takes is low said same next = absurd said
+read-next known rows left now found fields (Ok (Some row)) read takes is low said same next = read-more known rows left now found fields row read takes is low said same next
+read-next known rows left now found fields (Err fault) read takes is low said same next = tt
+
+-- fields that mean no row are the first fault, and want of memory is none of form
+pub read-no-row : (known : Option (List ℕ)) (rows : List Row) (left : RowsLeft) (after : Option (List Record)) (found : Bool) (fields : Record) (made : Result (Option Row) TraceFault)
+    → HasRead known rows left → Takes left.records after found fields → found ≡ true → left.number + 1 ≤ ROWS_MAX + 1 → IsReadAs left.setup (left.number + 1) fields made
+    → IfErr made (EndsReading known)
+read-no-row known rows left after found fields (Ok next) read takes is low said = tt
+read-no-row known rows left after found fields (Err fault) read takes is low (inl (none, bad)) = rw bad (read-bad known rows left after found fields read takes is low none)
+read-no-row known rows left after found fields (Err fault) read takes is low (inr memory) =
+    rw memory (read-failed known rows left _ read (refl, λ e. absurd (cc e), λ _. refl) (λ e. absurd (cc e)))
 
 -- the header
 pub header-read : (known : Option (List ℕ)) (left after : Option (List Record)) (found : Bool) (fields : Record) (setup : Setup)

@@ -1,12 +1,13 @@
-ghost use Rattle.std.specs.Prelude.{◌≡◌, ◌<◌, ◌∷◌, [], length, IfOk, Some};
-ghost use Rattle.std.specs.Option.{option_and_then};
+ghost use Rattle.std.specs.Prelude.{◌≡◌, ◌<◌, ◌∷◌, [], length, Some, Err};
+ghost use Rattle.std.specs.Option.{option_and_then, option_map};
 ghost use Rattle.csv.specs.Records.{fields_of, field_at};
 ghost use Rattle.bully_base.specs.Setup.{Setup as SetupState};
 ghost use Rattle.bully_table.specs.Numeral.{number_of};
-ghost use Rattle.bully_trace.specs.Rows.{header_of, row_of, within, node_in, event_named, status_named, coordinator_in, plan_in, claim_in};
+ghost use Rattle.bully_trace.specs.declared.trace.Row.{Row};
+ghost use Rattle.bully_trace.specs.Rows.{IsReadAs, header_of, within, node_in, event_named, status_named, coordinator_in, claim_in, fault_at};
 
-use crate::trace::{Claim, Row};
-use bully_base::{EVENTS_MAX, NODES_MAX, Node, OutOfMemory, PARTITIONS_MAX, Setup, Status};
+use crate::trace::{Claim, Row, TraceCause, TraceFault};
+use bully_base::{EVENTS_MAX, NODES_MAX, Node, PARTITIONS_MAX, Setup, Status};
 use bully_table::{Table, TableFault, read_number};
 use bully_world::Event;
 use csv::ByteRecord;
@@ -24,16 +25,41 @@ pub fn read_header(row: &ByteRecord) -> Option<Setup>
     setup_in(word, version, field(row, 2), field(row, 3))
 }
 
-/// The row that a later record of a trace tells; none where it has no form that the profile lists.
-/// Refused where an allocation fails.
-pub fn read_row(alloc: Global, setup: Setup, row: &ByteRecord) -> Result<Option<Row>, OutOfMemory>
-    ensures { IfOk result (λ r. r ≡ row_of setup (fields_of row.now)) }
+/// The row of this number, as its record tells it; there is one. Refused as `BadRow` where it has no form that the
+/// profile lists, and as `OutOfMemory` where an allocation fails.
+// (of the type that the row goes on in, so that it is made in its place)
+pub fn read_row(
+    alloc: Global,
+    setup: Setup,
+    number: u32,
+    fields: &ByteRecord,
+) -> Result<Option<Row>, TraceFault>
+    ensures { IsReadAs setup number (fields_of fields.now) result }
 {
-    match row.len() {
-        2 => Ok(event_row(field(row, 0), field(row, 1))),
-        3 => plan_row(alloc, setup, field(row, 0), field(row, 1), field(row, 2)),
-        4 => Ok(claim_row(field(row, 0), field(row, 1), field(row, 2), field(row, 3))),
-        _ => Ok(None),
+    match fields.len() {
+        2 => event_row(number, field(fields, 0), field(fields, 1)),
+        3 => {
+            let word = field(fields, 0);
+            plan_row(
+                alloc,
+                setup,
+                number,
+                word,
+                field(fields, 1),
+                field(fields, 2),
+            )
+        }
+        4 => {
+            let word = field(fields, 0);
+            claim_row(
+                number,
+                word,
+                field(fields, 1),
+                field(fields, 2),
+                field(fields, 3),
+            )
+        }
+        _ => bad_row(number),
     }
 }
 
@@ -58,52 +84,83 @@ fn setup_in(word: &[u8], version: &[u8], nodes: &[u8], partitions: &[u8]) -> Opt
 }
 
 // What two fields mean.
-fn event_row(word: &[u8], node: &[u8]) -> Option<Row>
-    ensures { (setup : SetupState) → result ≡ row_of setup (word.now ∷ node.now ∷ []) }
+fn event_row(number: u32, word: &[u8], node: &[u8]) -> Result<Option<Row>, TraceFault>
+    ensures { (setup : SetupState) → IsReadAs setup number (word.now ∷ node.now ∷ []) result }
 {
-    let node = read_node(node)?;
-    let event = event_of(word, node)?;
-    Some(Row::Event(event))
+    let Some(node) = read_node(node) else {
+        return bad_row(number);
+    };
+    match event_of(word, node) {
+        Some(event) => Ok(Some(Row::Event(event))),
+        None => bad_row(number),
+    }
 }
 
 // What three fields mean.
 fn plan_row(
     alloc: Global,
     setup: Setup,
+    number: u32,
     word: &[u8],
     node: &[u8],
     owners: &[u8],
-) -> Result<Option<Row>, OutOfMemory>
-    ensures { IfOk result (λ r. r ≡ row_of setup (word.now ∷ node.now ∷ owners.now ∷ [])) }
+) -> Result<Option<Row>, TraceFault>
+    ensures { IsReadAs setup number (word.now ∷ node.now ∷ owners.now ∷ []) result }
 {
     if word != b"plan".as_slice() {
-        return Ok(None);
+        return bad_row(number);
     }
     let Some(node) = read_node(node) else {
-        return Ok(None);
+        return bad_row(number);
     };
     match Table::read_bytes(alloc, setup, owners) {
         Ok(table) => Ok(Some(Row::Event(Event::Plan(node, table)))),
-        Err(TableFault::OutOfMemory) => Err(AllocError),
-        Err(_) => Ok(None),
+        Err(TableFault::OutOfMemory) => Err(TraceFault::from(AllocError)),
+        Err(_) => bad_row(number),
     }
 }
 
 // What four fields mean.
-fn claim_row(word: &[u8], node: &[u8], status: &[u8], coordinator: &[u8]) -> Option<Row>
-    ensures { (setup : SetupState) → result ≡ row_of setup (word.now ∷ node.now ∷ status.now ∷ coordinator.now ∷ []) }
+fn claim_row(
+    number: u32,
+    word: &[u8],
+    node: &[u8],
+    status: &[u8],
+    coordinator: &[u8],
+) -> Result<Option<Row>, TraceFault>
+    ensures { (setup : SetupState) → IsReadAs setup number (word.now ∷ node.now ∷ status.now ∷ coordinator.now ∷ []) result }
 {
     if word != b"saw".as_slice() {
-        return None;
+        return bad_row(number);
     }
+    match claim_of(node, status, coordinator) {
+        Some(claim) => Ok(Some(Row::Claim(claim))),
+        None => bad_row(number),
+    }
+}
+
+// What the fields of a claim mean.
+fn claim_of(node: &[u8], status: &[u8], coordinator: &[u8]) -> Option<Claim>
+    ensures { option_map Row.Claim result ≡ claim_in node.now status.now coordinator.now }
+{
     let node = read_node(node)?;
     let status = status_of(status)?;
     let coordinator = read_coordinator(coordinator)?;
-    Some(Row::Claim(Claim {
+    Some(Claim {
         node,
         status,
         coordinator,
-    }))
+    })
+}
+
+// There is no row of this form.
+fn bad_row(number: u32) -> Result<Option<Row>, TraceFault>
+    ensures { result ≡ Err (fault_at number TraceCause.BadRow) }
+{
+    Err(TraceFault {
+        row: number,
+        cause: TraceCause::BadRow,
+    })
 }
 
 // The event of this word at the node.

@@ -1,6 +1,6 @@
 ghost use Rattle.std.specs.Prelude.{◌≡◌, ◌≢◌, ◌⊎◌, ◌+◌, ◌≤◌, ℕ, List, [], Option, None, Some, IfErr, IfOk, IfSome, option_map};
 ghost use Rattle.csv.specs.Records.{fields_of};
-ghost use Rattle.bully_trace.specs.Rows.{fault_at, records_of, row_of};
+ghost use Rattle.bully_trace.specs.Rows.{fault_at, records_of};
 ghost use Rattle.bully_trace.specs.declared.TheConstants.{ROWS_MAX};
 ghost use Rattle.bully_trace.specs.declared.trace.Row.{Row};
 ghost use Rattle.bully_trace.specs.RecordsLeft.{EndsReading, HasRead, IsNext, IsOutside, ReadsPlain, Takes, records_left};
@@ -87,13 +87,8 @@ impl<R: Read + Drop> RowReader<R> {
         if number > ROWS_MAX + 1 {
             return Err(fault(number, TraceCause::TooManyRows));
         }
-        match read_row(self.alloc, self.setup, &self.fields)? {
-            Some(row) => {
-                self.number = number;
-                Ok(Some(row))
-            }
-            None => Err(fault(number, TraceCause::BadRow)),
-        }
+        self.number = number;
+        read_row(self.alloc, self.setup, number, &self.fields)
     }
 }
 

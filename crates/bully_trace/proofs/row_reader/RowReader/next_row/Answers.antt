@@ -1,6 +1,6 @@
-use Rattle.std.proofs.Common.{◌∙◌, refl, rules, sym}
+use Rattle.std.proofs.Common.{refl, rules}
 use Rattle.std.proofs.lemmas.Result.{err_from_is_err_and}
-use Rattle.bully_trace.proofs.TraceLemmas.{read-bad, read-failed, read-late, read-more}
+use Rattle.bully_trace.proofs.TraceLemmas.{read-failed, read-late, read-next, read-no-row}
 use Rattle.bully_trace.proofs.row_reader.RowReader.next_row.Goals as goal
 
 pub returns-in_err-next_record-clause-fault : goal.returns-in_err-next_record-clause-fault
@@ -14,14 +14,12 @@ returns-then-number-clause-fault g c =
     rw (← c.self.view_is, c.fault.ensures) (λ known rows read.
     read-late known rows _ _ c.in_ok-next_record.field-0 _ read c.in_ok-next_record.ensures.takes (search rules) (search rules))
 
-pub returns-in-None-clause-fault : goal.returns-in-None-clause-fault
-returns-in-None-clause-fault g c =
-    rw (← c.self.view_is, c.fault-in-None.ensures) (λ known rows read.
-    read-bad known rows _ _ c.in_ok-next_record.field-0 _ read c.in_ok-next_record.ensures.takes (search rules) (search rules)
-    (sym c.in_ok-row.ensures ∙ c.in-None.is))
-
-pub returns-in-Some-clause-next : goal.returns-in-Some-clause-next
-returns-in-Some-clause-next g c =
+pub returns-clause-next : goal.returns-clause-next
+returns-clause-next g c =
     rw (← c.self.view_is) (λ known rows read.
-    read-more known rows _ _ c.in_ok-next_record.field-0 _ c.in-Some.row read c.in_ok-next_record.ensures.takes (search rules) (search rules)
-    (sym c.in_ok-row.ensures ∙ c.in-Some.is) refl refl)
+    read-next known rows _ _ c.in_ok-next_record.field-0 _ c.read_row.result read c.in_ok-next_record.ensures.takes (search rules) (search rules) c.read_row.ensures refl refl)
+
+pub returns-clause-fault : goal.returns-clause-fault
+returns-clause-fault g c =
+    rw (← c.self.view_is) (λ known rows read.
+    read-no-row known rows _ _ c.in_ok-next_record.field-0 _ c.read_row.result read c.in_ok-next_record.ensures.takes (search rules) (search rules) c.read_row.ensures)
