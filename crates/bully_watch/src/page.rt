@@ -1,5 +1,8 @@
 //! The two copies of the world, and the rule over the shown one and what each seat knows.
-ghost use Rattle.bully_watch.specs.PageRule.{applied_to, page_of};
+ghost use Rattle.std.specs.Prelude.{◌≡◌, IfOk};
+ghost use Rattle.std.specs.Arc.{arc_value};
+ghost use Rattle.left_right.specs.Sides.{view};
+ghost use Rattle.bully_watch.specs.PageRule.{applied_to, no_knowledge, page_of};
 
 use crate::Entry;
 use crate::knowledge::Knowledge;
@@ -7,7 +10,7 @@ use atomic_table::{Join, Split};
 use bully_world::World;
 use crossbeam_utils::rule::{Outcome, Protocol};
 use left_right::Absorb;
-use left_right::reader::Reader;
+use left_right::reader::{Factory, Reader};
 use left_right::writer::Writer;
 use std::alloc::AllocError;
 use std::marker::{Brand, Model, PhantomData};
@@ -115,5 +118,16 @@ impl Join<Knowledge> for Learn {
 /// A reader of the shown copy.
 pub type PageReader = Reader<Page, Knowledge, Observing>;
 
+/// What makes readers of the shown copy.
+pub type PageFactory = Factory<Page, Knowledge, Observing>;
+
 /// The writer of both copies.
 pub type PageWriter = Writer<Page, Entry, Knowledge, Observing>;
+
+/// A new reader, which knows nothing yet. Refused where each place is in use.
+pub fn new_reader(factory: &PageFactory) -> Result<PageReader, AllocError>
+    ensures knowledge { IfOk result (λ r. view r.place ≡ no_knowledge) }
+    ensures table { IfOk result (λ r. r.place.table_id ≡ (arc_value factory.now.board).shared.table_id) }
+{
+    factory.reader()
+}

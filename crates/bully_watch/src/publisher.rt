@@ -8,7 +8,7 @@ ghost use Rattle.bully_watch.specs.PageRule.{IsPublisher, LeadsToPage, prefix_of
 
 use crate::Entry;
 use crate::observer::Observer;
-use crate::page::{Learn, NextKnowledge, Page, PageReader, PageWriter, Publish, Tell};
+use crate::page::{Learn, NextKnowledge, Page, PageReader, PageWriter, Publish, Tell, new_reader};
 use crate::told::Told;
 use bully_base::{OutOfMemory, Setup};
 use bully_world::World;
@@ -156,7 +156,7 @@ impl Publisher {
             count,
         } = self;
         let (writer, count) = take_in(writer, count, entries);
-        let place = writer.factory().reader();
+        let place = new_reader(writer.factory());
         if count < entries.len() || place.is_err() {
             let publisher = Publisher {
                 name,
@@ -223,7 +223,7 @@ fn reader_of<R: Wait>(rt: &R, writer: &PageWriter) -> PageReader
     ensures { result.place.table_id ≡ writer.now.desk.place.table_id }
 {
     for _ in rt.forever() {
-        if let Ok(reader) = writer.factory().reader() {
+        if let Ok(reader) = new_reader(writer.factory()) {
             return reader;
         }
     }
@@ -247,7 +247,7 @@ fn enroll(alloc: Global, writer: &mut PageWriter, count: u16) -> Result<Vec<Obse
 {
     let mut observers = Vec::new(alloc);
     for _number in 0..count {
-        let mut reader = writer.factory().reader()?;
+        let mut reader = new_reader(writer.factory())?;
         tell(writer, &mut reader);
         observers.push(Observer::of(reader))?;
     }

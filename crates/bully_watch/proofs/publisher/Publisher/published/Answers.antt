@@ -6,11 +6,7 @@ use Rattle.bully_watch.specs.PageRule.{IsPublisher}
 use Rattle.bully_watch.specs.declared.knowledge.Knowledge.{Knowledge}
 use Rattle.bully_watch.specs.declared.knowledge.PublisherId.{PublisherId}
 use Rattle.bully_watch.proofs.PublisherLemmas.{taken_more}
-use Rattle.bully_watch.proofs.StepLemmas.{admits}
 use Rattle.bully_watch.proofs.publisher.Publisher.published.Goals as goal
-
-pub reader-place-requires : goal.reader-place-requires
-reader-place-requires g c = admits
 
 pub invariant_of-publisher : goal.invariant_of-publisher
 invariant_of-publisher g c =
