@@ -1,352 +1,253 @@
-ghost use Rattle.std.specs.Prelude.{◌≡◌, ◌+◌};
+ghost use Rattle.std.specs.Prelude.{◌≡◌, ◌+◌, IfErr, None};
 
+use crate::finished::{finish_call, history_call};
+use crate::opened::{OPERATOR, Opened, SECOND, THIRD};
 use crate::tables::setup;
-use crate::trying::{Told, Trial};
+use crate::trying::{Outcome, Trial, ended, is_same};
 use crate::worlds::{BEFORE_PLAN, BEFORE_RUN, election, planning_in};
 use bully_base::Setup;
-use bully_group::{Closed, FinishFault, Group, Locked, Naming, Pass, Seat, StepFault, Turn};
+use bully_group::{Group, Locked, Naming, StepFault};
 use bully_steps::Procedure;
 use bully_world::Event;
 use std::alloc::Global;
-use std::fmt;
 use std::marker::Brand;
+use std::sync::Wait;
 use std::sync::ledger::Blank;
 
-/// The place of the operator's seat and that of node 2's and node 3's.
-const OPERATOR: usize = 0;
-
-const SECOND: usize = 2;
-
-const THIRD: usize = 3;
+/// A call on a group that nobody watches, or on its finished history.
+#[derive(Clone, Copy)]
+pub enum Asked {
+    Open,
+    OpenShared,
+    Step,
+    Serve,
+    Turn,
+    View,
+    Finish,
+    WriteHistory,
+    PublishHistory,
+}
 
 /// A call on a group of three nodes.
-pub fn group_call<R: Print>(trial: &Trial<R>, name: &str) -> Option<Told> {
-    let setup = setup()?;
-    let blank = Blank::new(u64::from(setup.nodes()) + 1);
-    tried_by::<Brand, R>(trial, name, setup, blank)
+pub fn group_call<R: Print + Wait>(trial: &Trial<R>, name: &str) -> Option<Outcome> {
+    let asked = match name {
+        "Locked::open" => Asked::Open,
+        "Group::open" => Asked::OpenShared,
+        "Locked::step" => Asked::Step,
+        "Locked::serve" => Asked::Serve,
+        "Locked::turn" => Asked::Turn,
+        "Locked::view" => Asked::View,
+        "Locked::finish" => Asked::Finish,
+        "write_history" => Asked::WriteHistory,
+        "Publisher::publish" => Asked::PublishHistory,
+        _ => return None,
+    };
+    asked_call(trial, asked)
 }
 
-fn tried_by<L: Naming, R: Print>(
+fn asked_call<R: Print + Wait>(trial: &Trial<R>, asked: Asked) -> Option<Outcome> {
+    let setup = setup()?;
+    let blank = Blank::new(u64::from(setup.nodes()) + 1);
+    tried_by::<Brand, R>(trial, asked, setup, blank)
+}
+
+fn tried_by<L: Naming, R: Print + Wait>(
     trial: &Trial<R>,
-    name: &str,
+    asked: Asked,
     setup: Setup,
     blank: Blank,
-) -> Option<Told>
+) -> Option<Outcome>
     requires setup { setup ≡ L.setup }
+    requires unwatched { L.publisher ≡ None }
     requires name { blank.name ≡ L.name }
     requires parts { (blank.parts ≡ L.parts) × (L.parts ≡ L.setup.nodes + 1) }
 {
-    match name {
-        "Locked::open" => locked_call::<L, R>(trial, setup, blank),
-        "Group::open" => open_call::<L, R>(trial, setup, blank),
-        "Locked::finish" => finish_call::<L, R>(trial, setup, blank),
-        _ => held_call::<L, R>(trial, name, setup, blank),
+    match asked {
+        Asked::Open | Asked::OpenShared => open_call::<L, R>(trial, asked, setup, blank),
+        _ => match open_by::<L>(trial.alloc, asked, setup, blank) {
+            Ok(opened) => opened_call(trial, asked, opened),
+            Err(_) => None,
+        },
     }
 }
 
-// A group's parts under a call.
-#[derive(Drop)]
-struct Held<'a, L: Naming> {
-    locked: &'a mut Locked<L>,
-    seats: &'a mut Vec<Seat>,
-    passes: &'a mut Vec<Pass<L>>,
-}
-
-// All that can be read of them.
-impl<'a, L: Naming> fmt::Debug for Held<'a, L> {
-    fn fmt<W: fmt::Write>(&self, f: &mut fmt::Formatter<W>) -> fmt::Result {
-        write!(
-            f,
-            "{:?} {:?} {:?}",
-            self.locked.world(),
-            self.locked.history(),
-            self.seats.as_slice()
-        )?;
-        for pass in self.passes.iter() {
-            write!(f, " {}", pass.amount())?;
-        }
-        Ok(())
+// A group that is opened. The blank comes back where that is refused.
+fn open_call<L: Naming, R: Print + Wait>(
+    trial: &Trial<R>,
+    asked: Asked,
+    setup: Setup,
+    blank: Blank,
+) -> Option<Outcome>
+    requires setup { setup ≡ L.setup }
+    requires unwatched { L.publisher ≡ None }
+    requires name { blank.name ≡ L.name }
+    requires parts { (blank.parts ≡ L.parts) × (L.parts ≡ L.setup.nodes + 1) }
+{
+    trial.begin();
+    let answer = open_by::<L>(trial.alloc, asked, setup, blank);
+    trial.end();
+    match answer {
+        Ok(opened) => new_outcome(trial, false, opened),
+        Err(blank) => match open_by::<L>(trial.alloc, asked, setup, blank) {
+            Ok(opened) => new_outcome(trial, true, opened),
+            Err(_) => None,
+        },
     }
 }
 
-impl<'a, L: Naming> Held<'a, L> {
-    // Takes the events, each by its actor's seat.
-    fn play(&mut self, events: &[Event]) -> Option<()> {
-        for event in events {
-            self.take(event)?;
-        }
-        Some(())
-    }
-
-    // Takes the event by the seat of its actor.
-    fn take(&mut self, event: &Event) -> Option<()> {
-        for place in 0..self.seats.len() {
-            match self.step(place, event) {
-                Ok(()) => return Some(()),
-                Err(Some(StepFault::NotYours)) => {}
-                Err(_) => return None,
-            }
-        }
-        None
-    }
-
-    // A step by the seat at this place; no fault where there is none.
-    fn step(&mut self, place: usize, event: &Event) -> Result<(), Option<StepFault>> {
-        let (Some(seat), Some(pass)) = (self.seats.get_mut(place), self.passes.get_mut(place))
-        else {
-            return Err(None);
-        };
-        self.locked.step(seat, event, pass).map_err(Some)
-    }
-
-    fn serve(&mut self, place: usize) -> Result<bool, Option<StepFault>> {
-        let (Some(seat), Some(pass)) = (self.seats.get_mut(place), self.passes.get_mut(place))
-        else {
-            return Err(None);
-        };
-        self.locked.serve(seat, pass).map_err(Some)
-    }
-
-    // A turn with the procedure, which comes back in any case. Whether a step was taken.
-    fn turn(
-        &mut self,
-        place: usize,
-        held: &mut Option<Procedure>,
-    ) -> Result<bool, Option<StepFault>> {
-        let (Some(seat), Some(pass)) = (self.seats.get_mut(place), self.passes.get_mut(place))
-        else {
-            return Err(None);
-        };
-        let Some(procedure) = held.take() else {
-            return Err(None);
-        };
-        if procedure.setup() != self.locked.setup() {
-            return Err(None);
-        }
-        let (back, told) = match self.locked.turn(seat, procedure, pass) {
-            Turn::Went(back) => (back, Ok(true)),
-            Turn::Waiting(back) | Turn::Resynced(back) => (back, Ok(false)),
-            Turn::Fault(back, fault) => (back, Err(Some(fault))),
-        };
-        *held = Some(back);
-        told
+// A group that is opened bare, or with its lock, which is taken off.
+fn open_by<L: Naming>(
+    alloc: Global,
+    asked: Asked,
+    setup: Setup,
+    blank: Blank,
+) -> Result<Opened<L>, Blank>
+    requires setup { setup ≡ L.setup }
+    requires unwatched { L.publisher ≡ None }
+    requires name { blank.name ≡ L.name }
+    requires parts { (blank.parts ≡ L.parts) × (L.parts ≡ L.setup.nodes + 1) }
+    ensures { IfErr result (λ back. back ≡ blank) }
+{
+    match asked {
+        Asked::OpenShared => match Group::<L>::open(alloc, setup, blank) {
+            Ok((group, seats, passes)) => Ok(Opened::of(group.close(), seats, passes)),
+            Err((_, blank)) => Err(blank),
+        },
+        _ => match Locked::<L>::open(alloc, setup, blank) {
+            Ok((locked, seats, passes)) => Ok(Opened::of(locked, seats, passes)),
+            Err((_, blank)) => Err(blank),
+        },
     }
 }
 
-// A call that takes a group as it is, in the middle of an election.
+/// The outcome of a call that opened this group, which is ended.
+pub fn new_outcome<L: Naming, R: Print + Wait>(
+    trial: &Trial<R>,
+    was_refused: bool,
+    opened: Opened<L>,
+) -> Option<Outcome> {
+    let text = opened.text(trial.alloc);
+    opened.end(trial.rt);
+    ended(was_refused, text)
+}
+
+// A call on a group, which is ended then.
+fn opened_call<L: Naming, R: Print + Wait>(
+    trial: &Trial<R>,
+    asked: Asked,
+    opened: Opened<L>,
+) -> Option<Outcome> {
+    let mut opened = opened;
+    if played(trial.alloc, asked, &mut opened).is_none() {
+        opened.end(trial.rt);
+        return None;
+    }
+    match asked {
+        Asked::Finish => finish_call(trial, opened),
+        Asked::WriteHistory | Asked::PublishHistory => history_call(trial, asked, opened),
+        _ => {
+            let outcome = held_call(trial, asked, &mut opened);
+            opened.end(trial.rt);
+            outcome
+        }
+    }
+}
+
+// Takes those events of the election that come before the call.
+fn played<L: Naming>(alloc: Global, asked: Asked, opened: &mut Opened<L>) -> Option<()> {
+    let events = election(alloc)?;
+    let before = match asked {
+        Asked::Serve => BEFORE_RUN,
+        Asked::Step | Asked::Turn | Asked::View => BEFORE_PLAN,
+        _ => events.len(),
+    };
+    opened.play(events.get(..before)?)
+}
+
 fn held_call<L: Naming, R: Print>(
     trial: &Trial<R>,
-    name: &str,
-    setup: Setup,
-    blank: Blank,
-) -> Option<Told>
-    requires setup { setup ≡ L.setup }
-    requires name { blank.name ≡ L.name }
-    requires parts { (blank.parts ≡ L.parts) × (L.parts ≡ L.setup.nodes + 1) }
-{
-    let Ok((mut locked, mut seats, mut passes)) = Locked::<L>::open(trial.alloc, setup, blank)
-    else {
-        return None;
-    };
-    let held = Held {
-        locked: &mut locked,
-        seats: &mut seats,
-        passes: &mut passes,
-    };
-    call_on(trial, name, held)
+    asked: Asked,
+    opened: &mut Opened<L>,
+) -> Option<Outcome> {
+    match asked {
+        Asked::View => view_call(trial, opened),
+        _ => {
+            let events = election(trial.alloc)?;
+            let mut held = planned(trial.alloc, opened);
+            change_call(trial, asked, opened, events.get(BEFORE_PLAN)?, &mut held)
+        }
+    }
 }
 
-fn call_on<'a, L: Naming, R: Print>(
+fn view_call<L: Naming, R: Print>(trial: &Trial<R>, opened: &Opened<L>) -> Option<Outcome> {
+    let seat = opened.seats.get(OPERATOR)?;
+    trial.begin();
+    let answer = opened.locked.view(seat);
+    trial.outcome(&answer, "OutOfMemory")
+}
+
+// A call that changes the group, and is made again on what a refusal left.
+fn change_call<L: Naming, R: Print>(
     trial: &Trial<R>,
-    name: &str,
-    mut held: Held<'a, L>,
-) -> Option<Told> {
-    let memory = "Some(OutOfMemory)";
-    let events = election(trial.alloc)?;
-    let before = if name == "Locked::serve" {
-        BEFORE_RUN
-    } else {
-        BEFORE_PLAN
-    };
-    held.play(events.get(..before)?)?;
-    match name {
-        "Locked::step" => {
-            let plan = events.get(before)?;
-            trial.call(memory, held, |h| h.step(THIRD, plan))
+    asked: Asked,
+    opened: &mut Opened<L>,
+    event: &Event,
+    held: &mut Option<Procedure>,
+) -> Option<Outcome> {
+    let before = text_with(trial.alloc, opened, held);
+    trial.begin();
+    let answer = change(asked, opened, event, held);
+    trial.end();
+    let was_refused = is_refused(answer)?;
+    if was_refused {
+        let after = text_with(trial.alloc, opened, held);
+        if !is_same(&before, &after) {
+            return None;
         }
-        "Locked::serve" => trial.call(memory, held, |h| h.serve(SECOND)),
-        "Locked::turn" => {
-            let planning = planning_in(held.locked.world())?;
-            let planned = planning.prepare(trial.alloc, None).ok()?;
-            let procedure = Some(Procedure::Planned(planned));
-            trial.call(memory, (held, procedure), |h| h.0.turn(THIRD, &mut h.1))
-        }
-        "Locked::view" => view_call(trial, held),
-        _ => None,
+        change(asked, opened, event, held).ok()?;
+    }
+    ended(was_refused, text_with(trial.alloc, opened, held))
+}
+
+// The call: node 3 takes the event, which plans, so that its entry has the table; node 2 runs node 3's halt; or node 3
+// takes its turn with the planned procedure.
+fn change<L: Naming>(
+    asked: Asked,
+    opened: &mut Opened<L>,
+    event: &Event,
+    held: &mut Option<Procedure>,
+) -> Result<(), Option<StepFault>> {
+    match asked {
+        Asked::Serve => opened.serve(SECOND),
+        Asked::Turn => opened.turn(THIRD, held),
+        _ => opened.step(THIRD, event),
     }
 }
 
-fn view_call<'a, L: Naming, R: Print>(trial: &Trial<R>, held: Held<'a, L>) -> Option<Told> {
-    trial.call("Some(OutOfMemory)", held, |h| match h.seats.get(OPERATOR) {
-        Some(seat) => h.locked.view(seat).map_err(Some),
-        None => Err(None),
-    })
-}
-
-// A group that is opened bare. The blank comes back where that is refused.
-fn locked_call<L: Naming, R: Print>(trial: &Trial<R>, setup: Setup, blank: Blank) -> Option<Told>
-    requires setup { setup ≡ L.setup }
-    requires name { blank.name ≡ L.name }
-    requires parts { (blank.parts ≡ L.parts) × (L.parts ≡ L.setup.nodes + 1) }
-{
-    trial.mark("called");
-    let first = Locked::<L>::open(trial.alloc, setup, blank);
-    trial.mark("answered");
-    match first {
-        Ok(opened) => opened_told(trial.alloc, false, opened),
-        Err((_, blank)) => match Locked::<L>::open(trial.alloc, setup, blank) {
-            Ok(opened) => opened_told(trial.alloc, true, opened),
-            Err(_) => None,
-        },
-    }
-}
-
-// A group that is opened with its lock.
-fn open_call<L: Naming, R: Print>(trial: &Trial<R>, setup: Setup, blank: Blank) -> Option<Told>
-    requires setup { setup ≡ L.setup }
-    requires name { blank.name ≡ L.name }
-    requires parts { (blank.parts ≡ L.parts) × (L.parts ≡ L.setup.nodes + 1) }
-{
-    trial.mark("called");
-    let first = Group::<L>::open(trial.alloc, setup, blank);
-    trial.mark("answered");
-    match first {
-        Ok((group, seats, passes)) => {
-            opened_told(trial.alloc, false, (group.close(), seats, passes))
-        }
-        Err((_, blank)) => match Group::<L>::open(trial.alloc, setup, blank) {
-            Ok((group, seats, passes)) => {
-                opened_told(trial.alloc, true, (group.close(), seats, passes))
-            }
-            Err(_) => None,
-        },
-    }
-}
-
-fn opened_told<L: Naming>(
+// All that can be read of the group and the procedure.
+fn text_with<L: Naming>(
     alloc: Global,
-    refused: bool,
-    opened: (Locked<L>, Vec<Seat>, Vec<Pass<L>>),
-) -> Option<Told> {
-    let (mut locked, mut seats, mut passes) = opened;
-    let text = text_of(alloc, &mut locked, &mut seats, &mut passes)?;
-    Some(Told { refused, text })
-}
-
-// What can be read of a group.
-fn text_of<L: Naming>(
-    alloc: Global,
-    locked: &mut Locked<L>,
-    seats: &mut Vec<Seat>,
-    passes: &mut Vec<Pass<L>>,
+    opened: &Opened<L>,
+    held: &Option<Procedure>,
 ) -> Option<String> {
-    let held = Held {
-        locked,
-        seats,
-        passes,
-    };
-    format!(in alloc; "{held:?}").ok()
+    let text = opened.text(alloc)?;
+    format!(in alloc; "{text} {held:?}").ok()
 }
 
-// A group that is finished behind its election. All of it comes back where that is refused.
-fn finish_call<L: Naming, R: Print>(trial: &Trial<R>, setup: Setup, blank: Blank) -> Option<Told>
-    requires setup { setup ≡ L.setup }
-    requires name { blank.name ≡ L.name }
-    requires parts { (blank.parts ≡ L.parts) × (L.parts ≡ L.setup.nodes + 1) }
-{
-    let (mut locked, mut seats, mut passes) = elected::<L>(trial.alloc, setup, blank)?;
-    let before = text_of(trial.alloc, &mut locked, &mut seats, &mut passes);
-    trial.mark("called");
-    let first = locked.finish(seats, passes);
-    trial.mark("answered");
-    match first {
-        Ok(closed) => closed_told(trial.alloc, false, &closed),
-        Err((locked, seats, passes, FinishFault::OutOfMemory)) => {
-            finish_again(trial.alloc, before, locked, seats, passes)
-        }
+// Whether a step, serve or turn was refused memory. None where it wasn't taken for another cause.
+fn is_refused(answer: Result<(), Option<StepFault>>) -> Option<bool> {
+    match answer {
+        Ok(()) => Some(false),
+        Err(Some(StepFault::OutOfMemory)) => Some(true),
         Err(_) => None,
     }
 }
 
-// What came back has to read as before, and is finished then.
-fn finish_again<L: Naming>(
-    alloc: Global,
-    before: Option<String>,
-    mut locked: Locked<L>,
-    mut seats: Vec<Seat>,
-    mut passes: Vec<Pass<L>>,
-) -> Option<Told> {
-    let after = text_of(alloc, &mut locked, &mut seats, &mut passes);
-    if !is_same(&before, &after) {
-        return None;
-    }
-    match locked.finish(seats, passes) {
-        Ok(closed) => closed_told(alloc, true, &closed),
+// The procedure of node 3, with its table.
+fn planned<L: Naming>(alloc: Global, opened: &Opened<L>) -> Option<Procedure> {
+    let planning = planning_in(opened.locked.world())?;
+    match planning.prepare(alloc, None) {
+        Ok(planned) => Some(Procedure::Planned(planned)),
         Err(_) => None,
     }
-}
-
-// Whether both texts are there, and are the same.
-fn is_same(before: &Option<String>, after: &Option<String>) -> bool {
-    match (before, after) {
-        (Some(before), Some(after)) => before.as_str() == after.as_str(),
-        _ => false,
-    }
-}
-
-fn closed_told(alloc: Global, refused: bool, closed: &Closed) -> Option<Told> {
-    let text = format!(in alloc; "{closed:?}").ok()?;
-    Some(Told { refused, text })
-}
-
-/// A group that is finished behind its election.
-pub fn closed_group<R: Print>(trial: &Trial<R>) -> Option<Closed> {
-    let setup = setup()?;
-    let blank = Blank::new(u64::from(setup.nodes()) + 1);
-    closed_by::<Brand, R>(trial, setup, blank)
-}
-
-fn closed_by<L: Naming, R: Print>(trial: &Trial<R>, setup: Setup, blank: Blank) -> Option<Closed>
-    requires setup { setup ≡ L.setup }
-    requires name { blank.name ≡ L.name }
-    requires parts { (blank.parts ≡ L.parts) × (L.parts ≡ L.setup.nodes + 1) }
-{
-    let (locked, seats, passes) = elected::<L>(trial.alloc, setup, blank)?;
-    match locked.finish(seats, passes) {
-        Ok(closed) => Some(closed),
-        Err(_) => None,
-    }
-}
-
-// A group behind its election, with its seats and passes.
-fn elected<L: Naming>(
-    alloc: Global,
-    setup: Setup,
-    blank: Blank,
-) -> Option<(Locked<L>, Vec<Seat>, Vec<Pass<L>>)>
-    requires setup { setup ≡ L.setup }
-    requires name { blank.name ≡ L.name }
-    requires parts { (blank.parts ≡ L.parts) × (L.parts ≡ L.setup.nodes + 1) }
-{
-    let events = election(alloc)?;
-    let Ok((mut locked, mut seats, mut passes)) = Locked::<L>::open(alloc, setup, blank) else {
-        return None;
-    };
-    let mut held = Held {
-        locked: &mut locked,
-        seats: &mut seats,
-        passes: &mut passes,
-    };
-    held.play(&events)?;
-    Some((locked, seats, passes))
 }

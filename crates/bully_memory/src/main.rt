@@ -3,19 +3,23 @@
 //! It stands on all libraries. Nothing stands on it.
 #![tactic(auto)]
 
+mod finished;
 mod groups;
-mod plays;
+mod opened;
+mod running;
 mod tables;
 mod texts;
 mod trying;
+mod watched;
 mod worlds;
 
 use crate::groups::group_call;
-use crate::plays::{play_call, run_call};
-use crate::tables::table_call;
+use crate::running::run_nodes_call;
+use crate::tables::{new_call, table_call};
 use crate::texts::text_call;
-use crate::trying::{Told, Trial};
-use crate::worlds::world_call;
+use crate::trying::{Outcome, Trial, is_same};
+use crate::watched::watched_call;
+use crate::worlds::event_call;
 use std::alloc::Global;
 use std::env;
 use std::process::ExitCode;
@@ -24,44 +28,53 @@ use std::thread::Threads;
 
 /// The calls, from the lowest crate's on. `Walk::apply` takes no memory: it is tried with all events of an election.
 const CALLS: &str = "Table::read
+Table::read_bytes
 Table::copy
+TableRoom::new
+push_owners
 plan
 Slot::new
-Vector::new
 Waiting::new
+Vector::new
 Planning::prepare
-Event::copy
 World::new
+Event::copy
 run
 run_whole
 view
 Walk::new
-Walk::view
 Walk::apply
-read_trace
-write_trace
-check
-Config::read
-action_of
+Walk::view
+Entry::copy
+Publisher::open
+Publisher::publish
+Observer::look
 Locked::open
-Group::open
 Locked::step
 Locked::serve
 Locked::turn
 Locked::view
+Locked::publish
 Locked::finish
+Group::open
+Group::open_watched
+read_trace
+write_trace
+check
+Config::read
 play
 write_history
-run_nodes";
+run_nodes
+action_of";
 
 fn main(rt: HostRuntime) -> ExitCode {
     let Some(name) = word(&rt) else {
-        return ended(println!(rt; "{CALLS}").ok());
+        return status(println!(rt; "{CALLS}").ok());
     };
-    ended(try_call(&rt, rt.alloc(), name.as_str()))
+    status(try_call(&rt, rt.alloc(), name.as_str()))
 }
 
-fn ended(done: Option<()>) -> ExitCode {
+fn status(done: Option<()>) -> ExitCode {
     match done {
         Some(()) => ExitCode::from(0),
         None => ExitCode::from(4),
@@ -73,8 +86,8 @@ fn word(rt: &HostRuntime) -> Option<String> {
     env::args(rt).ok()?.nth(1)
 }
 
-// Makes the call twice: as it is, and with a mark before it and behind it. Then prints whether the second was refused
-// memory at first, and whether both answered the same in the end and left the same.
+// Makes the call as it is, and then with a mark before it and behind it. Prints whether the second was refused memory,
+// and whether both answered the same in the end and left the same.
 fn try_call<R: Print + Threads + Wait + Sync>(rt: &R, alloc: Global, name: &str) -> Option<()> {
     let plain = Trial {
         rt,
@@ -86,39 +99,41 @@ fn try_call<R: Print + Threads + Wait + Sync>(rt: &R, alloc: Global, name: &str)
         alloc,
         marked: true,
     };
-    let ample = told_of(&plain, name)?;
-    let told = told_of(&marked, name)?;
-    let answer = if told.refused { "OutOfMemory" } else { "ample" };
-    let end = if told.text == ample.text {
-        "same"
-    } else {
-        "another"
+    let ample = answered(outcome_of(&plain, name)?);
+    let (answer, text) = match outcome_of(&marked, name)? {
+        Outcome::Answered(text) => ("ample", Some(text)),
+        Outcome::AnsweredAgain(text) => ("OutOfMemory", Some(text)),
+        Outcome::Refused => ("OutOfMemory", answered(outcome_of(&plain, name)?)),
     };
+    let end = if is_same(&ample, &text) { "same" } else { "another" };
     println!(rt; "{answer}\n{end}").ok()
 }
 
+// What a call told that was answered.
+fn answered(outcome: Outcome) -> Option<String> {
+    match outcome {
+        Outcome::Answered(text) | Outcome::AnsweredAgain(text) => Some(text),
+        Outcome::Refused => None,
+    }
+}
+
 // What becomes of the call of this name.
-fn told_of<R: Print + Threads + Wait + Sync>(trial: &Trial<R>, name: &str) -> Option<Told> {
+fn outcome_of<R: Print + Threads + Wait + Sync>(trial: &Trial<R>, name: &str) -> Option<Outcome> {
     match name {
-        "Planning::prepare"
-        | "Event::copy"
-        | "run"
-        | "run_whole"
-        | "view"
-        | "Walk::view"
-        | "Walk::apply" => world_call(trial, name),
-        "read_trace" | "write_trace" | "check" | "Config::read" | "action_of" => {
+        "Table::read" | "Table::read_bytes" | "Table::copy" | "TableRoom::new" | "push_owners"
+        | "plan" => table_call(trial, name),
+        "Slot::new" | "Waiting::new" | "Vector::new" | "World::new" | "Walk::new" => {
+            new_call(trial, name)
+        }
+        "Planning::prepare" | "Event::copy" | "Entry::copy" | "run" | "run_whole" | "view"
+        | "Walk::view" | "Walk::apply" => event_call(trial, name),
+        "Publisher::open" | "Observer::look" | "Locked::publish" | "Group::open_watched" => {
+            watched_call(trial, name)
+        }
+        "read_trace" | "write_trace" | "check" | "Config::read" | "play" | "action_of" => {
             text_call(trial, name)
         }
-        "Locked::open"
-        | "Group::open"
-        | "Locked::step"
-        | "Locked::serve"
-        | "Locked::turn"
-        | "Locked::view"
-        | "Locked::finish" => group_call(trial, name),
-        "play" | "write_history" => play_call(trial, name),
-        "run_nodes" => run_call(trial),
-        _ => table_call(trial, name),
+        "run_nodes" => run_nodes_call(trial),
+        _ => group_call(trial, name),
     }
 }

@@ -1,6 +1,7 @@
-use crate::trying::{Told, Trial};
+use crate::trying::{Outcome, Trial};
 use crate::worlds::ELECTION;
 use bully_config::Config;
+use bully_nodes::play;
 use bully_trace::{check, read_trace, write_trace};
 use bully_words::{Action, action_of};
 use clap::error::ErrorKind;
@@ -29,58 +30,85 @@ kind = \"crash\"
 /// What a writer gets has room here.
 const ROOM: usize = 4096;
 
+// How the want of memory reads of a trace.
+const OF_TRACE: &str = "TraceFault { row: 0, cause: OutOfMemory }";
+
 /// A writer that needs no memory.
 pub fn output(alloc: Global) -> Option<Vec<u8>> {
     Vec::with_capacity(alloc, ROOM).ok()
 }
 
 /// A call that reads or writes a text.
-pub fn text_call<R: Print>(trial: &Trial<R>, name: &str) -> Option<Told> {
-    let alloc = trial.alloc;
-    let memory = "TraceFault { row: 0, cause: OutOfMemory }";
+pub fn text_call<R: Print>(trial: &Trial<R>, name: &str) -> Option<Outcome> {
     match name {
-        "read_trace" => trial.call(memory, ELECTION, |text| read_trace(alloc, text.as_bytes())),
-        "write_trace" => write_call(trial, memory),
-        "check" => trial.call(memory, output(alloc)?, |output| {
-            check(alloc, ELECTION.as_bytes(), output)
-        }),
-        "Config::read" => trial.call("OutOfMemory", CONFIG, |text| Config::read(alloc, text)),
+        "read_trace" => read_call(trial),
+        "write_trace" => write_call(trial),
+        "check" => check_call(trial),
+        "Config::read" => config_call(trial),
         "action_of" => words_call(trial),
+        "play" => play_call(trial),
         _ => None,
     }
 }
 
-fn write_call<R: Print>(trial: &Trial<R>, memory: &str) -> Option<Told> {
-    let alloc = trial.alloc;
-    let trace = read_trace(alloc, ELECTION.as_bytes()).ok()?;
-    trial.call(memory, (trace, output(alloc)?), |s| {
-        write_trace(alloc, &mut s.1, &s.0)
-    })
+fn read_call<R: Print>(trial: &Trial<R>) -> Option<Outcome> {
+    trial.begin();
+    let answer = read_trace(trial.alloc, ELECTION.as_bytes());
+    trial.outcome(&answer, OF_TRACE)
 }
 
-fn words_call<R: Print>(trial: &Trial<R>) -> Option<Told> {
-    let alloc = trial.alloc;
+fn write_call<R: Print>(trial: &Trial<R>) -> Option<Outcome> {
+    let trace = read_trace(trial.alloc, ELECTION.as_bytes()).ok()?;
+    let mut output = output(trial.alloc)?;
+    trial.begin();
+    let answer = write_trace(trial.alloc, &mut output, &trace);
+    trial.written(&answer, OF_TRACE, output.as_slice())
+}
+
+fn check_call<R: Print>(trial: &Trial<R>) -> Option<Outcome> {
+    let mut output = output(trial.alloc)?;
+    trial.begin();
+    let answer = check(trial.alloc, ELECTION.as_bytes(), &mut output);
+    trial.written(&answer, OF_TRACE, output.as_slice())
+}
+
+fn config_call<R: Print>(trial: &Trial<R>) -> Option<Outcome> {
+    trial.begin();
+    let answer = Config::read(trial.alloc, CONFIG);
+    trial.outcome(&answer, "OutOfMemory")
+}
+
+fn play_call<R: Print>(trial: &Trial<R>) -> Option<Outcome> {
+    let config = Config::read(trial.alloc, CONFIG).ok()?;
+    let mut output = output(trial.alloc)?;
+    trial.begin();
+    let answer = play(trial.alloc, &config, &mut output);
+    trial.written(&answer, "OutOfMemory", output.as_slice())
+}
+
+fn words_call<R: Print>(trial: &Trial<R>) -> Option<Outcome> {
     let words = ["table", "group.toml", "a", "b", "--old", "1 2 1"];
-    trial.mark("called");
-    let first = action_of(alloc, &words);
-    trial.mark("answered");
-    match first {
-        Ok(action) => told(alloc, false, &action),
+    trial.begin();
+    let answer = action_of(trial.alloc, &words);
+    trial.end();
+    match answer {
+        Ok(action) => words_outcome(trial.alloc, &action),
         Err(error) => {
-            if error.kind() != ErrorKind::OutOfMemory {
-                return None;
+            if error.kind() == ErrorKind::OutOfMemory {
+                Some(Outcome::Refused)
+            } else {
+                None
             }
-            told(alloc, true, &action_of(alloc, &words).ok()?)
         }
     }
 }
 
 // What the words ask for, as a text.
-fn told<'a>(alloc: Global, refused: bool, action: &Action<'a>) -> Option<Told> {
+fn words_outcome<'a>(alloc: Global, action: &Action<'a>) -> Option<Outcome> {
     let Action::Table(words) = action else {
         return None;
     };
     let (config, members, old) = (words.config, words.members.as_slice(), words.old);
     let text = format!(in alloc; "{config} {members:?} {old:?}").ok()?;
-    Some(Told { refused, text })
+    Some(Outcome::Answered(text))
 }

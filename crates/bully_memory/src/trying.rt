@@ -10,61 +10,94 @@ pub struct Trial<'a, R: Print> {
     pub marked: bool,
 }
 
-/// What became of a call.
+/// What became of a call, with what it answered in the end and what it left.
 #[derive(Drop)]
-pub struct Told {
-    /// Whether it was refused memory at first.
-    pub refused: bool,
-    /// What it answered in the end, and what it left of its subject.
-    pub text: String,
+pub enum Outcome {
+    /// It was answered at once.
+    Answered(String),
+    /// It was refused memory. The call is still to be made again, with the same arguments anew.
+    Refused,
+    /// It was refused memory, left all as it was, and was made again on what it left or handed back.
+    AnsweredAgain(String),
 }
 
 impl<'a, R: Print> Trial<'a, R> {
-    /// Prints the line, where marks are wanted. (One that isn't printed is missed by the script.)
-    pub fn mark(&self, line: &str) {
+    /// Comes right before the call. (A line that isn't printed is missed by the script.)
+    pub fn begin(&self) {
         if self.marked {
-            let _ = println!(self.rt; "{line}");
+            let _ = println!(self.rt; "called");
         }
     }
 
-    /// Makes the call on its subject. Where its fault reads as `refusal`, the subject has to be as it was before, and
-    /// the call is made once more. None where the subject isn't so, or where memory is refused outside of the call.
-    pub fn call<
-        S: Debug + Drop,
-        T: Debug + Drop,
-        E: Debug + Drop,
-        F: Fn(&mut S) -> Result<T, E> + Drop,
-    >(&self, refusal: &str, mut subject: S, call: F) -> Option<Told>
-        requires { F.IsAlwaysCallable call }
-    {
-        let before = format!(in self.alloc; "{subject:?}").ok()?;
-        self.mark("called");
-        let mut answer = call(&mut subject);
-        self.mark("answered");
-        let refused = is_refused(self.alloc, &answer, refusal)?;
-        if refused {
-            let after = format!(in self.alloc; "{subject:?}").ok()?;
-            if after != before {
-                return None;
-            }
-            answer = call(&mut subject);
+    /// Comes right behind the call.
+    pub fn end(&self) {
+        if self.marked {
+            let _ = println!(self.rt; "answered");
         }
-        let text = format!(in self.alloc; "{answer:?} {subject:?}").ok()?;
-        Some(Told { refused, text })
+    }
+
+    /// Comes right behind the call, too: what became of it. Its fault for want of memory reads as `refusal`; None for
+    /// another one.
+    pub fn outcome<T: Debug, E: Debug>(
+        &self,
+        answer: &Result<T, E>,
+        refusal: &str,
+    ) -> Option<Outcome> {
+        self.end();
+        match answer {
+            Ok(value) => {
+                let text = format!(in self.alloc; "{value:?}").ok()?;
+                Some(Outcome::Answered(text))
+            }
+            Err(fault) => {
+                let text = format!(in self.alloc; "{fault:?}").ok()?;
+                if text.as_str() == refusal {
+                    Some(Outcome::Refused)
+                } else {
+                    None
+                }
+            }
+        }
+    }
+
+    /// The same of a call that writes. None where it wrote though it was refused memory.
+    pub fn written<T: Debug, E: Debug>(
+        &self,
+        answer: &Result<T, E>,
+        refusal: &str,
+        output: &[u8],
+    ) -> Option<Outcome> {
+        match self.outcome(answer, refusal)? {
+            Outcome::Answered(text) => {
+                let text = format!(in self.alloc; "{text} {output:?}").ok()?;
+                Some(Outcome::Answered(text))
+            }
+            Outcome::Refused => {
+                if output.is_empty() {
+                    Some(Outcome::Refused)
+                } else {
+                    None
+                }
+            }
+            Outcome::AnsweredAgain(_) => None,
+        }
     }
 }
 
-// Whether the answer is a fault that reads so.
-fn is_refused<T: Debug, E: Debug>(
-    alloc: Global,
-    answer: &Result<T, E>,
-    refusal: &str,
-) -> Option<bool> {
-    match answer {
-        Ok(_) => Some(false),
-        Err(fault) => {
-            let text = format!(in alloc; "{fault:?}").ok()?;
-            Some(text.as_str() == refusal)
-        }
+/// The outcome of a call that ended with this text, and was refused memory at first, or not.
+pub fn ended(was_refused: bool, text: Option<String>) -> Option<Outcome> {
+    let text = text?;
+    if was_refused {
+        Some(Outcome::AnsweredAgain(text))
+    } else {
+        Some(Outcome::Answered(text))
+    }
+}
+
+/// Whether both texts are there, and are the same.
+pub fn is_same(before: &Option<String>, after: &Option<String>) -> bool {
+    match (before, after) {
+        (Some(before), Some(after)) => before.as_str() == after.as_str(),
+        _ => false,
     }
 }

@@ -1,9 +1,12 @@
 use crate::tables::setup;
-use crate::trying::{Told, Trial};
+use crate::trying::{Outcome, Trial, ended};
 use bully_agree::{Walk, run, run_whole, view};
 use bully_base::Node;
+use bully_calls::Answer;
 use bully_steps::{Planning, Procedure};
+use bully_table::PlanFault;
 use bully_trace::{Row, read_trace};
+use bully_watch::Entry;
 use bully_world::{Event, Refused, World};
 use std::alloc::Global;
 
@@ -43,23 +46,17 @@ pub const BEFORE_PLAN: usize = 18;
 pub const BEFORE_RUN: usize = 5;
 
 /// A call that goes over a list of events, or looks at a world.
-pub fn world_call<R: Print>(trial: &Trial<R>, name: &str) -> Option<Told> {
-    let setup = setup()?;
-    let alloc = trial.alloc;
-    let events = election(alloc)?;
+pub fn event_call<R: Print>(trial: &Trial<R>, name: &str) -> Option<Outcome> {
+    let events = election(trial.alloc)?;
     match name {
-        "run" => trial.call("OutOfMemory", events, |e| run(alloc, setup, e.as_slice())),
-        "run_whole" => trial.call("OutOfMemory", events, |e| {
-            run_whole(alloc, setup, e.as_slice())
-        }),
-        "view" => trial.call("AllocError", world(alloc, &events)?, |w| view(alloc, w)),
-        "Walk::view" => trial.call("AllocError", walk(alloc, &events)?, |w| w.view(alloc)),
-        "Walk::apply" => trial.call("", walk(alloc, &[])?, |w| apply_all(w, &events)),
-        "Event::copy" => trial.call("AllocError", events, |e| match e.get(BEFORE_PLAN) {
-            Some(event) => event.copy().map(Some),
-            None => Ok(None),
-        }),
-        "Planning::prepare" => prepare_call(trial, &world(alloc, events.get(..BEFORE_PLAN)?)?),
+        "run" => run_call(trial, &events),
+        "run_whole" => run_whole_call(trial, &events),
+        "view" => view_call(trial, &world(trial.alloc, &events)?),
+        "Walk::view" => walk_view_call(trial, &events),
+        "Walk::apply" => apply_call(trial, &events),
+        "Event::copy" => event_copy_call(trial, events.get(BEFORE_PLAN)?),
+        "Entry::copy" => entry_copy_call(trial, events.get(BEFORE_PLAN)?),
+        "Planning::prepare" => prepare_call(trial, events.get(..BEFORE_PLAN)?),
         _ => None,
     }
 }
@@ -76,24 +73,70 @@ pub fn election(alloc: Global) -> Option<Vec<Event>> {
     Some(events)
 }
 
+fn run_call<R: Print>(trial: &Trial<R>, events: &[Event]) -> Option<Outcome> {
+    let setup = setup()?;
+    trial.begin();
+    let answer = run(trial.alloc, setup, events);
+    trial.outcome(&answer, "OutOfMemory")
+}
+
+fn run_whole_call<R: Print>(trial: &Trial<R>, events: &[Event]) -> Option<Outcome> {
+    let setup = setup()?;
+    trial.begin();
+    let answer = run_whole(trial.alloc, setup, events);
+    trial.outcome(&answer, "OutOfMemory")
+}
+
 // The world that the events lead to.
 fn world(alloc: Global, events: &[Event]) -> Option<World> {
     let (world, _) = run(alloc, setup()?, events).ok()?;
     Some(world)
 }
 
-// The same, taken event by event.
-fn walk(alloc: Global, events: &[Event]) -> Option<Walk> {
-    let mut walk = Walk::new(alloc, setup()?).ok()?;
-    apply_all(&mut walk, events).ok()?;
-    Some(walk)
+fn view_call<R: Print>(trial: &Trial<R>, world: &World) -> Option<Outcome> {
+    trial.begin();
+    let answer = view(trial.alloc, world);
+    trial.outcome(&answer, "AllocError")
 }
 
-fn apply_all(walk: &mut Walk, events: &[Event]) -> Result<(), Refused> {
+fn walk_view_call<R: Print>(trial: &Trial<R>, events: &[Event]) -> Option<Outcome> {
+    let walk = applied(Walk::new(trial.alloc, setup()?).ok()?, events).ok()?;
+    trial.begin();
+    let answer = walk.view(trial.alloc);
+    trial.outcome(&answer, "AllocError")
+}
+
+fn apply_call<R: Print>(trial: &Trial<R>, events: &[Event]) -> Option<Outcome> {
+    let walk = Walk::new(trial.alloc, setup()?).ok()?;
+    trial.begin();
+    let answer = applied(walk, events);
+    trial.outcome(&answer, "")
+}
+
+// The walk, behind all of the events.
+fn applied(walk: Walk, events: &[Event]) -> Result<Walk, Refused> {
+    let mut walk = walk;
     for event in events {
         walk.apply(event)?;
     }
-    Ok(())
+    Ok(walk)
+}
+
+fn event_copy_call<R: Print>(trial: &Trial<R>, event: &Event) -> Option<Outcome> {
+    trial.begin();
+    let answer = event.copy();
+    trial.outcome(&answer, "AllocError")
+}
+
+fn entry_copy_call<R: Print>(trial: &Trial<R>, event: &Event) -> Option<Outcome> {
+    let entry = Entry {
+        actor: 3,
+        event: event.copy().ok()?,
+        answer: Answer::Done,
+    };
+    trial.begin();
+    let answer = entry.copy();
+    trial.outcome(&answer, "AllocError")
 }
 
 /// The planning of node 3 in a world in which it comes to that.
@@ -106,28 +149,38 @@ pub fn planning_in(world: &World) -> Option<Planning> {
 }
 
 fn planning_of(procedure: Procedure) -> Option<Planning> {
-    match procedure {
-        Procedure::Planning(planning) => Some(planning),
-        other => {
-            drop(other);
-            None
-        }
-    }
+    let Procedure::Planning(planning) = procedure else {
+        return None;
+    };
+    Some(planning)
 }
 
 // A preparation, which hands the planning back where it is refused.
-fn prepare_call<R: Print>(trial: &Trial<R>, world: &World) -> Option<Told> {
-    let alloc = trial.alloc;
-    trial.call("Some(OutOfMemory)", planning_in(world), |place| {
-        let Some(planning) = place.take() else {
-            return Err(None);
-        };
-        match planning.prepare(alloc, None) {
-            Ok(planned) => Ok(planned),
-            Err((planning, fault)) => {
-                *place = Some(planning);
-                Err(Some(fault))
-            }
-        }
-    })
+fn prepare_call<R: Print>(trial: &Trial<R>, events: &[Event]) -> Option<Outcome> {
+    let world = world(trial.alloc, events)?;
+    prepare(trial, planning_in(&world)?)
+}
+
+fn prepare<R: Print>(trial: &Trial<R>, planning: Planning) -> Option<Outcome> {
+    let before = format!(in trial.alloc; "{planning:?}").ok()?;
+    trial.begin();
+    let answer = planning.prepare(trial.alloc, None);
+    trial.end();
+    match answer {
+        Ok(planned) => ended(false, format!(in trial.alloc; "{planned:?}").ok()),
+        Err((planning, PlanFault::OutOfMemory)) => prepare_again(trial.alloc, planning, &before),
+        Err(_) => None,
+    }
+}
+
+// The planning that came back has to read as before, and is prepared.
+fn prepare_again(alloc: Global, planning: Planning, before: &String) -> Option<Outcome> {
+    let after = format!(in alloc; "{planning:?}").ok()?;
+    if after.as_str() != before.as_str() {
+        return None;
+    }
+    match planning.prepare(alloc, None) {
+        Ok(planned) => ended(true, format!(in alloc; "{planned:?}").ok()),
+        Err(_) => None,
+    }
 }
