@@ -105,7 +105,11 @@ fn try_call<R: Print + Threads + Wait + Sync>(rt: &R, alloc: Global, name: &str)
         Outcome::AnsweredAgain(text) => ("OutOfMemory", Some(text)),
         Outcome::Refused => ("OutOfMemory", answered(outcome_of(&plain, name)?)),
     };
-    let end = if is_same(&ample, &text) { "same" } else { "another" };
+    let end = if is_same(&ample, &text) {
+        "same"
+    } else {
+        "another"
+    };
     println!(rt; "{answer}\n{end}").ok()
 }
 
@@ -120,13 +124,23 @@ fn answered(outcome: Outcome) -> Option<String> {
 // What becomes of the call of this name.
 fn outcome_of<R: Print + Threads + Wait + Sync>(trial: &Trial<R>, name: &str) -> Option<Outcome> {
     match name {
-        "Table::read" | "Table::read_bytes" | "Table::copy" | "TableRoom::new" | "push_owners"
+        "Table::read"
+        | "Table::read_bytes"
+        | "Table::copy"
+        | "TableRoom::new"
+        | "push_owners"
         | "plan" => table_call(trial, name),
         "Slot::new" | "Waiting::new" | "Vector::new" | "World::new" | "Walk::new" => {
             new_call(trial, name)
         }
-        "Planning::prepare" | "Event::copy" | "Entry::copy" | "run" | "run_whole" | "view"
-        | "Walk::view" | "Walk::apply" => event_call(trial, name),
+        "Planning::prepare"
+        | "Event::copy"
+        | "Entry::copy"
+        | "run"
+        | "run_whole"
+        | "view"
+        | "Walk::view"
+        | "Walk::apply" => event_call(trial, name),
         "Publisher::open" | "Observer::look" | "Locked::publish" | "Group::open_watched" => {
             watched_call(trial, name)
         }

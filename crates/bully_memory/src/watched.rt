@@ -249,7 +249,7 @@ fn look_again<R: Print>(trial: &Trial<R>, observer: &mut Observer) -> Option<Out
 }
 
 // A publish of a crash, behind that of a recovery. Where it is refused memory, observers see what they saw; and what is
-// seen in the end is the crash.
+// seen in the end is the crash. In between the node comes back twice, so that there is no room for all entries yet.
 fn publish_call<L: Naming, R: Print + Wait>(
     trial: &Trial<R>,
     opened: &mut Opened<L>,
@@ -260,7 +260,13 @@ fn publish_call<L: Naming, R: Print + Wait>(
     let one = Node::new(1)?;
     published(trial, opened, observer, &Event::Recover(one))?;
     let before = look_of(trial.alloc, observer);
-    opened.step(OPERATOR, &Event::Crash(one)).ok()?;
+    opened.play(&[
+        Event::Crash(one),
+        Event::Recover(one),
+        Event::Crash(one),
+        Event::Recover(one),
+        Event::Crash(one),
+    ])?;
     let was_refused = crash_call(trial, opened, observer)?;
     if was_refused {
         let after = look_of(trial.alloc, observer);
