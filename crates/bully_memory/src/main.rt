@@ -17,7 +17,7 @@ use crate::groups::group_call;
 use crate::running::run_nodes_call;
 use crate::tables::{new_call, table_call};
 use crate::texts::text_call;
-use crate::trying::{Outcome, Trial, is_same};
+use crate::trying::{Outcome, Trial};
 use crate::watched::watched_call;
 use crate::worlds::event_call;
 use std::alloc::Global;
@@ -86,39 +86,22 @@ fn word(rt: &HostRuntime) -> Option<String> {
     env::args(rt).ok()?.nth(1)
 }
 
-// Makes the call as it is, and then with a mark before it and behind it. Prints whether the second was refused memory,
-// and whether both answered the same in the end and left the same.
+// Makes the call, and again where it was refused memory and is still to be made. Prints whether it was refused, and then
+// what it answered in the end and what it left.
 fn try_call<R: Print + Threads + Wait + Sync>(rt: &R, alloc: Global, name: &str) -> Option<()> {
-    let plain = Trial {
-        rt,
-        alloc,
-        marked: false,
-    };
-    let marked = Trial {
-        rt,
-        alloc,
-        marked: true,
-    };
-    let ample = answered(outcome_of(&plain, name)?);
-    let (answer, text) = match outcome_of(&marked, name)? {
-        Outcome::Answered(text) => ("ample", Some(text)),
-        Outcome::AnsweredAgain(text) => ("OutOfMemory", Some(text)),
-        Outcome::Refused => ("OutOfMemory", answered(outcome_of(&plain, name)?)),
-    };
-    let end = if is_same(&ample, &text) {
-        "same"
-    } else {
-        "another"
-    };
-    println!(rt; "{answer}\n{end}").ok()
+    let trial = Trial { rt, alloc };
+    match outcome_of(&trial, name)? {
+        Outcome::Answered(text) => tell(rt, "ample", &text),
+        Outcome::AnsweredAgain(text) => tell(rt, "OutOfMemory", &text),
+        Outcome::Refused => match outcome_of(&trial, name)? {
+            Outcome::Answered(text) => tell(rt, "OutOfMemory", &text),
+            _ => None,
+        },
+    }
 }
 
-// What a call told that was answered.
-fn answered(outcome: Outcome) -> Option<String> {
-    match outcome {
-        Outcome::Answered(text) | Outcome::AnsweredAgain(text) => Some(text),
-        Outcome::Refused => None,
-    }
+fn tell<R: Print>(rt: &R, answer: &str, text: &String) -> Option<()> {
+    println!(rt; "{answer}\n{text}").ok()
 }
 
 // What becomes of the call of this name.

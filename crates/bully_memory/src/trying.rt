@@ -6,8 +6,6 @@ use std::fmt::Debug;
 pub struct Trial<'a, R: Print> {
     pub rt: &'a R,
     pub alloc: Global,
-    /// Whether a line is printed before the call, and one behind it.
-    pub marked: bool,
 }
 
 /// What became of a call, with what it answered in the end and what it left.
@@ -24,16 +22,12 @@ pub enum Outcome {
 impl<'a, R: Print> Trial<'a, R> {
     /// Comes right before the call. (A line that isn't printed is missed by the script.)
     pub fn begin(&self) {
-        if self.marked {
-            let _ = println!(self.rt; "called");
-        }
+        let _ = println!(self.rt; "called");
     }
 
     /// Comes right behind the call.
     pub fn end(&self) {
-        if self.marked {
-            let _ = println!(self.rt; "answered");
-        }
+        let _ = println!(self.rt; "answered");
     }
 
     /// Comes right behind the call, too: what became of it. Its fault for want of memory reads as `refusal`; None for
