@@ -1,7 +1,7 @@
 use crate::groups::Asked;
 use crate::opened::Opened;
 use crate::texts::output;
-use crate::trying::{Outcome, Trial, ended, is_same};
+use crate::trying::{Outcome, Trial, ended, is_same, text_of, with};
 use crate::watched::publish_history;
 use bully_group::{Closed, FinishFault, Naming};
 use bully_nodes::write_history;
@@ -75,8 +75,7 @@ fn closed_outcome<R: Print + Wait>(
 
 // All that can be read of a finished group.
 fn closed_text(alloc: Global, closed: &Closed) -> Option<String> {
-    let (view, history) = (closed.view(), closed.history());
-    format!(in alloc; "{view:?} {history:?}").ok()
+    with(text_of(alloc, closed.view())?, &closed.history())
 }
 
 /// A call on the history of a finished group, which is ended then.

@@ -3,7 +3,7 @@ ghost use Rattle.std.specs.Prelude.{◌≡◌, ◌+◌, IfErr, None};
 use crate::finished::{finish_call, history_call};
 use crate::opened::{OPERATOR, Opened, SECOND, THIRD};
 use crate::tables::setup;
-use crate::trying::{Outcome, Trial, ended, is_same};
+use crate::trying::{Outcome, Trial, ended, is_same, with};
 use crate::worlds::{BEFORE_PLAN, BEFORE_RUN, election, planning_in};
 use bully_base::Setup;
 use bully_group::{Group, Locked, Naming, StepFault};
@@ -230,8 +230,7 @@ fn text_with<L: Naming>(
     opened: &Opened<L>,
     held: &Option<Procedure>,
 ) -> Option<String> {
-    let text = opened.text(alloc)?;
-    format!(in alloc; "{text} {held:?}").ok()
+    with(opened.text(alloc)?, held)
 }
 
 // Whether a step, serve or turn was refused memory. None where it wasn't taken for another cause.

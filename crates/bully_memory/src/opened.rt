@@ -1,5 +1,6 @@
 ghost use Rattle.std.specs.Prelude.{◌≡◌, IfOk, Some};
 
+use crate::trying::add;
 use bully_group::{Locked, Naming, Pass, PublishFault, Seat, StepFault, Turn};
 use bully_steps::Procedure;
 use bully_watch::Told;
@@ -41,14 +42,21 @@ impl<L: Naming> Opened<L> {
 
     /// All that can be read of it.
     pub fn text(&self, alloc: Global) -> Option<String> {
-        let (world, history) = (self.locked.world(), self.locked.history());
-        let seats = self.seats.as_slice();
-        let mut text = format!(in alloc; "{world:?} {history:?} {seats:?}").ok()?;
-        for pass in self.passes.iter() {
-            let amount = pass.amount();
-            write!(text, " {amount}").ok()?;
+        let mut text = String::new(alloc);
+        match self.add_to(&mut text) {
+            Some(()) => Some(text),
+            None => None,
         }
-        Some(text)
+    }
+
+    fn add_to(&self, text: &mut String) -> Option<()> {
+        add(text, self.locked.world())?;
+        add(text, &self.locked.history())?;
+        add(text, &self.seats.as_slice())?;
+        for pass in self.passes.iter() {
+            add(text, &pass.amount())?;
+        }
+        Some(())
     }
 
     /// Takes the events, each by its actor's seat.
@@ -107,14 +115,7 @@ impl<L: Naming> Opened<L> {
         let Some(procedure) = held.take() else {
             return Err(None);
         };
-        if procedure.setup() != self.locked.setup() {
-            return Err(None);
-        }
-        let (back, told) = match self.locked.turn(seat, procedure, pass) {
-            Turn::Went(back) => (back, Ok(())),
-            Turn::Waiting(back) | Turn::Resynced(back) => (back, Err(None)),
-            Turn::Fault(back, fault) => (back, Err(Some(fault))),
-        };
+        let (back, told) = turned(&mut self.locked, seat, pass, procedure);
         *held = Some(back);
         told
     }
@@ -130,5 +131,22 @@ impl<L: Naming> Opened<L> {
             Ok(told) => Ok(told),
             Err(fault) => Err(Some(fault)),
         }
+    }
+}
+
+// A turn with the procedure, which comes back. No fault where no step is taken, and where it is no procedure of the group.
+fn turned<L: Naming>(
+    locked: &mut Locked<L>,
+    seat: &mut Seat,
+    pass: &mut Pass<L>,
+    procedure: Procedure,
+) -> (Procedure, Result<(), Option<StepFault>>) {
+    if procedure.setup() != locked.setup() {
+        return (procedure, Err(None));
+    }
+    match locked.turn(seat, procedure, pass) {
+        Turn::Went(back) => (back, Ok(())),
+        Turn::Waiting(back) | Turn::Resynced(back) => (back, Err(None)),
+        Turn::Fault(back, fault) => (back, Err(Some(fault))),
     }
 }

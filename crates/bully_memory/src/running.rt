@@ -1,9 +1,7 @@
 use crate::texts::CONFIG;
-use crate::trying::{Outcome, Trial, ended};
-use bully_base::Setup;
+use crate::trying::{Outcome, Trial, ended, text_of};
 use bully_config::Config;
 use bully_nodes::{Gate, NodesFault, run_nodes};
-use std::alloc::Global;
 use std::sync::Wait;
 use std::thread::Threads;
 
@@ -28,13 +26,9 @@ pub fn run_nodes_call<R: Print + Threads + Wait + Sync>(trial: &Trial<R>) -> Opt
         Ok(closed) => {
             let setup = closed.setup();
             closed.end(trial.rt);
-            ended(false, setup_text(trial.alloc, setup))
+            ended(false, text_of(trial.alloc, &setup))
         }
         Err(NodesFault::OutOfMemory) | Err(NodesFault::Spawn) => Some(Outcome::Refused),
         Err(_) => None,
     }
-}
-
-fn setup_text(alloc: Global, setup: Setup) -> Option<String> {
-    format!(in alloc; "{setup:?}").ok()
 }

@@ -1,4 +1,4 @@
-use crate::trying::{Outcome, Trial};
+use crate::trying::{Outcome, Trial, ended, text_of, with};
 use crate::worlds::ELECTION;
 use bully_config::Config;
 use bully_nodes::play;
@@ -108,7 +108,6 @@ fn words_outcome<'a>(alloc: Global, action: &Action<'a>) -> Option<Outcome> {
     let Action::Table(words) = action else {
         return None;
     };
-    let (config, members, old) = (words.config, words.members.as_slice(), words.old);
-    let text = format!(in alloc; "{config} {members:?} {old:?}").ok()?;
-    Some(Outcome::Answered(text))
+    let text = with(text_of(alloc, &words.config)?, &words.members.as_slice())?;
+    ended(false, with(text, &words.old))
 }

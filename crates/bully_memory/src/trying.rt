@@ -39,12 +39,9 @@ impl<'a, R: Print> Trial<'a, R> {
     ) -> Option<Outcome> {
         self.end();
         match answer {
-            Ok(value) => {
-                let text = format!(in self.alloc; "{value:?}").ok()?;
-                Some(Outcome::Answered(text))
-            }
+            Ok(value) => ended(false, text_of(self.alloc, value)),
             Err(fault) => {
-                let text = format!(in self.alloc; "{fault:?}").ok()?;
+                let text = text_of(self.alloc, fault)?;
                 if text.as_str() == refusal {
                     Some(Outcome::Refused)
                 } else {
@@ -62,20 +59,30 @@ impl<'a, R: Print> Trial<'a, R> {
         output: &[u8],
     ) -> Option<Outcome> {
         match self.outcome(answer, refusal)? {
-            Outcome::Answered(text) => {
-                let text = format!(in self.alloc; "{text} {output:?}").ok()?;
-                Some(Outcome::Answered(text))
-            }
-            Outcome::Refused => {
-                if output.is_empty() {
-                    Some(Outcome::Refused)
-                } else {
-                    None
-                }
-            }
-            Outcome::AnsweredAgain(_) => None,
+            Outcome::Answered(text) => ended(false, with(text, &output)),
+            Outcome::Refused if output.is_empty() => Some(Outcome::Refused),
+            _ => None,
         }
     }
+}
+
+/// The text of a value.
+pub fn text_of<T: Debug>(alloc: Global, value: &T) -> Option<String> {
+    format!(in alloc; "{value:?}").ok()
+}
+
+/// The text, and behind it that of a value.
+pub fn with<T: Debug>(text: String, value: &T) -> Option<String> {
+    let mut text = text;
+    match add(&mut text, value) {
+        Some(()) => Some(text),
+        None => None,
+    }
+}
+
+/// Adds the text of a value to the text.
+pub fn add<T: Debug>(text: &mut String, value: &T) -> Option<()> {
+    write!(text, " {value:?}").ok()
 }
 
 /// The outcome of a call that ended with this text, and was refused memory at first, or not.

@@ -4,7 +4,7 @@ ghost use Rattle.bully_world.specs.World.{World as WorldOf};
 
 use crate::groups::new_outcome;
 use crate::opened::{OPERATOR, Opened};
-use crate::trying::{Outcome, Trial, ended, is_same};
+use crate::trying::{Outcome, Trial, ended, is_same, text_of, with};
 use bully_base::{Node, Setup};
 use bully_group::{Closed, Group, Naming, PublishFault};
 use bully_watch::{Entry, Observer, OpenFault, Publisher};
@@ -57,8 +57,7 @@ fn publisher_call<R: Print + Wait>(trial: &Trial<R>) -> Option<Outcome> {
 fn looks_of(alloc: Global, observers: &mut [Observer]) -> Option<String> {
     let mut text = String::new(alloc);
     for observer in observers.iter_mut() {
-        let seen = look_of(alloc, observer)?;
-        write!(text, "{seen} ").ok()?;
+        text = with(text, &look_of(alloc, observer)?)?;
     }
     Some(text)
 }
@@ -68,7 +67,7 @@ fn look_of(alloc: Global, observer: &mut Observer) -> Option<String>
     ensures { observer.new.publisher ≡ observer.old.publisher }
 {
     match observer.look(alloc) {
-        Ok(view) => format!(in alloc; "{view:?}").ok(),
+        Ok(view) => text_of(alloc, &view),
         Err(_) => None,
     }
 }
@@ -245,7 +244,7 @@ fn look_call<R: Print>(trial: &Trial<R>, observer: &mut Observer) -> Option<Outc
 
 fn look_again<R: Print>(trial: &Trial<R>, observer: &mut Observer) -> Option<Outcome> {
     let view = observer.look(trial.alloc).ok()?;
-    ended(true, format!(in trial.alloc; "{view:?}").ok())
+    ended(true, text_of(trial.alloc, &view))
 }
 
 // A publish of a crash, behind that of a recovery. Where it is refused memory, observers see what they saw; and what is

@@ -1,5 +1,5 @@
 use crate::tables::setup;
-use crate::trying::{Outcome, Trial, ended};
+use crate::trying::{Outcome, Trial, ended, text_of};
 use bully_agree::{Walk, run, run_whole, view};
 use bully_base::Node;
 use bully_calls::Answer;
@@ -162,12 +162,12 @@ fn prepare_call<R: Print>(trial: &Trial<R>, events: &[Event]) -> Option<Outcome>
 }
 
 fn prepare<R: Print>(trial: &Trial<R>, planning: Planning) -> Option<Outcome> {
-    let before = format!(in trial.alloc; "{planning:?}").ok()?;
+    let before = text_of(trial.alloc, &planning)?;
     trial.begin();
     let answer = planning.prepare(trial.alloc, None);
     trial.end();
     match answer {
-        Ok(planned) => ended(false, format!(in trial.alloc; "{planned:?}").ok()),
+        Ok(planned) => ended(false, text_of(trial.alloc, &planned)),
         Err((planning, PlanFault::OutOfMemory)) => prepare_again(trial.alloc, planning, &before),
         Err(_) => None,
     }
@@ -175,12 +175,12 @@ fn prepare<R: Print>(trial: &Trial<R>, planning: Planning) -> Option<Outcome> {
 
 // The planning that came back has to read as before, and is prepared.
 fn prepare_again(alloc: Global, planning: Planning, before: &String) -> Option<Outcome> {
-    let after = format!(in alloc; "{planning:?}").ok()?;
+    let after = text_of(alloc, &planning)?;
     if after.as_str() != before.as_str() {
         return None;
     }
     match planning.prepare(alloc, None) {
-        Ok(planned) => ended(true, format!(in alloc; "{planned:?}").ok()),
+        Ok(planned) => ended(true, text_of(alloc, &planned)),
         Err(_) => None,
     }
 }
