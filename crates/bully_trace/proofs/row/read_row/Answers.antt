@@ -1,4 +1,4 @@
-use Rattle.std.proofs.Common.{◌≡◌, sym, subst, rules, List, ℕ}
+use Rattle.std.proofs.Common.{sym, subst, rules, List, ℕ}
 use Rattle.csv.specs.Records.{fields_of}
 use Rattle.bully_trace.specs.Rows.{IsReadAs}
 use Rattle.bully_trace.proofs.FieldLemmas.{fields-two, fields-three, fields-four}
