@@ -47,7 +47,9 @@ impl Judge {
         ensures { (setup : SetupState) (rows : List RowState) → length rows + 2 ≡ number → HasJudged setup rows self.old → HasJudged setup (rows ++ row.now ∷ []) self.new }
     {
         if self.stopped.is_none() {
-            self.stopped = fault_of(&mut self.walk, number, row);
+            if let Some(verdict) = fault_of(&mut self.walk, number, row) {
+                self.stopped = Some(verdict);
+            }
         }
     }
 

@@ -1,5 +1,6 @@
 ghost use Rattle.std.specs.Prelude.{◌≡◌, ◌<◌, ◌∷◌, [], length, Some, Err};
 ghost use Rattle.std.specs.Option.{option_and_then, option_map};
+ghost use Rattle.std.specs.Str.{bytes_eq};
 ghost use Rattle.csv.specs.Records.{fields_of, field_at};
 ghost use Rattle.bully_base.specs.Setup.{Setup as SetupState};
 ghost use Rattle.bully_table.specs.Numeral.{number_of};
@@ -75,7 +76,7 @@ fn field(row: &ByteRecord, place: usize) -> &[u8]
 fn setup_in(word: &[u8], version: &[u8], nodes: &[u8], partitions: &[u8]) -> Option<Setup>
     ensures { result ≡ header_of (word.now ∷ version.now ∷ nodes.now ∷ partitions.now ∷ []) }
 {
-    if word != b"bully".as_slice() || version != b"1".as_slice() {
+    if !is_word(word, b"bully".as_slice()) || !is_word(version, b"1".as_slice()) {
         return None;
     }
     let nodes = number_within(nodes, NODES_MAX)?;
@@ -107,7 +108,7 @@ fn plan_row(
 ) -> Result<Option<Row>, TraceFault>
     ensures { IsReadAs setup number (word.now ∷ node.now ∷ owners.now ∷ []) result }
 {
-    if word != b"plan".as_slice() {
+    if !is_word(word, b"plan".as_slice()) {
         return bad_row(number);
     }
     let Some(node) = read_node(node) else {
@@ -130,7 +131,7 @@ fn claim_row(
 ) -> Result<Option<Row>, TraceFault>
     ensures { (setup : SetupState) → IsReadAs setup number (word.now ∷ node.now ∷ status.now ∷ coordinator.now ∷ []) result }
 {
-    if word != b"saw".as_slice() {
+    if !is_word(word, b"saw".as_slice()) {
         return bad_row(number);
     }
     match claim_of(node, status, coordinator) {
@@ -167,23 +168,23 @@ fn bad_row(number: u32) -> Result<Option<Row>, TraceFault>
 fn event_of(word: &[u8], node: Node) -> Option<Event>
     ensures { result ≡ event_named word.now node }
 {
-    if word == b"recover".as_slice() {
+    if is_word(word, b"recover".as_slice()) {
         Some(Event::Recover(node))
-    } else if word == b"crash".as_slice() {
+    } else if is_word(word, b"crash".as_slice()) {
         Some(Event::Crash(node))
-    } else if word == b"check".as_slice() {
+    } else if is_word(word, b"check".as_slice()) {
         Some(Event::Check(node))
-    } else if word == b"timeout".as_slice() {
+    } else if is_word(word, b"timeout".as_slice()) {
         Some(Event::Timeout(node))
-    } else if word == b"start".as_slice() {
+    } else if is_word(word, b"start".as_slice()) {
         Some(Event::Start(node))
-    } else if word == b"run".as_slice() {
+    } else if is_word(word, b"run".as_slice()) {
         Some(Event::Run(node))
-    } else if word == b"lose".as_slice() {
+    } else if is_word(word, b"lose".as_slice()) {
         Some(Event::Lose(node))
-    } else if word == b"return".as_slice() {
+    } else if is_word(word, b"return".as_slice()) {
         Some(Event::Return(node))
-    } else if word == b"move".as_slice() {
+    } else if is_word(word, b"move".as_slice()) {
         Some(Event::Move(node))
     } else {
         None
@@ -194,24 +195,33 @@ fn event_of(word: &[u8], node: Node) -> Option<Event>
 fn status_of(word: &[u8]) -> Option<Status>
     ensures { result ≡ status_named word.now }
 {
-    if word == b"down".as_slice() {
+    if is_word(word, b"down".as_slice()) {
         Some(Status::Down)
-    } else if word == b"election".as_slice() {
+    } else if is_word(word, b"election".as_slice()) {
         Some(Status::Election)
-    } else if word == b"reorganization".as_slice() {
+    } else if is_word(word, b"reorganization".as_slice()) {
         Some(Status::Reorganization)
-    } else if word == b"normal".as_slice() {
+    } else if is_word(word, b"normal".as_slice()) {
         Some(Status::Normal)
     } else {
         None
     }
 }
 
+// Whether the text is this word.
+// (by its start: `==` calls a function for what is behind the first four bytes)
+#[inline(always)]
+fn is_word(text: &[u8], word: &[u8]) -> bool
+    ensures { result ≡ bytes_eq text.now word.now }
+{
+    text.len() == word.len() && word.starts_with(text)
+}
+
 // A node, or none where the text is a dash.
 fn read_coordinator(text: &[u8]) -> Option<Option<Node>>
     ensures { result ≡ coordinator_in text.now }
 {
-    if text == b"-".as_slice() {
+    if is_word(text, b"-".as_slice()) {
         return Some(None);
     }
     Some(Some(read_node(text)?))

@@ -184,6 +184,7 @@ impl Member {
     }
 
     /// The node's call returns: an orphan's outcome is discarded, a live one's moves the point.
+    #[inline(always)]
     pub fn take_back(&mut self, setup: Setup, node: Node) -> Answer
         requires at { IsPointOf setup node self.old.point }
         requires came { IsSome (outcome_in self.old.slot) }
@@ -276,6 +277,7 @@ impl Member {
     }
 
     // The node starts the call that its point offers.
+    #[inline(always)]
     fn start_offered(&mut self, setup: Setup, node: Node)
         requires at { IsPointOf setup node self.old.point }
         requires may { MayApply setup (Event.Start node) self.old }

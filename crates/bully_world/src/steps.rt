@@ -99,6 +99,7 @@ fn run_between(members: &mut [Member], caller: Node, here: usize, there: usize) 
 }
 
 // The call in the slot of `calling` runs at `called`, and the answer is kept in the slot.
+#[inline(always)]
 fn exchange(calling: &mut Member, called: &mut Member, caller: Node) -> Answer
     requires { CanExchange calling.old called.old }
     ensures calling { calling.new ≡ phased_state (Phase.Ran result) calling.old }

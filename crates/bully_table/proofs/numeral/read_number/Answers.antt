@@ -9,8 +9,8 @@ loop-digit-preserved c =
     let text = c.args.text.now in
     let i = c.loop-digit.digit-index in
     let digit : is_digit (slice_index_or text i 0) ≡ true = grind (arith, common_steps, c.is_ascii_digit.ensures.cases) in
-    let next : c.saturating_add-number.result ≡ told (c.loop-digit.number * 10 + (slice_index_or text i 0 - 48)) = omega arith in
-    (c.saturating_add-number.type_inv, sym (answered-step text c.loop-digit.number c.saturating_add-number.result i _ c.loop-digit-test.true refl digit next) ∙ c.loop-digit.invariant.1)
+    let next : c.min-number.result ≡ told (c.loop-digit.number * 10 + (slice_index_or text i 0 - 48)) = omega arith in
+    (omega (arith, next), sym (answered-step text c.loop-digit.number c.min-number.result i _ c.loop-digit-test.true refl digit next) ∙ c.loop-digit.invariant.1)
 
 pub returns : goal.returns
 returns c = sym (answered-end c.args.text.now c.loop-digit.number c.loop-digit.digit-index c.loop-digit-test.false c.loop-digit.invariant.0) ∙ c.loop-digit.invariant.1
