@@ -126,7 +126,7 @@ fn next_record<R: Read + Drop>(
 {
     match records.read_byte_record(fields) {
         Ok(found) => Ok(found),
-        Err(error) => match error.into_kind() {
+        Err(error) => match error.kind() {
             ErrorKind::Io(_) => Err(fault(number, TraceCause::Read)),
             ErrorKind::OutOfMemory => Err(TraceFault::from(AllocError)),
             _ => unreachable!(),
