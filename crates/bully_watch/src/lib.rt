@@ -2,7 +2,7 @@
 //!
 //! It stands on bully_world, bully_agree and the crates below them, and on the kit's `left_right`. The crates above
 //! rely on the definition of a history, whose events are lawful, on entries being told apart, and on each look being
-//! the view after a prefix of the publisher's history.
+//! the view after a history of the publisher's setup, which goes on from what its observer saw or learned.
 #![tactic(auto)]
 
 mod entry;
