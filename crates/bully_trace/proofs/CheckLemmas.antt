@@ -1,6 +1,6 @@
 -- What the judged rows of a text come to.
-use Rattle.std.proofs.Common.{◌≡◌, ◌+◌, ◌≤◌, ◌++◌, ℕ, List, [], ◌∷◌, Option, Some, None, length, refl, sym, subst, arith}
-use Rattle.std.specs.Prelude.{IfSome}
+use Rattle.std.proofs.Common.{◌≡◌, ◌+◌, ◌≤◌, Bool, true, false, ◌++◌, ℕ, List, [], ◌∷◌, Option, Some, None, length, refl, sym, subst, arith}
+use Rattle.std.specs.Prelude.{MatchOption}
 use Rattle.bully_base.specs.Setup.{Setup}
 use Rattle.bully_world.specs.State.{world_of}
 use Rattle.bully_world.specs.World.{first_world}
@@ -8,35 +8,69 @@ use Rattle.bully_trace.specs.declared.TheConstants.{ROWS_MAX}
 use Rattle.bully_trace.specs.declared.trace.Row.{Row}
 use Rattle.bully_trace.specs.declared.trace.Trace.{Trace}
 use Rattle.bully_trace.specs.declared.verdict.Verdict.{Verdict}
-use Rattle.bully_trace.specs.Judging.{AreAllJudged, AreJudged, HasJudged, JudgeState}
-use Rattle.bully_trace.specs.RecordsLeft.{HasRead, IsNext, RowsLeft}
-use Rattle.bully_trace.specs.Rows.{HasNoFault, OfTrace}
+use Rattle.bully_trace.specs.Judging.{AreAllJudged, AreJudged, HasJudged, IsJudgedSoFar, JudgeState}
+use Rattle.bully_trace.specs.RecordsLeft.{EndsReading, HasRead, IsUnread, ReadSoFar, Takes, rows_left}
+use Rattle.bully_trace.specs.Rows.{HasNoFault, OfTrace, Record, fault_at, header_of, row_of}
+use Rattle.bully_trace.specs.declared.trace.TraceCause.{TraceCause}
+use Rattle.bully_trace.specs.declared.trace.TraceFault.{TraceFault}
+use Rattle.bully_trace.proofs.TraceLemmas.{header-read, read-bad, read-end, read-more}
 use Rattle.bully_trace.specs.Verdict.{IsJudged, IsVerdict}
 use Rattle.bully_trace.specs.VerdictText.{IsJudgedAs, verdict_text}
 
 -- behind the header
-pub judged-start : (known : Option (List ℕ)) (left : RowsLeft) (judge : JudgeState) (setup : Setup) → HasRead known [] left → setup ≡ left.setup → HasJudged setup [] judge
-    → AreJudged known left judge
-judged-start known left judge setup read same judged = ([], read, subst (λ s. HasJudged s [] judge) same judged)
+pub judged-start : (known : Option (List ℕ)) (reader now : ReadSoFar) (state begun : Option JudgeState) (found : Bool) (setup : Setup)
+    → Takes reader.records now.records found now.fields → found ≡ true → (found ≡ true → (reader.number ≤ ROWS_MAX) × (now.number ≡ reader.number + 1))
+    → state ≡ None → header_of now.fields ≡ Some setup → MatchOption begun ⊥ (λ judge. HasJudged setup [] judge)
+    → IsJudgedSoFar known reader state → IsJudgedSoFar known now begun
+judged-start known reader now state None found setup takes is counted none told begins so_far = absurd begins
+judged-start known reader now state (Some judge) found setup takes is counted none told judged so_far =
+    let read = header-read known reader now found setup (rw none at so_far) takes is (counted is).1 told in
+    ([], subst (λ s. HasRead known [] (rows_left s now)) (sym judged.same) read, subst (λ s. HasJudged s [] judge) (sym judged.same) judged)
 
 -- behind one more row
-pub judged-row : (known : Option (List ℕ)) (left now : RowsLeft) (judge after : JudgeState) (next : Option Row) (row : Row) (number : ℕ) → next ≡ Some row
-    → ((rows : List Row) → HasRead known rows left → IsNext known rows next left.setup now)
-    → IfSome next (λ row. (left.number ≤ ROWS_MAX) × (now.number ≡ left.number + 1)) → now.setup ≡ left.setup → number ≡ now.number
+pub judged-row : (known : Option (List ℕ)) (reader now : ReadSoFar) (state : Option JudgeState) (judge after : JudgeState) (found : Bool) (setup : Setup) (row : Row) (number : ℕ)
+    → Takes reader.records now.records found now.fields → found ≡ true → (found ≡ true → (reader.number ≤ ROWS_MAX) × (now.number ≡ reader.number + 1))
+    → state ≡ Some judge → setup ≡ judge.world.setup → row_of setup now.fields ≡ Some row → number ≡ now.number
     → ((setup : Setup) (rows : List Row) → length rows + 2 ≡ number → HasJudged setup rows judge → HasJudged setup (rows ++ (row ∷ [])) after)
-    → AreJudged known left judge → AreJudged known now after
-judged-row known left now judge after next row number is reads counts same numbered takes (rows, read, judged) =
-    let more : HasRead known (rows ++ (row ∷ [])) now = rw is at (reads rows read) in
-    let counted = rw is at counts in
-    let at_number : length rows + 2 ≡ number = omega (arith, read.number, counted.1, numbered) in
-    (rows ++ (row ∷ []), more, subst (λ s. HasJudged s (rows ++ (row ∷ [])) after) (sym same) (takes left.setup rows at_number judged))
+    → IsJudgedSoFar known reader state → AreJudged known (rows_left after.world.setup now) after
+judged-row known reader now state judge after found setup row number takes is counted at_judge same told numbered judges so_far =
+    let s = judge.world.setup in
+    let (low, next) = counted is in
+    let (rows, read, judged) : AreJudged known (rows_left s reader) judge = rw at_judge at so_far in
+    let more : HasRead known (rows ++ (row ∷ [])) (rows_left s now) =
+    read-more known rows (rows_left s reader) (rows_left s now) found now.fields row read takes is (omega (arith, low)) (rw same at told) refl next in
+    let at_number : length rows + 2 ≡ number = omega (arith, read.number, next, numbered) in
+    let all = judges s rows at_number judged in (
+      rows ++ (row ∷ []),
+      subst (λ s. HasRead known (rows ++ (row ∷ [])) (rows_left s now)) (sym all.same) more,
+      subst (λ s. HasJudged s (rows ++ (row ∷ [])) after) (sym all.same) all,
+    )
+
+-- at a row of no form
+pub judged-bad : (known : Option (List ℕ)) (reader now : ReadSoFar) (state : Option JudgeState) (judge : JudgeState) (found : Bool) (setup : Setup)
+    → Takes reader.records now.records found now.fields → found ≡ true → (found ≡ true → (reader.number ≤ ROWS_MAX) × (now.number ≡ reader.number + 1))
+    → state ≡ Some judge → setup ≡ judge.world.setup → row_of setup now.fields ≡ None
+    → IsJudgedSoFar known reader state → EndsReading known (fault_at now.number TraceCause.BadRow)
+judged-bad known reader now state judge found setup takes is counted at_judge same none so_far =
+    let s = judge.world.setup in
+    let (low, next) = counted is in
+    let (rows, read, judged) : AreJudged known (rows_left s reader) judge = rw at_judge at so_far in
+    rw next (read-bad known rows (rows_left s reader) now.records found now.fields read takes is (omega (arith, low)) (rw same at none))
 
 -- behind the last row
-pub judged-end : (known : Option (List ℕ)) (left now : RowsLeft) (judge : JudgeState) (next : Option Row) (setup : Setup) → next ≡ None
-    → ((rows : List Row) → HasRead known rows left → IsNext known rows next left.setup now) → left.setup ≡ setup
-    → AreJudged known left judge → AreAllJudged known setup judge
-judged-end known left now judge next setup is reads same (rows, read, judged) =
-    subst (λ s. AreAllJudged known s judge) same (rows, rw is at (reads rows read), judged)
+pub judged-end : (known : Option (List ℕ)) (reader : ReadSoFar) (after : Option (List Record)) (found : Bool) (fields : Record) (judge : JudgeState)
+    → Takes reader.records after found fields → found ≡ false → AreJudged known (rows_left judge.world.setup reader) judge
+    → AreAllJudged known judge.world.setup judge
+judged-end known reader after found fields judge takes is (rows, read, judged) =
+    (rows, read-end known rows (rows_left judge.world.setup reader) after found fields read takes is, judged)
+
+-- a fault of the reader
+pub judged-fault : (known : Option (List ℕ)) (reader : ReadSoFar) (judge : Option JudgeState) (fault : TraceFault)
+    → (IsUnread known reader → EndsReading known fault)
+    → ((rows : List Row) (setup : Setup) → HasRead known rows (rows_left setup reader) → EndsReading known fault)
+    → IsJudgedSoFar known reader judge → EndsReading known fault
+judged-fault known reader None fault first later unread = first unread
+judged-fault known reader (Some judge) fault first later (rows, read, judged) = later rows judge.world.setup read
 
 pub no-fault : (known : Option (List ℕ)) (setup : Setup) (judge : JudgeState) → AreAllJudged known setup judge → HasNoFault known
 no-fault None setup judge all = tt

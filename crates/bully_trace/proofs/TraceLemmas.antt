@@ -1,6 +1,6 @@
 -- A trace, from its header and the rows behind it, as far as it was read.
-use Rattle.std.proofs.Common.{inl, inr, ◌≡◌, ◌∙◌, ◌+◌, ◌≤◌, ◌<◌, ◌++◌, arith, Bool, true, false, ℕ, List, [], ◌∷◌, Option, Some, None, Ok, Err, refl, sym, ap, append_assoc}
-use Rattle.std.specs.Prelude.{IfErr, IfOk, IfSome, IsOk, Result, option_map}
+use Rattle.std.proofs.Common.{◌≡◌, ◌∙◌, ◌+◌, ◌≤◌, ◌<◌, ◌++◌, arith, Bool, true, false, ℕ, List, [], ◌∷◌, Option, Some, None, Ok, Err, refl, sym, ap, append_assoc}
+use Rattle.std.specs.Prelude.{IfOk, IfSome, IsOk, Result, option_map}
 use Rattle.std.proofs.lemmas.List.{append-nil, length-append}
 use Rattle.bully_base.specs.Setup.{Setup}
 use Rattle.bully_trace.specs.declared.TheConstants.{ROWS_MAX}
@@ -8,8 +8,8 @@ use Rattle.bully_trace.specs.declared.trace.Row.{Row}
 use Rattle.bully_trace.specs.declared.trace.Trace.{Trace}
 use Rattle.bully_trace.specs.declared.trace.TraceCause.{TraceCause}
 use Rattle.bully_trace.specs.declared.trace.TraceFault.{TraceFault}
-use Rattle.bully_trace.specs.Rows.{IsBehind, IsReadAs, IsTraceOf, Record, fault_at, header_of, is_of_form, read_as, records_of, row_of, rows_from, trace_of}
-use Rattle.bully_trace.specs.RecordsLeft.{EndsReading, HasRead, HasTaken, IsNext, IsOutside, RowsLeft, Takes}
+use Rattle.bully_trace.specs.Rows.{IsBehind, IsTraceOf, Record, fault_at, header_of, is_of_form, read_as, records_of, row_of, rows_from, trace_of}
+use Rattle.bully_trace.specs.RecordsLeft.{EndsReading, HasRead, HasTaken, IsOutside, IsUnread, ReadSoFar, RowsLeft, Takes, rows_left}
 use Rattle.bully_trace.proofs.RowsLemmas.{bad-first, good-first, late-first, rows-behind}
 
 abbrev as_trace : Setup → List Row → Trace
@@ -71,7 +71,7 @@ read-late known rows left after found fields read takes is late =
         trace-left (records_of bytes) rows left t ∙ rw rest (rw (late-first left.setup (left.number + 1) fields more late) refl)
 
 -- a row of no form
-read-bad : (known : Option (List ℕ)) (rows : List Row) (left : RowsLeft) (after : Option (List Record)) (found : Bool) (fields : Record)
+pub read-bad : (known : Option (List ℕ)) (rows : List Row) (left : RowsLeft) (after : Option (List Record)) (found : Bool) (fields : Record)
     → HasRead known rows left → Takes left.records after found fields → found ≡ true → left.number + 1 ≤ ROWS_MAX + 1 → row_of left.setup fields ≡ None
     → EndsReading known (fault_at (left.number + 1) TraceCause.BadRow)
 read-bad known rows left after found fields read takes is low none =
@@ -103,7 +103,7 @@ read-failed known rows left fault read outside at_row = record {
         (t.header ∷ t.taken, t.rest, t.all, omega (arith, row, t.counted), ok)
 
 -- one more row
-read-more : (known : Option (List ℕ)) (rows : List Row) (left now : RowsLeft) (found : Bool) (fields : Record) (row : Row)
+pub read-more : (known : Option (List ℕ)) (rows : List Row) (left now : RowsLeft) (found : Bool) (fields : Record) (row : Row)
     → HasRead known rows left → Takes left.records now.records found fields → found ≡ true → left.number + 1 ≤ ROWS_MAX + 1 → row_of left.setup fields ≡ Some row
     → now.setup ≡ left.setup → now.number ≡ left.number + 1 → HasRead known (rows ++ (row ∷ [])) now
 read-more known rows left now found fields row read takes is low told same next = record {
@@ -129,32 +129,55 @@ read-more known rows left now found fields row read takes is low told same next 
           behind = after;
         }
 
--- the row that the fields mean is the next one
-pub read-next : (known : Option (List ℕ)) (rows : List Row) (left now : RowsLeft) (found : Bool) (fields : Record) (made : Result (Option Row) TraceFault)
-    → HasRead known rows left → Takes left.records now.records found fields → found ≡ true → left.number + 1 ≤ ROWS_MAX + 1 → IsReadAs left.setup (left.number + 1) fields made
-    → now.setup ≡ left.setup → now.number ≡ left.number + 1 → IfOk made (λ next. IsNext known rows next left.setup now)
-read-next known rows left now found fields (Ok None) read takes is low said same next = absurd said
-read-next known rows left now found fields (Ok (Some row)) read takes is low said same next = read-more known rows left now found fields row read takes is low said same next
-read-next known rows left now found fields (Err fault) read takes is low said same next = tt
-
--- fields that mean no row are the first fault, and want of memory is none of form
-pub read-no-row : (known : Option (List ℕ)) (rows : List Row) (left : RowsLeft) (after : Option (List Record)) (found : Bool) (fields : Record) (made : Result (Option Row) TraceFault)
-    → HasRead known rows left → Takes left.records after found fields → found ≡ true → left.number + 1 ≤ ROWS_MAX + 1 → IsReadAs left.setup (left.number + 1) fields made
-    → IfErr made (EndsReading known)
-read-no-row known rows left after found fields (Ok next) read takes is low said = tt
-read-no-row known rows left after found fields (Err fault) read takes is low (inl (none, bad)) = rw bad (read-bad known rows left after found fields read takes is low none)
-read-no-row known rows left after found fields (Err fault) read takes is low (inr memory) =
-    rw memory (read-failed known rows left _ read (refl, λ e. absurd (cc e), λ _. refl) (λ e. absurd (cc e)))
-
 -- the header
-pub header-read : (known : Option (List ℕ)) (left after : Option (List Record)) (found : Bool) (fields : Record) (setup : Setup)
-    → left ≡ option_map records_of known → Takes left after found fields → found ≡ true → header_of fields ≡ Some setup
-    → HasRead known [] (record { setup = setup; number = 1; records = after })
-header-read known left after found fields setup e takes is told = record { number = refl; within = omega arith; text = by_text known e }
+pub header-read : (known : Option (List ℕ)) (reader now : ReadSoFar) (found : Bool) (setup : Setup)
+    → IsUnread known reader → Takes reader.records now.records found now.fields → found ≡ true → now.number ≡ reader.number + 1
+    → header_of now.fields ≡ Some setup → HasRead known [] (rows_left setup now)
+header-read known reader now found setup unread takes is next told = record {
+  number = omega (arith, unread.number, next);
+  within = omega (arith, unread.number, next);
+  text = by_text known unread.records;
+}
+  where
+    by_text : (known : Option (List ℕ)) → reader.records ≡ option_map records_of known
+        → IfSome known (λ bytes. HasTaken (records_of bytes) [] (rows_left setup now))
+    by_text None e = tt
+    by_text (Some bytes) e =
+        let (more, all, behind) = took (records_of bytes) now.records found now.fields (rw e at takes) is in
+        record {
+          header = now.fields;
+          taken = [];
+          rest = more;
+          all = all;
+          told = told;
+          counted = omega (arith, unread.number, next);
+          mean = refl;
+          behind = behind;
+        }
+
+pub header-means : (known : Option (List ℕ)) (reader now : ReadSoFar) (found : Bool) (made : Result Setup TraceFault)
+    → IsUnread known reader → Takes reader.records now.records found now.fields → found ≡ true → now.number ≡ reader.number + 1
+    → IfOk made (λ setup. header_of now.fields ≡ Some setup) → IfOk made (λ setup. HasRead known [] (rows_left setup now))
+header-means known reader now found (Ok setup) unread takes is next told = header-read known reader now found setup unread takes is next told
+header-means known reader now found (Err fault) unread takes is next told = tt
+
+-- a first row that is no header, and a text without rows
+pub header-bad : (known : Option (List ℕ)) (left after : Option (List Record)) (found : Bool) (fields : Record)
+    → left ≡ option_map records_of known → Takes left after found fields → found ≡ true → header_of fields ≡ None → EndsReading known (fault_at 1 TraceCause.BadHeader)
+header-bad known left after found fields e takes is none = fault-ends known (fault_at 1 TraceCause.BadHeader) refl (by_text known e)
   where
     by_text : (known : Option (List ℕ)) → left ≡ option_map records_of known
-        → IfSome known (λ bytes. HasTaken (records_of bytes) [] (record { setup = setup; number = 1; records = after }))
+        → IfSome known (λ bytes. trace_of (records_of bytes) ≡ Err (fault_at 1 TraceCause.BadHeader))
     by_text None e = tt
     by_text (Some bytes) e =
         let (more, all, behind) = took (records_of bytes) after found fields (rw e at takes) is in
-        record { header = fields; taken = []; rest = more; all = all; told = told; counted = refl; mean = refl; behind = behind }
+        ap trace_of all ∙ rw (none, trace_of) refl
+
+pub header-missing : (known : Option (List ℕ)) (left after : Option (List Record)) (found : Bool) (fields : Record)
+    → left ≡ option_map records_of known → Takes left after found fields → found ≡ false → EndsReading known (fault_at 1 TraceCause.BadHeader)
+header-missing known left after found fields e takes is = fault-ends known (fault_at 1 TraceCause.BadHeader) refl (by_text known e)
+  where
+    by_text : (known : Option (List ℕ)) → left ≡ option_map records_of known
+        → IfSome known (λ bytes. trace_of (records_of bytes) ≡ Err (fault_at 1 TraceCause.BadHeader))
+    by_text None e = tt
+    by_text (Some bytes) e = ap trace_of (ended (records_of bytes) after found fields (rw e at takes) is)

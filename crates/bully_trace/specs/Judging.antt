@@ -1,11 +1,11 @@
 -- A judge of rows that come one by one.
-use Rattle.std.specs.Prelude.{◌≡◌, ℕ, ◌+◌, List, ◌++◌, length, Option, MatchOption}
+use Rattle.std.specs.Prelude.{◌≡◌, ℕ, ◌+◌, List, ◌++◌, length, Option, None, Some, MatchOption}
 use Rattle.bully_base.specs.Setup.{Setup}
 use Rattle.bully_world.specs.State.{WorldState, world_of}
 use Rattle.bully_world.specs.World.{World, first_world}
 use Rattle.bully_trace.specs.declared.trace.Row.{Row}
 use Rattle.bully_trace.specs.declared.verdict.Verdict.{Verdict}
-use Rattle.bully_trace.specs.RecordsLeft.{HasRead, RowsLeft}
+use Rattle.bully_trace.specs.RecordsLeft.{HasRead, IsUnread, ReadSoFar, RowsLeft, rows_left}
 use Rattle.bully_trace.specs.Rows.{IsTraceOf}
 use Rattle.bully_trace.specs.Verdict.{IsJudged}
 
@@ -30,6 +30,11 @@ pub record HasJudged (setup : Setup) (rows : List Row) (judge : JudgeState) : Ty
 -- the rows that were read of a text were judged
 abbrev pub AreJudged : Option (List ℕ) → RowsLeft → JudgeState → Type 0
 AreJudged known left judge = (rows : List Row) × HasRead known rows left × HasJudged left.setup rows judge
+
+-- what was read of a text was judged: nothing of it yet, or the rows behind its header
+abbrev pub IsJudgedSoFar : Option (List ℕ) → ReadSoFar → Option JudgeState → Type 0
+IsJudgedSoFar known reader None = IsUnread known reader
+IsJudgedSoFar known reader (Some judge) = AreJudged known (rows_left judge.world.setup reader) judge
 
 -- all rows of a text were judged
 abbrev pub AreAllJudged : Option (List ℕ) → Setup → JudgeState → Type 0

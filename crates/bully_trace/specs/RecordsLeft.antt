@@ -8,7 +8,7 @@ use Rattle.bully_trace.specs.declared.TheConstants.{ROWS_MAX}
 use Rattle.bully_trace.specs.declared.trace.Row.{Row}
 use Rattle.bully_trace.specs.declared.trace.TraceCause.{TraceCause}
 use Rattle.bully_trace.specs.declared.trace.TraceFault.{TraceFault}
-use Rattle.bully_trace.specs.Rows.{IsFirstFault, IsReadAtItsRow, IsTraceOf, Record, header_of, is_of_form, records_of, rows_from}
+use Rattle.bully_trace.specs.Rows.{IsFirstFault, IsReadAtItsRow, Record, header_of, is_of_form, records_of, rows_from}
 
 -- the reader takes the records of a text as they stand, one a read
 abbrev pub IsPlain : {R : Type 0} → Reader R → Type 0
@@ -29,12 +29,28 @@ Takes None after found fields = ⊤
 Takes (Some []) after found fields = found ≡ false
 Takes (Some (first ∷ rest)) after found fields = (found ≡ true) × (fields ≡ first) × (after ≡ Some rest)
 
+-- how far a reader of records has come: the number of the record that it read last, 0 before the first; its fields; and
+-- the records that are still to be read, where the reader's bytes are known
+pub record ReadSoFar : Type 0 where
+  pub number : ℕ
+  pub fields : Record
+  pub records : Option (List Record)
+
+-- nothing was read of a text
+pub record IsUnread (known : Option (List ℕ)) (reader : ReadSoFar) : Type 0 where
+  pub number : reader.number ≡ 0
+  pub records : reader.records ≡ option_map records_of known
+
 -- what is still to be read behind the header of a trace: the setup that it tells, the number of the row that was read
 -- last, and the records, where the reader's bytes are known
 pub record RowsLeft : Type 0 where
   pub setup : Setup
   pub number : ℕ
   pub records : Option (List Record)
+
+-- the rows that a reader has left of a trace with this setup
+abbrev pub rows_left : Setup → ReadSoFar → RowsLeft
+rows_left setup reader = record { setup = setup; number = reader.number; records = reader.records }
 
 -- of these records the header and then these rows were taken, without a fault, and the others are left
 pub record HasTaken (records : List Record) (rows : List Row) (left : RowsLeft) : Type 0 where
@@ -52,11 +68,6 @@ pub record HasRead (known : Option (List ℕ)) (rows : List Row) (left : RowsLef
   pub number : length rows + 1 ≡ left.number
   pub within : left.number ≤ ROWS_MAX + 1
   pub text : IfSome known (λ bytes. HasTaken (records_of bytes) rows left)
-
--- behind these rows the text has ended, or the row is the next one
-abbrev pub IsNext : Option (List ℕ) → List Row → Option Row → Setup → RowsLeft → Type 0
-IsNext known rows None setup left = IsTraceOf known (record { setup = setup; rows = rows })
-IsNext known rows (Some row) setup left = HasRead known (rows ++ row ∷ []) left
 
 -- a fault that ends the reading of a text
 pub record EndsReading (known : Option (List ℕ)) (fault : TraceFault) : Type 0 where

@@ -132,12 +132,6 @@ is_of_form TraceCause.OutOfMemory = false
 abbrev pub no_memory : TraceFault
 no_memory = fault_at 0 TraceCause.OutOfMemory
 
--- what the fields of this row were read as: the row that they mean, or the fault that they have; or there was no memory
-abbrev pub IsReadAs : Setup → ℕ → Record → Result (Option Row) TraceFault → Type 0
-IsReadAs setup number fields (Ok None) = ⊥
-IsReadAs setup number fields (Ok (Some row)) = row_of setup fields ≡ Some row
-IsReadAs setup number fields (Err fault) = ((row_of setup fields ≡ None) × (fault ≡ fault_at number TraceCause.BadRow)) ⊎ (fault ≡ no_memory)
-
 -- a fault of writing or of memory, at row 0
 abbrev pub IsOfWriting : TraceFault → Type 0
 IsOfWriting fault = (fault.row ≡ 0) × ((fault.cause ≡ TraceCause.Write) ⊎ (fault.cause ≡ TraceCause.OutOfMemory))

@@ -1,19 +1,19 @@
-ghost use Rattle.std.specs.Prelude.{◌≡◌, ◌≢◌, ◌⊎◌, ◌++◌, ℕ, List, Option, IfOk, IfErr, OnOk};
+ghost use Rattle.std.specs.Prelude.{◌≡◌, ◌≢◌, ◌⊎◌, ◌++◌, ℕ, List, [], Option, MatchOption, IfOk, IfErr, OnOk};
 ghost use Rattle.std.specs.Io.KnownBytes.{Appends};
 ghost use Rattle.std.specs.String.{string_bytes};
 ghost use Rattle.bully_trace.specs.Rows.{HasNoFault, IsFirstFault, IsReadAtItsRow, OfTrace};
-ghost use Rattle.bully_trace.specs.Judging.{AreAllJudged, AreJudged};
-ghost use Rattle.bully_trace.specs.RecordsLeft.{EndsReading};
+ghost use Rattle.bully_trace.specs.Judging.{AreAllJudged, HasJudged};
+ghost use Rattle.bully_trace.specs.RecordsLeft.{EndsReading, IsUnread};
 ghost use Rattle.bully_trace.specs.Verdict.{IsLawfulCount, AgreesAfterEachRow};
 ghost use Rattle.bully_trace.specs.VerdictText.{IsJudgedAs, verdict_text, node_lines};
 ghost use Rattle.bully_world.specs.State.{world_of};
 
 use crate::judging::Judge;
-use crate::row_reader::RowReader;
+use crate::row_reader::{RowReader, no_header};
 use crate::text::{push_node_line, push_verdict_head};
 use crate::writing::not_written;
 use crate::{TraceCause, TraceFault, Verdict};
-use bully_base::{Node, OutOfMemory};
+use bully_base::{Node, OutOfMemory, Setup};
 use bully_world::World;
 use std::alloc::Global;
 use std::io::{Read, Write};
@@ -43,27 +43,41 @@ pub fn check<R: Read + Drop, W: Write>(
     ensures row { IfErr result (λ fault.
         (fault.cause ≡ TraceCause.Write) ⊎ (fault.cause ≡ TraceCause.OutOfMemory) → fault.row ≡ 0) }
 {
-    let mut rows = RowReader::open(alloc, reader)?;
-    let mut judge = Judge::new(alloc, rows.setup())?;
-    judge_rows(&mut rows, &mut judge)?;
+    let judge = judge_rows(alloc, RowReader::open(alloc, reader))?;
     let verdict = judge.verdict();
     let text = text_of(alloc, verdict, judge.world())?;
     writer.write_all(text.as_bytes()).map_err(not_written)?;
     Ok(verdict)
 }
 
-// Has all rows judged that are still to be read.
-fn judge_rows<R: Read + Drop>(rows: &mut RowReader<R>, judge: &mut Judge) -> Result<(), TraceFault>
-    ensures judged { (known : Option (List ℕ)) → AreJudged known rows.old judge.old → OnOk result (AreAllJudged known rows.old.setup judge.new) }
-    ensures fault { (known : Option (List ℕ)) → AreJudged known rows.old judge.old → IfErr result (EndsReading known) }
+// Has all rows of a trace judged. Its header makes the judge.
+// (in one loop, and by a reference to each row: so the reading and the judging are built into it)
+fn judge_rows<R: Read + Drop>(alloc: Global, mut rows: RowReader<R>) -> Result<Judge, TraceFault>
+    ensures judged { (known : Option (List ℕ)) → IsUnread known rows → IfOk result (λ judge. AreAllJudged known judge.world.setup judge) }
+    ensures fault { (known : Option (List ℕ)) → IsUnread known rows → IfErr result (EndsReading known) }
 {
-    loop {
-        match &rows.next_row() {
-            Ok(Some(row)) => judge.take(rows.number(), row),
-            Ok(None) => return Ok(()),
-            Err(fault) => return Err(*fault),
+    let mut judge: Option<Judge> = None;
+    while rows.advance()? {
+        if let Some(judge) = &mut judge {
+            match &rows.row(alloc, judge.world().setup())? {
+                Some(row) => judge.take(rows.number(), row),
+                None => return Err(rows.bad_row()),
+            }
+        } else {
+            begin(alloc, rows.header()?, &mut judge)?;
         }
     }
+    judge.ok_or(no_header())
+}
+
+// The judge begins, before any row.
+// (out of line, and by a reference: else room for a judge would be cleared at each row)
+#[inline(never)]
+fn begin(alloc: Global, setup: Setup, judge: &mut Option<Judge>) -> Result<(), OutOfMemory>
+    ensures { OnOk result (MatchOption judge.new ⊥ (λ judge. HasJudged setup [] judge)) }
+{
+    *judge = Some(Judge::new(alloc, setup)?);
+    Ok(())
 }
 
 // The text of the verdict, after which the world is so.

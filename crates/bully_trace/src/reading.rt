@@ -1,10 +1,11 @@
 ghost use Rattle.std.specs.Prelude.{◌≡◌, ◌≢◌, ◌≤◌, ℕ, List, [], Option, length, IfErr, IfOk};
 ghost use Rattle.bully_trace.specs.Rows.{IsFirstFault, IsReadAtItsRow, IsTraceOf};
 ghost use Rattle.bully_trace.specs.declared.TheConstants.{ROWS_MAX};
-ghost use Rattle.bully_trace.specs.RecordsLeft.{EndsReading, HasRead};
+ghost use Rattle.bully_trace.specs.RecordsLeft.{EndsReading, HasRead, IsUnread, rows_left};
 
-use crate::row_reader::RowReader;
+use crate::row_reader::{RowReader, no_header};
 use crate::trace::{Row, Rows, Trace, TraceCause, TraceFault};
+use bully_base::Setup;
 use std::alloc::Global;
 use std::io::Read;
 
@@ -19,24 +20,42 @@ pub fn read_trace<R: Read + Drop>(alloc: Global, reader: R) -> Result<Trace, Tra
     ensures other { IfErr result (λ f. f.cause ≢ TraceCause.Write) }
     ensures memory { IfErr result (λ f. f.cause ≡ TraceCause.OutOfMemory → f.row ≡ 0) }
 {
-    let mut rows = RowReader::open(alloc, reader)?;
-    let read = read_rows(alloc, &mut rows)?;
+    let mut rows = RowReader::open(alloc, reader);
+    let setup = read_setup(&mut rows)?;
+    let read = read_rows(alloc, setup, &mut rows)?;
     Ok(Trace {
-        setup: rows.setup(),
+        setup,
         rows: Rows::from_vec(read),
     })
 }
 
-// All rows that are still to be read.
-fn read_rows<R: Read + Drop>(alloc: Global, rows: &mut RowReader<R>) -> Result<Vec<Row>, TraceFault>
-    ensures read { (known : Option (List ℕ)) → HasRead known [] rows.old → IfOk result (λ read. IsTraceOf known (record { setup = rows.old.setup; rows = read.items })) }
+// The setup of the header, which is the first row.
+fn read_setup<R: Read + Drop>(rows: &mut RowReader<R>) -> Result<Setup, TraceFault>
+    ensures read { (known : Option (List ℕ)) → IsUnread known rows.old → IfOk result (λ setup. HasRead known [] (rows_left setup rows.new)) }
+    ensures fault { (known : Option (List ℕ)) → IsUnread known rows.old → IfErr result (EndsReading known) }
+{
+    if !rows.advance()? {
+        return Err(no_header());
+    }
+    rows.header()
+}
+
+// All rows that are still to be read of a trace with this setup.
+fn read_rows<R: Read + Drop>(
+    alloc: Global,
+    setup: Setup,
+    rows: &mut RowReader<R>,
+) -> Result<Vec<Row>, TraceFault>
+    ensures read { (known : Option (List ℕ)) → HasRead known [] (rows_left setup rows.old) → IfOk result (λ read. IsTraceOf known (record { setup = setup; rows = read.items })) }
     ensures within { rows.old.number ≡ 1 → IfOk result (λ read. length read.items ≤ ROWS_MAX) }
-    ensures fault { (known : Option (List ℕ)) → HasRead known [] rows.old → IfErr result (EndsReading known) }
-    ensures setup { rows.new.setup ≡ rows.old.setup }
+    ensures fault { (known : Option (List ℕ)) → HasRead known [] (rows_left setup rows.old) → IfErr result (EndsReading known) }
 {
     let mut read = Vec::new(alloc);
-    while let Some(row) = rows.next_row()? {
-        read.push(row)?;
+    while rows.advance()? {
+        match rows.row(alloc, setup)? {
+            Some(row) => read.push(row)?,
+            None => return Err(rows.bad_row()),
+        }
     }
     Ok(read)
 }

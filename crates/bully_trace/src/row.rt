@@ -1,14 +1,14 @@
-ghost use Rattle.std.specs.Prelude.{◌≡◌, ◌<◌, ◌∷◌, [], length, Some, Err};
+ghost use Rattle.std.specs.Prelude.{◌≡◌, ◌<◌, ◌∷◌, [], length, Some, IfOk};
 ghost use Rattle.std.specs.Option.{option_and_then, option_map};
 ghost use Rattle.std.specs.Str.{bytes_eq};
 ghost use Rattle.csv.specs.Records.{fields_of, field_at};
 ghost use Rattle.bully_base.specs.Setup.{Setup as SetupState};
 ghost use Rattle.bully_table.specs.Numeral.{number_of};
 ghost use Rattle.bully_trace.specs.declared.trace.Row.{Row};
-ghost use Rattle.bully_trace.specs.Rows.{IsReadAs, header_of, within, node_in, event_named, status_named, coordinator_in, claim_in, fault_at};
+ghost use Rattle.bully_trace.specs.Rows.{row_of, header_of, within, node_in, event_named, status_named, coordinator_in, claim_in};
 
-use crate::trace::{Claim, Row, TraceCause, TraceFault};
-use bully_base::{EVENTS_MAX, NODES_MAX, Node, PARTITIONS_MAX, Setup, Status};
+use crate::trace::{Claim, Row};
+use bully_base::{EVENTS_MAX, NODES_MAX, Node, OutOfMemory, PARTITIONS_MAX, Setup, Status};
 use bully_table::{Table, TableFault, read_number};
 use bully_world::Event;
 use csv::ByteRecord;
@@ -26,41 +26,25 @@ pub fn read_header(row: &ByteRecord) -> Option<Setup>
     setup_in(word, version, field(row, 2), field(row, 3))
 }
 
-/// The row of this number, as its record tells it; there is one. Refused as `BadRow` where it has no form that the
-/// profile lists, and as `OutOfMemory` where an allocation fails.
-// (of the type that the row goes on in, so that it is made in its place)
+/// The row that its record tells; none where it has no form that the profile lists. Refused where an allocation fails.
 pub fn read_row(
     alloc: Global,
     setup: Setup,
-    number: u32,
     fields: &ByteRecord,
-) -> Result<Option<Row>, TraceFault>
-    ensures { IsReadAs setup number (fields_of fields.now) result }
+) -> Result<Option<Row>, OutOfMemory>
+    ensures { IfOk result (λ row. row ≡ row_of setup (fields_of fields.now)) }
 {
     match fields.len() {
-        2 => event_row(number, field(fields, 0), field(fields, 1)),
+        2 => Ok(event_row(field(fields, 0), field(fields, 1))),
         3 => {
             let word = field(fields, 0);
-            plan_row(
-                alloc,
-                setup,
-                number,
-                word,
-                field(fields, 1),
-                field(fields, 2),
-            )
+            plan_row(alloc, setup, word, field(fields, 1), field(fields, 2))
         }
         4 => {
             let word = field(fields, 0);
-            claim_row(
-                number,
-                word,
-                field(fields, 1),
-                field(fields, 2),
-                field(fields, 3),
-            )
+            Ok(claim_row(word, field(fields, 1), field(fields, 2), field(fields, 3)))
         }
-        _ => bad_row(number),
+        _ => Ok(None),
     }
 }
 
@@ -85,59 +69,44 @@ fn setup_in(word: &[u8], version: &[u8], nodes: &[u8], partitions: &[u8]) -> Opt
 }
 
 // What two fields mean.
-fn event_row(number: u32, word: &[u8], node: &[u8]) -> Result<Option<Row>, TraceFault>
-    ensures { (setup : SetupState) → IsReadAs setup number (word.now ∷ node.now ∷ []) result }
+fn event_row(word: &[u8], node: &[u8]) -> Option<Row>
+    ensures { (setup : SetupState) → result ≡ row_of setup (word.now ∷ node.now ∷ []) }
 {
-    let Some(node) = read_node(node) else {
-        return bad_row(number);
-    };
-    match event_of(word, node) {
-        Some(event) => Ok(Some(Row::Event(event))),
-        None => bad_row(number),
-    }
+    let node = read_node(node)?;
+    Some(Row::Event(event_of(word, node)?))
 }
 
 // What three fields mean.
 fn plan_row(
     alloc: Global,
     setup: Setup,
-    number: u32,
     word: &[u8],
     node: &[u8],
     owners: &[u8],
-) -> Result<Option<Row>, TraceFault>
-    ensures { IsReadAs setup number (word.now ∷ node.now ∷ owners.now ∷ []) result }
+) -> Result<Option<Row>, OutOfMemory>
+    ensures { IfOk result (λ row. row ≡ row_of setup (word.now ∷ node.now ∷ owners.now ∷ [])) }
 {
     if !is_word(word, b"plan".as_slice()) {
-        return bad_row(number);
+        return Ok(None);
     }
     let Some(node) = read_node(node) else {
-        return bad_row(number);
+        return Ok(None);
     };
     match Table::read_bytes(alloc, setup, owners) {
         Ok(table) => Ok(Some(Row::Event(Event::Plan(node, table)))),
-        Err(TableFault::OutOfMemory) => Err(TraceFault::from(AllocError)),
-        Err(_) => bad_row(number),
+        Err(TableFault::OutOfMemory) => Err(AllocError),
+        Err(_) => Ok(None),
     }
 }
 
 // What four fields mean.
-fn claim_row(
-    number: u32,
-    word: &[u8],
-    node: &[u8],
-    status: &[u8],
-    coordinator: &[u8],
-) -> Result<Option<Row>, TraceFault>
-    ensures { (setup : SetupState) → IsReadAs setup number (word.now ∷ node.now ∷ status.now ∷ coordinator.now ∷ []) result }
+fn claim_row(word: &[u8], node: &[u8], status: &[u8], coordinator: &[u8]) -> Option<Row>
+    ensures { (setup : SetupState) → result ≡ row_of setup (word.now ∷ node.now ∷ status.now ∷ coordinator.now ∷ []) }
 {
     if !is_word(word, b"saw".as_slice()) {
-        return bad_row(number);
+        return None;
     }
-    match claim_of(node, status, coordinator) {
-        Some(claim) => Ok(Some(Row::Claim(claim))),
-        None => bad_row(number),
-    }
+    Some(Row::Claim(claim_of(node, status, coordinator)?))
 }
 
 // What the fields of a claim mean.
@@ -154,38 +123,29 @@ fn claim_of(node: &[u8], status: &[u8], coordinator: &[u8]) -> Option<Claim>
     })
 }
 
-// There is no row of this form.
-fn bad_row(number: u32) -> Result<Option<Row>, TraceFault>
-    ensures { result ≡ Err (fault_at number TraceCause.BadRow) }
-{
-    Err(TraceFault {
-        row: number,
-        cause: TraceCause::BadRow,
-    })
-}
-
 // The event of this word at the node.
+// (the words that come most are tried first)
 fn event_of(word: &[u8], node: Node) -> Option<Event>
     ensures { result ≡ event_named word.now node }
 {
-    if is_word(word, b"recover".as_slice()) {
-        Some(Event::Recover(node))
-    } else if is_word(word, b"crash".as_slice()) {
-        Some(Event::Crash(node))
+    if is_word(word, b"start".as_slice()) {
+        Some(Event::Start(node))
+    } else if is_word(word, b"run".as_slice()) {
+        Some(Event::Run(node))
+    } else if is_word(word, b"return".as_slice()) {
+        Some(Event::Return(node))
     } else if is_word(word, b"check".as_slice()) {
         Some(Event::Check(node))
     } else if is_word(word, b"timeout".as_slice()) {
         Some(Event::Timeout(node))
-    } else if is_word(word, b"start".as_slice()) {
-        Some(Event::Start(node))
-    } else if is_word(word, b"run".as_slice()) {
-        Some(Event::Run(node))
-    } else if is_word(word, b"lose".as_slice()) {
-        Some(Event::Lose(node))
-    } else if is_word(word, b"return".as_slice()) {
-        Some(Event::Return(node))
     } else if is_word(word, b"move".as_slice()) {
         Some(Event::Move(node))
+    } else if is_word(word, b"lose".as_slice()) {
+        Some(Event::Lose(node))
+    } else if is_word(word, b"crash".as_slice()) {
+        Some(Event::Crash(node))
+    } else if is_word(word, b"recover".as_slice()) {
+        Some(Event::Recover(node))
     } else {
         None
     }

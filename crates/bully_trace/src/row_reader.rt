@@ -1,115 +1,113 @@
-ghost use Rattle.std.specs.Prelude.{◌≡◌, ◌≢◌, ◌⊎◌, ◌+◌, ◌≤◌, ℕ, List, [], Option, None, Some, IfErr, IfOk, IfSome, option_map};
+ghost use Rattle.std.specs.Prelude.{◌≡◌, ◌+◌, ◌≤◌, ℕ, List, [], Option, None, Some, true, IfErr, IfOk};
 ghost use Rattle.csv.specs.Records.{fields_of};
-ghost use Rattle.bully_trace.specs.Rows.{fault_at, records_of};
+ghost use Rattle.bully_base.specs.Setup.{Setup as SetupState};
+ghost use Rattle.bully_trace.specs.Rows.{fault_at, header_of, row_of};
 ghost use Rattle.bully_trace.specs.declared.TheConstants.{ROWS_MAX};
 ghost use Rattle.bully_trace.specs.declared.trace.Row.{Row};
-ghost use Rattle.bully_trace.specs.RecordsLeft.{EndsReading, HasRead, IsNext, IsOutside, ReadsPlain, Takes, records_left};
+ghost use Rattle.bully_trace.specs.RecordsLeft.{EndsReading, HasRead, IsOutside, IsUnread, ReadsPlain, Takes, records_left, rows_left};
 
 use crate::ROWS_MAX;
 use crate::row::{read_header, read_row};
 use crate::trace::{Row, TraceCause, TraceFault};
-use bully_base::Setup;
+use bully_base::{OutOfMemory, Setup};
 use csv::{ByteRecord, ErrorKind, Reader, ReaderBuilder};
 use std::alloc::{AllocError, Global};
 use std::io::Read;
 use std::marker::Model;
 
-/// The rows of a trace that are still to be read. Its header was read.
+/// The rows of a trace, one by one. The first is its header.
 #[derive(Drop)]
 pub struct RowReader<R: Read> {
-    alloc: Global,
-    setup: Setup,
     records: Reader<R>,
     // The fields of the record that was read last.
     fields: ByteRecord,
-    // The number of the row that was read last.
+    // The number of the row that was read last, 0 before the first.
     number: u32,
 }
 
 impl<R: Read> Model for RowReader<R> {
     ghost use Rattle.std.specs.Prelude.{◌+◌, ◌≤◌};
+    ghost use Rattle.csv.specs.Records.{fields_of};
     ghost use Rattle.bully_trace.specs.declared.TheConstants.{ROWS_MAX};
-    ghost use Rattle.bully_trace.specs.RecordsLeft.{ReadsPlain, RowsLeft, records_left};
+    ghost use Rattle.bully_trace.specs.RecordsLeft.{ReadSoFar, ReadsPlain, records_left};
 
-    ghost Value = { RowsLeft };
+    ghost Value = { ReadSoFar };
 
-    ghost view = { λ r. record { setup = r.setup; number = r.number; records = records_left R.remaining r.records } };
+    ghost view = { λ r. record { number = r.number; fields = fields_of r.fields; records = records_left R.remaining r.records } };
 
     ghost invariant = { λ r. ReadsPlain r.records × (r.number ≤ ROWS_MAX + 1) };
 }
 
 impl<R: Read + Drop> RowReader<R> {
-    /// Reads the trace's header. Refused as [`crate::read_trace`] refuses it there.
-    pub fn open(alloc: Global, reader: R) -> Result<RowReader<R>, TraceFault>
-        ensures opened { IfOk result (HasRead (R.remaining reader) []) }
-        ensures fault { IfErr result (EndsReading (R.remaining reader)) }
+    /// A reader before the first row.
+    pub fn open(alloc: Global, reader: R) -> RowReader<R>
+        ensures { IsUnread (R.remaining reader) result }
     {
-        let mut records = ReaderBuilder::new()
-            .has_headers(false)
-            .flexible(true)
-            .from_reader(alloc, reader);
-        let mut fields = ByteRecord::new(alloc);
-        let setup = next_header(&mut records, &mut fields)?;
-        Ok(RowReader {
-            alloc,
-            setup,
-            records,
-            fields,
-            number: 1,
-        })
+        RowReader {
+            records: ReaderBuilder::new()
+                .has_headers(false)
+                .flexible(true)
+                .from_reader(alloc, reader),
+            fields: ByteRecord::new(alloc),
+            number: 0,
+        }
     }
 
-    /// The setup that the header tells.
-    pub fn setup(&self) -> Setup
-        ensures { result ≡ self.now.setup }
-    {
-        self.setup
-    }
-
-    /// The number of the row that was read last. The header's is 1.
+    /// The number of the row that was read last, 0 before the first. The header's is 1.
     pub fn number(&self) -> u32
         ensures { result ≡ self.now.number }
     {
         self.number
     }
 
-    /// Takes the next row; none where the trace has ended. Refused as [`crate::read_trace`] refuses it at that row.
-    pub fn next_row(&mut self) -> Result<Option<Row>, TraceFault>
-        ensures next { (known : Option (List ℕ)) (rows : List Row) → HasRead known rows self.old → IfOk result (λ next. IsNext known rows next self.old.setup self.new) }
-        ensures fault { (known : Option (List ℕ)) (rows : List Row) → HasRead known rows self.old → IfErr result (EndsReading known) }
-        ensures counted { IfOk result (λ next. IfSome next (λ row. (self.old.number ≤ ROWS_MAX) × (self.new.number ≡ self.old.number + 1))) }
-        ensures setup { self.new.setup ≡ self.old.setup }
+    /// Reads the next row, and tells whether there is one. Refused as [`crate::read_trace`] refuses it there, but for
+    /// what its fields mean.
+    pub fn advance(&mut self) -> Result<bool, TraceFault>
+        ensures takes { IfOk result (λ found. Takes self.old.records self.new.records found self.new.fields) }
+        ensures counted { IfOk result (λ found. found ≡ true → (self.old.number ≤ ROWS_MAX) × (self.new.number ≡ self.old.number + 1)) }
+        ensures first { (known : Option (List ℕ)) → IsUnread known self.old → IfErr result (EndsReading known) }
+        ensures fault { (known : Option (List ℕ)) (rows : List Row) (setup : SetupState) → HasRead known rows (rows_left setup self.old) → IfErr result (EndsReading known) }
     {
         let number = self.number + 1;
         if !next_record(&mut self.records, &mut self.fields, number)? {
-            return Ok(None);
+            return Ok(false);
         }
         if number > ROWS_MAX + 1 {
             return Err(fault(number, TraceCause::TooManyRows));
         }
         self.number = number;
-        read_row(self.alloc, self.setup, number, &self.fields)
+        Ok(true)
+    }
+
+    /// The setup that the row read last tells as a header. Refused as `BadHeader` where it is none.
+    pub fn header(&self) -> Result<Setup, TraceFault>
+        ensures ok { IfOk result (λ setup. header_of self.now.fields ≡ Some setup) }
+        ensures fault { IfErr result (λ fault. (header_of self.now.fields ≡ None) × (fault ≡ fault_at 1 TraceCause.BadHeader)) }
+    {
+        read_header(&self.fields).ok_or(no_header())
+    }
+
+    /// What the row read last means in a trace of this setup; none where it has no form that the profile lists.
+    /// Refused where an allocation fails.
+    pub fn row(&self, alloc: Global, setup: Setup) -> Result<Option<Row>, OutOfMemory>
+        ensures { IfOk result (λ row. row ≡ row_of setup self.now.fields) }
+    {
+        read_row(alloc, setup, &self.fields)
+    }
+
+    /// The fault of a row of no form, at the one read last.
+    pub fn bad_row(&self) -> TraceFault
+        ensures { result ≡ fault_at self.now.number TraceCause.BadRow }
+    {
+        fault(self.number, TraceCause::BadRow)
     }
 }
 
-// The setup of the record that the reader gives next, which is the header.
-fn next_header<R: Read + Drop>(
-    records: &mut Reader<R>,
-    fields: &mut ByteRecord,
-) -> Result<Setup, TraceFault>
-    requires { ReadsPlain records.old }
-    ensures plain { ReadsPlain records.new }
-    ensures opened { (known : Option (List ℕ)) → records_left R.remaining records.old ≡ option_map records_of known
-        → IfOk result (λ setup. HasRead known [] (record { setup = setup; number = 1; records = records_left R.remaining records.new })) }
-    ensures fault { (known : Option (List ℕ)) → records_left R.remaining records.old ≡ option_map records_of known → IfErr result (EndsReading known) }
+/// The fault of a trace without a header.
+pub fn no_header() -> TraceFault
+    ensures { result ≡ fault_at 1 TraceCause.BadHeader }
 {
-    if !next_record(records, fields, 1)? {
-        return Err(fault(1, TraceCause::BadHeader));
-    }
-    match read_header(fields) {
-        Some(setup) => Ok(setup),
-        None => Err(fault(1, TraceCause::BadHeader)),
-    }
+    fault(1, TraceCause::BadHeader)
 }
 
 // Reads the record of the row of this number; tells whether there is one.
@@ -124,8 +122,8 @@ fn next_record<R: Read + Drop>(
     ensures fault { IfErr result IsOutside }
     ensures read { IfErr result (λ f. f.cause ≡ TraceCause.Read → f.row ≡ number) }
 {
-    match records.read_byte_record(fields) {
-        Ok(found) => Ok(found),
+    match &records.read_byte_record(fields) {
+        Ok(found) => Ok(*found),
         Err(error) => match error.kind() {
             ErrorKind::Io(_) => Err(fault(number, TraceCause::Read)),
             ErrorKind::OutOfMemory => Err(TraceFault::from(AllocError)),

@@ -1,44 +1,33 @@
-use Rattle.std.proofs.Common.{◌≡◌, ◌∙◌, None, Some, Ok, refl, rules}
-use Rattle.bully_trace.proofs.CheckLemmas.{judged-end, judged-row}
+use Rattle.std.proofs.Common.{◌∙◌, sym, rules}
+use Rattle.bully_trace.proofs.CheckLemmas.{judged-bad, judged-row, judged-start}
 use Rattle.bully_trace.proofs.checking.judge_rows.Goals as goal
 
-pub returns-in-Err-clause-fault : goal.returns-in-Err-clause-fault
-returns-in-Err-clause-fault g c = λ known judged.
-    let (rows, read, so_far) = c.loop-row.invariant.judged known judged in
-    rw c.in-Err.is at (c.next_row.ensures.fault known rows read)
+pub returns-in-None-clause-fault : goal.returns-in-None-clause-fault
+returns-in-None-clause-fault g c = λ known unread. rw c.bad_row.ensures (
+    judged-bad known c.loop-judge.rows c.advance.new.self c.loop-judge.judge c.in-Some.judge c.in_ok-advance.field-0 c.setup.result
+    c.in_ok-advance.ensures.takes (search rules) c.in_ok-advance.ensures.counted c.in-Some.is (search rules) (sym c.in_ok-row.ensures ∙ c.in-None.is)
+    (c.loop-judge.invariant known unread))
 
-pub loop-row-preserved-in-Ok-Some : goal.loop-row-preserved-in-Ok-Some
-loop-row-preserved-in-Ok-Some g c =
-    let told : c.next_row.result ≡ Ok (Some c.in-Ok-Some.row) = search rules in
-    record {
-      judged = λ known judged. judged-row known c.loop-row.rows c.next_row.new.self c.loop-row.judge c.take.new.self (Some c.in-Ok-Some.row) c.in-Ok-Some.row c.number.result
-          refl (λ rows read. rw told at (c.next_row.ensures.next known rows read)) (rw told at c.next_row.ensures.counted)
-          c.next_row.ensures.setup c.number.ensures c.take.ensures (c.loop-row.invariant.judged known judged);
-      setup = c.next_row.ensures.setup ∙ c.loop-row.invariant.setup;
-    }
+pub loop-judge-preserved-in-Some-2 : goal.loop-judge-preserved-in-Some-2
+loop-judge-preserved-in-Some-2 g c = λ known unread.
+    judged-row known c.loop-judge.rows c.advance.new.self c.loop-judge.judge c.in-Some.judge c.take.new.self c.in_ok-advance.field-0 c.setup.result c.in-Some-2.row c.number.result
+    c.in_ok-advance.ensures.takes (search rules) c.in_ok-advance.ensures.counted c.in-Some.is (search rules) (sym c.in_ok-row.ensures ∙ c.in-Some-2.is)
+    c.number.ensures c.take.ensures (c.loop-judge.invariant known unread)
 
-pub loop-row-preserved-in-Ok-Some-2 : goal.loop-row-preserved-in-Ok-Some-2
-loop-row-preserved-in-Ok-Some-2 g c =
-    let told : c.next_row.result ≡ Ok (Some c.in-Ok-Some.row) = search rules in
-    record {
-      judged = λ known judged. judged-row known c.loop-row.rows c.next_row.new.self c.loop-row.judge c.take.new.self (Some c.in-Ok-Some.row) c.in-Ok-Some.row c.number.result
-          refl (λ rows read. rw told at (c.next_row.ensures.next known rows read)) (rw told at c.next_row.ensures.counted)
-          c.next_row.ensures.setup c.number.ensures c.take.ensures (c.loop-row.invariant.judged known judged);
-      setup = c.next_row.ensures.setup ∙ c.loop-row.invariant.setup;
-    }
+pub loop-judge-preserved-in-Some-2-2 : goal.loop-judge-preserved-in-Some-2-2
+loop-judge-preserved-in-Some-2-2 g c = λ known unread.
+    judged-row known c.loop-judge.rows c.advance.new.self c.loop-judge.judge c.in-Some.judge c.take.new.self c.in_ok-advance.field-0 c.setup.result c.in-Some-2.row c.number.result
+    c.in_ok-advance.ensures.takes (search rules) c.in_ok-advance.ensures.counted c.in-Some.is (search rules) (sym c.in_ok-row.ensures ∙ c.in-Some-2.is)
+    c.number.ensures c.take.ensures (c.loop-judge.invariant known unread)
 
-pub loop-row-preserved-in-Ok-Some-3 : goal.loop-row-preserved-in-Ok-Some-3
-loop-row-preserved-in-Ok-Some-3 g c =
-    let told : c.next_row.result ≡ Ok (Some c.in-Ok-Some.row) = search rules in
-    record {
-      judged = λ known judged. judged-row known c.loop-row.rows c.next_row.new.self c.loop-row.judge c.take.new.self (Some c.in-Ok-Some.row) c.in-Ok-Some.row c.number.result
-          refl (λ rows read. rw told at (c.next_row.ensures.next known rows read)) (rw told at c.next_row.ensures.counted)
-          c.next_row.ensures.setup c.number.ensures c.take.ensures (c.loop-row.invariant.judged known judged);
-      setup = c.next_row.ensures.setup ∙ c.loop-row.invariant.setup;
-    }
+pub loop-judge-preserved-in-Some-2-3 : goal.loop-judge-preserved-in-Some-2-3
+loop-judge-preserved-in-Some-2-3 g c = λ known unread.
+    judged-row known c.loop-judge.rows c.advance.new.self c.loop-judge.judge c.in-Some.judge c.take.new.self c.in_ok-advance.field-0 c.setup.result c.in-Some-2.row c.number.result
+    c.in_ok-advance.ensures.takes (search rules) c.in_ok-advance.ensures.counted c.in-Some.is (search rules) (sym c.in_ok-row.ensures ∙ c.in-Some-2.is)
+    c.number.ensures c.take.ensures (c.loop-judge.invariant known unread)
 
-pub returns-in-Ok-None-clause-judged : goal.returns-in-Ok-None-clause-judged
-returns-in-Ok-None-clause-judged g c = λ known judged.
-    let told : c.next_row.result ≡ Ok None = search rules in
-    judged-end known c.loop-row.rows c.next_row.new.self c.loop-row.judge None c.args.rows.now.setup refl
-    (λ rows read. rw told at (c.next_row.ensures.next known rows read)) c.loop-row.invariant.setup (c.loop-row.invariant.judged known judged)
+pub loop-judge-preserved : goal.loop-judge-preserved
+loop-judge-preserved g c = λ known unread.
+    judged-start known c.loop-judge.rows c.advance.new.self c.loop-judge.judge c.begin.new.judge c.in_ok-advance.field-0 c.in_ok-header.field-0
+    c.in_ok-advance.ensures.takes (search rules) c.in_ok-advance.ensures.counted (search rules) c.in_ok-header.ensures.ok c.in_ok-begin.ensures
+    (c.loop-judge.invariant known unread)

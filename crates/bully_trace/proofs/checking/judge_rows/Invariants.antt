@@ -1,13 +1,11 @@
-use Rattle.std.proofs.Common.{◌≡◌, ◌+◌, ◌-◌, ℕ, List, Option}
+use Rattle.std.proofs.Common.{◌+◌, ◌-◌, ℕ, List, Option}
 use Rattle.bully_trace.specs.declared.TheConstants.{ROWS_MAX}
-use Rattle.bully_trace.specs.Judging.{AreJudged}
+use Rattle.bully_trace.specs.Judging.{IsJudgedSoFar}
+use Rattle.bully_trace.specs.RecordsLeft.{IsUnread}
 use Rattle.bully_trace.proofs.checking.judge_rows.Given as goal
 
-abbrev pub invariant-loop-row : goal.invariant-loop-row
-invariant-loop-row g l = record {
-  judged : (known : Option (List ℕ)) → AreJudged known l.fn.rows l.fn.judge → AreJudged known l.rows l.judge;
-  setup : l.rows.setup ≡ l.fn.rows.setup;
-}
+abbrev pub invariant-loop-judge : goal.invariant-loop-judge
+invariant-loop-judge g l = (known : Option (List ℕ)) → IsUnread known l.fn.rows → IsJudgedSoFar known l.rows l.judge
 
-abbrev pub decreases-loop-row : goal.decreases-loop-row
-decreases-loop-row g l = ROWS_MAX + 1 - l.rows.number
+abbrev pub decreases-loop-judge : goal.decreases-loop-judge
+decreases-loop-judge g l = ROWS_MAX + 1 - l.rows.number

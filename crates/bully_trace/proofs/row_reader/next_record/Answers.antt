@@ -4,4 +4,4 @@ use Rattle.bully_trace.proofs.row_reader.next_record.Goals as goal
 
 pub returns-in-Ok-clause-takes : goal.returns-in-Ok-clause-takes
 returns-in-Ok-clause-takes g c =
-    takes-left g.R.Read.remaining c.args.records.now c.read_byte_record.new.self c.in-Ok.found (fields_of c.read_byte_record.new.row) c.requires c.in-Ok.ensures.reads
+    takes-left g.R.Read.remaining c.args.records.now c.read_byte_record.new.self c.in-Ok.found (fields_of c.read_byte_record.new.row) c.requires (rw c.in-Ok.is at c.read_byte_record.ensures.reads)
