@@ -39,6 +39,8 @@ impl Walk {
 
     /// Takes the world on by the event, as [`World::apply`] does: the answer, or the first refusal, and then nothing
     /// has changed. It takes no memory.
+    // (inlined, as `World::apply` is)
+    #[inline(always)]
     pub fn apply(&mut self, event: &Event) -> Result<Answer, Refused>
         ensures step { IfOk result (StepsTo self.old event.now self.new) }
         ensures exact { IsOk result ↔ (cause_in self.old event.now ≡ None) }

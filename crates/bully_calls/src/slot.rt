@@ -45,6 +45,8 @@ impl Slot {
     }
 
     /// Puts a call into the slot, as sent. Exactly a Ready carries a table.
+    // (inlined, so that a call that was just made or asked for stays in registers)
+    #[inline(always)]
     pub fn open(&mut self, tag: Tag, call: Call, table: Option<&Table>)
         requires empty { self.old.content ≡ None }
         requires carries { CarriesFor call (option_copied table) self.old.room }
@@ -79,6 +81,8 @@ impl Slot {
     }
 
     /// Takes out a call that ran or failed, and tells its outcome.
+    // (inlined, so that a call that was just made or asked for stays in registers)
+    #[inline(always)]
     pub fn take(&mut self) -> Outcome
         requires { IsSome (outcome_in self.old) }
         ensures outcome { outcome_in self.old ≡ Some result }

@@ -46,6 +46,8 @@ pub enum Want {
 
 impl Point {
     /// What the point offers at a node that has this coordinator. The rule: docs/ALGORITHM.md.
+    // (inlined, so that a point that was just read stays in registers)
+    #[inline(always)]
     pub fn offers(self, setup: Setup, node: Node, coordinator: Option<Node>) -> Want
         requires { IsPointOf setup node self }
         ensures { result ≡ offered setup coordinator self }
@@ -67,6 +69,8 @@ impl Point {
 
     /// The point that follows this one at the node, whose up set is `up`, by the outcome. `Started` keeps a point
     /// that offers a call. None for each outcome that docs/ALGORITHM.md doesn't list at the point.
+    // (inlined, so that a point that was just read stays in registers)
+    #[inline(always)]
     pub fn next(self, setup: Setup, node: Node, up: &NodeSet, outcome: Outcome) -> Option<Point>
         ensures { result ≡ next_point setup node up.now self outcome }
     {

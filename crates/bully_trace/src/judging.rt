@@ -10,7 +10,7 @@ ghost use Rattle.bully_world.specs.World.{World as WorldOf, first_world};
 use crate::{Claim, Row, Verdict};
 use bully_agree::Walk;
 use bully_base::{OutOfMemory, Setup};
-use bully_world::World;
+use bully_world::{Event, World};
 use std::alloc::Global;
 use std::marker::Model;
 
@@ -43,7 +43,27 @@ impl Judge {
 
     /// Takes the row of this number. The first event that the world refuses, or the first claim that is false of it,
     /// decides, and no later row changes anything.
+    // (one call for each kind that comes often, and inlined: so what reads a word goes on right to what its event needs,
+    // and none of it chooses by the kind once more)
     pub fn take(&mut self, number: u32, row: &Row)
+        ensures { (setup : SetupState) (rows : List RowState) → length rows + 2 ≡ number → HasJudged setup rows self.old → HasJudged setup (rows ++ row.now ∷ []) self.new }
+    {
+        match row {
+            Row::Event(Event::Check(_)) => self.take_row(number, row),
+            Row::Event(Event::Timeout(_)) => self.take_row(number, row),
+            Row::Event(Event::Start(_)) => self.take_row(number, row),
+            Row::Event(Event::Run(_)) => self.take_row(number, row),
+            Row::Event(Event::Lose(_)) => self.take_row(number, row),
+            Row::Event(Event::Return(_)) => self.take_row(number, row),
+            Row::Event(Event::Move(_)) => self.take_row(number, row),
+            _ => self.take_row(number, row),
+        }
+    }
+
+    // Takes the row, as `take` does.
+    // (inlined, as `take` says)
+    #[inline(always)]
+    fn take_row(&mut self, number: u32, row: &Row)
         ensures { (setup : SetupState) (rows : List RowState) → length rows + 2 ≡ number → HasJudged setup rows self.old → HasJudged setup (rows ++ row.now ∷ []) self.new }
     {
         if self.stopped.is_none() {
@@ -72,6 +92,8 @@ impl Judge {
 }
 
 // Takes the row of this number to the world: the verdict, where that isn't lawful.
+// (inlined, as `take` says)
+#[inline(always)]
 fn fault_of(walk: &mut Walk, number: u32, row: &Row) -> Option<Verdict>
     ensures judged { (more : List RowState) (verdict : VerdictState) (w : WorldOf) → IsJudgedOn (record { world = walk.new; stopped = result }) (number + 1) more verdict w
         → IsJudged walk.old.setup (world_of walk.old) walk.old.events number (row.now ∷ more) verdict w }

@@ -98,6 +98,8 @@ impl Member {
     }
 
     /// What the node's point offers.
+    // (inlined, as `World::apply_allowed` is)
+    #[inline(always)]
     pub fn offer(&self, setup: Setup, node: Node) -> Want
         requires { IsPointOf setup node self.now.point }
         ensures { result ≡ offered setup self.now.vector.vector.coordinator self.now.point }
@@ -132,6 +134,8 @@ impl Member {
     }
 
     /// The node starts this call. A Ready carries its task.
+    // (inlined, as `World::apply_allowed` is)
+    #[inline(always)]
     pub fn start(&mut self, node: Node, call: Call)
         requires empty { self.old.slot.content ≡ None }
         requires carries { CarriesFor call (carried call.kind self.old.vector.vector) self.old.slot.room }
@@ -184,6 +188,7 @@ impl Member {
     }
 
     /// The node's call returns: an orphan's outcome is discarded, a live one's moves the point.
+    // (inlined, as `World::apply_allowed` is)
     #[inline(always)]
     pub fn take_back(&mut self, setup: Setup, node: Node) -> Answer
         requires at { IsPointOf setup node self.old.point }
@@ -206,6 +211,8 @@ impl Member {
     }
 
     /// The node goes on by this outcome: its vector and its point change as the profile says.
+    // (inlined, as `World::apply_allowed` is)
+    #[inline(always)]
     pub fn proceed(&mut self, setup: Setup, node: Node, outcome: Outcome)
         requires { IsPointOf setup node self.old.point }
         ensures { self.new ≡ proceeded_state setup node outcome self.old }
@@ -277,6 +284,7 @@ impl Member {
     }
 
     // The node starts the call that its point offers.
+    // (inlined, as `World::apply_allowed` is)
     #[inline(always)]
     fn start_offered(&mut self, setup: Setup, node: Node)
         requires at { IsPointOf setup node self.old.point }
@@ -290,6 +298,7 @@ impl Member {
     }
 
     /// The node has planned this table.
+    // (inlined, as `World::apply_allowed` is)
     #[inline(always)]
     pub fn plan(&mut self, table: &Table)
         requires { length table.now ≡ self.old.vector.room }

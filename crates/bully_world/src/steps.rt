@@ -39,6 +39,8 @@ pub fn apply_event(
 }
 
 // The caller's sent call went to `before`, and goes to `after` now.
+// (inlined, as `apply_event` is)
+#[inline(always)]
 fn keep_waiting(waiting: &mut Waiting, caller: Node, before: Option<Node>, after: Option<Node>)
     requires before { IfSome before (λ j. j ≤ length waiting.old) }
     requires after { IfSome after (λ j. j ≤ length waiting.old) }
@@ -69,6 +71,8 @@ fn apply_to_members(setup: Setup, members: &mut [Member], event: &Event) -> Answ
 }
 
 // The call of this caller runs at its callee.
+// (inlined, as `apply_event` is)
+#[inline(always)]
 fn run_call(members: &mut [Member], caller: Node) -> Answer
     requires { CanRun members.old caller }
     ensures after { members.new ≡ state_after_run members.old caller (kept_of members.old caller).slot.content }
@@ -80,6 +84,8 @@ fn run_call(members: &mut [Member], caller: Node) -> Answer
 }
 
 // The call in the slot of the member at `here` runs at the member at `there`.
+// (inlined, as `apply_event` is)
+#[inline(always)]
 fn run_between(members: &mut [Member], caller: Node, here: usize, there: usize) -> Answer
     requires here { here < length members.old }
     requires there { there < length members.old }
