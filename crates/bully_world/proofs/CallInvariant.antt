@@ -9,10 +9,10 @@ use Rattle.bully_handlers.specs.Vector.{Vector}
 use Rattle.bully_steps.specs.declared.point.Point.{Point}
 use Rattle.bully_steps.specs.declared.point.Want.{Want}
 use Rattle.bully_steps.specs.Point.{offered, IsPointOf}
-use Rattle.bully_world.specs.NodeInvariant.{NodeInvariant, SuitsSetup, SuitsPoint, SuitsCallee, SuitsTable, SuitsPhase}
-use Rattle.bully_world.specs.Step.{sent, carried}
-use Rattle.bully_world.specs.World.{Member}
-use Rattle.bully_world.proofs.MemberLemmas.{node_of_fits, up_of_fits, call_of_fits}
+use Rattle.bully_world.specs.NodeInvariant.{NodeInvariant, WorldInvariant, SuitsSetup, SuitsPoint, SuitsCallee, SuitsTable, SuitsPhase}
+use Rattle.bully_world.specs.Step.{sent, carried, with_phase}
+use Rattle.bully_world.specs.World.{World, Member, member, pending}
+use Rattle.bully_world.proofs.MemberLemmas.{node_of_fits, up_of_fits, call_of_fits, node_of_pending, written_fits}
 
 -- the call that a point offers
 
@@ -68,3 +68,8 @@ free_fits setup i m fits = record {
   by_point = fits.by_point;
   by_call = tt;
 }
+
+-- the call of node i comes to another phase
+pub with_phase_fits : (setup : Setup) (w : World) (i : ℕ) (c : Pending) (f : Phase) → WorldInvariant setup w → pending w i ≡ Some c → SuitsPhase c.call.kind f → WorldInvariant setup (with_phase w i c f)
+with_phase_fits setup w i c f all is suits =
+    written_fits setup w i _ all (node_of_pending setup w i c all is).0 (phase_fits setup i (member w i) c f (all.fits i) is suits)

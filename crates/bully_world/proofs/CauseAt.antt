@@ -1,21 +1,18 @@
 -- Why an event is refused, read off what is kept of its node.
 use Rattle.std.proofs.Common.{◌≡◌, ℕ, ◌+◌, ◌<◌, ◌≤◌, Bool, true, false, List, Option, Some, None, arith, refl, sym, ◌∙◌, ap, subst, length}
-use Rattle.std.specs.Prelude.{◌==◌, ◌&&◌, not, IfSome, option_map, slice_index_or, if◌then◌else◌}
+use Rattle.std.specs.Prelude.{not, IfSome, option_map, slice_index_or, if◌then◌else◌}
 use Rattle.std.proofs.lemmas.Bool.Decides.{nat_tests}
 use Rattle.bully_base.proofs.PlaceLemmas.{at_node-place}
-use Rattle.bully_base.specs.NodeSet.{with_node}
 use Rattle.bully_base.specs.Setup.{Setup, IsNode}
 use Rattle.bully_table.proofs.BalanceLemmas.{is_balanced_decides}
 use Rattle.bully_table.specs.Balance.{IsBalanced, is_balanced}
-use Rattle.bully_calls.specs.Pending.{is_sent, is_failed}
 use Rattle.bully_calls.specs.Slot.{SlotCall, pending_of}
-use Rattle.bully_steps.specs.Point.{offered}
 use Rattle.bully_base.specs.declared.node.Status.{Status}
 use Rattle.bully_base.specs.declared.node.Status.TheVariants.{Down, Election, Reorganization, Normal}
 use Rattle.bully_handlers.specs.Vector.{is_down}
 use Rattle.bully_world.specs.declared.event.Event.{Event}
 use Rattle.bully_world.specs.declared.event.Refused.{Refused}
-use Rattle.bully_world.specs.Cause.{refuses, first_of, later_refusals, cause, node_of, is_down_at, is_idle, is_call, is_move, is_plan, in_phase, is_pending, callee_is_down}
+use Rattle.bully_world.specs.Cause.{refuses, first_of, later_refusals, cause, node_of, is_down_at}
 use Rattle.bully_world.specs.NodeInvariant.{WorldInvariant, SuitsPending}
 use Rattle.bully_world.specs.State.{MemberState, empty_state, member_of, members_of}
 use Rattle.bully_world.specs.World.{World, Member, member}
@@ -27,38 +24,6 @@ member-place ms k i s e l is = member-members_of ms i ∙ ap member_of (at_node-
 
 pub place-within : (setup : Setup) (ms : List MemberState) (k i : ℕ) → WorldInvariant setup (members_of ms) → k + 1 ≡ i → i ≤ setup.nodes → k < length ms
 place-within setup ms k i all e l = omega (arith, members_of-length ms, all.count)
-
-module _ (setup : Setup) (w : World) (count i : ℕ) (m : Member) (here : member w i ≡ m) where
-  pub check-cause : first_of (refuses setup w count (Event.Check i)) later_refusals ≡ (if not (is_idle m.point) then Some Refused.Busy else None)
-  check-cause = grind (arith, here)
-
-  pub timeout-cause : first_of (refuses setup w count (Event.Timeout i)) later_refusals ≡ (if not (is_idle m.point) then Some Refused.Busy else None)
-  timeout-cause = grind (arith, here)
-
-  pub start-cause : first_of (refuses setup w count (Event.Start i)) later_refusals
-      ≡ (if not (is_call (offered setup m.vector.coordinator m.point)) then Some Refused.NoStep else if is_pending m.pending then Some Refused.SlotBusy else None)
-  start-cause = grind (arith, here)
-
-  pub move-cause : first_of (refuses setup w count (Event.Move i)) later_refusals
-      ≡ (if not (is_move (offered setup m.vector.coordinator m.point)) then Some Refused.NoStep else if is_pending m.pending then Some Refused.SlotBusy else None)
-  move-cause = grind (arith, here)
-
-  pub plan-cause : (table : List ℕ) → first_of (refuses setup w count (Event.Plan i table)) later_refusals
-      ≡ (if not (is_plan (offered setup m.vector.coordinator m.point)) then Some Refused.NoStep
-      else if is_pending m.pending then Some Refused.SlotBusy
-      else if not ((length table == setup.partitions) && is_balanced setup table (with_node i m.vector.up)) then Some Refused.BadTable else None)
-  plan-cause table = grind (arith, here)
-
-  pub run-cause : first_of (refuses setup w count (Event.Run i)) later_refusals
-      ≡ (if not (in_phase is_sent m.pending) then Some Refused.NoCall else if callee_is_down w m.pending then Some Refused.CalleeDown else None)
-  run-cause = grind (arith, here)
-
-  pub lose-cause : first_of (refuses setup w count (Event.Lose i)) later_refusals
-      ≡ (if not (in_phase (λ f. not (is_failed f)) m.pending) then Some Refused.NoCall else if not (callee_is_down w m.pending) then Some Refused.CalleeUp else None)
-  lose-cause = grind (arith, here)
-
-  pub return-cause : first_of (refuses setup w count (Event.Return i)) later_refusals ≡ (if not (in_phase (λ f. not (is_sent f)) m.pending) then Some Refused.NoCall else None)
-  return-cause = grind (arith, here)
 
 -- the same of an event that is this one
 pub at_event : (setup : Setup) (w : World) (count : ℕ) (e f : Event) (r : Option Refused) → e ≡ f → r ≡ first_of (refuses setup w count f) later_refusals → r ≡ first_of (refuses setup w count e) later_refusals
@@ -83,15 +48,7 @@ cause-recover setup w count i room node = grind (arith, nat_tests, room, node)
 pub cause-later : (setup : Setup) (w : World) (count : ℕ) (e : Event) → ((i : ℕ) → e ≡ Event.Recover i → ⊥) → count < setup.events_max → IsNode setup (node_of e)
     → cause setup w count e ≡ (if is_down_at w (node_of e) then Some Refused.IsDown else first_of (refuses setup w count e) later_refusals)
 cause-later setup w count (Event.Recover i) other room node = absurd (other i refl)
-cause-later setup w count (Event.Crash i) other room node = grind (arith, nat_tests, room, node)
-cause-later setup w count (Event.Check i) other room node = grind (arith, nat_tests, room, node)
-cause-later setup w count (Event.Timeout i) other room node = grind (arith, nat_tests, room, node)
-cause-later setup w count (Event.Start i) other room node = grind (arith, nat_tests, room, node)
-cause-later setup w count (Event.Run i) other room node = grind (arith, nat_tests, room, node)
-cause-later setup w count (Event.Lose i) other room node = grind (arith, nat_tests, room, node)
-cause-later setup w count (Event.Return i) other room node = grind (arith, nat_tests, room, node)
-cause-later setup w count (Event.Move i) other room node = grind (arith, nat_tests, room, node)
-cause-later setup w count (Event.Plan i table) other room node = grind (arith, nat_tests, room, node)
+cause-later setup w count e other room node = grind (arith, nat_tests, room, node)
 
 -- a status that is Down, as a test
 pub down-test : (w : World) (i : ℕ) (m : Member) (b : Bool) → member w i ≡ m → (b ≡ true → m.vector.status ≡ Down) → (m.vector.status ≡ Down → b ≡ true) → b ≡ is_down_at w i

@@ -1,93 +1,15 @@
--- A call that nothing refuses to run may run: its caller's and its callee's members.
-use Rattle.std.proofs.Common.{◌≡◌, ◌≢◌, ℕ, ◌+◌, ◌<◌, ◌^◌, List, length, Option, Some, None, sym, ◌∙◌, ap, subst, arith}
-use Rattle.std.specs.Prelude.{option_map, IfSome, IsTrue, slice_index_or, slice_set}
-use Rattle.bully_base.specs.declared.node.Status.TheVariants.{Down}
+-- A call that runs, by the places of its caller's and its callee's members.
+use Rattle.std.proofs.Common.{◌≡◌, ◌≢◌, ℕ, ◌+◌, ◌<◌, List, length, Option, Some, None, sym, ◌∙◌, ap, subst, arith}
+use Rattle.std.specs.Prelude.{option_map, IfSome, slice_index_or, slice_set}
 use Rattle.bully_base.specs.Places.{at_node, put_node}
-use Rattle.bully_base.specs.Setup.{Setup}
 use Rattle.bully_base.proofs.PlaceLemmas.{at_node-place, put_node-place, at_node_other}
 use Rattle.bully_calls.specs.declared.call.Answer.{Answer}
 use Rattle.bully_calls.specs.declared.call.Call.{Call}
-use Rattle.bully_calls.specs.declared.call.CallKind.{CallKind}
-use Rattle.bully_calls.specs.declared.call.CallKind.TheVariants.{AreYouUp, AreYouNormal, Halt, NewCoordinator, Ready}
 use Rattle.bully_calls.specs.declared.call.Phase.{Phase}
-use Rattle.bully_calls.specs.Pending.{is_sent}
-use Rattle.bully_calls.specs.Slot.{SlotCall, pending_of, CarriesFor}
+use Rattle.bully_calls.specs.Slot.{SlotCall}
 use Rattle.bully_handlers.specs.Handler.{reply}
-use Rattle.bully_world.specs.declared.event.Event.{Event}
-use Rattle.bully_world.specs.Cause.{cause, in_phase}
-use Rattle.bully_world.specs.NodeInvariant.{WorldInvariant, SuitsCall, SuitsCallee, SuitsTable, SuitsPending}
-use Rattle.bully_world.specs.State.{kept_of, MemberState, empty_state, member_of, members_of, AllKept}
-use Rattle.bully_world.specs.StateAfter.{state_after_run, replied, callee_state_after, phased_state, CanExchange, CanRun, CanApply}
-use Rattle.bully_world.specs.World.{World, Member, member, pending}
-use Rattle.bully_world.proofs.MembersOf.{member-members_of, members_of-length}
-use Rattle.bully_world.proofs.StateAfterLemmas.{run_facts, content_there}
-use Rattle.bully_world.proofs.ApplyLemmas.{content_test, node_in_setup, free_here}
-
-suits_table : (setup : Setup) (call : Call) (q : Option (List ℕ)) (room : ℕ) → SuitsTable setup call.kind q → room ≡ setup.partitions → CarriesFor call q room
-suits_table setup call None room s e = s
-suits_table setup call (Some table) room s e = (s.0, s.1 ∙ sym e)
-
-other_node : (i : ℕ) (kind : CallKind) (k : ℕ) → SuitsCallee i kind k → k ≢ i
-other_node i AreYouUp k s = s
-other_node i AreYouNormal k s = s
-other_node i Halt k s = omega arith
-other_node i NewCoordinator k s = omega arith
-other_node i Ready k s = omega arith
-
-module _ (setup : Setup) (count : ℕ) (ms : List MemberState) (fit : WorldInvariant setup (members_of ms)) (kept : AllKept setup count ms) (room : count + 1 < 2 ^ 32) (i : ℕ) (p : SlotCall)
-    (content : (kept_of ms i).slot.content ≡ Some p) (free : cause setup (members_of ms) count (Event.Run i) ≡ None) where
-  abbrev w : World
-  w = members_of ms
-
-  here : (j : ℕ) → member w j ≡ member_of (kept_of ms j)
-  here j = member-members_of ms j
-
-  pending_is : pending w i ≡ Some (pending_of (kept_of ms i).generation p)
-  pending_is = ap (λ (q : Member). q.pending) (here i) ∙ ap (option_map (pending_of (kept_of ms i).generation)) content
-
-  suits : SuitsCall setup i (member w i).vector (member w i).point (pending_of (kept_of ms i).generation p)
-  suits = subst (SuitsPending setup i (member w i).vector (member w i).point) pending_is (fit.fits i).by_call
-
-  callee_up : (kept_of ms p.call.callee).vector.vector.status ≢ Down
-  callee_up down = grind (arith, (run_facts setup w count i free).2, pending_is, here p.call.callee, down)
-
-  sent_there : IsTrue (in_phase is_sent (option_map (pending_of (kept_of ms i).generation) (kept_of ms i).slot.content))
-  sent_there = ap (λ (q : Member). in_phase is_sent q.pending) (sym (here i)) ∙ (run_facts setup w count i free).1
-
-  pub runs_to : CanRun ms i
-  runs_to = record {
-    call = p;
-    content = content;
-    caller = omega (arith, members_of-length ms, fit.count, (node_in_setup setup w count (Event.Run i) free).1);
-    callee = (suits.to_node.0, omega (arith, members_of-length ms, fit.count, suits.to_node.1));
-    other = other_node i p.call.kind p.call.callee suits.callee;
-    can = record {
-      sent = content_test is_sent (kept_of ms i).generation (kept_of ms i).slot.content sent_there;
-      up = callee_up;
-      room = omega (arith, (kept p.call.callee suits.to_node).generation, room);
-      carries = subst (λ q. IfSome q (λ p'. CarriesFor p'.call p'.table (kept_of ms p.call.callee).vector.room)) (sym content)
-          (suits_table setup p.call p.table (kept_of ms p.call.callee).vector.room suits.table (kept p.call.callee suits.to_node).vector_room);
-    };
-  }
-
--- a Run that nothing refuses may be made
-pub can_run : (setup : Setup) (count : ℕ) (ms : List MemberState) → WorldInvariant setup (members_of ms) → AllKept setup count ms → count + 1 < 2 ^ 32 → (i : ℕ) → cause setup (members_of ms) count (Event.Run i) ≡ None → CanRun ms i
-can_run setup count ms fit kept room i free =
-    let there = content_there is_sent (kept_of ms i).generation (kept_of ms i).slot.content (ap (λ (q : Member). in_phase is_sent q.pending) (sym (member-members_of ms i)) ∙ (run_facts setup (members_of ms) count i free).1) in
-    runs_to setup count ms fit kept room i there.0 there.1 free
-
--- an event that nothing refuses may be applied
-pub can_apply : (setup : Setup) (count : ℕ) (ms : List MemberState) → WorldInvariant setup (members_of ms) → AllKept setup count ms → count + 1 < 2 ^ 32 → (e : Event) → cause setup (members_of ms) count e ≡ None → CanApply setup ms e
-can_apply setup count ms fit kept room (Event.Run i) free = can_run setup count ms fit kept room i free
-can_apply setup count ms fit kept room (Event.Recover i) free = free_here setup count ms fit kept room (Event.Recover i) free (λ j e. absurd (cc e))
-can_apply setup count ms fit kept room (Event.Crash i) free = free_here setup count ms fit kept room (Event.Crash i) free (λ j e. absurd (cc e))
-can_apply setup count ms fit kept room (Event.Check i) free = free_here setup count ms fit kept room (Event.Check i) free (λ j e. absurd (cc e))
-can_apply setup count ms fit kept room (Event.Timeout i) free = free_here setup count ms fit kept room (Event.Timeout i) free (λ j e. absurd (cc e))
-can_apply setup count ms fit kept room (Event.Start i) free = free_here setup count ms fit kept room (Event.Start i) free (λ j e. absurd (cc e))
-can_apply setup count ms fit kept room (Event.Lose i) free = free_here setup count ms fit kept room (Event.Lose i) free (λ j e. absurd (cc e))
-can_apply setup count ms fit kept room (Event.Return i) free = free_here setup count ms fit kept room (Event.Return i) free (λ j e. absurd (cc e))
-can_apply setup count ms fit kept room (Event.Move i) free = free_here setup count ms fit kept room (Event.Move i) free (λ j e. absurd (cc e))
-can_apply setup count ms fit kept room (Event.Plan i table) free = free_here setup count ms fit kept room (Event.Plan i table) free (λ j e. absurd (cc e))
+use Rattle.bully_world.specs.State.{kept_of, MemberState, empty_state}
+use Rattle.bully_world.specs.StateAfter.{state_after_run, replied, callee_state_after, phased_state, CanExchange, CanRun}
 
 -- what a run makes of the list, as two writes to it
 pub state_after_run-writes : (ms : List MemberState) (i : ℕ) (p : SlotCall) (here there : ℕ) → here + 1 ≡ i → there + 1 ≡ p.call.callee → p.call.callee ≢ i

@@ -1,5 +1,5 @@
 -- A procedure that goes on by an outcome, or by a plan, keeps what holds of its node.
-use Rattle.std.proofs.Common.{◌≡◌, ◌≢◌, ℕ, zero, suc, List, [], ◌∷◌, length, Some, None, arith, refl, inl, inr, ◌⊎◌}
+use Rattle.std.proofs.Common.{◌≡◌, ◌≢◌, ℕ, zero, suc, List, [], ◌∷◌, length, Option, Some, None, arith, refl, inl, inr, ◌⊎◌}
 use Rattle.bully_base.specs.declared.node.Status.TheVariants.{Down}
 use Rattle.bully_base.specs.NodeSet.{IsFallingBelow}
 use Rattle.bully_base.specs.Setup.{Setup, IsNode}
@@ -10,9 +10,10 @@ use Rattle.bully_steps.specs.declared.point.Point.{Point}
 use Rattle.bully_steps.specs.declared.point.Point.TheVariants.{Idle, Asking, Halting, Announcing, Planning, Readying, Checking, Inquiring}
 use Rattle.bully_steps.specs.NextPoint.{next_point, next_vector, election}
 use Rattle.bully_steps.specs.Point.{IsPointOf}
-use Rattle.bully_world.specs.NodeInvariant.{NodeInvariant, SuitsSetup, SuitsPoint}
-use Rattle.bully_world.specs.World.{Member}
-use Rattle.bully_world.proofs.MemberLemmas.{node_of_fits}
+use Rattle.bully_world.specs.NodeInvariant.{NodeInvariant, WorldInvariant, SuitsSetup, SuitsPoint}
+use Rattle.bully_world.specs.World.{World, Member, member}
+use Rattle.bully_world.specs.Step.{IsUp, Proceeds}
+use Rattle.bully_world.proofs.MemberLemmas.{node_of_fits, node_of_up, written_fits}
 
 rest_falls : (b k : ℕ) (rest : List ℕ) → IsFallingBelow b (k ∷ rest) → IsFallingBelow b rest
 rest_falls b k rest h = IsFallingBelow-more k b rest (omega (arith, h.1)) h.2
@@ -74,6 +75,15 @@ proceed_fits setup i m o q fits up ne next =
       by_point = next_by_point setup i m.vector m.point o q node up fits.is_point fits.by_setup fits.by_point next ne;
       by_call = tt;
     }
+
+pub proceeds_fits : (setup : Setup) (w : World) (i : ℕ) (o : Outcome) (w' : World) → WorldInvariant setup w → IsUp w i → o ≢ Outcome.Planned → Proceeds setup w i o w' → WorldInvariant setup w'
+proceeds_fits setup w i o w' all up ne (q, next, becomes) =
+    rw becomes (written_fits setup w i _ all (node_of_up setup w i all up) (proceed_fits setup i (member w i) o q (all.fits i) up ne next))
+
+-- a point that isn't nowhere is some point
+pub has_point : (q : Option Point) → (q ≡ None → ⊥) → (p : Point) × (q ≡ Some p)
+has_point None h = absurd (h refl)
+has_point (Some p) h = (p, refl)
 
 -- a planning node is up
 pub planning_up : (setup : Setup) (i : ℕ) (m : Member) → NodeInvariant setup i m → m.point ≡ Planning → m.vector.status ≢ Down

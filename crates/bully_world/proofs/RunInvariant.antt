@@ -1,5 +1,5 @@
--- A call that runs keeps what holds of its callee.
-use Rattle.std.proofs.Common.{◌≡◌, ◌≢◌, ℕ, ◌<◌, Bool, true, false, List, Option, Some, None, arith, refl, inl, inr, ◌⊎◌}
+-- A call that runs keeps what holds of its callee, and so of every node.
+use Rattle.std.proofs.Common.{◌≡◌, ◌≢◌, ℕ, ◌<◌, Bool, true, false, List, Option, Some, None, arith, refl, sym, ap, ◌∙◌, inl, inr, ◌⊎◌}
 use Rattle.std.specs.Prelude.{◌&&◌, option_map, if◌then◌else◌}
 use Rattle.bully_base.specs.declared.node.Status.TheVariants.{Down, Election, Reorganization, Normal}
 use Rattle.bully_base.specs.Setup.{Setup, IsNode}
@@ -11,10 +11,11 @@ use Rattle.bully_handlers.specs.Handler.{callee_after, reply}
 use Rattle.bully_handlers.specs.Vector.{Vector, names, is_election, is_reorganization}
 use Rattle.bully_steps.specs.declared.point.Point.{Point}
 use Rattle.bully_steps.specs.declared.point.Point.TheVariants.{Idle, Inquiring}
-use Rattle.bully_world.specs.NodeInvariant.{NodeInvariant, SuitsPhase, SuitsTable, SuitsCallee, SuitsPending}
-use Rattle.bully_world.specs.Step.{stopped_by}
-use Rattle.bully_world.specs.World.{Member, stopped}
-use Rattle.bully_world.proofs.MemberLemmas.{node_of_fits}
+use Rattle.bully_world.specs.NodeInvariant.{NodeInvariant, WorldInvariant, SuitsCall, SuitsPhase, SuitsTable, SuitsCallee, SuitsPending}
+use Rattle.bully_world.specs.Step.{IsUp, stopped_by, called, with_phase, ran}
+use Rattle.bully_world.specs.World.{World, Member, member, vector, point, pending, stopped}
+use Rattle.bully_world.proofs.CallInvariant.{with_phase_fits}
+use Rattle.bully_world.proofs.MemberLemmas.{node_of_fits, member_here, member_other, node_of_up, node_of_pending, call_of_pending, written_fits}
 
 -- a reply suits its call
 pub reply_suits : (kind : CallKind) (v : Vector) → SuitsPhase kind (Phase.Ran (reply kind v))
@@ -80,3 +81,46 @@ callee_fits_after setup i d AreYouNormal table m fits up node callee suits = fit
 callee_fits_after setup i d Halt table m fits up node callee suits = halted_fits setup i d m fits up
 callee_fits_after setup i d NewCoordinator table m fits up node callee suits = joins setup i d m _ refl fits node callee
 callee_fits_after setup i d Ready table m fits up node callee suits = follows setup i d m table _ refl fits callee suits
+
+-- a call goes to another node than its caller
+pub callee_other : (setup : Setup) (w : World) (i : ℕ) (c : Pending) → WorldInvariant setup w → pending w i ≡ Some c → c.call.callee ≢ i
+callee_other setup w i c all is e = grind (arith, e, (call_of_pending setup w i c all is).callee)
+
+-- a call that runs
+module _ (setup : Setup) (w : World) (i : ℕ) (c : Pending) (all : WorldInvariant setup w) (is : pending w i ≡ Some c) (up : IsUp w c.call.callee) where
+  abbrev answered : World
+  answered = with_phase w i c (Phase.Ran (reply c.call.kind (vector w c.call.callee)))
+
+  node : IsNode setup i
+  node = (node_of_pending setup w i c all is).0
+
+  there : IsNode setup c.call.callee
+  there = node_of_up setup w c.call.callee all up
+
+  suits : SuitsCall setup i (vector w i) (point w i) c
+  suits = call_of_pending setup w i c all is
+
+  other : c.call.callee ≢ i
+  other = callee_other setup w i c all is
+
+  answered_fits : WorldInvariant setup answered
+  answered_fits = with_phase_fits setup w i c (Phase.Ran (reply c.call.kind (vector w c.call.callee))) all is (reply_suits c.call.kind (vector w c.call.callee))
+
+  answered_there : member answered c.call.callee ≡ member w c.call.callee
+  answered_there = member_other w i c.call.callee _ other
+
+  callee_fits : NodeInvariant setup c.call.callee (called i c (member w c.call.callee))
+  callee_fits = callee_fits_after setup i c.call.callee c.call.kind c.table (member w c.call.callee) (all.fits c.call.callee) up node suits.callee suits.table
+
+  pub run_fits : WorldInvariant setup (ran w i c)
+  run_fits = written_fits setup answered c.call.callee (called i c (member answered c.call.callee)) answered_fits there (rw answered_there callee_fits)
+
+  -- what the nodes are after the call ran
+  pub ran_here : member (ran w i c) i ≡ record (member w i) { pending = Some (record c { phase = Phase.Ran (reply c.call.kind (vector w c.call.callee)) }) }
+  ran_here = member_other answered c.call.callee i _ (λ e. other (sym e)) ∙ member_here setup w i _ all node
+
+  pub ran_there : member (ran w i c) c.call.callee ≡ called i c (member w c.call.callee)
+  ran_there = member_here setup answered c.call.callee _ answered_fits there ∙ ap (called i c) answered_there
+
+  pub ran_other : (j : ℕ) → j ≢ i → j ≢ c.call.callee → member (ran w i c) j ≡ member w j
+  ran_other j d e = member_other answered c.call.callee j _ e ∙ member_other w i j _ d

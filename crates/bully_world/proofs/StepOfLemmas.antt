@@ -1,42 +1,18 @@
 -- The function that computes a step computes exactly it, so a step has one outcome and a list leads to one world.
-use Rattle.std.proofs.Common.{◌≡◌, ℕ, Bool, true, false, List, [], ◌∷◌, length, Option, Some, None, arith, refl, sym, ◌∙◌, subst, ap}
-use Rattle.std.specs.Prelude.{◌==◌, ◌&&◌, option_map, option_and_then}
-use Rattle.std.proofs.lemmas.Bool.Decides.{nat_tests}
-use Rattle.bully_base.specs.NodeSet.{with_node}
+use Rattle.std.proofs.Common.{◌≡◌, List, [], ◌∷◌, Option, Some, None, arith, refl, sym, ◌∙◌, subst, ap}
+use Rattle.std.specs.Prelude.{option_map, option_and_then}
 use Rattle.bully_base.specs.Setup.{Setup}
-use Rattle.bully_table.specs.Balance.{IsBalanced, is_balanced}
-use Rattle.bully_table.proofs.BalanceLemmas.{is_balanced_decides}
 use Rattle.bully_calls.specs.declared.call.Answer.{Answer}
-use Rattle.bully_calls.specs.declared.call.Outcome.{Outcome}
 use Rattle.bully_world.specs.declared.event.Event.{Event}
 use Rattle.bully_world.specs.Lawful.{LeadTo}
-use Rattle.bully_world.specs.Step.{Step, Returns}
-use Rattle.bully_world.specs.StepOf.{StepResult, StepsResult, step_of, steps_from, answered_first, is_plannable, outcome_step, StepIsComputed, LeadIsComputed, StepIsOne, LawfulIsOne}
-use Rattle.bully_world.specs.World.{World, vector, first_world}
-
-and_parts : (a b : Bool) → a && b ≡ true → (a ≡ true) × (b ≡ true)
-and_parts a b e = grind (arith, e)
-
-plannable_by : (setup : Setup) (table : List ℕ) (i : ℕ) (up : List ℕ) → is_plannable setup table i up ≡ true → (length table ≡ setup.partitions) × IsBalanced setup table (with_node i up)
-plannable_by setup table i up e =
-    let parts = and_parts (length table == setup.partitions) (is_balanced setup table (with_node i up)) e in
-    (same (length table) setup.partitions parts.0, (is_balanced_decides setup table (with_node i up)).0 parts.1)
-  where
-    same : (m n : ℕ) → m == n ≡ true → m ≡ n
-    same m n e = grind (arith, nat_tests)
+use Rattle.bully_world.specs.Step.{Step}
+use Rattle.bully_world.specs.StepOf.{StepResult, StepsResult, step_of, steps_from, answered_first, StepIsComputed, LeadIsComputed, StepIsOne, LawfulIsOne}
+use Rattle.bully_world.specs.World.{World, first_world}
+use Rattle.bully_world.proofs.Events.{event_laws}
 
 -- what is computed is a step
 pub computed_steps : (setup : Setup) (w : World) (e : Event) (w' : World) (a : Answer) → step_of setup w e ≡ Some (w', a) → Step setup w e w' a
-computed_steps setup w (Event.Recover i) w' a t = grind (arith, nat_tests, t)
-computed_steps setup w (Event.Crash i) w' a t = grind (arith, t)
-computed_steps setup w (Event.Check i) w' a t = grind (arith, t)
-computed_steps setup w (Event.Timeout i) w' a t = grind (arith, t)
-computed_steps setup w (Event.Start i) w' a t = grind (arith, t)
-computed_steps setup w (Event.Run i) w' a t = grind (arith, t)
-computed_steps setup w (Event.Lose i) w' a t = grind (arith, t)
-computed_steps setup w (Event.Return i) w' a t = grind (arith, t)
-computed_steps setup w (Event.Move i) w' a t = grind (arith, t)
-computed_steps setup w (Event.Plan i table) w' a t = grind (arith, t, plannable_by setup table i (vector w i).up)
+computed_steps setup w e w' a = ((event_laws setup e).computed w w' a).0
 
 -- the first event and the others, where all of them are possible
 parted : (t : StepResult) (f : World → StepsResult) (r : World × List Answer) → option_and_then (λ x. option_map (answered_first x.1) (f x.0)) t ≡ Some r → (x : World × Answer) × (rest : World × List Answer) × (t ≡ Some x) × (f x.0 ≡ Some rest) × (answered_first x.1 rest ≡ r)
@@ -62,25 +38,9 @@ computed_leads setup w (e ∷ events) r t =
     joined : (x : World × Answer) (rest : World × List Answer) → answered_first x.1 rest ≡ r → Step setup w e x.0 x.1 → LeadTo setup x.0 events rest.1 rest.0 → LeadTo setup w (e ∷ events) r.1 r.0
     joined x rest q s l = subst (λ y. LeadTo setup w (e ∷ events) y.1 y.0) q (x.0, s, l)
 
-returns_computed : (setup : Setup) (w : World) (i : ℕ) (b : Bool) (o : Outcome) (w' : World) (a : Answer) → Returns setup w i b o w' a → outcome_step setup w i b (Some o) ≡ Some (w', a)
-returns_computed setup w i true o w' a r = grind (arith, r)
-returns_computed setup w i false o w' a r = grind (arith, r)
-
-plannable_if : (setup : Setup) (table : List ℕ) (i : ℕ) (up : List ℕ) → length table ≡ setup.partitions → IsBalanced setup table (with_node i up) → is_plannable setup table i up ≡ true
-plannable_if setup table i up size balanced = grind (arith, nat_tests, size, (is_balanced_decides setup table (with_node i up)).1 balanced)
-
 -- and each step is computed
 pub steps_computed : (setup : Setup) (w : World) (e : Event) (w' : World) (a : Answer) → Step setup w e w' a → step_of setup w e ≡ Some (w', a)
-steps_computed setup w (Event.Recover i) w' a s = grind (arith, nat_tests, s)
-steps_computed setup w (Event.Crash i) w' a s = grind (arith, s)
-steps_computed setup w (Event.Check i) w' a s = grind (arith, s)
-steps_computed setup w (Event.Timeout i) w' a s = grind (arith, s)
-steps_computed setup w (Event.Start i) w' a s = grind (arith, s)
-steps_computed setup w (Event.Run i) w' a s = grind (arith, s)
-steps_computed setup w (Event.Lose i) w' a s = grind (arith, s)
-steps_computed setup w (Event.Return i) w' a s = grind (arith, s, returns_computed setup w i s.0.is_live s.1 w' a s.4)
-steps_computed setup w (Event.Move i) w' a s = grind (arith, s)
-steps_computed setup w (Event.Plan i table) w' a s = grind (arith, s, plannable_if setup table i (vector w i).up s.2 s.3)
+steps_computed setup w e w' a = ((event_laws setup e).computed w w' a).1
 
 joined_first : (x : World × Answer) (rest : World × List Answer) (t : StepResult) (f : World → StepsResult) → t ≡ Some x → f x.0 ≡ Some rest → option_and_then (λ y. option_map (answered_first y.1) (f y.0)) t ≡ Some (answered_first x.1 rest)
 joined_first x rest t f e g = ap (option_and_then (λ y. option_map (answered_first y.1) (f y.0))) e ∙ ap (option_map (answered_first x.1)) g

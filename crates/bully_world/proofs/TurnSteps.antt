@@ -25,6 +25,7 @@ use Rattle.bully_world.specs.Turn.{is_live_in, turn_of_call, turn_of_want, turn_
 use Rattle.bully_world.specs.World.{World, Member, member, vector, pending}
 use Rattle.bully_world.proofs.AgreeLemmas.{Agrees}
 use Rattle.bully_world.proofs.MemberLemmas.{node_of_up, node_of_pending}
+use Rattle.bully_world.proofs.OwnEvents.{IsNodesOwn}
 
 -- the procedure that the world shows of a node with this member
 abbrev pub shown : Setup → ℕ → ℕ → Member → ProcedureState
@@ -146,3 +147,11 @@ offered_possible setup w count i g h StepKind.Return all is se ne a t room =
     let full = return_offered w (pending w i) h t in
     let there = node_of_pending setup w i full.0 all full.1 in
     subst (λ k. cause setup w count (Event.Return k) ≡ None) (sym ne) (return_possible setup w count i full.0 room there.0 there.1 full.1 full.2)
+
+-- a turn's event is its node's own
+pub turn_own : (kind : StepKind) (h : ProcedureState) → IsNodesOwn h.node (event_of kind h)
+turn_own StepKind.Start h = refl
+turn_own StepKind.Lose h = refl
+turn_own StepKind.Return h = refl
+turn_own StepKind.Move h = refl
+turn_own StepKind.Plan h = refl

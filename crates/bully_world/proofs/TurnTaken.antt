@@ -7,15 +7,16 @@ use Rattle.bully_steps.specs.ProcedureState.{ProcedureState, IsProcedureState, C
 use Rattle.bully_world.specs.declared.event.Event.{Event}
 use Rattle.bully_world.specs.declared.turn.Next.{Next}
 use Rattle.bully_world.specs.declared.turn.StepKind.{StepKind}
-use Rattle.bully_world.specs.State.{WorldState, IsReached, state_at, member_of, world_of, cause_in, raises}
+use Rattle.bully_world.specs.State.{WorldState, IsReached, state_at, member_of, world_of, cause_in, KeepsGenerations, RaisesGenerations}
 use Rattle.bully_world.specs.Step.{Step}
 use Rattle.bully_world.specs.Turn.{turn, turn_in_step, is_in_step, procedure_in, event_of, outcome_after, procedure_after, procedure_left, outcome_left, agree, has_table}
-use Rattle.bully_world.specs.World.{World, Member, member, pending}
+use Rattle.bully_world.specs.World.{Member, member, pending}
 use Rattle.bully_world.proofs.AgreeLemmas.{Agrees, agrees_of, agree_if}
 use Rattle.bully_world.proofs.ProcedureAfter.{step_on, identity_after}
 use Rattle.bully_world.proofs.MembersOf.{member-members_of}
 use Rattle.bully_world.proofs.TurnLemmas.{reached_fits}
-use Rattle.bully_world.proofs.TurnSteps.{shown, offered_possible, plan_offered}
+use Rattle.bully_world.proofs.TurnSteps.{shown, offered_possible, plan_offered, turn_own}
+use Rattle.bully_world.proofs.OwnEvents.{own_raises_nothing}
 
 -- a step is offered only in step, by the call in the slot
 pub taken_in_step : (w : WorldState) (h : ProcedureState) (kind : StepKind) → turn w h ≡ Next.Take kind
@@ -56,34 +57,30 @@ goes_on_taken w w' h kind answer reached se t same generation s =
 
 -- the procedure that the event leaves goes on as the whole step says
 pub can_go_on : (kind : StepKind) (answer : Answer) (h left : ProcedureState) → left ≡ procedure_left kind h → IfSome (outcome_after kind answer) (CanResume h) → IfSome (outcome_left kind answer) (CanResume left)
-can_go_on StepKind.Start answer h left e can = subst (λ x. IfSome (outcome_after StepKind.Start answer) (CanResume x)) (sym e) can
-can_go_on StepKind.Lose answer h left e can = tt
-can_go_on StepKind.Return answer h left e can = subst (λ x. IfSome (outcome_after StepKind.Return answer) (CanResume x)) (sym e) can
-can_go_on StepKind.Move answer h left e can = subst (λ x. IfSome (outcome_after StepKind.Move answer) (CanResume x)) (sym e) can
 can_go_on StepKind.Plan answer h left e can = tt
+can_go_on kind answer h left e can = subst (λ x. IfSome (outcome_after kind answer) (CanResume x)) (sym e) can
 
 pub gone_on : (kind : StepKind) (answer : Answer) (h left : ProcedureState) → left ≡ procedure_left kind h → option_map_or (resumed left) (outcome_left kind answer) left ≡ procedure_after kind answer h
-gone_on StepKind.Start answer h left e = ap (λ x. option_map_or (resumed x) (outcome_after StepKind.Start answer) x) e
-gone_on StepKind.Lose answer h left e = e
-gone_on StepKind.Return answer h left e = ap (λ x. option_map_or (resumed x) (outcome_after StepKind.Return answer) x) e
-gone_on StepKind.Move answer h left e = ap (λ x. option_map_or (resumed x) (outcome_after StepKind.Move answer) x) e
 gone_on StepKind.Plan answer h left e = e
+gone_on kind answer h left e = ap (λ x. option_map_or (resumed x) (outcome_after kind answer) x) e
 
--- a node's own step raises no generation
-pub own_generation : (kind : StepKind) (w : World) (h : ProcedureState) (i g k : ℕ) → g ≡ k + (if raises w (event_of kind h) i then 1 else 0) → g ≡ k
-own_generation StepKind.Start w h i g k e = omega (arith, e)
-own_generation StepKind.Lose w h i g k e = omega (arith, e)
-own_generation StepKind.Return w h i g k e = omega (arith, e)
-own_generation StepKind.Move w h i g k e = omega (arith, e)
-own_generation StepKind.Plan w h i g k e = omega (arith, e)
+-- a turn's event raises no generation
+pub no_turn_raises : (before after : WorldState) (kind : StepKind) (h : ProcedureState) → KeepsGenerations before after → RaisesGenerations (event_of kind h) before after
+no_turn_raises before after kind h keeps i =
+    subst (λ (b : Bool). (state_at after i).generation ≡ (state_at before i).generation + (if b then 1 else 0)) (sym (own_raises_nothing (world_of before) h.node i (event_of kind h) (turn_own kind h))) (omega (arith, keeps i))
+
+keeps_generations : (kind : StepKind) (h : ProcedureState) (before after : WorldState) → RaisesGenerations (event_of kind h) before after → KeepsGenerations before after
+keeps_generations kind h before after raised i =
+    let same : (state_at after i).generation ≡ (state_at before i).generation + 0 =
+    subst (λ (b : Bool). (state_at after i).generation ≡ (state_at before i).generation + (if b then 1 else 0)) (own_raises_nothing (world_of before) h.node i (event_of kind h) (turn_own kind h)) (raised i) in
+    omega (arith, same)
 
 -- the same, of an event that was applied
 pub applied_goes_on : (w w' : WorldState) (h : ProcedureState) (kind : StepKind) (e : Event) (answer : Answer) → IsReached w → h.setup ≡ w.setup → turn w h ≡ Next.Take kind → e ≡ event_of kind h → w'.setup ≡ w.setup
     → Step w.setup (world_of w) e (world_of w') answer
-    → ((i : ℕ) → (state_at w' i).generation ≡ (state_at w i).generation + (if raises (world_of w) e i then 1 else 0))
+    → RaisesGenerations e w w'
     → (is_in_step w' (procedure_after kind answer h) ≡ true) × IfSome (outcome_after kind answer) (CanResume h)
 applied_goes_on w w' h kind e answer reached se t named same step raised =
     goes_on_taken w w' h kind answer reached se t same
-    (λ i. own_generation kind (world_of w) h i (state_at w' i).generation (state_at w i).generation
-    (subst (λ x. (state_at w' i).generation ≡ (state_at w i).generation + (if raises (world_of w) x i then 1 else 0)) named (raised i)))
+    (keeps_generations kind h w w' (subst (λ x. RaisesGenerations x w w') named raised))
     (subst (λ x. Step w.setup (world_of w) x (world_of w') answer) named step)

@@ -8,22 +8,19 @@ use Rattle.bully_base.proofs.PlaceLemmas.{at_node_same, at_node_other, at_node_p
 use Rattle.bully_base.specs.NodeSet.{lowest_of, with_node, without_node}
 use Rattle.bully_base.specs.Places.{put_node}
 use Rattle.bully_base.specs.Setup.{Setup, IsNode}
-use Rattle.bully_calls.specs.declared.call.CallKind.{CallKind}
-use Rattle.bully_calls.specs.declared.call.CallKind.TheVariants.{AreYouUp, AreYouNormal, Halt, NewCoordinator, Ready}
-use Rattle.bully_calls.specs.declared.call.Phase.{Phase}
 use Rattle.bully_calls.specs.Pending.{is_sent}
 use Rattle.bully_calls.specs.Slot.{SlotCall, pending_of}
 use Rattle.bully_calls.specs.Waiting.{callers_of}
-use Rattle.bully_handlers.specs.Handler.{callee_after}
 use Rattle.bully_world.specs.declared.event.Event.{Event}
 use Rattle.bully_world.specs.Cause.{node_of}
 use Rattle.bully_world.specs.NodeInvariant.{NodeInvariant, WorldInvariant, SuitsPending}
 use Rattle.bully_world.specs.State.{MemberState, WorldState, empty_state, kept_of, member_of, members_of, new_members, waits_for, NobodyWaits, NobodyWaitsBelow}
-use Rattle.bully_world.specs.StateAfter.{state_after, state_after_run, phased_state, callee_state_after, stopped_state_by, with_vector, replied}
+use Rattle.bully_world.specs.StateAfter.{state_after}
 use Rattle.bully_world.specs.Waiting.{sent_callee, sent_in, IsWaiting, with_sent, without_sent}
 use Rattle.bully_world.specs.World.{Member, is_sent_to}
-use Rattle.bully_world.proofs.KeptLemmas.{state_after_length}
-use Rattle.bully_world.proofs.MembersOf.{at_node-put_cases, member-members_of}
+use Rattle.bully_world.proofs.Events.{event_laws}
+use Rattle.bully_world.proofs.EventLaws.{EventLaws}
+use Rattle.bully_world.proofs.MembersOf.{member-members_of}
 
 -- f is to whom each node's call was sent
 abbrev Tells : (ℕ → Option ℕ) → List (List ℕ) → Type 0
@@ -124,45 +121,6 @@ arrived_tells f g w c (Some k) t none e other room j i = by_case (grind arith) (
       (λ q. subst (λ ms. Contains ms i) (sym h.1) ((t j i).1 (sym (other i d) ∙ q))),
     )
 
--- Only the event's own node sends a call, or has one that isn't sent any more.
-
-put_sent : (ms : List MemberState) (i j : ℕ) (s : MemberState) → sent_in s ≡ sent_in (kept_of ms i) → sent_in (kept_of (put_node ms i s) j) ≡ sent_in (kept_of ms j)
-put_sent ms i j s e = by_case (at_node-put_cases (empty_state 0) ms i j s)
-  where
-    by_case : ((j ≡ i) × (kept_of (put_node ms i s) j ≡ s)) ⊎ (kept_of (put_node ms i s) j ≡ kept_of ms j) → sent_in (kept_of (put_node ms i s) j) ≡ sent_in (kept_of ms j)
-    by_case (inl h) = ap sent_in h.1 ∙ (e ∙ ap (λ k. sent_in (kept_of ms k)) (sym h.0))
-    by_case (inr h) = ap sent_in h
-
-callee_sent : (i : ℕ) (p : SlotCall) (m : MemberState) → sent_in (callee_state_after i p m) ≡ sent_in m
-callee_sent i p m = by_kind p.call.kind
-  where
-    by_kind : (kind : CallKind) → sent_in (stopped_state_by kind (with_vector (callee_after i p.call.kind p.table m.vector.vector) m)) ≡ sent_in m
-    by_kind AreYouUp = refl
-    by_kind AreYouNormal = refl
-    by_kind Halt = refl
-    by_kind NewCoordinator = refl
-    by_kind Ready = refl
-
-run_sent : (ms : List MemberState) (i j : ℕ) (q : Option SlotCall) → j ≢ i → sent_in (kept_of (state_after_run ms i q) j) ≡ sent_in (kept_of ms j)
-run_sent ms i j None d = refl
-run_sent ms i j (Some p) d =
-    let f = Phase.Ran (replied ms p) in
-    let answered = put_node ms i (phased_state f (kept_of ms i)) in
-    put_sent answered p.call.callee j (callee_state_after i p (kept_of answered p.call.callee)) (callee_sent i p (kept_of answered p.call.callee))
-    ∙ ap sent_in (at_node_other (empty_state 0) ms i j (phased_state f (kept_of ms i)) d)
-
-others_sent : (setup : Setup) (ms : List MemberState) (e : Event) (j : ℕ) → j ≢ node_of e → sent_in (kept_of (state_after setup ms e) j) ≡ sent_in (kept_of ms j)
-others_sent setup ms (Event.Recover i) j d = ap sent_in (at_node_other (empty_state 0) ms i j _ d)
-others_sent setup ms (Event.Crash i) j d = ap sent_in (at_node_other (empty_state 0) ms i j _ d)
-others_sent setup ms (Event.Check i) j d = ap sent_in (at_node_other (empty_state 0) ms i j _ d)
-others_sent setup ms (Event.Timeout i) j d = ap sent_in (at_node_other (empty_state 0) ms i j _ d)
-others_sent setup ms (Event.Start i) j d = ap sent_in (at_node_other (empty_state 0) ms i j _ d)
-others_sent setup ms (Event.Run i) j d = run_sent ms i j (kept_of ms i).slot.content d
-others_sent setup ms (Event.Lose i) j d = ap sent_in (at_node_other (empty_state 0) ms i j _ d)
-others_sent setup ms (Event.Return i) j d = ap sent_in (at_node_other (empty_state 0) ms i j _ d)
-others_sent setup ms (Event.Move i) j d = ap sent_in (at_node_other (empty_state 0) ms i j _ d)
-others_sent setup ms (Event.Plan i table) j d = ap sent_in (at_node_other (empty_state 0) ms i j _ d)
-
 -- where nobody but node c has changed
 abbrev cleared : ℕ → (ℕ → Option ℕ) → ℕ → Option ℕ
 cleared c f i = if i == c then None else f i
@@ -192,12 +150,15 @@ sent_within ms w i is = of_value (sent_in (kept_of ms i)) refl
 pub waiting_after : (setup : Setup) (ms : List MemberState) (e : Event) (w : List (List ℕ)) (before after : Option ℕ) → IsWaiting ms w → sent_in (kept_of ms (node_of e)) ≡ before → sent_in (kept_of (state_after setup ms e) (node_of e)) ≡ after
     → IfSome after (λ j. (0 < j) × (j ≤ length ms)) → IsWaiting (state_after setup ms e) (with_sent (node_of e) after (without_sent (node_of e) before w))
 waiting_after setup ms e w before after is was now room = record {
-  count = length_with c after (without_sent c before w) ∙ length_without c before w ∙ is.count ∙ sym (state_after_length setup ms e);
+  count = length_with c after (without_sent c before w) ∙ length_without c before w ∙ is.count ∙ sym (laws.many ms);
   tells = arrived_tells (cleared c f) g (without_sent c before w) c after
       (left_tells f (cleared c f) w c before is.tells was (cleared_same c f) (λ i d. cleared_other c i f d))
-      (cleared_same c f) now (λ i d. others_sent setup ms e i d ∙ sym (cleared_other c i f d)) (room_there after room);
+      (cleared_same c f) now (λ i d. laws.sent ms i d ∙ sym (cleared_other c i f d)) (room_there after room);
 }
   where
+    laws : EventLaws setup e
+    laws = event_laws setup e
+
     c : ℕ
     c = node_of e
 

@@ -11,12 +11,12 @@ use Rattle.bully_world.specs.State.{MemberState, WorldState, empty_state, state_
 use Rattle.bully_world.specs.Step.{Step}
 use Rattle.bully_world.specs.StateAfter.{state_after, answer_after}
 use Rattle.bully_world.specs.World.{first_world}
-use Rattle.bully_world.proofs.KeptLemmas.{state_after_kept, state_after_length, new_kept}
+use Rattle.bully_world.proofs.Events.{event_laws}
+use Rattle.bully_world.proofs.KeptLemmas.{new_kept}
 use Rattle.bully_world.proofs.LawfulLemmas.{lawful_more}
 use Rattle.bully_world.proofs.MembersOf.{members_of-new}
 use Rattle.bully_world.proofs.NodeInvariantLemmas.{lawful_fits}
 use Rattle.bully_world.proofs.ApplyLemmas.{room_of}
-use Rattle.bully_world.proofs.StateAfterLemmas.{state_after_steps}
 
 abbrev state : Setup → ℕ → List MemberState → WorldState
 state setup events ms = record { setup = setup; events = events; members = ms }
@@ -25,7 +25,7 @@ pub world_fits : (setup : Setup) (events : ℕ) (ms : List MemberState) → IsWo
 world_fits setup events ms is = lawful_fits setup is.reached.applied is.reached.answers (members_of ms) is.reached.lawful
 
 pub world_steps : (setup : Setup) (events : ℕ) (ms : List MemberState) (e : Event) → IsWorld (state setup events ms) → cause setup (members_of ms) events e ≡ None → Step setup (members_of ms) e (members_of (state_after setup ms e)) (answer_after ms e)
-world_steps setup events ms e is free = state_after_steps setup events ms e (world_fits setup events ms is) is.kept free
+world_steps setup events ms e is free = (event_laws setup e).steps events ms (record { all = world_fits setup events ms is; kept = is.kept }) free
 
 reached_next : (setup : Setup) (events : ℕ) (ms : List MemberState) (e : Event) → IsWorld (state setup events ms) → cause setup (members_of ms) events e ≡ None → IsReached (state setup (events + 1) (state_after setup ms e))
 reached_next setup events ms e is free = record {
@@ -43,8 +43,8 @@ member_there w k i m is e l there = at_node-place (empty_state 0) m w.members k 
 -- an event that nothing refuses leads from a world to a world
 pub next_world : (setup : Setup) (events : ℕ) (ms : List MemberState) (e : Event) → IsWorld (state setup events ms) → cause setup (members_of ms) events e ≡ None → IsWorld (state setup (events + 1) (state_after setup ms e))
 next_world setup events ms e is free = record {
-  count = state_after_length setup ms e ∙ is.count;
-  kept = state_after_kept setup events ms e is.count (world_fits setup events ms is) is.kept free;
+  count = (event_laws setup e).many ms ∙ is.count;
+  kept = (event_laws setup e).kept events ms is.kept;
   reached = reached_next setup events ms e is free;
 }
 

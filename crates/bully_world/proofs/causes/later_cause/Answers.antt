@@ -3,7 +3,14 @@ use Rattle.std.proofs.Common.{arith, ap, ◌∙◌}
 use Rattle.bully_world.specs.declared.event.Event.{Event}
 use Rattle.bully_world.specs.Cause.{node_of}
 use Rattle.bully_world.specs.State.{member_of, members_of}
-use Rattle.bully_world.proofs.CauseAt.{member-place, place-within, at_event, callee-within, check-cause, timeout-cause, start-cause, move-cause, plan-cause, run-cause, lose-cause, return-cause}
+use Rattle.bully_world.proofs.CauseAt.{member-place, place-within, at_event, callee-within}
+use Rattle.bully_world.proofs.Events.Checking.{check-cause, timeout-cause}
+use Rattle.bully_world.proofs.Events.Starting.{start-cause}
+use Rattle.bully_world.proofs.Events.Moving.{move-cause}
+use Rattle.bully_world.proofs.Events.Planning.{plan-cause}
+use Rattle.bully_world.proofs.Events.Running.{run-cause}
+use Rattle.bully_world.proofs.Events.Losing.{lose-cause}
+use Rattle.bully_world.proofs.Events.Returning.{return-cause}
 use Rattle.bully_world.proofs.causes.later_cause.Goals as goal
 
 pub offer-requires : goal.offer-requires
@@ -44,7 +51,7 @@ returns-in-Move c =
 pub returns-in-Plan : goal.returns-in-Plan
 returns-in-Plan c =
     let here = member-place c.args.members.now c.place_of.result c.in-Plan.node c.index-members-place_of.result (c.place_of.ensures ∙ c.node.ensures ∙ ap node_of c.in-Plan.is) (place-within c.args.setup c.args.members.now c.place_of.result (node_of c.args.event.now) c.requires.fits (c.place_of.ensures ∙ c.node.ensures) c.requires.node.1) c.index-members-place_of.is in
-    λ count. at_event c.args.setup (members_of c.args.members.now) count c.args.event.now (Event.Plan c.in-Plan.node c.in-Plan.table) _ c.in-Plan.is (grind (arith, plan-cause c.args.setup (members_of c.args.members.now) count c.in-Plan.node (member_of c.index-members-place_of.result) here c.in-Plan.table, c.plan_cause.ensures))
+    λ count. at_event c.args.setup (members_of c.args.members.now) count c.args.event.now (Event.Plan c.in-Plan.node c.in-Plan.table) _ c.in-Plan.is (grind (arith, plan-cause c.args.setup (members_of c.args.members.now) count c.in-Plan.node (member_of c.index-members-place_of.result) c.in-Plan.table here, c.plan_cause.ensures))
 
 pub returns-in-Run : goal.returns-in-Run
 returns-in-Run c =

@@ -6,7 +6,7 @@ use Rattle.bully_world.specs.State.{kept_of}
 use Rattle.bully_world.specs.StateAfter.{state_after}
 use Rattle.bully_world.specs.Waiting.{IsWaiting, sent_in, with_sent, without_sent}
 use Rattle.bully_world.proofs.ApplyLemmas.{place_of_node}
-use Rattle.bully_world.proofs.KeptLemmas.{state_after_length}
+use Rattle.bully_world.proofs.Events.{event_laws}
 use Rattle.bully_world.proofs.WaitingLemmas.{sent_within, waiting_after}
 use Rattle.bully_world.proofs.steps.apply_event.Goals as goal
 
@@ -24,7 +24,7 @@ returns-clause-waiting c =
     let next = state_after c.args.setup ms c.args.event.now in
     let there = place_of_node ms i c.place_of.result c.index-members-place_of.result c.requires.node (c.place_of.ensures ∙ c.node-node.ensures) in
     let was : sent_in (kept_of ms i) ≡ c.sent_to-before.result = ap sent_in there ∙ sym c.sent_to-before.ensures in
-    let room : i ≤ length c.apply_to_members-answer.new.members = omega (arith, c.requires.node, ap length c.apply_to_members-answer.ensures.after, state_after_length c.args.setup ms c.args.event.now) in
+    let room : i ≤ length c.apply_to_members-answer.new.members = omega (arith, c.requires.node, ap length c.apply_to_members-answer.ensures.after, (event_laws c.args.setup c.args.event.now).many ms) in
     let then_there = place_of_node c.apply_to_members-answer.new.members i c.place_of-2.result c.index-members-place_of-2.result room (c.place_of-2.ensures ∙ c.node-node.ensures) in
     let now : sent_in (kept_of next i) ≡ c.sent_to-after.result = ap (λ xs. sent_in (kept_of xs i)) (sym c.apply_to_members-answer.ensures.after) ∙ ap sent_in then_there ∙ sym c.sent_to-after.ensures in
     let sent = subst (λ (o : Option ℕ). IfSome o (λ j. (0 < j) × (j ≤ length ms))) now c.requires.sent in

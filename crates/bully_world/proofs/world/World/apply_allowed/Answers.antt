@@ -7,11 +7,8 @@ use Rattle.bully_world.specs.State.{MemberState, kept_of, IsWorld, members_of, s
 use Rattle.bully_world.specs.Step.{Step}
 use Rattle.bully_world.specs.StateAfter.{CanApply, state_after, answer_after}
 use Rattle.bully_world.specs.Waiting.{IsWaiting, sent_in}
+use Rattle.bully_world.proofs.Events.{event_laws}
 use Rattle.bully_world.proofs.ApplyLemmas.{room_of, node_in_setup}
-use Rattle.bully_world.proofs.ExchangeLemmas.{can_apply}
-use Rattle.bully_world.proofs.GenerationLemmas.{state_after_generations}
-use Rattle.bully_world.proofs.KeptLemmas.{state_after_length}
-use Rattle.bully_world.proofs.TagLemmas.{state_after_tags}
 use Rattle.bully_world.proofs.WaitingLemmas.{sent_to_node}
 use Rattle.bully_world.proofs.WorldLemmas.{world_fits, world_steps, next_world, put_back}
 use Rattle.bully_world.proofs.world.World.apply_allowed.Goals as goal
@@ -28,7 +25,7 @@ apply_event-answer-requires c =
     let next_fits = world_fits c.self.inside.setup (c.self.inside.events + 1) next (next_world c.self.inside.setup c.self.inside.events ms c.args.event.now c.self.invariant.0 free) in
     let sent = subst (λ (n : ℕ). IfSome (sent_in (kept_of next i)) (λ j. (0 < j) × (j ≤ n))) (sym c.self.invariant.0.count) (sent_to_node c.self.inside.setup next i next_fits) in
     record {
-      can = subst (λ xs. CanApply c.self.inside.setup xs c.args.event.now) (sym c.as_mut_slice.ensures.value) (can_apply c.self.inside.setup c.self.inside.events ms fits c.self.invariant.0.kept room c.args.event.now free);
+      can = subst (λ xs. CanApply c.self.inside.setup xs c.args.event.now) (sym c.as_mut_slice.ensures.value) ((event_laws c.self.inside.setup c.args.event.now).can c.self.inside.events ms (record { all = fits; kept = c.self.invariant.0.kept }) room free);
       node = subst (λ (xs : List MemberState). i ≤ length xs) (sym c.as_mut_slice.ensures.value) here;
       sent = subst (λ (xs : List MemberState). IfSome (sent_in (kept_of (state_after c.self.inside.setup xs c.args.event.now) i)) (λ j. (0 < j) × (j ≤ length xs))) (sym c.as_mut_slice.ensures.value) sent;
       waiting = subst (λ xs. IsWaiting xs c.self.inside.waiting) (sym c.as_mut_slice.ensures.value) c.self.invariant.1;
@@ -39,7 +36,7 @@ invariant_of-self c =
     let ms = c.self.inside.members.items in
     let free : cause c.self.inside.setup (members_of ms) c.self.inside.events c.args.event.now ≡ None = subst (λ s. cause_in s c.args.event.now ≡ None) (sym c.self.view_is) c.requires in
     let next : c.apply_event-answer.new.members ≡ state_after c.self.inside.setup ms c.args.event.now = c.apply_event-answer.ensures.after ∙ ap (λ xs. state_after c.self.inside.setup xs c.args.event.now) c.as_mut_slice.ensures.value in
-    let whole = put_back c.self.inside.members.len c.apply_event-answer.new.members ms (ap length next ∙ state_after_length c.self.inside.setup ms c.args.event.now ∙ sym c.self.inside.members.ok.0) (sym c.self.inside.members.ok.0) in
+    let whole = put_back c.self.inside.members.len c.apply_event-answer.new.members ms (ap length next ∙ (event_laws c.self.inside.setup c.args.event.now).many ms ∙ sym c.self.inside.members.ok.0) (sym c.self.inside.members.ok.0) in
     let back = whole ∙ next in
     (subst (λ xs. IsWorld (record { setup = c.self.inside.setup; events = c.self.inside.events + 1; members = xs })) (sym back) (next_world c.self.inside.setup c.self.inside.events ms c.args.event.now c.self.invariant.0 free), subst (λ xs. IsWaiting xs c.apply_event-answer.new.waiting) (sym whole) c.apply_event-answer.ensures.waiting)
 
@@ -48,7 +45,7 @@ returns-clause-step c =
     let ms = c.self.inside.members.items in
     let free : cause c.self.inside.setup (members_of ms) c.self.inside.events c.args.event.now ≡ None = subst (λ s. cause_in s c.args.event.now ≡ None) (sym c.self.view_is) c.requires in
     let next : c.apply_event-answer.new.members ≡ state_after c.self.inside.setup ms c.args.event.now = c.apply_event-answer.ensures.after ∙ ap (λ xs. state_after c.self.inside.setup xs c.args.event.now) c.as_mut_slice.ensures.value in
-    let back = put_back c.self.inside.members.len c.apply_event-answer.new.members ms (ap length next ∙ state_after_length c.self.inside.setup ms c.args.event.now ∙ sym c.self.inside.members.ok.0) (sym c.self.inside.members.ok.0) ∙ next in
+    let back = put_back c.self.inside.members.len c.apply_event-answer.new.members ms (ap length next ∙ (event_laws c.self.inside.setup c.args.event.now).many ms ∙ sym c.self.inside.members.ok.0) (sym c.self.inside.members.ok.0) ∙ next in
     let answer = c.apply_event-answer.ensures.answer ∙ ap (λ xs. answer_after xs c.args.event.now) c.as_mut_slice.ensures.value in
     let step = world_steps c.self.inside.setup c.self.inside.events ms c.args.event.now c.self.invariant.0 free in
     subst (λ s. Step s.setup (world_of s) c.args.event.now (members_of (take c.self.inside.members.len (c.apply_event-answer.new.members ++ drop (length c.apply_event-answer.new.members) ms))) c.apply_event-answer.result) c.self.view_is
@@ -60,8 +57,8 @@ returns-clause-generations c =
     let ms = c.self.inside.members.items in
     let free : cause c.self.inside.setup (members_of ms) c.self.inside.events c.args.event.now ≡ None = subst (λ s. cause_in s c.args.event.now ≡ None) (sym c.self.view_is) c.requires in
     let next : c.apply_event-answer.new.members ≡ state_after c.self.inside.setup ms c.args.event.now = c.apply_event-answer.ensures.after ∙ ap (λ xs. state_after c.self.inside.setup xs c.args.event.now) c.as_mut_slice.ensures.value in
-    let back = put_back c.self.inside.members.len c.apply_event-answer.new.members ms (ap length next ∙ state_after_length c.self.inside.setup ms c.args.event.now ∙ sym c.self.inside.members.ok.0) (sym c.self.inside.members.ok.0) ∙ next in
-    let raised = state_after_generations c.self.inside.setup c.self.inside.events ms c.args.event.now c.self.invariant.0.count (world_fits c.self.inside.setup c.self.inside.events ms c.self.invariant.0) free in
+    let back = put_back c.self.inside.members.len c.apply_event-answer.new.members ms (ap length next ∙ (event_laws c.self.inside.setup c.args.event.now).many ms ∙ sym c.self.inside.members.ok.0) (sym c.self.inside.members.ok.0) ∙ next in
+    let raised = (event_laws c.self.inside.setup c.args.event.now).generations c.self.inside.events ms (record { all = world_fits c.self.inside.setup c.self.inside.events ms c.self.invariant.0; kept = c.self.invariant.0.kept }) free in
     λ i. subst (λ s. (at_node (empty_state 0) (take c.self.inside.members.len (c.apply_event-answer.new.members ++ drop (length c.apply_event-answer.new.members) ms)) i).generation ≡ (state_at s i).generation + (if raises (world_of s) c.args.event.now i then 1 else 0)) c.self.view_is
     (subst (λ xs. (at_node (empty_state 0) xs i).generation ≡ (at_node (empty_state 0) ms i).generation + (if raises (members_of ms) c.args.event.now i then 1 else 0)) (sym back) (raised i))
 
@@ -69,9 +66,9 @@ pub returns-clause-tags : goal.returns-clause-tags
 returns-clause-tags c =
     let ms = c.self.inside.members.items in
     let next : c.apply_event-answer.new.members ≡ state_after c.self.inside.setup ms c.args.event.now = c.apply_event-answer.ensures.after ∙ ap (λ xs. state_after c.self.inside.setup xs c.args.event.now) c.as_mut_slice.ensures.value in
-    let back = put_back c.self.inside.members.len c.apply_event-answer.new.members ms (ap length next ∙ state_after_length c.self.inside.setup ms c.args.event.now ∙ sym c.self.inside.members.ok.0) (sym c.self.inside.members.ok.0) ∙ next in
+    let back = put_back c.self.inside.members.len c.apply_event-answer.new.members ms (ap length next ∙ (event_laws c.self.inside.setup c.args.event.now).many ms ∙ sym c.self.inside.members.ok.0) (sym c.self.inside.members.ok.0) ∙ next in
     λ i other. subst (λ s. tag_in (at_node (empty_state 0) (take c.self.inside.members.len (c.apply_event-answer.new.members ++ drop (length c.apply_event-answer.new.members) ms)) i) ≡ tag_in (state_at s i)) c.self.view_is
-    (subst (λ xs. tag_in (at_node (empty_state 0) xs i) ≡ tag_in (at_node (empty_state 0) ms i)) (sym back) (state_after_tags c.self.inside.setup ms c.args.event.now i other))
+    (subst (λ xs. tag_in (at_node (empty_state 0) xs i) ≡ tag_in (at_node (empty_state 0) ms i)) (sym back) ((event_laws c.self.inside.setup c.args.event.now).tags ms i other))
 
 pub returns-clause-room : goal.returns-clause-room
 returns-clause-room c =
