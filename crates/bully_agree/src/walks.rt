@@ -16,6 +16,7 @@ use std::marker::Model;
 #[derive(Drop, Debug)]
 pub struct Walk {
     world: World,
+    alloc: Global, // which its world was made with
 }
 
 impl Model for Walk {
@@ -34,6 +35,7 @@ impl Walk {
     {
         Ok(Walk {
             world: World::new(alloc, setup)?,
+            alloc,
         })
     }
 
@@ -62,12 +64,13 @@ impl Walk {
         &self.world
     }
 
-    /// The view of the world as it is now. Refused where an allocation fails.
-    pub fn view(&self, alloc: Global) -> Result<View, OutOfMemory>
+    /// The view of the world as it is now, with the allocator that the walk was made with. Refused where an allocation
+    /// fails.
+    pub fn view(&self) -> Result<View, OutOfMemory>
         ensures view { IfOk result (λ v. v ≡ view_of self.now.setup self.now.events (world_of self.now)) }
         ensures agrees { IfOk result ViewAgrees }
         ensures viewed { IfOk result IsViewed }
     {
-        view(alloc, &self.world)
+        view(self.alloc, &self.world)
     }
 }

@@ -151,7 +151,7 @@ fn look_quietly<L: Naming, R: Wait>(
 ) -> Option<Watched> {
     let _team = settled(rt, alloc, group, team)?;
     let mut observers = observers;
-    look_often(alloc, observers.pop()?, looks)
+    look_often(observers.pop()?, looks)
 }
 
 // So many looks of one observer, beside a thread that takes turns and publishes after each.
@@ -171,7 +171,7 @@ fn look_beside<L: Naming + Send + Sync, R: Threads + Wait + Sync>(
         rt,
         || publish_on(rt, alloc, group, team, &stop),
         || {
-            let watched = look_often(alloc, observer, looks);
+            let watched = look_often(observer, looks);
             stop.store(true, Ordering::SeqCst);
             watched
         },
@@ -205,11 +205,11 @@ fn publish_on<L: Naming, R: Wait>(
 }
 
 // So many looks, at least one. None where a count falls.
-fn look_often(alloc: Global, observer: Observer, looks: u32) -> Option<Watched> {
+fn look_often(observer: Observer, looks: u32) -> Option<Watched> {
     let mut observer = observer;
-    let mut last = observer.look(alloc).ok()?;
+    let mut last = observer.look().ok()?;
     for _ in 1..looks {
-        let view = observer.look(alloc).ok()?;
+        let view = observer.look().ok()?;
         if view.events() < last.events() {
             return None;
         }
@@ -318,7 +318,7 @@ fn work<L: Naming, R: Wait>(
     job: Job<L>,
 ) -> Option<Watched> {
     let ended = match job {
-        Job::Look(observer) => return look_on(alloc, observer, left),
+        Job::Look(observer) => return look_on(observer, left),
         Job::Play(player) => play(rt, alloc, group, player, turns),
         Job::Operate(seat, pass) => operate(rt, group, seat, pass, turns),
     };
@@ -329,7 +329,7 @@ fn work<L: Naming, R: Wait>(
 
 // Looks until none is left of those that take turns, and gives the processor away after each look, since a publish waits
 // for a look that has begun. None where a count falls.
-fn look_on(alloc: Global, observer: Observer, left: &AtomicU64) -> Option<Watched> {
+fn look_on(observer: Observer, left: &AtomicU64) -> Option<Watched> {
     let mut observer = observer;
     let mut seen = 0;
     for looks in 0..u64::MAX {
@@ -340,7 +340,7 @@ fn look_on(alloc: Global, observer: Observer, left: &AtomicU64) -> Option<Watche
                 ..Watched::default()
             });
         }
-        let view = observer.look(alloc).ok()?;
+        let view = observer.look().ok()?;
         if view.events() < seen {
             return None;
         }

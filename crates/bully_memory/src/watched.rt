@@ -66,7 +66,7 @@ fn looks_of(alloc: Global, observers: &mut [Observer]) -> Option<String> {
 fn look_of(alloc: Global, observer: &mut Observer) -> Option<String>
     ensures { observer.new.publisher ≡ observer.old.publisher }
 {
-    match observer.look(alloc) {
+    match observer.look() {
         Ok(view) => text_of(alloc, &view),
         Err(_) => None,
     }
@@ -235,7 +235,7 @@ fn shown_look_call<L: Naming, R: Print + Wait>(
 
 fn look_call<R: Print>(trial: &Trial<R>, observer: &mut Observer) -> Option<Outcome> {
     trial.begin();
-    let answer = observer.look(trial.alloc);
+    let answer = observer.look();
     match trial.outcome(&answer, "OutOfMemory")? {
         Outcome::Answered(text) => Some(Outcome::Answered(text)),
         Outcome::Refused | Outcome::AnsweredAgain(_) => look_again(trial, observer),
@@ -243,7 +243,7 @@ fn look_call<R: Print>(trial: &Trial<R>, observer: &mut Observer) -> Option<Outc
 }
 
 fn look_again<R: Print>(trial: &Trial<R>, observer: &mut Observer) -> Option<Outcome> {
-    let view = observer.look(trial.alloc).ok()?;
+    let view = observer.look().ok()?;
     ended(true, text_of(trial.alloc, &view))
 }
 

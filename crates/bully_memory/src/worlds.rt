@@ -102,7 +102,7 @@ fn view_call<R: Print>(trial: &Trial<R>, world: &World) -> Option<Outcome> {
 fn walk_view_call<R: Print>(trial: &Trial<R>, events: &[Event]) -> Option<Outcome> {
     let walk = applied(Walk::new(trial.alloc, setup()?).ok()?, events).ok()?;
     trial.begin();
-    let answer = walk.view(trial.alloc);
+    let answer = walk.view();
     trial.outcome(&answer, "AllocError")
 }
 

@@ -17,6 +17,7 @@ use std::marker::Model;
 pub struct Observer {
     reader: PageReader,
     count: usize, // how many entries it saw or learned of
+    alloc: Global, // which its publisher was made with
 }
 
 impl Model for Observer {
@@ -43,12 +44,16 @@ pub enum LookFault {
 
 impl Observer {
     // An observer that saw nothing yet.
-    pub(crate) fn of(reader: PageReader) -> Observer
+    pub(crate) fn of(alloc: Global, reader: PageReader) -> Observer
         requires named { (view reader.place).is_named ≡ true }
         requires empty { (view reader.place).seen ≡ [] }
         ensures { result ≡ prefix_of (view reader.place) }
     {
-        Observer { reader, count: 0 }
+        Observer {
+            reader,
+            count: 0,
+            alloc,
+        }
     }
 
     /// From now on it sees no less than was told. What was told is of its own publisher. Takes no memory.
@@ -63,41 +68,54 @@ impl Observer {
             *self = Observer {
                 reader: told.into_reader(),
                 count,
+                alloc: self.alloc,
             };
         }
     }
 
     /// The view after a prefix of the publisher's history, at least as long as what it saw or learned of before.
-    /// It takes no lock and never waits. Refused with `Gone` where the publisher was ended, and with `OutOfMemory`
-    /// where an allocation fails. The rule: this project's profile.
-    pub fn look(&mut self, alloc: Global) -> Result<View, LookFault>
+    /// It takes no lock and never waits, and has the allocator that the publisher was made with. Refused with `Gone` where
+    /// the publisher was ended, and with `OutOfMemory` where an allocation fails. The rule: this project's profile.
+    pub fn look(&mut self) -> Result<View, LookFault>
         ensures publisher { self.new.publisher ≡ self.old.publisher }
         ensures goes_on { IsPrefix self.old.entries self.new.entries }
         ensures view { IfOk result (Looks self.old.publisher self.new.entries) }
     {
-        replace_with(
-            self,
-            alloc,
-            |observer: Observer, alloc| observer.looked(alloc),
-        )
+        replace_with(self, (), |observer: Observer, _| observer.looked())
     }
 
     // `look`, where the observer comes back.
-    fn looked(self, alloc: Global) -> (Observer, Result<View, LookFault>)
+    fn looked(self) -> (Observer, Result<View, LookFault>)
         ensures publisher { result.0.publisher ≡ self.publisher }
         ensures goes_on { IsPrefix self.entries result.0.entries }
         ensures view { IfOk result.1 (Looks self.publisher result.0.entries) }
     {
-        let Observer { reader, count } = self;
+        let Observer {
+            reader,
+            count,
+            alloc,
+        } = self;
         match reader.enter_as::<Look>() {
-            Err(reader) => (Observer { reader, count }, Err(LookFault::Gone)),
+            Err(reader) => (
+                Observer {
+                    reader,
+                    count,
+                    alloc,
+                },
+                Err(LookFault::Gone),
+            ),
             Ok(reading) => {
                 let count = reading.get().world.events() as usize;
                 let seen = view(alloc, &reading.get().world);
                 let reader = reading.leave();
+                let observer = Observer {
+                    reader,
+                    count,
+                    alloc,
+                };
                 match seen {
-                    Ok(view) => (Observer { reader, count }, Ok(view)),
-                    Err(_) => (Observer { reader, count }, Err(LookFault::OutOfMemory)),
+                    Ok(view) => (observer, Ok(view)),
+                    Err(_) => (observer, Err(LookFault::OutOfMemory)),
                 }
             }
         }

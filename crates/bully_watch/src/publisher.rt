@@ -249,7 +249,7 @@ fn enroll(alloc: Global, writer: &mut PageWriter, count: u16) -> Result<Vec<Obse
     for _number in 0..count {
         let mut reader = new_reader(writer.factory())?;
         tell(writer, &mut reader);
-        observers.push(Observer::of(reader))?;
+        observers.push(Observer::of(alloc, reader))?;
     }
     Ok(observers)
 }

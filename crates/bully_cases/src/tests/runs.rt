@@ -153,11 +153,11 @@ fn view_of_a_new_world(rt: HostRuntime) -> Result<(), Fail> {
 fn views_of_a_walk(rt: HostRuntime) -> Result<(), Fail> {
     let alloc = rt.alloc();
     let mut walk = Walk::new(alloc, setup(&rt, 1, 2, 9))?;
-    let shown = walk.view(alloc)?;
+    let shown = walk.view()?;
     assert_eq!(rt; shown.events(), 0);
     assert_shown(&rt, &shown, 1, Status::Down, None, None);
     assert!(rt; walk.apply(&Event::Recover(node(&rt, 1))).is_ok());
-    let shown = walk.view(alloc)?;
+    let shown = walk.view()?;
     assert_eq!(rt; shown.events(), 1);
     assert_shown(&rt, &shown, 1, Status::Election, None, None);
     Ok(())

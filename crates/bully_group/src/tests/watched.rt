@@ -26,7 +26,7 @@ pub enum Seen {
 fn look_at(alloc: Global, observer: &mut Observer) -> Seen
     ensures { observer.new.publisher ≡ observer.old.publisher }
 {
-    match observer.look(alloc) {
+    match observer.look() {
         Ok(view) => match Node::new(view.nodes()) {
             Some(last) => Seen::Shown(view.events(), view.status(last)),
             None => Seen::Nothing,

@@ -120,7 +120,7 @@ impl Watched {
 pub fn look_of(alloc: Global, observer: &mut Observer) -> Seen
     ensures { observer.new.publisher ≡ observer.old.publisher }
 {
-    match observer.look(alloc) {
+    match observer.look() {
         Ok(view) => shown(&view),
         Err(fault) => Seen::Fault(fault),
     }
