@@ -4,9 +4,9 @@ use Rattle.std.specs.Io.KnownBytes.{Appends, Keeps}
 use Rattle.bully_base.specs.Setup.{Setup}
 use Rattle.bully_config.specs.Configuration.{Configuration}
 use Rattle.bully_config.specs.declared.fault.ConfigFault.{ConfigFault}
-use Rattle.bully_nodes.specs.Play.{IsPlay, trace_with}
+use Rattle.bully_play.specs.Play.{IsPlay, trace_with}
 use Rattle.bully_nodes.specs.Run.{IsNodesFault}
-use Rattle.bully_nodes.specs.Turns.{IsScheduled}
+use Rattle.bully_play.specs.Turns.{IsScheduled}
 use Rattle.bully_nodes.specs.declared.running.NodesFault.{NodesFault}
 use Rattle.bully_table.specs.Planning.{IsFewest, IsMostKept, moves_from, planned}
 use Rattle.bully_table.specs.TableText.{table_of_text}

@@ -4,10 +4,10 @@ use Rattle.std.specs.Prelude.{◌≡◌, ◌≢◌, ◌⊎◌, ℕ, List, Option
 use Rattle.std.specs.Io.KnownBytes.{Appends, Keeps}
 use Rattle.bully_config.specs.Configuration.{Configuration}
 use Rattle.bully_config.specs.declared.fault.ConfigFault.{ConfigFault}
-use Rattle.bully_nodes.specs.Play.{IsPlay, trace_with}
+use Rattle.bully_play.specs.Play.{IsPlay, trace_with}
 use Rattle.bully_nodes.specs.Run.{IsNodesFault}
-use Rattle.bully_nodes.specs.Turns.{IsScheduled}
-use Rattle.bully_nodes.specs.declared.playing.PlayFault.{PlayFault}
+use Rattle.bully_play.specs.Turns.{IsScheduled}
+use Rattle.bully_play.specs.declared.playing.PlayFault.{PlayFault}
 use Rattle.bully_nodes.specs.declared.running.NodesFault.{NodesFault}
 use Rattle.bully_table.specs.declared.planning.TablePlan.{TablePlan}
 use Rattle.bully_trace.specs.TraceText.{trace_text}

@@ -2,8 +2,8 @@ ghost use Rattle.std.specs.Prelude.{◌≡◌, ◌≢◌, ◌≤◌, ◌⊎◌, 
 ghost use Rattle.std.specs.Io.KnownBytes.{Appends};
 ghost use Rattle.bully.specs.Answer.{Tells, stop_line};
 ghost use Rattle.bully.specs.ConfigAnswer.{IsPlayAnswer};
-ghost use Rattle.bully_nodes.specs.Play.{IsPlay, trace_with};
-ghost use Rattle.bully_nodes.specs.Turns.{IsScheduled};
+ghost use Rattle.bully_play.specs.Play.{IsPlay, trace_with};
+ghost use Rattle.bully_play.specs.Turns.{IsScheduled};
 ghost use Rattle.bully_trace.specs.TraceText.{trace_text};
 ghost use Rattle.bully_world.specs.declared.event.Event.{Event};
 
@@ -11,7 +11,7 @@ use crate::configs::{bytes_at, config_of};
 use crate::refusals::{Refusal, answer_refusal};
 use crate::telling::{Stop, answer_stop, finish};
 use bully_config::Config;
-use bully_nodes::play;
+use bully_play::play;
 use std::alloc::Global;
 use std::io::Write;
 use std::rt::Files;

@@ -2,7 +2,7 @@ ghost use Rattle.std.specs.Prelude.{◌≡◌, ◌≢◌, ◌≤◌, ◌⊎◌, 
 ghost use Rattle.std.specs.Io.KnownBytes.{Appends};
 ghost use Rattle.bully.specs.Answer.{Tells, stop_line};
 ghost use Rattle.bully.specs.ConfigAnswer.{IsRunAnswer, nodes_line};
-ghost use Rattle.bully_nodes.specs.Play.{IsPlay, trace_with};
+ghost use Rattle.bully_play.specs.Play.{IsPlay, trace_with};
 ghost use Rattle.bully_nodes.specs.Run.{IsNodesFault};
 ghost use Rattle.bully_nodes.specs.declared.running.NodesFault.{NodesFault};
 ghost use Rattle.bully_trace.specs.TraceText.{trace_text};

@@ -4,7 +4,7 @@ ghost use Rattle.std.specs.Io.KnownBytes.{Appends, Keeps};
 ghost use Rattle.bully.specs.Answer.{Tells, stop_of, stop_line, row_line};
 
 use bully_base::OutOfMemory;
-use bully_nodes::PlayFault;
+use bully_play::PlayFault;
 use bully_trace::{TraceCause, TraceFault};
 use std::alloc::Global;
 use std::io;

@@ -1,7 +1,7 @@
 use crate::trying::{Outcome, Trial, ended, text_of, with};
 use crate::worlds::ELECTION;
 use bully_config::Config;
-use bully_nodes::play;
+use bully_play::play;
 use bully_trace::{check, read_trace, write_trace};
 use bully_words::{Action, action_of};
 use clap::error::ErrorKind;

@@ -1,5 +1,1 @@
-pub mod LawfulLemmas
-pub mod RecordingLemmas
-pub mod OperatorLemmas
-pub mod RoundLemmas
 pub mod RunLemmas

@@ -15,11 +15,11 @@ use Rattle.bully_group.specs.Finish.{EachInOneLog}
 use Rattle.bully_group.specs.Locked.{LockedState, IsLocked}
 use Rattle.bully_group.specs.Seat.{SeatState, AreNewSeats}
 use Rattle.bully_group.specs.Turns.{IfWent, IfWaiting, IfResynced, IfFault, is_went, handed_back, Goes, Waits, Resyncs, Fails}
-use Rattle.bully_nodes.specs.Play.{IsDue, IsPlay, event_of_fault}
+use Rattle.bully_play.specs.Play.{IsDue, IsPlay, event_of_fault}
 use Rattle.bully_nodes.specs.Run.{Held, Logs, Tries, PreparesAt, ServesAt, ProceedsAt, HasDueLog, IsKept}
-use Rattle.bully_nodes.specs.Turns.{GoesOn, Follows, IsTurnOn, OperatesOn}
-use Rattle.bully_nodes.proofs.LawfulLemmas.{lawful-bound}
-use Rattle.bully_nodes.proofs.RecordingLemmas.{step_due, faults_due, later_place}
+use Rattle.bully_play.specs.Turns.{GoesOn, Follows, IsTurnOn, OperatesOn}
+use Rattle.bully_play.proofs.LawfulLemmas.{lawful-bound}
+use Rattle.bully_play.proofs.RecordingLemmas.{step_due, faults_due, later_place}
 use Rattle.bully_steps.specs.declared.driver.Choice.{Choice}
 use Rattle.bully_steps.specs.Driver.{chosen_every}
 use Rattle.bully_steps.specs.declared.procedure.Procedure.{Procedure}

@@ -1,4 +1,1 @@
-pub mod Play
-pub mod Recording
-pub mod Turns
 pub mod Run

@@ -10,8 +10,8 @@ use Rattle.bully_group.specs.Steps.{Records, IsStepFault, IsServeFault, MayServe
 use Rattle.bully_group.specs.Turns.{Waits, Resyncs, Fails}
 use Rattle.bully_nodes.specs.declared.running.NodesFault.{NodesFault}
 use Rattle.bully_nodes.specs.declared.running.NodesFault.TheVariants.{Spawn, Finish, OutOfMemory}
-use Rattle.bully_nodes.specs.Play.{IsDue}
-use Rattle.bully_nodes.specs.Turns.{prepared_from}
+use Rattle.bully_play.specs.Play.{IsDue}
+use Rattle.bully_play.specs.Turns.{prepared_from}
 use Rattle.bully_steps.specs.ProcedureState.{ProcedureState}
 use Rattle.bully_watch.specs.declared.entry.Entry.{Entry}
 use Rattle.bully_world.specs.declared.event.Event.{Event}

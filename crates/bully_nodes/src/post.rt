@@ -2,15 +2,14 @@ ghost use Rattle.std.specs.Prelude.{◌≡◌, true, IfOk};
 ghost use Rattle.bully_agree.specs.View.{shown as shown_at};
 ghost use Rattle.bully_group.specs.Turns.{handed_back};
 ghost use Rattle.bully_nodes.specs.Run.{IsReady};
-ghost use Rattle.bully_nodes.specs.Turns.{prepared_from};
+ghost use Rattle.bully_play.specs.Turns.{prepared_from};
 ghost use Rattle.bully_steps.specs.Procedure.{state_of};
 ghost use Rattle.bully_steps.specs.ProcedureState.{HasSameNode};
 
-use crate::stage::Stage;
-use crate::turns::prepared_from;
 use bully_agree::View;
 use bully_base::{Node, OutOfMemory};
 use bully_group::{Group, Naming, Pass, Seat, StepFault, Turn, ViewFault};
+use bully_play::{Stage, prepared_from};
 use bully_steps::Procedure;
 use bully_world::Event;
 use std::alloc::{AllocError, Global};

@@ -1,17 +1,17 @@
 ghost use Rattle.std.specs.Prelude.{◌≡◌, ◌+◌, ◌<◌, ◌≤◌, [], ℕ, None, All, map, IfOk, IfErr, OnOk};
 ghost use Rattle.std.specs.Option.{IfSome};
 ghost use Rattle.bully_group.specs.Seat.{AreNewSeats};
-ghost use Rattle.bully_nodes.specs.Play.{IsPlay};
+ghost use Rattle.bully_play.specs.Play.{IsPlay};
 ghost use Rattle.bully_nodes.specs.Run.{IsKept, HasDueLog, IsNodesFault};
 ghost use Rattle.bully_steps.specs.Procedure.{state_of};
 ghost use Rattle.bully_steps.specs.ProcedureState.{HasSameNode};
 ghost use Rattle.bully_watch.specs.History.{event_of};
 
 use crate::post::Post;
-use crate::turns::{operator_turn, take_turn};
 use bully_base::{Node, OutOfMemory};
 use bully_config::{Config, Fault};
 use bully_group::{Closed, FinishFault, Group, Naming, Pass, Seat};
+use bully_play::{operator_turn, take_turn};
 use bully_steps::Procedure;
 use std::alloc::Global;
 use std::marker::Brand;

@@ -1,15 +1,14 @@
-ghost use Rattle.std.specs.Prelude.{◌≡◌, ◌≤◌, Err, length, map, IfOk, OnOk};
+ghost use Rattle.std.specs.Prelude.{◌≡◌, Err, map, IfOk, OnOk};
 ghost use Rattle.std.specs.Io.KnownBytes.{Appends};
-ghost use Rattle.bully_nodes.specs.Play.{trace_setup, trace_with};
+ghost use Rattle.bully_play.specs.Play.{trace_with};
 ghost use Rattle.bully_trace.specs.TraceText.{trace_text};
-ghost use Rattle.bully_trace.specs.declared.TheConstants.{ROWS_MAX};
 ghost use Rattle.bully_trace.specs.declared.trace.Row.{Row};
 ghost use Rattle.bully_watch.specs.History.{event_of};
 
-use crate::playing::PlayFault;
-use bully_base::{EVENTS_MAX, OutOfMemory, Setup};
+use bully_base::OutOfMemory;
 use bully_group::Closed;
-use bully_trace::{Row, Rows, Trace, write_trace};
+use bully_play::{PlayFault, trace_with};
+use bully_trace::{Row, Trace, write_trace};
 use bully_watch::Entry;
 use std::alloc::Global;
 use std::io::Write;
@@ -46,17 +45,4 @@ fn rows_of(alloc: Global, entries: &[Entry]) -> Result<Vec<Row>, OutOfMemory>
         rows.push(Row::Event(entry.event.copy()?))?;
     }
     Ok(rows)
-}
-
-/// The trace with these rows, at most [`bully_trace::ROWS_MAX`]. Its header has no bound on events, so that is the
-/// profile's.
-pub fn trace_with(setup: Setup, rows: Vec<Row>) -> Trace
-    requires { length rows.items ≤ ROWS_MAX }
-    ensures { result ≡ record { setup = trace_setup setup; rows = rows.items } }
-{
-    let setup = Setup::new(setup.nodes(), setup.partitions(), EVENTS_MAX).unwrap();
-    Trace {
-        setup,
-        rows: Rows::from_vec(rows),
-    }
 }

@@ -4,7 +4,7 @@ ghost use Rattle.std.specs.Prelude.{◌<◌};
 
 use bully_base::{Node, NodeSet};
 use bully_config::Config;
-use bully_nodes::play;
+use bully_play::play;
 use bully_trace::{Verdict, check};
 use std::alloc::Global;
 use std::fmt::Write;

@@ -1,0 +1,4 @@
+pub mod LawfulLemmas
+pub mod RecordingLemmas
+pub mod OperatorLemmas
+pub mod RoundLemmas

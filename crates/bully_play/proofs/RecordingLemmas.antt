@@ -1,0 +1,179 @@
+-- What is recorded stays a lawful list, event by event.
+use Rattle.std.proofs.Common.{◌≡◌, ◌∙◌, ℕ, ◌+◌, ◌<◌, ◌==◌, Bool, true, false, inl, inr, drop, List, [], ◌∷◌, ◌++◌, Option, Some, None, MatchOption, if◌then◌else◌, Result, Ok, Err, OnOk, get_or, length, length-append, arith, refl, sym, ap, subst}
+use Rattle.std.proofs.lemmas.Grind.{common_steps}
+use Rattle.std.proofs.lemmas.List.{map-append}
+use Rattle.std.specs.Bool.{MatchBool}
+use Rattle.std.proofs.lemmas.List.Elements.{All-push}
+use Rattle.bully_base.specs.declared.TheConstants.{EVENTS_MAX}
+use Rattle.bully_base.specs.Setup.{Setup, IsSetup}
+use Rattle.bully_calls.specs.declared.call.Answer.{Answer}
+use Rattle.bully_config.specs.Configuration.{Configuration}
+use Rattle.bully_config.specs.declared.config.Fault.{Fault}
+use Rattle.bully_config.specs.declared.config.FaultKind.{FaultKind}
+use Rattle.bully_play.specs.Play.{HasFault, IsDue, IsPlay, event_of_kind, event_of_fault, trace_setup, trace_with}
+use Rattle.bully_play.specs.Recording.{RecordingState, IsRecorded, Records, Applies, Steps, Continues}
+use Rattle.bully_play.specs.Turns.{Serves, Proceeds, ProceedsIn, GoesOn, Follows, IsTurn, Operates, Rounds, IsScheduled, first_recording, idle_first}
+use Rattle.bully_play.proofs.LawfulLemmas.{lawful-bound}
+use Rattle.bully_play.proofs.OperatorLemmas.{at_place}
+use Rattle.bully_steps.specs.declared.driver.Choice.{Choice}
+use Rattle.bully_steps.specs.Driver.{chosen_every}
+use Rattle.bully_steps.specs.ProcedureState.{ProcedureState}
+use Rattle.bully_trace.specs.declared.trace.Row.{Row}
+use Rattle.bully_trace.specs.declared.trace.Trace.{Trace}
+use Rattle.bully_world.specs.declared.event.Event.{Event}
+use Rattle.bully_world.specs.declared.event.Refused.{Refused}
+use Rattle.bully_world.specs.State.{WorldState, state_at, world_of, cause_in, raises}
+use Rattle.bully_world.specs.Step.{Step}
+use Rattle.bully_world.specs.Turn.{event_of, procedure_after, turn}
+use Rattle.bully_world.specs.declared.turn.Next.{Next}
+use Rattle.bully_world.specs.declared.turn.StepKind.{StepKind}
+use Rattle.bully_world.specs.declared.turn.StepKind.TheVariants.{Start, Lose, Return, Move, Plan}
+use Rattle.bully_world.proofs.LawfulLemmas.{lawful_more}
+
+-- an event more
+pub recorded_more : (c : Configuration) (e : Event) (before after : RecordingState) → Records e before after → IsDue c.faults e → IsRecorded c before → IsRecorded c after
+recorded_more c e before after r due is =
+    let room : length is.events < c.setup.events_max = grind (arith, is.counted, is.setup, r.counted, r.bounded, r.setup) in
+    record {
+      setup = r.setup ∙ is.setup;
+      events = is.events ++ e ∷ [];
+      answers = is.answers ++ r.answer ∷ [];
+      rows = r.rows ∙ ap (λ (rows : List Row). rows ++ Row.Event e ∷ []) is.rows ∙ sym (map-append Row.Event is.events (e ∷ []));
+      lawful = lawful_more c.setup is.events is.answers (world_of before.world) e r.answer (world_of after.world) is.lawful room
+          (subst (λ (setup : Setup). Step setup (world_of before.world) e (world_of after.world) r.answer) is.setup r.step);
+      counted = omega (arith, length-append is.events (e ∷ []), is.counted, r.counted);
+      due = All-push (IsDue c.faults) is.events e is.due due;
+    }
+
+pub applied_recorded : (c : Configuration) (e : Event) (before after : RecordingState) → Applies e before after → IsDue c.faults e → IsRecorded c before → IsRecorded c after
+applied_recorded c e before after does due is = by_cause (cause_in before.world e) does
+  where
+    by_cause : (q : Option Refused) → MatchOption q (Records e before after) (λ why. after ≡ before) → IsRecorded c after
+    by_cause None r = recorded_more c e before after r due is
+    by_cause (Some why) same = rw same is
+
+pub applied_setup : (e : Event) (before after : RecordingState) → Applies e before after → after.world.setup ≡ before.world.setup
+applied_setup e before after does = by_cause (cause_in before.world e) does
+  where
+    by_cause : (q : Option Refused) → MatchOption q (Records e before after) (λ why. after ≡ before) → after.world.setup ≡ before.world.setup
+    by_cause None r = r.setup
+    by_cause (Some why) same = ap (λ (r : RecordingState). r.world.setup) same
+
+-- an event that needs no fault
+pub applied_continues : (e : Event) (before after : RecordingState) → Applies e before after → ((c : Configuration) → IsDue c.faults e) → Continues before after
+applied_continues e before after does due = record {
+  setup = applied_setup e before after does;
+  recorded = λ c. applied_recorded c e before after does (due c);
+}
+
+pub nothing_continues : (r : RecordingState) → Continues r r
+nothing_continues r = record { setup = refl; recorded = λ c is. is }
+
+pub continues_then : (before mid after : RecordingState) → Continues before mid → Continues mid after → Continues before after
+continues_then before mid after one two = record {
+  setup = two.setup ∙ one.setup;
+  recorded = λ c is. two.recorded c (one.recorded c is);
+}
+
+-- a node's own step needs no fault
+pub step_due : (faults : List Fault) (kind : StepKind) (h : ProcedureState) → IsDue faults (event_of kind h)
+step_due faults Start h = tt
+step_due faults Lose h = tt
+step_due faults Return h = tt
+step_due faults Move h = tt
+step_due faults Plan h = tt
+
+pub steps_continue : (kind : StepKind) (before : RecordingState) (h : ProcedureState) (after : RecordingState) (h' : ProcedureState) → Steps kind before h after h' → Continues before after
+steps_continue kind before h after h' (inl taken) = record {
+  setup = taken.0.setup;
+  recorded = λ c is. recorded_more c (event_of kind h) before after taken.0 (step_due c.faults kind h) is;
+}
+steps_continue kind before h after h' (inr full) = rw full.1 (nothing_continues before)
+
+-- a node's turn
+serves_continue : (before : RecordingState) (i : ℕ) (served : Bool) (after : RecordingState) → Serves before i served after → Continues before after
+serves_continue before i true after does = applied_continues (Event.Run does.0) before after does.3 (λ c. tt)
+serves_continue before i false after does = rw does.0 (nothing_continues before)
+
+proceeds_continue : (next : Next) (before : RecordingState) (h : ProcedureState) (after : RecordingState) (h' : ProcedureState) → Proceeds next before h after h' → Continues before after
+proceeds_continue Next.Resync before h after h' does = rw does.0 (nothing_continues before)
+proceeds_continue Next.Rest before h after h' does = rw does.0 (nothing_continues before)
+proceeds_continue (Next.Take kind) before h after h' does = steps_continue kind before h after h' does
+
+goes_on_continues : (choice : Choice) (before : RecordingState) (h : ProcedureState) (after : RecordingState) (h' : ProcedureState) → GoesOn Applies ProceedsIn choice before h after h' → Continues before after
+goes_on_continues Choice.Check before h after h' does = applied_continues (Event.Check h.node) before after does.0 (λ c. tt)
+goes_on_continues Choice.Timeout before h after h' does = applied_continues (Event.Timeout h.node) before after does.0 (λ c. tt)
+goes_on_continues Choice.Proceed before h after h' does = proceeds_continue (turn before.world h) before h after h' does
+
+follows_continues : (served : Bool) (period number : ℕ) (before : RecordingState) (h : ProcedureState) (after : RecordingState) (h' : ProcedureState) → Follows Applies ProceedsIn served period number before h after h' → Continues before after
+follows_continues true period number before h after h' does = rw does.0 (nothing_continues before)
+follows_continues false period number before h after h' does = goes_on_continues (chosen_every period number h.point) before h after h' does
+
+turn_continues : (period number : ℕ) (before : RecordingState) (h : ProcedureState) (after : RecordingState) (h' : ProcedureState) → IsTurn period number before h after h' → Continues before after
+turn_continues period number before h after h' does =
+    continues_then before does.2 after (serves_continue before h.node does.1 does.2 does.4) (follows_continues does.1 period number does.2 does.0 after h' does.5)
+
+pub turn_ok : {A E : Type 0} (result : Result A E) (period number : ℕ) (before : RecordingState) (h : ProcedureState) (after : RecordingState) (h' : ProcedureState) → OnOk result (IsTurn period number before h after h') → OnOk result (Continues before after)
+turn_ok (Ok x) period number before h after h' does = turn_continues period number before h after h' does
+turn_ok (Err e) period number before h after h' does = tt
+
+-- a node's own step stops nobody
+generation_stays : (kind : StepKind) (h : ProcedureState) (before after : WorldState) (i : ℕ) → (state_at after i).generation ≡ (state_at before i).generation
+    → (state_at after i).generation ≡ (state_at before i).generation + (if raises (world_of before) (event_of kind h) i then 1 else 0)
+generation_stays Start h before after i same = omega (arith, same)
+generation_stays Lose h before after i same = omega (arith, same)
+generation_stays Return h before after i same = omega (arith, same)
+generation_stays Move h before after i same = omega (arith, same)
+generation_stays Plan h before after i same = omega (arith, same)
+
+-- a step that the world took, with its row
+pub steps_taken : (kind : StepKind) (h h' : ProcedureState) (e : Event) (a : Answer) (w : WorldState) (before after : RecordingState) → e ≡ event_of kind h → Step before.world.setup (world_of before.world) e (world_of w) a → w.setup ≡ before.world.setup
+    → w.events ≡ before.world.events + 1 → before.world.events < before.world.setup.events_max → ((i : ℕ) → (state_at w i).generation ≡ (state_at before.world i).generation) → h' ≡ procedure_after kind a h → after ≡ record { world = w; rows = before.rows ++ Row.Event e ∷ [] } → Steps kind before h after h'
+steps_taken kind h h' e a w before after named step setup counted room same went is =
+    rw (is, went) (inl (record { answer = a; step = rw (← named) step; setup = setup; counted = counted; bounded = grind (arith, setup, counted, room); generations = λ i. generation_stays kind h before.world w i (same i); rows = rw named refl }, refl))
+
+-- a fault's event is due
+due_of_kind : (faults : List Fault) (kind : FaultKind) (node : ℕ) → HasFault faults kind node → IsDue faults (event_of_kind kind node)
+due_of_kind faults FaultKind.Crash node has = has
+due_of_kind faults FaultKind.Recover node has = has
+
+pub faults_due : (faults : List Fault) (place : ℕ) (fault : Fault) (rest : List Fault) → drop place faults ≡ fault ∷ rest → IsDue faults (event_of_fault fault)
+faults_due faults place fault rest is = due_of_kind faults fault.kind fault.node (place, fault, grind (arith, common_steps, is), grind (arith, common_steps, is), (refl, refl))
+
+-- the faults after the one at this place
+pub later_place : (faults : List Fault) (place : ℕ) (fault : Fault) (rest : List Fault) → drop place faults ≡ fault ∷ rest → drop (place + 1) faults ≡ rest
+later_place faults place fault rest is =
+    let below : place < length faults = grind (arith, common_steps, is) in
+    let there : fault ≡ get_or faults place fault = grind (arith, common_steps, is) in
+    grind (arith, at_place faults place fault below there, is)
+
+-- the operator's turn, from the fault at this place on
+operates_recorded : (c : Configuration) (number place : ℕ) (faults : List Fault) (before after : RecordingState) → drop place c.faults ≡ faults → Operates number faults before after → IsRecorded c before → IsRecorded c after
+operates_recorded c number place [] before after at does is = rw does is
+operates_recorded c number place (fault ∷ faults) before after at does is =
+    let next : drop (place + 1) c.faults ≡ faults = later_place c.faults place fault faults at in
+    by_turn (fault.at == number) does (faults_due c.faults place fault faults at) (λ mid rest was. operates_recorded c number (place + 1) faults mid after next rest was)
+  where
+    by_turn : (b : Bool) → MatchBool b ((mid : RecordingState) × Applies (event_of_fault fault) before mid × Operates number faults mid after) (Operates number faults before after) → IsDue c.faults (event_of_fault fault)
+        → ((mid : RecordingState) → Operates number faults mid after → IsRecorded c mid → IsRecorded c after) → IsRecorded c after
+    by_turn true now due later = later now.0 now.2 (applied_recorded c (event_of_fault fault) before now.0 now.1 due is)
+    by_turn false now due later = later before now is
+
+pub operator_recorded : (c : Configuration) (number : ℕ) (before after : RecordingState) → Operates number c.faults before after → IsRecorded c before → IsRecorded c after
+operator_recorded c number before after does is = operates_recorded c number 0 c.faults before after refl does is
+
+-- what is recorded is a play
+pub recorded_play : (c : Configuration) (r : RecordingState) → IsSetup c.setup → (is : IsRecorded c r) → IsPlay c is.events
+recorded_play c r within is = record {
+  answers = is.answers;
+  world = world_of r.world;
+  lawful = is.lawful;
+  lawful_in_trace = lawful-bound c.setup EVENTS_MAX is.events is.answers (world_of r.world) within.events.1 is.lawful;
+  due = is.due;
+}
+
+-- and so is its trace
+pub recorded_trace : (c : Configuration) (r : RecordingState) (hs : List ProcedureState) (trace : Trace) → IsSetup c.setup → Rounds c.faults c.period c.turns 1 (first_recording c.setup) (idle_first c.setup c.setup.nodes) r hs → (is : IsRecorded c r)
+    → trace ≡ record { setup = trace_setup r.world.setup; rows = r.rows } → (events : List Event) × IsPlay c events × IsScheduled c events × (trace ≡ trace_with c.setup events)
+recorded_trace c r hs trace within rounds is same =
+    (is.events, recorded_play c r within is, record { last = r; procedures = hs; rounds = rounds; rows = is.rows }, grind (arith, same, is.setup, is.rows))

@@ -1,0 +1,139 @@
+-- What the operator and a node do in a turn.
+use Rattle.std.specs.Prelude.{◌≡◌, ◌≢◌, ◌<◌, ◌⊎◌, ◌+◌, ◌++◌, ℕ, zero, suc, Bool, true, false, List, [], ◌∷◌, map, Option, Some, None, unwrap_or, ◌==◌}
+use Rattle.std.specs.Bool.{MatchBool}
+use Rattle.bully_base.specs.declared.node.Status.TheVariants.{Down}
+use Rattle.bully_base.specs.NodeSet.{with_node}
+use Rattle.bully_base.specs.Setup.{Setup}
+use Rattle.bully_config.specs.Configuration.{Configuration}
+use Rattle.bully_config.specs.declared.config.Fault.{Fault}
+use Rattle.bully_play.specs.Play.{event_of_fault}
+use Rattle.bully_play.specs.Recording.{RecordingState, Applies, Steps}
+use Rattle.bully_steps.specs.declared.driver.Choice.{Choice}
+use Rattle.bully_steps.specs.declared.point.Point.{Point}
+use Rattle.bully_steps.specs.declared.point.Point.TheVariants.{Idle, Planning}
+use Rattle.bully_steps.specs.Driver.{chosen_every}
+use Rattle.bully_steps.specs.ProcedureState.{ProcedureState, procedure_state}
+use Rattle.bully_table.specs.Planning.{planned}
+use Rattle.bully_trace.specs.declared.trace.Row.{Row}
+use Rattle.bully_world.specs.declared.event.Event.{Event}
+use Rattle.bully_world.specs.declared.turn.Next.{Next}
+use Rattle.bully_world.specs.State.{WorldState, state_at, world_of, first_state}
+use Rattle.bully_world.specs.Turn.{procedure_in, turn}
+use Rattle.bully_world.specs.World.{pending, is_sent_to}
+
+-- at Planning without a table one is planned from the old one, over the node and its up set
+abbrev pub prepared_at : Point → Option (List ℕ) → Option (List ℕ) → ProcedureState → ProcedureState
+prepared_at Planning None old h = record h { table = Some (planned h.setup old (with_node h.node (unwrap_or h.up []))) }
+prepared_at _ _ old h = h
+
+abbrev pub prepared_from : Option (List ℕ) → ProcedureState → ProcedureState
+prepared_from old h = prepared_at h.point h.table old h
+
+-- from the task that the procedure's node has
+abbrev pub prepared : WorldState → ProcedureState → ProcedureState
+prepared w h = prepared_from (state_at w h.node).vector.vector.task h
+
+-- the lowest caller that waits for node i
+pub record IsLowest (w : WorldState) (i caller : ℕ) : Type 0 where
+  pub waits : is_sent_to i (pending (world_of w) caller) ≡ true
+  pub lowest : (j : ℕ) → j < caller → is_sent_to i (pending (world_of w) j) ≡ false
+
+-- node i serves: the call of the lowest caller that waits for it runs. It serves nobody where it is Down or none waits
+abbrev pub Serves : RecordingState → ℕ → Bool → RecordingState → Type 0
+Serves before i true after =
+    (caller : ℕ) × IsLowest before.world i caller × ((state_at before.world i).vector.vector.status ≢ Down) × Applies (Event.Run caller) before after
+Serves before i false after =
+    (after ≡ before)
+    × (((state_at before.world i).vector.vector.status ≡ Down) ⊎ ((j : ℕ) → is_sent_to i (pending (world_of before.world) j) ≡ false))
+
+-- what the procedure does where the turn rule offers this
+abbrev pub Proceeds : Next → RecordingState → ProcedureState → RecordingState → ProcedureState → Type 0
+Proceeds Next.Resync before h after h' = (after ≡ before) × (h' ≡ procedure_in before.world h.node)
+Proceeds Next.Rest before h after h' = (after ≡ before) × (h' ≡ h)
+Proceeds (Next.Take kind) before h after h' = Steps kind before h after h'
+
+-- What a turn is, over any state S of what it is taken on. There `applies` is what an event does, `prepares` which
+-- procedure another one is prepared to, `serves` whether a node serves a call and what that does, and `proceeds` what a
+-- procedure does by the turn rule
+
+-- the node does what it chooses
+abbrev pub GoesOn : {S : Type 0} → (Event → S → S → Type 0) → (S → ProcedureState → S → ProcedureState → Type 0) → Choice → S → ProcedureState → S → ProcedureState → Type 0
+GoesOn applies proceeds Choice.Check before h after h' = applies (Event.Check h.node) before after × (h' ≡ h)
+GoesOn applies proceeds Choice.Timeout before h after h' = applies (Event.Timeout h.node) before after × (h' ≡ h)
+GoesOn applies proceeds Choice.Proceed before h after h' = proceeds before h after h'
+
+-- a node that served does nothing else in its turn
+abbrev pub Follows : {S : Type 0} → (Event → S → S → Type 0) → (S → ProcedureState → S → ProcedureState → Type 0) → Bool → ℕ → ℕ → S → ProcedureState → S → ProcedureState → Type 0
+Follows applies proceeds true period number before h after h' = (after ≡ before) × (h' ≡ h)
+Follows applies proceeds false period number before h after h' = GoesOn applies proceeds (chosen_every period number h.point) before h after h'
+
+-- a node's turn of this number, with the procedure that it holds: it is prepared, then the node serves, and then it goes
+-- on, where a node checks once in a period
+abbrev pub IsTurnOn : {S : Type 0} → (Event → S → S → Type 0) → (S → ProcedureState → ProcedureState → Type 0) → (S → ℕ → Bool → S → Type 0) → (S → ProcedureState → S → ProcedureState → Type 0) → ℕ → ℕ → S → ProcedureState → S → ProcedureState → Type 0
+IsTurnOn {S} applies prepares serves proceeds period number before h after h' =
+    (ready : ProcedureState)
+    × (served : Bool)
+    × (mid : S)
+    × prepares before h ready
+    × serves before h.node served mid
+    × Follows applies proceeds served period number mid ready after h'
+
+-- the operator's turn: the faults of that turn, one after the other
+abbrev pub OperatesOn : {S : Type 0} → (Event → S → S → Type 0) → ℕ → List Fault → S → S → Type 0
+OperatesOn {S} applies number [] before after = after ≡ before
+OperatesOn {S} applies number (fault ∷ faults) before after =
+    MatchBool (fault.at == number)
+    ((mid : S) × applies (event_of_fault fault) before mid × OperatesOn applies number faults mid after)
+    (OperatesOn applies number faults before after)
+
+-- Turns on a world whose events are recorded
+
+-- a procedure is prepared from the task that its node has
+abbrev pub Prepares : RecordingState → ProcedureState → ProcedureState → Type 0
+Prepares before h ready = ready ≡ prepared before.world h
+
+-- the procedure goes on by the turn rule
+abbrev pub ProceedsIn : RecordingState → ProcedureState → RecordingState → ProcedureState → Type 0
+ProceedsIn before h after h' = Proceeds (turn before.world h) before h after h'
+
+abbrev pub IsTurn : ℕ → ℕ → RecordingState → ProcedureState → RecordingState → ProcedureState → Type 0
+IsTurn period number before h after h' = IsTurnOn Applies Prepares Serves ProceedsIn period number before h after h'
+
+abbrev pub Operates : ℕ → List Fault → RecordingState → RecordingState → Type 0
+Operates number faults before after = OperatesOn Applies number faults before after
+
+-- the turns of the nodes that hold these procedures, one after the other
+abbrev pub TakeTurns : ℕ → ℕ → RecordingState → List ProcedureState → RecordingState → List ProcedureState → Type 0
+TakeTurns period number before [] after hs' = (after ≡ before) × (hs' ≡ [])
+TakeTurns period number before (h ∷ hs) after [] = ⊥
+TakeTurns period number before (h ∷ hs) after (h' ∷ hs') =
+    (mid : RecordingState) × IsTurn period number before h mid h' × TakeTurns period number mid hs after hs'
+
+-- a round: the operator's turn of this number, and then each node's
+abbrev pub IsRound : List Fault → ℕ → ℕ → RecordingState → List ProcedureState → RecordingState → List ProcedureState → Type 0
+IsRound faults period number before hs after hs' =
+    (mid : RecordingState) × Operates number faults before mid × TakeTurns period number mid hs after hs'
+
+-- so many rounds, the first of which has this number
+abbrev pub Rounds : List Fault → ℕ → ℕ → ℕ → RecordingState → List ProcedureState → RecordingState → List ProcedureState → Type 0
+Rounds faults period zero number before hs after hs' = (after ≡ before) × (hs' ≡ hs)
+Rounds faults period (suc more) number before hs after hs' =
+    (mid : RecordingState) × (between : List ProcedureState) × IsRound faults period number before hs mid between × Rounds faults period more (number + 1) mid between after hs'
+
+abbrev pub idle_at : Setup → ℕ → ProcedureState
+idle_at setup i = procedure_state setup i 0 Idle [] None false
+
+-- what the first n nodes hold at first
+abbrev pub idle_first : Setup → ℕ → List ProcedureState
+idle_first setup zero = []
+idle_first setup (suc n) = idle_first setup n ++ idle_at setup (n + 1) ∷ []
+
+abbrev pub first_recording : Setup → RecordingState
+first_recording setup = record { world = first_state setup; rows = [] }
+
+-- the events are those of the configuration's rounds
+pub record IsScheduled (c : Configuration) (events : List Event) : Type 0 where
+  pub last : RecordingState
+  pub procedures : List ProcedureState
+  pub rounds : Rounds c.faults c.period c.turns 1 (first_recording c.setup) (idle_first c.setup c.setup.nodes) last procedures
+  pub rows : last.rows ≡ map Row.Event events

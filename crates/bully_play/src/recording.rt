@@ -1,0 +1,127 @@
+ghost use Rattle.std.specs.Prelude.{◌≡◌, ◌≤◌, ◌++◌, ◌∷◌, [], length, IfOk, OnOk};
+ghost use Rattle.bully_play.specs.Play.{trace_setup};
+ghost use Rattle.bully_play.specs.Recording.{Steps};
+ghost use Rattle.bully_steps.specs.Procedure.{state_of};
+ghost use Rattle.bully_steps.specs.ProcedureState.{HasSameNode};
+ghost use Rattle.bully_trace.specs.declared.TheConstants.{ROWS_MAX};
+ghost use Rattle.bully_world.specs.State.{first_state};
+ghost use Rattle.bully_world.specs.Turn.{turn};
+ghost use Rattle.bully_world.specs.declared.turn.Next.{Next};
+
+use crate::stage::Stage;
+use crate::trace::trace_with;
+use crate::turns::prepared_from;
+use bully_base::{Node, OutOfMemory, Setup, Status};
+use bully_steps::Procedure;
+use bully_trace::{Row, Trace};
+use bully_world::{Event, Next, StepKind, World};
+use std::alloc::Global;
+use std::marker::Model;
+
+/// A world, and a row of a trace for each event that led to it, in order.
+#[derive(Drop, Debug)]
+pub struct Recording {
+    world: World,
+    rows: Vec<Row>,
+}
+
+impl Model for Recording {
+    ghost use Rattle.bully_play.specs.Recording.{RecordingState};
+
+    ghost Value = { RecordingState };
+
+    ghost view = { λ r. record { world = r.world; rows = r.rows.items } };
+}
+
+impl Recording {
+    /// The world before any event, and no row. Refused where an allocation fails.
+    pub fn new(alloc: Global, setup: Setup) -> Result<Recording, OutOfMemory>
+        ensures { IfOk result (λ r. r ≡ record { world = first_state setup; rows = [] }) }
+    {
+        Ok(Recording {
+            world: World::new(alloc, setup)?,
+            rows: Vec::new(alloc),
+        })
+    }
+
+    // Takes a step that the turn rule offers, and records its event: the procedure as the step leaves it. Where
+    // the world refuses the step, nothing changes. Refused where an allocation fails.
+    fn take(&mut self, kind: StepKind, procedure: Procedure) -> Result<Procedure, OutOfMemory>
+        requires setup { (state_of procedure).setup ≡ self.old.world.setup }
+        requires offered { turn self.old.world (state_of procedure) ≡ Next.Take kind }
+        ensures steps { IfOk result (λ p. Steps kind self.old (state_of procedure) self.new (state_of p)) }
+        ensures same_node { IfOk result (λ p. HasSameNode (state_of procedure) (state_of p)) }
+    {
+        match self.world.take(kind, procedure) {
+            Ok(step) => {
+                self.record(step.event)?;
+                Ok(step.procedure)
+            }
+            Err((procedure, _)) => Ok(procedure),
+        }
+    }
+
+    /// The trace of what was recorded.
+    pub fn into_trace(self) -> Trace
+        requires { length self.rows ≤ ROWS_MAX }
+        ensures { result ≡ record { setup = trace_setup self.world.setup; rows = self.rows } }
+    {
+        trace_with(self.world.setup(), self.rows)
+    }
+
+    // A row for an event that was applied.
+    fn record(&mut self, event: Event) -> Result<(), OutOfMemory>
+        ensures { OnOk result (self.new ≡ record self.old { rows = self.old.rows ++ Row.Event event ∷ [] }) }
+    {
+        self.rows.push(Row::Event(event))?;
+        Ok(())
+    }
+}
+
+impl Stage for Recording {
+    ghost use Rattle.bully_play.specs.Recording.{Applies};
+    ghost use Rattle.bully_play.specs.Turns.{Prepares, Serves, ProceedsIn};
+
+    ghost setup = { λ r. r.world.setup };
+
+    ghost applies = { Applies };
+
+    ghost prepares = { Prepares };
+
+    ghost serves = { Serves };
+
+    ghost proceeds = { ProceedsIn };
+
+    // An event that the world refuses isn't recorded.
+    fn apply(&mut self, event: Event) -> Result<(), OutOfMemory> {
+        match self.world.apply(&event) {
+            Ok(_) => self.record(event),
+            Err(_) => Ok(()),
+        }
+    }
+
+    fn prepare(&mut self, procedure: Procedure) -> Result<Procedure, OutOfMemory> {
+        let task = self.world.vector(procedure.node()).task();
+        prepared_from(*self.rows.allocator(), task, procedure)
+    }
+
+    // A Down node serves nobody. Of several calls the lowest caller's runs.
+    fn serve(&mut self, node: Node) -> Result<bool, OutOfMemory> {
+        if self.world.vector(node).status() == Status::Down {
+            return Ok(false);
+        }
+        let Some(caller) = self.world.waiting_for(node) else {
+            return Ok(false);
+        };
+        self.apply(Event::Run(caller))?;
+        Ok(true)
+    }
+
+    fn proceed(&mut self, procedure: Procedure) -> Result<Procedure, OutOfMemory> {
+        match self.world.next(&procedure) {
+            Next::Resync => Ok(self.world.procedure(procedure.node())),
+            Next::Rest => Ok(procedure),
+            Next::Take(kind) => self.take(kind, procedure),
+        }
+    }
+}

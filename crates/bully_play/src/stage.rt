@@ -1,0 +1,56 @@
+ghost use Rattle.std.specs.Prelude.{◌≡◌, ◌≤◌, IfOk, OnOk};
+ghost use Rattle.bully_steps.specs.Procedure.{state_of};
+ghost use Rattle.bully_steps.specs.ProcedureState.{HasSameNode};
+
+use bully_base::{Node, OutOfMemory};
+use bully_steps::Procedure;
+use bully_world::Event;
+
+/// What turns are taken on: a world whose events are recorded, or a group at its lock. Each call is refused where an
+/// allocation fails.
+pub trait Stage {
+    ghost use Rattle.std.specs.Prelude.{ℕ, Bool};
+    ghost use Rattle.bully_base.specs.Setup.{Setup};
+    ghost use Rattle.bully_steps.specs.ProcedureState.{ProcedureState};
+    ghost use Rattle.bully_world.specs.declared.event.Event.{Event as AnyEvent};
+
+    // The group's setup.
+    ghost setup: { Self → Setup };
+
+    // What applying an event does.
+    ghost applies: { AnyEvent → Self → Self → Type 0 };
+
+    // Which procedure another one is prepared to.
+    ghost prepares: { Self → ProcedureState → ProcedureState → Type 0 };
+
+    // Whether a node serves a call, and what that does.
+    ghost serves: { Self → ℕ → Bool → Self → Type 0 };
+
+    // What a procedure does by the turn rule.
+    ghost proceeds: { Self → ProcedureState → Self → ProcedureState → Type 0 };
+
+    /// Applies the event; one that is refused is passed over.
+    fn apply(&mut self, event: Event) -> Result<(), OutOfMemory>
+        ensures applies { OnOk result (applies event self.old self.new) }
+        ensures setup { OnOk result (setup self.new ≡ setup self.old) };
+
+    /// The procedure, with a table where it is Planning, planned from its node's task.
+    fn prepare(&mut self, procedure: Procedure) -> Result<Procedure, OutOfMemory>
+        requires { (state_of procedure).setup ≡ setup self.old }
+        ensures prepares { IfOk result (λ p. prepares self.old (state_of procedure) (state_of p)) }
+        ensures same_node { IfOk result (λ p. HasSameNode (state_of procedure) (state_of p)) }
+        ensures same { self.new ≡ self.old };
+
+    /// Runs the call that waits for the node, and tells whether its turn ends with that.
+    fn serve(&mut self, node: Node) -> Result<bool, OutOfMemory>
+        requires { node ≤ (setup self.old).nodes }
+        ensures serves { IfOk result (λ served. serves self.old node served self.new) }
+        ensures setup { OnOk result (setup self.new ≡ setup self.old) };
+
+    /// Takes the procedure's step by the turn rule: the procedure as that leaves it.
+    fn proceed(&mut self, procedure: Procedure) -> Result<Procedure, OutOfMemory>
+        requires { (state_of procedure).setup ≡ setup self.old }
+        ensures proceeds { IfOk result (λ p. proceeds self.old (state_of procedure) self.new (state_of p)) }
+        ensures same_node { IfOk result (λ p. HasSameNode (state_of procedure) (state_of p)) }
+        ensures setup { OnOk result (setup self.new ≡ setup self.old) };
+}

@@ -1,0 +1,111 @@
+ghost use Rattle.std.specs.Prelude.{◌≡◌, ◌<◌, length, IfOk, OnOk};
+ghost use Rattle.std.specs.Option.{IfSome, option_copied};
+ghost use Rattle.bully_play.specs.Play.{event_of_fault};
+ghost use Rattle.bully_play.specs.Turns.{prepared_from, GoesOn, IsTurnOn, OperatesOn};
+ghost use Rattle.bully_steps.specs.Driver.{chosen_every};
+ghost use Rattle.bully_steps.specs.Procedure.{state_of};
+ghost use Rattle.bully_steps.specs.ProcedureState.{HasSameNode};
+
+use crate::stage::Stage;
+use bully_base::OutOfMemory;
+use bully_config::{Fault, FaultKind};
+use bully_steps::{Choice, Driver, Procedure};
+use bully_table::Table;
+use bully_world::Event;
+use std::alloc::{AllocError, Global};
+use std::mem;
+
+/// The operator's turn: the faults of this turn, in the order of the document. One that is refused is passed over.
+pub fn operator_turn<S: Stage>(
+    stage: &mut S,
+    faults: &[Fault],
+    turn: u32,
+) -> Result<(), OutOfMemory>
+    ensures operates { OnOk result (OperatesOn S.applies turn faults.now stage.old stage.new) }
+    ensures setup { OnOk result (S.setup stage.new ≡ S.setup stage.old) }
+{
+    for fault in faults {
+        if fault.at == turn {
+            stage.apply(event_of(*fault))?;
+        }
+    }
+    Ok(())
+}
+
+// The event of a fault.
+fn event_of(fault: Fault) -> Event
+    ensures { result ≡ event_of_fault fault }
+{
+    match fault.kind {
+        FaultKind::Crash => Event::Crash(fault.node),
+        FaultKind::Recover => Event::Recover(fault.node),
+    }
+}
+
+/// The turn of this number of the node that holds the procedure, which goes on. It is prepared first, where it
+/// is Planning. Then the node serves the call that waits for it, if any; else it goes on as it chooses, with a check
+/// once in a period of at least 1.
+pub fn take_turn<S: Stage>(
+    stage: &mut S,
+    period: u32,
+    turn: u32,
+    place: &mut Procedure,
+) -> Result<(), OutOfMemory>
+    requires setup { (state_of place.old).setup ≡ S.setup stage.old }
+    requires period { 0 < period }
+    ensures turn { OnOk result (IsTurnOn S.applies S.prepares S.serves S.proceeds period turn stage.old (state_of place.old) stage.new (state_of place.new)) }
+    ensures same_node { HasSameNode (state_of place.old) (state_of place.new) }
+    ensures setup { OnOk result (S.setup stage.new ≡ S.setup stage.old) }
+{
+    let node = place.node();
+    let idle = Procedure::idle(place.setup(), node, 0);
+    let procedure = stage.prepare(mem::replace(place, idle))?;
+    *place = if stage.serve(node)? {
+        procedure
+    } else {
+        go_on(stage, period, turn, procedure)?
+    };
+    Ok(())
+}
+
+// The node begins a check or has a timeout, where it chooses so, and holds its procedure as it is; else the
+// procedure goes on by the turn rule.
+fn go_on<S: Stage>(
+    stage: &mut S,
+    period: u32,
+    turn: u32,
+    procedure: Procedure,
+) -> Result<Procedure, OutOfMemory>
+    requires setup { (state_of procedure).setup ≡ S.setup stage.old }
+    requires period { 0 < period }
+    ensures goes_on { IfOk result (λ p. GoesOn S.applies S.proceeds (chosen_every period turn (state_of procedure).point) stage.old (state_of procedure) stage.new (state_of p)) }
+    ensures same_node { IfOk result (λ p. HasSameNode (state_of procedure) (state_of p)) }
+    ensures setup { OnOk result (S.setup stage.new ≡ S.setup stage.old) }
+{
+    let node = procedure.node();
+    match Driver::choose_every(period, turn, &procedure) {
+        Choice::Check => stage.apply(Event::Check(node))?,
+        Choice::Timeout => stage.apply(Event::Timeout(node))?,
+        Choice::Proceed => return stage.proceed(procedure),
+    }
+    Ok(procedure)
+}
+
+/// The procedure, with a table where it is Planning: planned from the old one.
+pub fn prepared_from(
+    alloc: Global,
+    old: Option<&Table>,
+    procedure: Procedure,
+) -> Result<Procedure, OutOfMemory>
+    requires { IfSome (option_copied old) (λ t. length t ≡ (state_of procedure).setup.partitions) }
+    ensures prepared { IfOk result (λ p. state_of p ≡ prepared_from (option_copied old.entry) (state_of procedure)) }
+    ensures same_node { IfOk result (λ p. HasSameNode (state_of procedure) (state_of p)) }
+{
+    match procedure {
+        Procedure::Planning(planning) => match planning.prepare(alloc, old) {
+            Ok(planned) => Ok(Procedure::Planned(planned)),
+            Err(_) => Err(AllocError),
+        },
+        other => Ok(other),
+    }
+}
