@@ -25,7 +25,11 @@ member-place ms k i s e l is = member-members_of ms i ∙ ap member_of (at_node-
 pub place-within : (setup : Setup) (ms : List MemberState) (k i : ℕ) → WorldInvariant setup (members_of ms) → k + 1 ≡ i → i ≤ setup.nodes → k < length ms
 place-within setup ms k i all e l = omega (arith, members_of-length ms, all.count)
 
--- the same of an event that is this one
+-- the member of an event that is this one
+pub named_is : (w : World) (m : Member) (e f : Event) → e ≡ f → member w (node_of e) ≡ m → member w (node_of f) ≡ m
+named_is w m e f same is = ap (λ x. member w (node_of x)) (sym same) ∙ is
+
+-- what refuses an event that is this one
 pub at_event : (setup : Setup) (w : World) (count : ℕ) (e f : Event) (r : Option Refused) → e ≡ f → r ≡ first_of (refuses setup w count f) later_refusals → r ≡ first_of (refuses setup w count e) later_refusals
 at_event setup w count e f r same is = is ∙ ap (λ x. first_of (refuses setup w count x) later_refusals) (sym same)
 

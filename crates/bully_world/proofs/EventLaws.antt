@@ -21,16 +21,16 @@ use Rattle.bully_world.proofs.MembersOf.{member-members_of, members_of-put_node,
 use Rattle.bully_world.proofs.OwnEvents.{IsOwn}
 use Rattle.bully_world.proofs.WriteLemmas.{raised, put_keeps_if, put_raised}
 
--- The laws.
-
 -- in w the event's node stands for what is kept of it, and nothing refuses the event
 pub record IsFree (setup : Setup) (w : World) (count : ℕ) (e : Event) (m : MemberState) : Type 0 where
   pub all : WorldInvariant setup w
   pub here : member w (node_of e) ≡ member_of m
   pub none : cause setup w count e ≡ None
 
--- Of an event of one node: the step is computed, is possible where nothing refuses it and else isn't, and keeps what
--- holds of each node; and what it makes of what is kept of its node.
+-- The laws of an event of one node. Of the definitions: its step is computed, nothing refuses it where it is possible,
+-- and it keeps what holds of each node. Of what is kept of its node: where nothing refuses it, what it makes of that is the
+-- step, and the member may take it; it keeps what goes with the setup and the count of events, raises the generation as
+-- the definitions say, and leaves the tag of a slot that it neither fills nor empties.
 pub record OwnLaws (setup : Setup) (e : Event) : Type 0 where
   pub computed : (w w' : World) (a : Answer) → (step_of setup w e ≡ Some (w', a)) ↔ Step setup w e w' a
   pub free : (w w' : World) (count : ℕ) (a : Answer) → WorldInvariant setup w → count < setup.events_max → Step setup w e w' a → cause setup w count e ≡ None
@@ -46,7 +46,8 @@ pub record IsKeptWorld (setup : Setup) (count : ℕ) (ms : List MemberState) : T
   pub all : WorldInvariant setup (members_of ms)
   pub kept : AllKept setup count ms
 
--- of each event: the same of the step, and what it makes of what is kept of the nodes
+-- The laws of each event: the same, of what is kept of all nodes. It is possible where nothing refuses it, and changes
+-- neither how many nodes there are nor to whom another node's call is sent.
 pub record EventLaws (setup : Setup) (e : Event) : Type 0 where
   pub computed : (w w' : World) (a : Answer) → (step_of setup w e ≡ Some (w', a)) ↔ Step setup w e w' a
   pub free : (w w' : World) (count : ℕ) (a : Answer) → WorldInvariant setup w → count < setup.events_max → Step setup w e w' a → cause setup w count e ≡ None
@@ -60,7 +61,7 @@ pub record EventLaws (setup : Setup) (e : Event) : Type 0 where
   pub tags : (ms : List MemberState) (j : ℕ) → changes_slot e j ≡ false → tag_in (kept_of (state_after setup ms e) j) ≡ tag_in (kept_of ms j)
   pub sent : (ms : List MemberState) (j : ℕ) → j ≢ node_of e → sent_in (kept_of (state_after setup ms e) j) ≡ sent_in (kept_of ms j)
 
--- Those of one node's event are those of each event.
+-- The laws of one node's event lead to those of each event.
 
 -- what may be kept of a node with this member
 abbrev called_as : Pending → SlotCall

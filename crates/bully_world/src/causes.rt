@@ -1,12 +1,12 @@
 ghost use Rattle.std.specs.Prelude.{◌≡◌, ◌≢◌, ◌+◌, ◌≤◌, ◌<◌, ◌==◌, ◌&&◌, ℕ, length, not, Some, None, IfSome, if◌then◌else◌};
 ghost use Rattle.bully_base.specs.NodeSet.{with_node};
-ghost use Rattle.bully_base.specs.Setup.{IsNode};
 ghost use Rattle.bully_table.specs.Balance.{is_balanced};
 ghost use Rattle.bully_calls.specs.Pending.{is_sent, is_failed};
 ghost use Rattle.bully_steps.specs.Point.{offered, IsPointOf};
 ghost use Rattle.bully_world.specs.Cause.{refuses, first_of, later_refusals, cause, is_idle, is_call, is_move, is_plan, node_of, in_phase, is_pending, callee_is_down};
 ghost use Rattle.bully_world.specs.NodeInvariant.{WorldInvariant};
 ghost use Rattle.bully_world.specs.State.{member_of, members_of};
+ghost use Rattle.bully_world.specs.World.{member};
 
 use crate::event::{Event, Refused};
 use crate::member::Member;
@@ -36,32 +36,32 @@ pub fn cause_of(setup: Setup, events: u32, members: &[Member], event: &Event) ->
     if node.number() > setup.nodes() {
         return Some(Refused::BadNode);
     }
-    let is_down = members[place_of(node)].is_down();
+    let named = &members[place_of(node)];
+    let is_down = named.is_down();
     match event {
         Event::Recover(_) => refused_if(!is_down, Refused::IsUp),
         _ if is_down => Some(Refused::IsDown),
-        _ => later_cause(setup, members, event),
+        _ => later_cause(setup, members, named, event),
     }
 }
 
-// The same of a node that is up, from the refusals behind IsUp on.
+// The same of a node that is up, from the refusals behind IsUp on. `named` is the member of the event's node.
 #[inline(always)]
-fn later_cause(setup: Setup, members: &[Member], event: &Event) -> Option<Refused>
+fn later_cause(setup: Setup, members: &[Member], named: &Member, event: &Event) -> Option<Refused>
     requires fits { WorldInvariant setup (members_of members.now) }
-    requires node { IsNode setup (node_of event.now) }
+    requires named { member (members_of members.now) (node_of event.now) ≡ member_of named.now }
     ensures { (count : ℕ) → result ≡ first_of (refuses setup (members_of members.now) count event.now) later_refusals }
 {
-    let member = &members[place_of(event.node())];
     match event {
         Event::Recover(_) | Event::Crash(_) => None,
-        Event::Check(_) => refused_if(!is_at_rest(member.point()), Refused::Busy),
-        Event::Timeout(_) => refused_if(!is_at_rest(member.point()), Refused::Busy),
-        Event::Start(node) => step_cause(member, offers_call(member.offer(setup, *node))),
-        Event::Move(node) => step_cause(member, offers_move(member.offer(setup, *node))),
-        Event::Plan(node, table) => plan_cause(setup, member, *node, table),
-        Event::Run(_) => run_cause(members, member),
-        Event::Lose(_) => lose_cause(members, member),
-        Event::Return(_) => { refused_if(!has_come(member), Refused::NoCall) }
+        Event::Check(_) => refused_if(!is_at_rest(named.point()), Refused::Busy),
+        Event::Timeout(_) => refused_if(!is_at_rest(named.point()), Refused::Busy),
+        Event::Start(node) => step_cause(named, offers_call(named.offer(setup, *node))),
+        Event::Move(node) => step_cause(named, offers_move(named.offer(setup, *node))),
+        Event::Plan(node, table) => plan_cause(setup, named, *node, table),
+        Event::Run(_) => run_cause(members, named),
+        Event::Lose(_) => lose_cause(members, named),
+        Event::Return(_) => { refused_if(!has_come(named), Refused::NoCall) }
     }
 }
 

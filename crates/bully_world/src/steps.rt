@@ -31,9 +31,10 @@ pub fn apply_event(
     ensures waiting { IsWaiting members.new waiting.new }
 {
     let node = event.node();
-    let before = members[place_of(node)].sent_to();
-    let answer = apply_to_members(setup, members, event);
-    let after = members[place_of(node)].sent_to();
+    let place = place_of(node);
+    let before = members[place].sent_to();
+    let answer = apply_to_members(setup, members, place, event);
+    let after = members[place].sent_to();
     keep_waiting(waiting, node, before, after);
     answer
 }
@@ -54,31 +55,32 @@ fn keep_waiting(waiting: &mut Waiting, caller: Node, before: Option<Node>, after
     }
 }
 
-// An event that nothing refuses is applied.
+// An event that nothing refuses is applied; its node's member stands at `here`.
 #[inline(always)]
-fn apply_to_members(setup: Setup, members: &mut [Member], event: &Event) -> Answer
-    requires { CanApply setup members.old event.now }
+fn apply_to_members(setup: Setup, members: &mut [Member], here: usize, event: &Event) -> Answer
+    requires can { CanApply setup members.old event.now }
+    requires here { here + 1 ≡ node_of event.now }
     ensures after { members.new ≡ state_after setup members.old event.now }
     ensures answer { result ≡ answer_after members.old event.now }
 {
     match event {
-        Event::Run(node) => run_call(members, *node),
+        Event::Run(node) => run_call(members, *node, here),
         _ => {
-            let member = &mut members[place_of(event.node())];
+            let member = &mut members[here];
             member.apply(setup, event)
         }
     }
 }
 
-// The call of this caller runs at its callee.
+// The call of this caller, whose member stands at `here`, runs at its callee.
 // (inlined, as `apply_event` is)
 #[inline(always)]
-fn run_call(members: &mut [Member], caller: Node) -> Answer
-    requires { CanRun members.old caller }
+fn run_call(members: &mut [Member], caller: Node, here: usize) -> Answer
+    requires can { CanRun members.old caller }
+    requires here { here + 1 ≡ caller }
     ensures after { members.new ≡ state_after_run members.old caller (kept_of members.old caller).slot.content }
     ensures answer { result ≡ run_answer members.old (kept_of members.old caller).slot.content }
 {
-    let here = place_of(caller);
     let call = members[here].slot().call().unwrap();
     run_between(members, caller, here, place_of(call.callee))
 }

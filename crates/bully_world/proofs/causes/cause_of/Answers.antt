@@ -18,6 +18,12 @@ returns-in-Recover c =
     subst (λ e. c.refused_if.result ≡ cause c.args.setup (members_of c.args.members.now) c.args.events e) (sym c.in-Recover.is)
     (grind (arith, recovers, c.refused_if.ensures, down, named))
 
+pub later_cause-requires-clause-named : goal.later_cause-requires-clause-named
+later_cause-requires-clause-named c =
+    let node : IsNode c.args.setup (node_of c.args.event.now) = grind (arith, c.if-number-nodes.false, c.number.ensures.number, c.number.ensures.within, c.nodes.ensures.nodes, c.node-node.ensures) in
+    let place = c.place_of.ensures ∙ c.node-node.ensures in
+    member-place c.args.members.now c.place_of.result (node_of c.args.event.now) c.index-members-place_of.result place (place-within c.args.setup c.args.members.now c.place_of.result (node_of c.args.event.now) c.requires place node.1) c.index-members-place_of.is
+
 pub returns-in_default : goal.returns-in_default
 returns-in_default c =
     let room : c.args.events < c.args.setup.events_max = omega (arith, c.if-events-events_max.false, c.events_max.ensures.events_max) in

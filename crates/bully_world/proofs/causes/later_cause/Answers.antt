@@ -1,9 +1,8 @@
--- Each arm's tests are those of the definitions at the member that stands at the event's node.
-use Rattle.std.proofs.Common.{arith, ap, ◌∙◌}
+-- Each arm's tests are those of the definitions at the member of the event's node.
+use Rattle.std.proofs.Common.{arith}
 use Rattle.bully_world.specs.declared.event.Event.{Event}
-use Rattle.bully_world.specs.Cause.{node_of}
 use Rattle.bully_world.specs.State.{member_of, members_of}
-use Rattle.bully_world.proofs.CauseAt.{member-place, place-within, at_event, callee-within}
+use Rattle.bully_world.proofs.CauseAt.{named_is, at_event, callee-within}
 use Rattle.bully_world.proofs.Events.Checking.{check-cause, timeout-cause}
 use Rattle.bully_world.proofs.Events.Starting.{start-cause}
 use Rattle.bully_world.proofs.Events.Moving.{move-cause}
@@ -15,65 +14,65 @@ use Rattle.bully_world.proofs.causes.later_cause.Goals as goal
 
 pub offer-requires : goal.offer-requires
 offer-requires c =
-    let here = member-place c.args.members.now c.place_of.result c.in-Start.node c.index-members-place_of.result (c.place_of.ensures ∙ c.node.ensures ∙ ap node_of c.in-Start.is) (place-within c.args.setup c.args.members.now c.place_of.result (node_of c.args.event.now) c.requires.fits (c.place_of.ensures ∙ c.node.ensures) c.requires.node.1) c.index-members-place_of.is in
+    let here = named_is (members_of c.args.members.now) (member_of c.args.named.now) c.args.event.now (Event.Start c.in-Start.node) c.in-Start.is c.requires.named in
     grind (arith, here, (c.requires.fits.fits c.in-Start.node).is_point)
 
 pub offer-requires-in-Move : goal.offer-requires-in-Move
 offer-requires-in-Move c =
-    let here = member-place c.args.members.now c.place_of.result c.in-Move.node c.index-members-place_of.result (c.place_of.ensures ∙ c.node.ensures ∙ ap node_of c.in-Move.is) (place-within c.args.setup c.args.members.now c.place_of.result (node_of c.args.event.now) c.requires.fits (c.place_of.ensures ∙ c.node.ensures) c.requires.node.1) c.index-members-place_of.is in
+    let here = named_is (members_of c.args.members.now) (member_of c.args.named.now) c.args.event.now (Event.Move c.in-Move.node) c.in-Move.is c.requires.named in
     grind (arith, here, (c.requires.fits.fits c.in-Move.node).is_point)
 
 pub plan_cause-requires : goal.plan_cause-requires
 plan_cause-requires c =
-    let here = member-place c.args.members.now c.place_of.result c.in-Plan.node c.index-members-place_of.result (c.place_of.ensures ∙ c.node.ensures ∙ ap node_of c.in-Plan.is) (place-within c.args.setup c.args.members.now c.place_of.result (node_of c.args.event.now) c.requires.fits (c.place_of.ensures ∙ c.node.ensures) c.requires.node.1) c.index-members-place_of.is in
+    let here = named_is (members_of c.args.members.now) (member_of c.args.named.now) c.args.event.now (Event.Plan c.in-Plan.node c.in-Plan.table) c.in-Plan.is c.requires.named in
     grind (arith, here, (c.requires.fits.fits c.in-Plan.node).is_point)
 
 pub run_cause-requires : goal.run_cause-requires
 run_cause-requires c =
-    let here = member-place c.args.members.now c.place_of.result c.in-Run.field-0 c.index-members-place_of.result (c.place_of.ensures ∙ c.node.ensures ∙ ap node_of c.in-Run.is) (place-within c.args.setup c.args.members.now c.place_of.result (node_of c.args.event.now) c.requires.fits (c.place_of.ensures ∙ c.node.ensures) c.requires.node.1) c.index-members-place_of.is in
-    callee-within c.args.setup c.args.members.now c.in-Run.field-0 c.index-members-place_of.result c.requires.fits here
+    let here = named_is (members_of c.args.members.now) (member_of c.args.named.now) c.args.event.now (Event.Run c.in-Run.field-0) c.in-Run.is c.requires.named in
+    callee-within c.args.setup c.args.members.now c.in-Run.field-0 c.args.named.now c.requires.fits here
 
 pub lose_cause-requires : goal.lose_cause-requires
 lose_cause-requires c =
-    let here = member-place c.args.members.now c.place_of.result c.in-Lose.field-0 c.index-members-place_of.result (c.place_of.ensures ∙ c.node.ensures ∙ ap node_of c.in-Lose.is) (place-within c.args.setup c.args.members.now c.place_of.result (node_of c.args.event.now) c.requires.fits (c.place_of.ensures ∙ c.node.ensures) c.requires.node.1) c.index-members-place_of.is in
-    callee-within c.args.setup c.args.members.now c.in-Lose.field-0 c.index-members-place_of.result c.requires.fits here
+    let here = named_is (members_of c.args.members.now) (member_of c.args.named.now) c.args.event.now (Event.Lose c.in-Lose.field-0) c.in-Lose.is c.requires.named in
+    callee-within c.args.setup c.args.members.now c.in-Lose.field-0 c.args.named.now c.requires.fits here
 
 pub returns-in-Start : goal.returns-in-Start
 returns-in-Start c =
-    let here = member-place c.args.members.now c.place_of.result c.in-Start.node c.index-members-place_of.result (c.place_of.ensures ∙ c.node.ensures ∙ ap node_of c.in-Start.is) (place-within c.args.setup c.args.members.now c.place_of.result (node_of c.args.event.now) c.requires.fits (c.place_of.ensures ∙ c.node.ensures) c.requires.node.1) c.index-members-place_of.is in
-    λ count. at_event c.args.setup (members_of c.args.members.now) count c.args.event.now (Event.Start c.in-Start.node) _ c.in-Start.is (grind (arith, start-cause c.args.setup (members_of c.args.members.now) count c.in-Start.node (member_of c.index-members-place_of.result) here, c.step_cause.ensures, c.offers_call.ensures, c.offer.ensures))
+    let here = named_is (members_of c.args.members.now) (member_of c.args.named.now) c.args.event.now (Event.Start c.in-Start.node) c.in-Start.is c.requires.named in
+    λ count. at_event c.args.setup (members_of c.args.members.now) count c.args.event.now (Event.Start c.in-Start.node) _ c.in-Start.is (grind (arith, start-cause c.args.setup (members_of c.args.members.now) count c.in-Start.node (member_of c.args.named.now) here, c.step_cause.ensures, c.offers_call.ensures, c.offer.ensures))
 
 pub returns-in-Move : goal.returns-in-Move
 returns-in-Move c =
-    let here = member-place c.args.members.now c.place_of.result c.in-Move.node c.index-members-place_of.result (c.place_of.ensures ∙ c.node.ensures ∙ ap node_of c.in-Move.is) (place-within c.args.setup c.args.members.now c.place_of.result (node_of c.args.event.now) c.requires.fits (c.place_of.ensures ∙ c.node.ensures) c.requires.node.1) c.index-members-place_of.is in
-    λ count. at_event c.args.setup (members_of c.args.members.now) count c.args.event.now (Event.Move c.in-Move.node) _ c.in-Move.is (grind (arith, move-cause c.args.setup (members_of c.args.members.now) count c.in-Move.node (member_of c.index-members-place_of.result) here, c.step_cause-in-Move.ensures, c.offers_move.ensures, c.offer-in-Move.ensures))
+    let here = named_is (members_of c.args.members.now) (member_of c.args.named.now) c.args.event.now (Event.Move c.in-Move.node) c.in-Move.is c.requires.named in
+    λ count. at_event c.args.setup (members_of c.args.members.now) count c.args.event.now (Event.Move c.in-Move.node) _ c.in-Move.is (grind (arith, move-cause c.args.setup (members_of c.args.members.now) count c.in-Move.node (member_of c.args.named.now) here, c.step_cause-in-Move.ensures, c.offers_move.ensures, c.offer-in-Move.ensures))
 
 pub returns-in-Plan : goal.returns-in-Plan
 returns-in-Plan c =
-    let here = member-place c.args.members.now c.place_of.result c.in-Plan.node c.index-members-place_of.result (c.place_of.ensures ∙ c.node.ensures ∙ ap node_of c.in-Plan.is) (place-within c.args.setup c.args.members.now c.place_of.result (node_of c.args.event.now) c.requires.fits (c.place_of.ensures ∙ c.node.ensures) c.requires.node.1) c.index-members-place_of.is in
-    λ count. at_event c.args.setup (members_of c.args.members.now) count c.args.event.now (Event.Plan c.in-Plan.node c.in-Plan.table) _ c.in-Plan.is (grind (arith, plan-cause c.args.setup (members_of c.args.members.now) count c.in-Plan.node (member_of c.index-members-place_of.result) c.in-Plan.table here, c.plan_cause.ensures))
+    let here = named_is (members_of c.args.members.now) (member_of c.args.named.now) c.args.event.now (Event.Plan c.in-Plan.node c.in-Plan.table) c.in-Plan.is c.requires.named in
+    λ count. at_event c.args.setup (members_of c.args.members.now) count c.args.event.now (Event.Plan c.in-Plan.node c.in-Plan.table) _ c.in-Plan.is (grind (arith, plan-cause c.args.setup (members_of c.args.members.now) count c.in-Plan.node (member_of c.args.named.now) c.in-Plan.table here, c.plan_cause.ensures))
 
 pub returns-in-Run : goal.returns-in-Run
 returns-in-Run c =
-    let here = member-place c.args.members.now c.place_of.result c.in-Run.field-0 c.index-members-place_of.result (c.place_of.ensures ∙ c.node.ensures ∙ ap node_of c.in-Run.is) (place-within c.args.setup c.args.members.now c.place_of.result (node_of c.args.event.now) c.requires.fits (c.place_of.ensures ∙ c.node.ensures) c.requires.node.1) c.index-members-place_of.is in
-    λ count. at_event c.args.setup (members_of c.args.members.now) count c.args.event.now (Event.Run c.in-Run.field-0) _ c.in-Run.is (grind (arith, run-cause c.args.setup (members_of c.args.members.now) count c.in-Run.field-0 (member_of c.index-members-place_of.result) here, c.run_cause.ensures))
+    let here = named_is (members_of c.args.members.now) (member_of c.args.named.now) c.args.event.now (Event.Run c.in-Run.field-0) c.in-Run.is c.requires.named in
+    λ count. at_event c.args.setup (members_of c.args.members.now) count c.args.event.now (Event.Run c.in-Run.field-0) _ c.in-Run.is (grind (arith, run-cause c.args.setup (members_of c.args.members.now) count c.in-Run.field-0 (member_of c.args.named.now) here, c.run_cause.ensures))
 
 pub returns-in-Lose : goal.returns-in-Lose
 returns-in-Lose c =
-    let here = member-place c.args.members.now c.place_of.result c.in-Lose.field-0 c.index-members-place_of.result (c.place_of.ensures ∙ c.node.ensures ∙ ap node_of c.in-Lose.is) (place-within c.args.setup c.args.members.now c.place_of.result (node_of c.args.event.now) c.requires.fits (c.place_of.ensures ∙ c.node.ensures) c.requires.node.1) c.index-members-place_of.is in
-    λ count. at_event c.args.setup (members_of c.args.members.now) count c.args.event.now (Event.Lose c.in-Lose.field-0) _ c.in-Lose.is (grind (arith, lose-cause c.args.setup (members_of c.args.members.now) count c.in-Lose.field-0 (member_of c.index-members-place_of.result) here, c.lose_cause.ensures))
+    let here = named_is (members_of c.args.members.now) (member_of c.args.named.now) c.args.event.now (Event.Lose c.in-Lose.field-0) c.in-Lose.is c.requires.named in
+    λ count. at_event c.args.setup (members_of c.args.members.now) count c.args.event.now (Event.Lose c.in-Lose.field-0) _ c.in-Lose.is (grind (arith, lose-cause c.args.setup (members_of c.args.members.now) count c.in-Lose.field-0 (member_of c.args.named.now) here, c.lose_cause.ensures))
 
 pub returns-in-Return : goal.returns-in-Return
 returns-in-Return c =
-    let here = member-place c.args.members.now c.place_of.result c.in-Return.field-0 c.index-members-place_of.result (c.place_of.ensures ∙ c.node.ensures ∙ ap node_of c.in-Return.is) (place-within c.args.setup c.args.members.now c.place_of.result (node_of c.args.event.now) c.requires.fits (c.place_of.ensures ∙ c.node.ensures) c.requires.node.1) c.index-members-place_of.is in
-    λ count. at_event c.args.setup (members_of c.args.members.now) count c.args.event.now (Event.Return c.in-Return.field-0) _ c.in-Return.is (grind (arith, return-cause c.args.setup (members_of c.args.members.now) count c.in-Return.field-0 (member_of c.index-members-place_of.result) here, c.refused_if-in-Return.ensures, c.has_come.ensures))
+    let here = named_is (members_of c.args.members.now) (member_of c.args.named.now) c.args.event.now (Event.Return c.in-Return.field-0) c.in-Return.is c.requires.named in
+    λ count. at_event c.args.setup (members_of c.args.members.now) count c.args.event.now (Event.Return c.in-Return.field-0) _ c.in-Return.is (grind (arith, return-cause c.args.setup (members_of c.args.members.now) count c.in-Return.field-0 (member_of c.args.named.now) here, c.refused_if-in-Return.ensures, c.has_come.ensures))
 
 pub returns-in-Check : goal.returns-in-Check
 returns-in-Check c =
-    let here = member-place c.args.members.now c.place_of.result c.in-Check.field-0 c.index-members-place_of.result (c.place_of.ensures ∙ c.node.ensures ∙ ap node_of c.in-Check.is) (place-within c.args.setup c.args.members.now c.place_of.result (node_of c.args.event.now) c.requires.fits (c.place_of.ensures ∙ c.node.ensures) c.requires.node.1) c.index-members-place_of.is in
-    λ count. at_event c.args.setup (members_of c.args.members.now) count c.args.event.now (Event.Check c.in-Check.field-0) _ c.in-Check.is (grind (arith, check-cause c.args.setup (members_of c.args.members.now) count c.in-Check.field-0 (member_of c.index-members-place_of.result) here, c.refused_if.ensures, c.is_at_rest.ensures, c.point.ensures))
+    let here = named_is (members_of c.args.members.now) (member_of c.args.named.now) c.args.event.now (Event.Check c.in-Check.field-0) c.in-Check.is c.requires.named in
+    λ count. at_event c.args.setup (members_of c.args.members.now) count c.args.event.now (Event.Check c.in-Check.field-0) _ c.in-Check.is (grind (arith, check-cause c.args.setup (members_of c.args.members.now) count c.in-Check.field-0 (member_of c.args.named.now) here, c.refused_if.ensures, c.is_at_rest.ensures, c.point.ensures))
 
 pub returns-in-Timeout : goal.returns-in-Timeout
 returns-in-Timeout c =
-    let here = member-place c.args.members.now c.place_of.result c.in-Timeout.field-0 c.index-members-place_of.result (c.place_of.ensures ∙ c.node.ensures ∙ ap node_of c.in-Timeout.is) (place-within c.args.setup c.args.members.now c.place_of.result (node_of c.args.event.now) c.requires.fits (c.place_of.ensures ∙ c.node.ensures) c.requires.node.1) c.index-members-place_of.is in
-    λ count. at_event c.args.setup (members_of c.args.members.now) count c.args.event.now (Event.Timeout c.in-Timeout.field-0) _ c.in-Timeout.is (grind (arith, timeout-cause c.args.setup (members_of c.args.members.now) count c.in-Timeout.field-0 (member_of c.index-members-place_of.result) here, c.refused_if-in-Timeout.ensures, c.is_at_rest-in-Timeout.ensures, c.point-in-Timeout.ensures))
+    let here = named_is (members_of c.args.members.now) (member_of c.args.named.now) c.args.event.now (Event.Timeout c.in-Timeout.field-0) c.in-Timeout.is c.requires.named in
+    λ count. at_event c.args.setup (members_of c.args.members.now) count c.args.event.now (Event.Timeout c.in-Timeout.field-0) _ c.in-Timeout.is (grind (arith, timeout-cause c.args.setup (members_of c.args.members.now) count c.in-Timeout.field-0 (member_of c.args.named.now) here, c.refused_if-in-Timeout.ensures, c.is_at_rest-in-Timeout.ensures, c.point-in-Timeout.ensures))
