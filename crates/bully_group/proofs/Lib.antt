@@ -2,3 +2,4 @@ pub mod WorldLemmas
 pub mod SeatLemmas
 pub mod LockedLemmas
 pub mod FinishLemmas
+pub mod PartCounts
