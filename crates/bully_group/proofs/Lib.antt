@@ -1,4 +1,5 @@
 pub mod WorldLemmas
+pub mod NodeTurnLemmas
 pub mod SeatLemmas
 pub mod LockedLemmas
 pub mod FinishLemmas
