@@ -1,5 +1,5 @@
 -- Where no call is served, the turn of the procedure is all that happens.
-use Rattle.std.proofs.Common.{rules, ◌≡◌, Bool, false, subst}
+use Rattle.std.proofs.Common.{rules, Bool, false, subst}
 use Rattle.bully_steps.specs.Procedure.{state_of}
 use Rattle.bully_group.specs.Steps.{IsServe}
 use Rattle.bully_group.specs.Turns.{MayTurn}

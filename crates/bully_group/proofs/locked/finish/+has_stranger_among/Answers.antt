@@ -1,5 +1,5 @@
 -- The seats are the first and the rest, for which the first one's actor is taken.
-use Rattle.std.proofs.Common.{rules, ◌≡◌, ◌↔◌, ◌<◌, ◌≤◌, ◌∷◌, List, Bool, true, false, length, arith, ap, sym, refl, ◌∙◌, subst, slice_set, slice_index_or, ℕ}
+use Rattle.std.proofs.Common.{rules, ◌≡◌, ◌↔◌, ◌<◌, ◌≤◌, ◌∷◌, List, Bool, true, false, length, ap, sym, refl, ◌∙◌, subst, slice_set, slice_index_or, ℕ}
 use Rattle.bully_group.specs.Finish.{AreOfGroup, AreFree}
 use Rattle.bully_group.specs.Seat.{SeatState}
 use Rattle.bully_group.proofs.FinishLemmas.{nobody_strange, group_by_first, group_behind_first}
