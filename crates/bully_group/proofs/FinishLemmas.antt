@@ -1,6 +1,7 @@
 -- Strangers among seats, the lowest actor whose log differs, and where each entry stands.
-use Rattle.std.proofs.Common.{◌≡◌, ◌≢◌, ◌<◌, ◌≤◌, ◌+◌, ◌⊎◌, ◌==◌, ℕ, zero, suc, Bool, true, false, List, [], ◌∷◌, Option, Some, None, All, map, length, arith, refl, sym, ap, subst, ◌∙◌, inl, inr, ⊎_elim, IfSome, MatchOption}
-use Rattle.std.specs.Prelude.{slice_get, ◌||◌}
+use Rattle.std.proofs.Common.{get_or, replicate, ◌≡◌, ◌≢◌, ◌<◌, ◌≤◌, ◌+◌, ◌⊎◌, ◌==◌, ℕ, zero, suc, Bool, true, false, List, [], ◌∷◌, Option, Some, None, All, map, length, arith, refl, sym, ap, subst, ◌∙◌, inl, inr, ⊎_elim, IfSome, MatchOption}
+use Rattle.std.specs.Prelude.{slice_get, slice_set, slice_index_or, ◌||◌}
+use Rattle.std.proofs.lemmas.List.{get_or-set_same, get_or-set_other, get_or-replicate, get_or_past, length-replicate}
 use Rattle.std.specs.List.{AllByRecursion, IsDistinct, list_any}
 use Rattle.std.proofs.lemmas.Bool.Decides.{nat_tests}
 use Rattle.std.proofs.lemmas.Cmp.{nat_eq_equiv}
@@ -15,7 +16,7 @@ use Rattle.bully_watch.specs.History.{IsHistory, part}
 use Rattle.bully_watch.proofs.PartLemmas.{part_stands, part_has, actor_within}
 use Rattle.bully_world.specs.World.{World}
 use Rattle.bully_group.specs.Seat.{SeatState, actor_of}
-use Rattle.bully_group.specs.Finish.{AreOfGroup, HasPart, IsLowestDiffering, EachInOneLog}
+use Rattle.bully_group.specs.Finish.{AreOfGroup, AreFree, HasPart, IsLowestDiffering, EachInOneLog}
 
 pub none_strange : (nodes : ℕ) → AreOfGroup nodes []
 none_strange nodes = record { distinct = IsDistinct-from_count nat_eq_equiv [] refl; within = All-nil (λ (s : SeatState). s.actor ≤ nodes) }
@@ -33,23 +34,60 @@ first_of_group nodes s rest all = (
   record { distinct = IsDistinct-tail (λ a b. a == b) s.actor (map actor_of rest) all.distinct; within = All-tail (λ (t : SeatState). t.actor ≤ nodes) s rest all.within },
 )
 
+-- Seats of which none is of a taken actor, and the first one's actor is taken then, too.
+abbrev IsFree : List Bool → SeatState → Type 0
+IsFree taken s = slice_index_or taken s.actor false ≡ false
+
+module _ (taken : List Bool) (actor : ℕ) (within : actor < length taken) where
+  -- none of them is of that actor, which is taken now
+  free_apart : (rest : List SeatState) → AreFree (slice_set taken actor true) rest → AllByRecursion (λ (o : ℕ). (actor == o) ≡ false) (map actor_of rest) × AreFree taken rest
+  free_apart [] free = (tt, All-nil (IsFree taken))
+  free_apart (t ∷ rest) free = by_test (actor == t.actor) refl (free 0 t (omega arith)) (free_apart rest (All-tail (IsFree (slice_set taken actor true)) t rest free))
+    where
+      by_test : (b : Bool) → (actor == t.actor) ≡ b → IsFree (slice_set taken actor true) t → AllByRecursion (λ (o : ℕ). (actor == o) ≡ false) (map actor_of rest) × AreFree taken rest → AllByRecursion (λ (o : ℕ). (actor == o) ≡ false) (map actor_of (t ∷ rest)) × AreFree taken (t ∷ rest)
+      by_test true same first later = absurd (grind (arith, nat_tests, same, first, within, get_or-set_same taken actor true false))
+      by_test false other first later =
+          let apart : t.actor ≢ actor = λ (e : t.actor ≡ actor). absurd (grind (arith, nat_tests, other, e)) in
+          let same : IsFree taken t = grind (arith, first, get_or-set_other taken actor t.actor true false apart) in
+          ((other, later.0), All-cons (IsFree taken) t rest same later.1)
+
+  -- so it is of seats of others
+  still_free : (rest : List SeatState) → AllByRecursion (λ (o : ℕ). (actor == o) ≡ false) (map actor_of rest) → AreFree taken rest → AreFree (slice_set taken actor true) rest
+  still_free [] apart free = All-nil (IsFree (slice_set taken actor true))
+  still_free (t ∷ rest) apart free =
+      let other : (actor == t.actor) ≡ false = apart.0 in
+      let not_same : t.actor ≢ actor = λ (e : t.actor ≡ actor). absurd (grind (arith, nat_tests, other, e)) in
+      let first : IsFree taken t = free 0 t (omega arith) in
+      let same : IsFree (slice_set taken actor true) t = grind (arith, first, get_or-set_other taken actor t.actor true false not_same) in
+      All-cons (IsFree (slice_set taken actor true)) t rest same (still_free rest apart.1 (All-tail (IsFree taken) t rest free))
+
+-- the first seat's actor is taken for the others
+pub group_by_first : (nodes : ℕ) (taken : List Bool) (s : SeatState) (rest : List SeatState) → s.actor < length taken → s.actor ≤ nodes → IsFree taken s → AreOfGroup nodes rest × AreFree (slice_set taken s.actor true) rest → AreOfGroup nodes (s ∷ rest) × AreFree taken (s ∷ rest)
+group_by_first nodes taken s rest within own free all =
+    let apart = free_apart taken s.actor within rest all.1 in
+    (one_of_group nodes s rest own apart.0 all.0, All-cons (IsFree taken) s rest free apart.1)
+
+pub group_behind_first : (nodes : ℕ) (taken : List Bool) (s : SeatState) (rest : List SeatState) → s.actor < length taken → AreOfGroup nodes (s ∷ rest) × AreFree taken (s ∷ rest) → AreOfGroup nodes rest × AreFree (slice_set taken s.actor true) rest
+group_behind_first nodes taken s rest within all =
+    let first = first_of_group nodes s rest all.0 in
+    (first.2, still_free taken s.actor within rest first.1 (All-tail (IsFree taken) s rest all.1))
+
+below_or_past : (k n : ℕ) → (k < n) ⊎ (n ≤ k)
+below_or_past k zero = inr (omega arith)
+below_or_past zero (suc n) = inl (omega arith)
+below_or_past (suc k) (suc n) = ⊎_elim (λ (a : k < n). inl (omega (arith, a))) (λ (a : n ≤ k). inr (omega (arith, a))) (below_or_past k n)
+
+-- none is taken in a list of places of which none is
+pub all_free : (n : ℕ) (seats : List SeatState) → AreFree (replicate n false) seats
+all_free n seats i d within = at (get_or seats i d).actor
+  where
+    at : (k : ℕ) → slice_index_or (replicate n false) k false ≡ false
+    at k = ⊎_elim (λ (below : k < n). get_or-replicate n k false false below) (λ (past : n ≤ k). get_or_past (replicate n false) k false (rw (length-replicate n false) past)) (below_or_past k n)
+
 -- The same of a list by its first seat and the rest.
-pub nobody_strange : (nodes : ℕ) (seats : List SeatState) → length seats ≡ 0 → AreOfGroup nodes seats
-nobody_strange nodes [] none = none_strange nodes
-nobody_strange nodes (s ∷ rest) none = absurd (omega (arith, none))
-
-module _ (nodes : ℕ) (seats : List SeatState) (s : SeatState) (rest : List SeatState) (is : seats ≡ s ∷ rest) where
-  pub whole_of_group : s.actor ≤ nodes → AllByRecursion (λ (o : ℕ). (s.actor == o) ≡ false) (map actor_of rest) → AreOfGroup nodes rest → AreOfGroup nodes seats
-  whole_of_group within apart all = rw is (one_of_group nodes s rest within apart all)
-
-  pub first_within : AreOfGroup nodes seats → s.actor ≤ nodes
-  first_within all = (first_of_group nodes s rest (subst (AreOfGroup nodes) is all)).0
-
-  pub first_apart : AreOfGroup nodes seats → AllByRecursion (λ (o : ℕ). (s.actor == o) ≡ false) (map actor_of rest)
-  first_apart all = (first_of_group nodes s rest (subst (AreOfGroup nodes) is all)).1
-
-  pub rest_of_group : AreOfGroup nodes seats → AreOfGroup nodes rest
-  rest_of_group all = (first_of_group nodes s rest (subst (AreOfGroup nodes) is all)).2
+pub nobody_strange : (nodes : ℕ) (taken : List Bool) (seats : List SeatState) → length seats ≡ 0 → AreOfGroup nodes seats × AreFree taken seats
+nobody_strange nodes taken [] none = (none_strange nodes, All-nil (λ (s : SeatState). slice_index_or taken s.actor false ≡ false))
+nobody_strange nodes taken (s ∷ rest) none = absurd (omega (arith, none))
 
 module _ (history : List Entry) (s : SeatState) (rest : List SeatState) where
   abbrev Below : ℕ → SeatState → Type 0

@@ -30,7 +30,7 @@ new_seat s within new = record {
   own = λ i p at. absurd (grind (arith, new, at));
 }
 
-le_cases : (i k : ℕ) → i ≤ k → (i < k) ⊎ (i ≡ k)
+pub le_cases : (i k : ℕ) → i ≤ k → (i < k) ⊎ (i ≡ k)
 le_cases zero zero h = inr refl
 le_cases zero (suc k) h = inl (omega arith)
 le_cases (suc i) zero h = absurd (omega (arith, h))

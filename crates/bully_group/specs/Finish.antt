@@ -1,6 +1,7 @@
 -- When a group may be finished, and when each fault comes.
-use Rattle.std.specs.Prelude.{◌≡◌, ◌≢◌, ◌+◌, ◌<◌, ◌≤◌, ◌==◌, ℕ, List, length, map, All, Some, slice_get}
+use Rattle.std.specs.Prelude.{◌≡◌, ◌≢◌, ◌+◌, ◌<◌, ◌≤◌, ◌==◌, ℕ, Bool, false, List, length, map, All, Some, count_by, slice_get, slice_index_or}
 use Rattle.std.specs.List.{IsDistinct}
+use Rattle.bully_base.specs.declared.TheConstants.{NODES_MAX}
 use Rattle.bully_watch.specs.declared.entry.Entry.{Entry}
 use Rattle.bully_watch.specs.History.{part}
 use Rattle.bully_group.specs.declared.locked.finish.FinishFault.{FinishFault}
@@ -16,6 +17,22 @@ AreAll nodes seats passes = (length seats ≡ nodes + 1) × (passes ≡ nodes + 
 pub record AreOfGroup (nodes : ℕ) (seats : List SeatState) : Type 0 where
   pub distinct : IsDistinct (λ a b. a == b) (map actor_of seats)
   pub within : All (λ s. s.actor ≤ nodes) seats
+
+-- no seat is of an actor that is taken
+abbrev pub AreFree : List Bool → List SeatState → Type 0
+AreFree taken seats = All (λ s. slice_index_or taken s.actor false ≡ false) seats
+
+-- how many entries of the history are the actor's
+abbrev pub entries_of : ℕ → List Entry → ℕ
+entries_of actor history = count_by (λ e. e.actor == actor) history
+
+-- the counts have at each actor's place how many entries of the history are its
+abbrev pub AreCounts : List Entry → List ℕ → Type 0
+AreCounts history counts = (actor : ℕ) → actor ≤ NODES_MAX → slice_index_or counts actor 0 ≡ entries_of actor history
+
+-- each entry of the log stands in the history at its index
+abbrev pub AllStand : List Entry → List (ℕ × Entry) → Type 0
+AllStand history log = All (λ p. slice_get history p.0 ≡ Some p.1) log
 
 -- the seat's log is its actor's part of the history
 abbrev pub HasPart : List Entry → SeatState → Type 0

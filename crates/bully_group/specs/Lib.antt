@@ -3,5 +3,6 @@ pub mod Seat
 pub mod Locked
 pub mod Steps
 pub mod Turns
+pub mod NodeTurns
 pub mod Finish
 pub mod Publish

@@ -54,6 +54,13 @@ IsTakeFault s e NotYours = ⊥
 IsTakeFault s e (Refused why) = cause_in s.world e ≡ Some why
 IsTakeFault s e OutOfMemory = cause_in s.world e ≡ None
 
+-- a fault that comes after those of the seat
+abbrev pub IsLateFault : StepFault → Type 0
+IsLateFault (Foreign index) = ⊥
+IsLateFault NotYours = ⊥
+IsLateFault (Refused why) = Unit {0}
+IsLateFault OutOfMemory = Unit {0}
+
 -- the caller's call is the one to be served by the node: it waits for it, no lower caller's does, and the node isn't Down
 pub record IsServed (w : World) (node caller : ℕ) : Type 0 where
   pub waits : is_sent_to node (pending w caller) ≡ true

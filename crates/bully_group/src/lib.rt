@@ -15,6 +15,7 @@ pub use closed::Closed;
 pub use group::Group;
 pub use locked::Locked;
 pub use locked::finish::FinishFault;
+pub use locked::node_turn::NodeTurn;
 pub use locked::publish::PublishFault;
 pub use locked::shown::ViewFault;
 pub use locked::step::StepFault;

@@ -1,18 +1,21 @@
-ghost use Rattle.std.specs.Prelude.{◌≡◌, ◌↔◌, ◌<◌, ◌==◌, IsTrue, false, IfOk, OnOk, IfErr, IfSome, MatchOption, All, length, map, sum, vec_len};
-ghost use Rattle.std.specs.List.{AllByRecursion};
-ghost use Rattle.bully_group.specs.Finish.{AreAll, AreOfGroup, HasPart, IsLowestDiffering, CanFinish, IsFinishFault, EachInOneLog};
+ghost use Rattle.std.specs.Prelude.{◌≡◌, ◌↔◌, ◌<◌, ◌≤◌, IsTrue, false, IfOk, OnOk, IfErr, IfSome, MatchOption, All, length, map, sum, vec_len};
+ghost use Rattle.bully_base.specs.declared.TheConstants.{NODES_MAX};
+ghost use Rattle.bully_group.specs.Finish.{AreAll, AreOfGroup, AreFree, AreCounts, AllStand, HasPart, IsLowestDiffering, CanFinish, IsFinishFault, EachInOneLog};
 ghost use Rattle.bully_group.specs.Locked.{view_in};
-ghost use Rattle.bully_group.specs.Seat.{actor_of};
-ghost use Rattle.bully_watch.specs.History.{part};
 
 use super::Locked;
+use super::step::stands;
 use crate::closed::Closed;
 use crate::naming::Naming;
 use crate::pass::Pass;
 use crate::seat::Seat;
 use bully_agree::view;
+use bully_base::NODES_MAX;
 use bully_watch::Entry;
 use std::sync::ledger::Book;
+
+/// How many actors a group may have: the operator, and each node.
+const ACTORS_MAX: usize = NODES_MAX as usize + 1;
 
 /// Why a group isn't finished, the first that holds.
 #[derive(Clone, Copy, PartialEq, Eq, Debug)]
@@ -78,45 +81,58 @@ impl<L: Naming> Locked<L> {
         if has_stranger(nodes, seats) {
             return Some(FinishFault::Stranger);
         }
-        let actor = first_differing(&self.history, seats)?;
+        let counts = counts_of(&self.history);
+        let actor = first_differing(&self.history, &counts, seats)?;
         Some(FinishFault::Differs(actor))
     }
 }
 
 // Whether two seats are of one actor, or one is of an actor above the last node.
 fn has_stranger(nodes: u16, seats: &[Seat]) -> bool
+    requires { nodes ≤ NODES_MAX }
     ensures { (result ≡ false) ↔ AreOfGroup nodes seats.now }
+{
+    let mut taken = [false; ACTORS_MAX];
+    has_stranger_among(nodes, &mut taken, seats)
+}
+
+// The same, or one is of an actor that is taken already.
+#[tactic(auto, using(crate::proofs::FinishLemmas::nobody_strange, crate::proofs::FinishLemmas::group_by_first, crate::proofs::FinishLemmas::group_behind_first))]
+fn has_stranger_among(nodes: u16, taken: &mut [bool; ACTORS_MAX], seats: &[Seat]) -> bool
+    requires { nodes ≤ NODES_MAX }
+    ensures { (result ≡ false) ↔ (AreOfGroup nodes seats.now × AreFree taken.old seats.now) }
 {
     let Some((seat, rest)) = seats.split_first() else {
         return false;
     };
-    if seat.actor > nodes {
+    if seat.actor > nodes || taken[usize::from(seat.actor)] {
         return true;
     }
-    if has_actor(rest, seat.actor) {
-        return true;
-    }
-    has_stranger(nodes, rest)
+    taken[usize::from(seat.actor)] = true;
+    has_stranger_among(nodes, taken, rest)
 }
 
-// Whether a seat is of this actor.
-fn has_actor(seats: &[Seat], actor: u16) -> bool
-    ensures { (result ≡ false) ↔ AllByRecursion (λ other. (actor == other) ≡ false) (map actor_of seats.now) }
+// How many entries of the history each actor has, the operator first.
+fn counts_of(history: &[Entry]) -> [usize; ACTORS_MAX]
+    requires { All (λ e. e.actor ≤ NODES_MAX) history.now }
+    ensures { AreCounts history.now result }
 {
-    match seats.split_first() {
-        None => false,
-        Some((seat, rest)) => seat.actor == actor || has_actor(rest, actor),
+    let mut counts = [0; ACTORS_MAX];
+    for entry in history {
+        counts[usize::from(entry.actor)] += 1;
     }
+    counts
 }
 
-// The lowest actor of the seats whose log isn't its part of the history.
+// The lowest actor of the seats whose log isn't its part of the history, in which each actor has so many entries.
 #[tactic(auto, using(crate::proofs::FinishLemmas::lowest_later, crate::proofs::FinishLemmas::lowest_first))]
-fn first_differing(history: &[Entry], seats: &[Seat]) -> Option<u16>
+fn first_differing(history: &[Entry], counts: &[usize; ACTORS_MAX], seats: &[Seat]) -> Option<u16>
+    requires { AreCounts history.now counts.now }
     ensures { MatchOption result (All (HasPart history.now) seats.now) (IsLowestDiffering history.now seats.now) }
 {
     let (seat, rest) = seats.split_first()?;
-    let later = first_differing(history, rest);
-    if is_part(history, seat.actor, &seat.log) || !is_below(seat.actor, later) {
+    let later = first_differing(history, counts, rest);
+    if has_part(history, counts, seat) || !is_below(seat.actor, later) {
         later
     } else {
         Some(seat.actor)
@@ -133,25 +149,26 @@ fn is_below(actor: u16, found: Option<u16>) -> bool
     }
 }
 
-// Whether the log is the actor's part of the history.
-fn is_part(history: &[Entry], actor: u16, log: &[(usize, Entry)]) -> bool
-    ensures { IsTrue result ↔ (log.now ≡ part actor history.now) }
+// Whether the seat's log is its actor's part of the history. Its indices rise and its entries are its actor's, so it is
+// where there are as many as the actor has, and each stands at its index.
+#[tactic(auto, using(crate::proofs::PartCounts::has_part_if, crate::proofs::PartCounts::stand_if_part))]
+fn has_part(history: &[Entry], counts: &[usize; ACTORS_MAX], seat: &Seat) -> bool
+    requires { AreCounts history.now counts.now }
+    ensures { IsTrue result ↔ HasPart history.now seat.now }
 {
-    let mut next = 0;
-    for at in 0..history.len() {
-        let entry = &history[at];
-        if entry.actor == actor {
-            if next >= log.len() {
-                return false;
-            }
-            let told = &log[next];
-            if told.0 != at || !told.1.is_same(entry) {
-                return false;
-            }
-            next += 1;
+    seat.log.len() == counts[usize::from(seat.actor)] && all_stand(history, &seat.log)
+}
+
+// Whether each entry of the log stands in the history at its index.
+fn all_stand(history: &[Entry], log: &[(usize, Entry)]) -> bool
+    ensures { IsTrue result ↔ AllStand history.now log.now }
+{
+    for item in log {
+        if !stands(history, item.0, &item.1) {
+            return false;
         }
     }
-    next == log.len()
+    true
 }
 
 // The passes are all of the ledger, so what they counted adds up to the book's total.

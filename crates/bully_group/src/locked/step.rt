@@ -1,7 +1,7 @@
 ghost use Rattle.std.specs.Prelude.{◌≡◌, ◌+◌, ◌++◌, ◌<◌, [], ◌∷◌, ◌↔◌, IsTrue, IfOk, OnOk, IfErr, MatchOption, Some, None, is_ok, slice_get, vec_len, vec_capacity, if◌then◌else◌};
 ghost use Rattle.std.specs.Option.{option_map};
 ghost use Rattle.bully_group.specs.Seat.{IsKnown, IsForeign};
-ghost use Rattle.bully_group.specs.Steps.{Records, IsAllowed, IsYours, IsStepFault, IsTakeFault, IsServe, IsServeFault, is_served};
+ghost use Rattle.bully_group.specs.Steps.{Records, IsAllowed, IsYours, IsStepFault, IsTakeFault, IsServe, IsServeFault, IsLateFault, is_served};
 ghost use Rattle.bully_watch.specs.History.{whose, callee_of};
 ghost use Rattle.bully_world.specs.Cause.{is_down_at};
 ghost use Rattle.bully_world.specs.State.{world_of, cause_in};
@@ -50,7 +50,7 @@ impl<L: Naming> Locked<L> {
         if actor_of(&self.world, event) != Some(seat.actor) {
             return Err(StepFault::NotYours);
         }
-        self.take_in(seat, event, pass)
+        self.take_allowed(seat, event, pass)
     }
 
     /// Runs the call that waits for the seat's node, that of the lowest caller; a step as `step` takes it. False, and
@@ -68,19 +68,37 @@ impl<L: Naming> Locked<L> {
         let Some(node) = Node::new(seat.actor) else {
             return Err(StepFault::NotYours);
         };
+        self.serve_node(node, seat, pass)
+    }
+
+    // `serve` for the node of the seat, which is known.
+    pub(crate) fn serve_node(
+        &mut self,
+        node: Node,
+        seat: &mut Seat,
+        pass: &mut Pass<L>,
+    ) -> Result<bool, StepFault>
+        requires known { IsKnown self.old.history seat.old }
+        requires node { seat.old.actor ≡ node }
+        ensures served { IfOk result (IsServe self.old seat.old self.new seat.new) }
+        ensures fault { IfErr result (IsServeFault self.old seat.old) }
+        ensures late { IfErr result IsLateFault }
+        ensures unchanged { IfErr result (λ _. (self.new ≡ self.old) × (seat.new ≡ seat.old)) }
+        ensures pass { pass.new ≡ (if is_served result then pass.old + 1 else pass.old) }
+    {
         if is_down(&self.world, node) {
             return Ok(false);
         }
         let Some(caller) = self.world.waiting_for(node) else {
             return Ok(false);
         };
-        self.take_in(seat, &Event::Run(caller), pass)?;
+        self.take_allowed(seat, &Event::Run(caller), pass)?;
         Ok(true)
     }
 
-    // Takes the event of the seat's actor in, where the world doesn't refuse it. Everything is reserved before anything
+    // Takes the event of the seat's actor, where the world doesn't refuse it. Everything is reserved before anything
     // changes.
-    fn take_in(
+    fn take_allowed(
         &mut self,
         seat: &mut Seat,
         event: &Event,
@@ -100,7 +118,7 @@ impl<L: Naming> Locked<L> {
         let Ok((event, logged)) = two_copies(event) else {
             return Err(StepFault::OutOfMemory);
         };
-        if self.history.reserve(1).is_err() || seat.log.reserve(1).is_err() {
+        if reserve_entry(&mut self.history, &mut seat.log).is_err() {
             return Err(StepFault::OutOfMemory);
         }
         let answer = self.world.apply_allowed(&event);
@@ -110,7 +128,7 @@ impl<L: Naming> Locked<L> {
             event,
             answer,
         };
-        add(&mut self.history, &mut seat.log, entry, logged);
+        record_entry(&mut self.history, &mut seat.log, entry, logged);
         Ok(())
     }
 }
@@ -127,8 +145,8 @@ pub(crate) fn foreign_index(history: &[Entry], seat: &Seat) -> Option<usize>
     }
 }
 
-// Whether the entry is in the history at this index.
-fn stands(history: &[Entry], index: usize, entry: &Entry) -> bool
+/// Whether the entry is in the history at this index.
+pub(crate) fn stands(history: &[Entry], index: usize, entry: &Entry) -> bool
     ensures { IsTrue result ↔ (slice_get history.now index ≡ Some entry.now) }
 {
     match history.get(index) {
@@ -174,8 +192,22 @@ fn is_down(world: &World, node: Node) -> bool
     node.number() > world.setup().nodes() || world.vector(node).status() == Status::Down
 }
 
-/// Adds the entry to the history and, beside its index, to the log, where its event is this copy. Both have room.
-pub(crate) fn add(
+/// Room for one entry more in the history and in the log. Both have the entries that they had.
+pub(crate) fn reserve_entry(
+    history: &mut Vec<Entry>,
+    log: &mut Vec<(usize, Entry)>,
+) -> Result<(), OutOfMemory>
+    ensures history { history.new.items ≡ history.old.items }
+    ensures log { log.new.items ≡ log.old.items }
+    ensures room { OnOk result (vec_len history.new < vec_capacity history.new) }
+    ensures log_room { OnOk result (vec_len log.new < vec_capacity log.new) }
+{
+    history.reserve(1)?;
+    log.reserve(1)
+}
+
+/// Records the entry in the history and, beside its index, in the log, where its event is this copy. Both have room.
+pub(crate) fn record_entry(
     history: &mut Vec<Entry>,
     log: &mut Vec<(usize, Entry)>,
     entry: Entry,

@@ -8,7 +8,7 @@ ghost use Rattle.bully_world.specs.declared.turn.Next.{Next};
 ghost use Rattle.bully_world.specs.declared.turn.StepKind.{StepKind};
 
 use super::Locked;
-use super::step::{StepFault, add, foreign_index};
+use super::step::{StepFault, foreign_index, record_entry, reserve_entry};
 use crate::naming::Naming;
 use crate::pass::Pass;
 use crate::seat::Seat;
@@ -57,13 +57,13 @@ impl<L: Naming> Locked<L> {
         match self.world.next(&procedure) {
             Next::Resync => Turn::Resynced(self.world.procedure(node)),
             Next::Rest => Turn::Waiting(procedure),
-            Next::Take(kind) => self.go(kind, seat, procedure, pass),
+            Next::Take(kind) => self.take_offered(kind, seat, procedure, pass),
         }
     }
 
     // Takes the step that the turn rule offers the procedure of the seat's node. Everything is reserved before anything
     // changes.
-    fn go(
+    pub(crate) fn take_offered(
         &mut self,
         kind: StepKind,
         seat: &mut Seat,
@@ -87,7 +87,7 @@ impl<L: Naming> Locked<L> {
         let Ok(logged) = event_of(kind, &procedure) else {
             return Turn::Fault(procedure, StepFault::OutOfMemory);
         };
-        if self.history.reserve(1).is_err() || seat.log.reserve(1).is_err() {
+        if reserve_entry(&mut self.history, &mut seat.log).is_err() {
             return Turn::Fault(procedure, StepFault::OutOfMemory);
         }
         let Ok(taken) = self.world.take(kind, procedure) else {
@@ -104,7 +104,7 @@ impl<L: Naming> Locked<L> {
             event,
             answer,
         };
-        add(&mut self.history, &mut seat.log, entry, logged);
+        record_entry(&mut self.history, &mut seat.log, entry, logged);
         Turn::Went(procedure)
     }
 }

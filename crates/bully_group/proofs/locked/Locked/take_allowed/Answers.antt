@@ -9,7 +9,7 @@ use Rattle.bully_group.specs.Locked.{LockedState}
 use Rattle.bully_group.specs.Seat.{SeatState, IsKnown}
 use Rattle.bully_group.proofs.SeatLemmas.{seat_more}
 use Rattle.bully_group.proofs.LockedLemmas.{locked_more}
-use Rattle.bully_group.proofs.locked.Locked.take_in.Goals as goal
+use Rattle.bully_group.proofs.locked.Locked.take_allowed.Goals as goal
 
 pub invariant_of-self-2 : goal.invariant_of-self-2
 invariant_of-self-2 g c =
@@ -22,7 +22,7 @@ invariant_of-self-2 g c =
     let yours : whose (world_of w) e.event ≡ Some e.actor = search rules in
     let same : c.apply_allowed-answer.new.self.setup ≡ w.setup = search rules in
     let counted : c.apply_allowed-answer.new.self.events ≡ w.events + 1 = search rules in
-    let made : c.add.new.history.items ≡ s.history ++ e ∷ [] = search rules in
+    let made : c.record_entry.new.history.items ≡ s.history ++ e ∷ [] = search rules in
     let total : c.count.new.book.total ≡ s.counted + 1 = search rules in
     rw (made, total) (locked_more g.L.Naming.setup g.L.Naming.publisher g.L.Ledger.parts s e c.apply_allowed-answer.new.self c.self.invariant room step yours same counted)
 
@@ -44,5 +44,5 @@ invariant_of-seat-2 g c =
     let history = c.self.inside.history.items in
     let e : Entry = record { actor = c.seat.inside.actor; event = c.in-Ok.event; answer = c.apply_allowed-answer.result } in
     let known : IsKnown history s = search rules in
-    let made : c.add.new.log.items ≡ s.log ++ (length history, e) ∷ [] = search rules in
+    let made : c.record_entry.new.log.items ≡ s.log ++ (length history, e) ∷ [] = search rules in
     rw made (seat_more s history e c.seat.invariant known refl)

@@ -12,7 +12,7 @@ use Rattle.bully_group.specs.Seat.{SeatState, IsKnown}
 use Rattle.bully_group.proofs.SeatLemmas.{seat_more}
 use Rattle.bully_group.proofs.LockedLemmas.{locked_more}
 use Rattle.bully_group.proofs.WorldLemmas.{whose_turn, no_turn_raises}
-use Rattle.bully_group.proofs.locked.Locked.go.Goals as goal
+use Rattle.bully_group.proofs.locked.Locked.take_offered.Goals as goal
 
 pub event_of-requires : goal.event_of-requires
 event_of-requires g c e = table_if_planned c.args.self.now.world (state_of c.args.procedure) c.args.kind c.requires.offered e
@@ -30,7 +30,7 @@ invariant_of-self-2 g c =
     let yours : whose (world_of w) e.event ≡ Some e.actor = rw (is, who) (whose_turn (world_of w) c.args.kind h) in
     let same : c.take.new.self.setup ≡ w.setup = search rules in
     let counted : c.take.new.self.events ≡ w.events + 1 = search rules in
-    let made : c.add.new.history.items ≡ s.history ++ e ∷ [] = search rules in
+    let made : c.record_entry.new.history.items ≡ s.history ++ e ∷ [] = search rules in
     let total : c.count.new.book.total ≡ s.counted + 1 = search rules in
     rw (made, total) (locked_more g.L.Naming.setup g.L.Naming.publisher g.L.Ledger.parts s e c.take.new.self c.self.invariant room step yours same counted)
 
@@ -59,5 +59,5 @@ invariant_of-seat-2 g c =
     let history = c.self.inside.history.items in
     let e : Entry = record { actor = c.seat.inside.actor; event = c.in-Ok-take.taken.event; answer = c.in-Ok-take.taken.answer } in
     let known : IsKnown history s = search rules in
-    let made : c.add.new.log.items ≡ s.log ++ (length history, e) ∷ [] = search rules in
+    let made : c.record_entry.new.log.items ≡ s.log ++ (length history, e) ∷ [] = search rules in
     rw made (seat_more s history e c.seat.invariant known refl)
