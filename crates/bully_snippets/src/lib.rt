@@ -2,6 +2,6 @@
 //! file beside this one stands there whole.
 #![tactic(auto)]
 
-pub mod leader;
+pub mod coordinator;
 pub mod status;
 pub mod watching;

@@ -7,7 +7,7 @@ use std::alloc::Global;
 use std::sync::{MutexGuard, Wait};
 
 /// The coordinator of the node, as an observer sees it that has learned of the whole history.
-pub fn leader_of<L: Naming, R: Wait>(
+pub fn coordinator_of<L: Naming, R: Wait>(
     rt: &R,
     alloc: Global,
     group: &Group<L>,
