@@ -3,13 +3,11 @@ ghost use Rattle.std.specs.Prelude.{◌≡◌, Some};
 use bully_base::Node;
 use bully_group::{Group, Naming, Seat};
 use bully_watch::Observer;
-use std::alloc::Global;
 use std::sync::{MutexGuard, Wait};
 
 /// The coordinator of the node, as an observer sees it that has learned of the whole history.
 pub fn coordinator_of<L: Naming, R: Wait>(
     rt: &R,
-    alloc: Global,
     group: &Group<L>,
     seat: &Seat,
     observer: &mut Observer,
@@ -21,7 +19,7 @@ pub fn coordinator_of<L: Naming, R: Wait>(
     let told = guard.publish(rt, seat); // shows the whole history
     MutexGuard::unlock(guard);
     observer.learn(told.ok()?); // from now on it sees no less
-    let view = observer.look(alloc).ok()?; // takes no lock, and never waits
+    let view = observer.look().ok()?; // takes no lock, and never waits
     if node.number() > view.nodes() {
         return None;
     }
