@@ -2,9 +2,9 @@ ghost use Rattle.std.specs.Prelude.{◌≡◌, ◌≤◌, length};
 ghost use Rattle.std.specs.Option.{IfSome, option_copied};
 ghost use Rattle.bully_steps.specs.Procedure.{state_of};
 
-use crate::turns::{publish, step};
+use crate::turns::publish;
 use bully_base::{Node, Setup};
-use bully_group::{Group, Locked, Naming, Pass, Seat, StepFault, Turn};
+use bully_group::{Group, Locked, Naming, Pass, Seat, StepFault};
 use bully_steps::{Choice, Driver, Procedure};
 use bully_table::Table;
 use bully_world::Event;
@@ -48,8 +48,8 @@ impl<L: Naming> Player<L> {
         }
     }
 
-    /// The node's turn in this round: it serves, or else does what it chooses. What the world refuses, as a full history,
-    /// is passed over. None where the turn can't be taken.
+    /// The node's turn in this round, in one hold of the lock: it serves, or else does what it chooses. What the world
+    /// refuses, as a full history, is passed over. None where the turn can't be taken.
     pub fn turn<R: Wait>(
         &mut self,
         rt: &R,
@@ -57,20 +57,11 @@ impl<L: Naming> Player<L> {
         group: &Group<L>,
         round: u32,
     ) -> Option<()> {
-        let mut guard = group.locked.lock(rt);
-        let served = guard.serve(&mut self.seat, &mut self.pass);
-        MutexGuard::unlock(guard);
-        match served {
-            Ok(true) => return Some(()),
-            Ok(false) | Err(StepFault::Refused(_)) => {}
-            Err(_) => return None,
+        match Driver::choose(round, &self.procedure) {
+            Choice::Check => self.serve_or_step(rt, group, &Event::Check(self.node)),
+            Choice::Timeout => self.serve_or_step(rt, group, &Event::Timeout(self.node)),
+            Choice::Proceed => self.serve_or_proceed(rt, alloc, group),
         }
-        let event = match Driver::choose(round, &self.procedure) {
-            Choice::Check => Event::Check(self.node),
-            Choice::Timeout => Event::Timeout(self.node),
-            Choice::Proceed => return self.proceed(rt, alloc, group),
-        };
-        step(rt, group, &mut self.seat, &event, &mut self.pass)
     }
 
     /// How many entries are its own.
@@ -83,26 +74,45 @@ impl<L: Naming> Player<L> {
         publish(rt, group, &self.seat)
     }
 
-    // The procedure goes on by the turn rule, with a table where it is Planning.
-    fn proceed<R: Wait>(&mut self, rt: &R, alloc: Global, group: &Group<L>) -> Option<()> {
-        let idle = Procedure::idle(self.procedure.setup(), self.procedure.node(), 0);
-        let procedure = mem::replace(&mut self.procedure, idle);
+    // It serves, or else takes this event.
+    fn serve_or_step<R: Wait>(&mut self, rt: &R, group: &Group<L>, event: &Event) -> Option<()> {
         let mut guard = group.locked.lock(rt);
-        let procedure = prepared(alloc, &*guard, procedure);
-        let turn = guard.turn(&mut self.seat, procedure, &mut self.pass);
+        let stepped = match guard.serve(&mut self.seat, &mut self.pass) {
+            Ok(true) => Ok(()),
+            Ok(false) => guard.step(&mut self.seat, event, &mut self.pass),
+            Err(fault) => Err(fault),
+        };
         MutexGuard::unlock(guard);
-        match turn {
-            Turn::Went(procedure) | Turn::Waiting(procedure) | Turn::Resynced(procedure) => {
-                self.procedure = procedure;
-                Some(())
-            }
-            Turn::Fault(procedure, StepFault::Refused(_)) => {
-                self.procedure = procedure;
-                Some(())
-            }
-            Turn::Fault(_, _) => None,
+        match stepped {
+            Ok(()) | Err(StepFault::Refused(_)) => Some(()),
+            Err(_) => None,
         }
     }
+
+    // It serves, or else its procedure goes on by the turn rule, with a table where it is Planning.
+    fn serve_or_proceed<R: Wait>(&mut self, rt: &R, alloc: Global, group: &Group<L>) -> Option<()> {
+        let mut guard = group.locked.lock(rt);
+        prepare(alloc, &*guard, &mut self.procedure);
+        let turn = guard.serve_or_turn(&mut self.seat, &mut self.procedure, &mut self.pass);
+        MutexGuard::unlock(guard);
+        match turn {
+            Ok(_) | Err(StepFault::Refused(_)) => Some(()),
+            Err(_) => None,
+        }
+    }
+}
+
+// The procedure gets a table where it is Planning, memory aside.
+fn prepare<L: Naming>(alloc: Global, locked: &Locked<L>, procedure: &mut Procedure)
+    requires { (state_of procedure.old).setup ≡ L.setup }
+    ensures { (state_of procedure.new).setup ≡ (state_of procedure.old).setup }
+{
+    if !matches!(procedure, Procedure::Planning(_)) {
+        return;
+    }
+    let idle = Procedure::idle(procedure.setup(), procedure.node(), 0);
+    let planning = mem::replace(procedure, idle);
+    *procedure = prepared(alloc, locked, planning);
 }
 
 // The procedure, with a table where it is Planning, memory aside: planned from its node's own task.
