@@ -1,6 +1,6 @@
 -- What the judged rows of a text come to.
 use Rattle.std.proofs.Common.{◌≡◌, ◌+◌, ◌≤◌, Bool, true, false, ◌++◌, ℕ, List, [], ◌∷◌, Option, Some, None, length, refl, sym, subst, arith}
-use Rattle.std.specs.Prelude.{MatchOption}
+use Rattle.std.specs.Prelude.{IfOk, MatchOption, Ok, Err, Result}
 use Rattle.bully_base.specs.Setup.{Setup}
 use Rattle.bully_world.specs.State.{world_of}
 use Rattle.bully_world.specs.World.{first_world}
@@ -77,7 +77,7 @@ no-fault None setup judge all = tt
 no-fault (Some bytes) setup judge (rows, is, judged) = rw is refl
 
 -- the verdict, which is that of all rows that were judged
-pub judged-as : (known : Option (List ℕ)) (setup : Setup) (judge : JudgeState) (verdict : Verdict) (Writes : List ℕ → Type 0)
+judged-as : (known : Option (List ℕ)) (setup : Setup) (judge : JudgeState) (verdict : Verdict) (Writes : List ℕ → Type 0)
     → ((rows : List Row) → HasJudged setup rows judge → IsJudged setup (first_world setup) 0 2 rows verdict (world_of judge.world))
     → Writes (verdict_text judge.world.setup verdict (world_of judge.world)) → AreAllJudged known setup judge → IsJudgedAs known verdict Writes
 judged-as None setup judge verdict Writes says written all = tt
@@ -89,9 +89,24 @@ judged-as (Some bytes) setup judge verdict Writes says written (rows, is, judged
   subst (λ s. Writes (verdict_text s verdict (world_of judge.world))) judged.same written,
 )
 
-pub judged-so : (known : Option (List ℕ)) (setup : Setup) (judge : JudgeState) (verdict : Verdict) (P : Trace → Type 0)
+judged-so : (known : Option (List ℕ)) (setup : Setup) (judge : JudgeState) (verdict : Verdict) (P : Trace → Type 0)
     → ((rows : List Row) → HasJudged setup rows judge → IsJudged setup (first_world setup) 0 2 rows verdict (world_of judge.world))
     → ((trace : Trace) → IsVerdict trace verdict (world_of judge.world) → P trace) → AreAllJudged known setup judge → OfTrace known P
 judged-so None setup judge verdict P says holds all = tt
 judged-so (Some bytes) setup judge verdict P says holds (rows, is, judged) =
     (record { setup = setup; rows = rows }, is, holds (record { setup = setup; rows = rows }) (says rows judged))
+
+-- the same of what was told, which is a verdict or a fault
+pub told-as : (known : Option (List ℕ)) (setup : Setup) (judge : JudgeState) (told : Result Verdict TraceFault) (Writes : List ℕ → Type 0)
+    → ((setup : Setup) (rows : List Row) → HasJudged setup rows judge → IfOk told (λ verdict. IsJudged setup (first_world setup) 0 2 rows verdict (world_of judge.world)))
+    → IfOk told (λ verdict. Writes (verdict_text judge.world.setup verdict (world_of judge.world))) → AreAllJudged known setup judge
+    → IfOk told (λ verdict. IsJudgedAs known verdict Writes)
+told-as known setup judge (Ok verdict) Writes says written all = judged-as known setup judge verdict Writes (says setup) written all
+told-as known setup judge (Err fault) Writes says written all = tt
+
+pub told-so : (known : Option (List ℕ)) (setup : Setup) (judge : JudgeState) (told : Result Verdict TraceFault) (P : Verdict → Trace → Type 0)
+    → ((setup : Setup) (rows : List Row) → HasJudged setup rows judge → IfOk told (λ verdict. IsJudged setup (first_world setup) 0 2 rows verdict (world_of judge.world)))
+    → ((verdict : Verdict) (trace : Trace) → IsVerdict trace verdict (world_of judge.world) → P verdict trace) → AreAllJudged known setup judge
+    → IfOk told (λ verdict. OfTrace known (P verdict))
+told-so known setup judge (Ok verdict) P says holds all = judged-so known setup judge verdict (P verdict) (says setup) (holds verdict) all
+told-so known setup judge (Err fault) P says holds all = tt

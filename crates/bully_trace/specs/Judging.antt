@@ -5,8 +5,9 @@ use Rattle.bully_world.specs.State.{WorldState, world_of}
 use Rattle.bully_world.specs.World.{World, first_world}
 use Rattle.bully_trace.specs.declared.trace.Row.{Row}
 use Rattle.bully_trace.specs.declared.verdict.Verdict.{Verdict}
-use Rattle.bully_trace.specs.RecordsLeft.{HasRead, IsUnread, ReadSoFar, RowsLeft, rows_left}
-use Rattle.bully_trace.specs.Rows.{IsTraceOf}
+use Rattle.bully_trace.specs.declared.trace.TraceCause.{TraceCause}
+use Rattle.bully_trace.specs.RecordsLeft.{EndsReading, HasRead, IsUnread, ReadSoFar, RowsLeft, rows_left}
+use Rattle.bully_trace.specs.Rows.{IsTraceOf, fault_at}
 use Rattle.bully_trace.specs.Verdict.{IsJudged}
 
 -- the world that the rows were taken to, and the first verdict that isn't lawful
@@ -40,3 +41,8 @@ IsJudgedSoFar known reader (Some judge) = AreJudged known (rows_left judge.world
 abbrev pub AreAllJudged : Option (List ℕ) → Setup → JudgeState → Type 0
 AreAllJudged known setup judge =
     (rows : List Row) × IsTraceOf known (record { setup = setup; rows = rows }) × HasJudged setup rows judge
+
+-- a text was read to its end: it has no header, or all its rows were judged
+abbrev pub IsJudgedToEnd : Option (List ℕ) → Option JudgeState → Type 0
+IsJudgedToEnd known None = EndsReading known (fault_at 1 TraceCause.BadHeader)
+IsJudgedToEnd known (Some judge) = AreAllJudged known judge.world.setup judge

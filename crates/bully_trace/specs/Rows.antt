@@ -3,8 +3,6 @@ use Rattle.std.specs.Prelude.{◌≡◌, ◌⊎◌, ℕ, ◌+◌, ◌++◌, leng
 use Rattle.std.specs.Result.{result_ok}
 use Rattle.std.specs.Str.{bytes_eq}
 use Rattle.csv.specs.Reading.{records, default_config, strip_bom}
-use Rattle.bully_base.specs.declared.node.Status.{Status}
-use Rattle.bully_base.specs.declared.node.Status.TheVariants.{Down, Election, Reorganization, Normal}
 use Rattle.bully_base.specs.declared.TheConstants.{NODES_MAX, PARTITIONS_MAX, EVENTS_MAX}
 use Rattle.bully_base.specs.Setup.{Setup}
 use Rattle.bully_table.specs.Numeral.{number_of}
@@ -15,6 +13,7 @@ use Rattle.bully_trace.specs.declared.trace.Row.{Row}
 use Rattle.bully_trace.specs.declared.trace.Trace.{Trace}
 use Rattle.bully_trace.specs.declared.trace.TraceCause.{TraceCause}
 use Rattle.bully_trace.specs.declared.trace.TraceFault.{TraceFault}
+use Rattle.bully_trace.specs.Words.{event_named, plan_word, status_named}
 
 -- a record: its fields, each a list of bytes
 abbrev pub Record : Type 0
@@ -44,28 +43,6 @@ header_of (word ∷ version ∷ nodes ∷ partitions ∷ []) =
     if bytes_eq word (codes "bully") && bytes_eq version (codes "1") then setup_in nodes partitions else None
 header_of (a ∷ b ∷ c ∷ d ∷ e ∷ rest) = None
 
--- the event of this word at node i
-abbrev pub event_named : List ℕ → ℕ → Option Event
-event_named word i =
-    if bytes_eq word (codes "recover") then Some (Event.Recover i)
-    else if bytes_eq word (codes "crash") then Some (Event.Crash i)
-    else if bytes_eq word (codes "check") then Some (Event.Check i)
-    else if bytes_eq word (codes "timeout") then Some (Event.Timeout i)
-    else if bytes_eq word (codes "start") then Some (Event.Start i)
-    else if bytes_eq word (codes "run") then Some (Event.Run i)
-    else if bytes_eq word (codes "lose") then Some (Event.Lose i)
-    else if bytes_eq word (codes "return") then Some (Event.Return i)
-    else if bytes_eq word (codes "move") then Some (Event.Move i)
-    else None
-
-abbrev pub status_named : List ℕ → Option Status
-status_named word =
-    if bytes_eq word (codes "down") then Some Down
-    else if bytes_eq word (codes "election") then Some Election
-    else if bytes_eq word (codes "reorganization") then Some Reorganization
-    else if bytes_eq word (codes "normal") then Some Normal
-    else None
-
 -- a node, or none
 abbrev pub coordinator_in : List ℕ → Option (Option ℕ)
 coordinator_in text = if bytes_eq text (codes "-") then Some None else option_map Some (node_in text)
@@ -83,7 +60,7 @@ abbrev pub row_of : Setup → Record → Option Row
 row_of setup [] = None
 row_of setup (a ∷ []) = None
 row_of setup (word ∷ node ∷ []) = option_and_then (λ i. option_map Row.Event (event_named word i)) (node_in node)
-row_of setup (word ∷ node ∷ owners ∷ []) = if bytes_eq word (codes "plan") then plan_in setup node owners else None
+row_of setup (word ∷ node ∷ owners ∷ []) = if bytes_eq word plan_word then plan_in setup node owners else None
 row_of setup (word ∷ node ∷ status ∷ coordinator ∷ []) =
     if bytes_eq word (codes "saw") then claim_in node status coordinator else None
 row_of setup (a ∷ b ∷ c ∷ d ∷ e ∷ rest) = None

@@ -5,29 +5,23 @@ use Rattle.std.specs.Fmt.{decimal}
 use Rattle.bully_base.specs.Setup.{Setup}
 use Rattle.bully_table.specs.TableText.{owners_text}
 use Rattle.bully_world.specs.declared.event.Event.{Event}
+use Rattle.bully_world.specs.Cause.{node_of}
 use Rattle.bully_trace.specs.declared.trace.Row.{Row}
 use Rattle.bully_trace.specs.declared.trace.Trace.{Trace}
-use Rattle.bully_trace.specs.VerdictText.{status_text, node_text}
+use Rattle.bully_trace.specs.VerdictText.{node_text}
+use Rattle.bully_trace.specs.Words.{event_word, plan_word, status_word}
 
 abbrev pub line_of : List (List ℕ) → List ℕ
 line_of fields = join_with_byte 44 fields ++ codes "\n"
 
 -- the owners of a Plan are parted by spaces
 abbrev pub event_fields : Event → List (List ℕ)
-event_fields (Event.Recover i) = codes "recover" ∷ decimal i ∷ []
-event_fields (Event.Crash i) = codes "crash" ∷ decimal i ∷ []
-event_fields (Event.Check i) = codes "check" ∷ decimal i ∷ []
-event_fields (Event.Timeout i) = codes "timeout" ∷ decimal i ∷ []
-event_fields (Event.Start i) = codes "start" ∷ decimal i ∷ []
-event_fields (Event.Run i) = codes "run" ∷ decimal i ∷ []
-event_fields (Event.Lose i) = codes "lose" ∷ decimal i ∷ []
-event_fields (Event.Return i) = codes "return" ∷ decimal i ∷ []
-event_fields (Event.Move i) = codes "move" ∷ decimal i ∷ []
-event_fields (Event.Plan i table) = codes "plan" ∷ decimal i ∷ owners_text 32 table ∷ []
+event_fields (Event.Plan i table) = plan_word ∷ decimal i ∷ owners_text 32 table ∷ []
+event_fields e = event_word e ∷ decimal (node_of e) ∷ []
 
 abbrev pub row_fields : Row → List (List ℕ)
 row_fields (Row.Event e) = event_fields e
-row_fields (Row.Claim claim) = codes "saw" ∷ decimal claim.node ∷ status_text claim.status ∷ node_text claim.coordinator ∷ []
+row_fields (Row.Claim claim) = codes "saw" ∷ decimal claim.node ∷ status_word claim.status ∷ node_text claim.coordinator ∷ []
 
 abbrev pub rows_text : List Row → List ℕ
 rows_text [] = []

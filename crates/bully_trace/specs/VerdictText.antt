@@ -1,25 +1,16 @@
 -- The text of a verdict.
 use Rattle.std.specs.Prelude.{◌≡◌, ℕ, zero, suc, ◌+◌, List, [], ◌++◌, Option, Some, None, Ok, IfSome, codes}
 use Rattle.std.specs.Fmt.{decimal}
-use Rattle.bully_base.specs.declared.node.Status.{Status}
-use Rattle.bully_base.specs.declared.node.Status.TheVariants.{Down, Election, Reorganization, Normal}
 use Rattle.bully_base.specs.Setup.{Setup}
 use Rattle.bully_table.specs.TableText.{owners_text}
 use Rattle.bully_handlers.specs.Vector.{Vector}
-use Rattle.bully_world.specs.declared.event.Refused.{Refused}
-use Rattle.bully_world.specs.declared.event.Refused.TheVariants.{Full, BadNode, IsDown, IsUp, Busy, NoStep, SlotBusy, NoCall, CalleeDown, CalleeUp, BadTable}
 use Rattle.bully_world.specs.World.{World, vector}
 use Rattle.bully_trace.specs.declared.trace.Trace.{Trace}
 use Rattle.bully_trace.specs.declared.trace.TraceCause.{TraceCause}
 use Rattle.bully_trace.specs.declared.verdict.Verdict.{Verdict}
 use Rattle.bully_trace.specs.Rows.{records_of, trace_of}
 use Rattle.bully_trace.specs.Verdict.{IsVerdict}
-
-abbrev pub status_text : Status → List ℕ
-status_text Down = codes "down"
-status_text Election = codes "election"
-status_text Reorganization = codes "reorganization"
-status_text Normal = codes "normal"
+use Rattle.bully_trace.specs.Words.{cause_word, status_word}
 
 -- the cause of a trace's fault as the program tells it
 abbrev pub trace_cause_text : TraceCause → List ℕ
@@ -29,19 +20,6 @@ trace_cause_text TraceCause.TooManyRows = codes "TooManyRows"
 trace_cause_text TraceCause.Read = codes "Read"
 trace_cause_text TraceCause.Write = codes "Write"
 trace_cause_text TraceCause.OutOfMemory = codes "OutOfMemory"
-
-abbrev pub cause_text : Refused → List ℕ
-cause_text Full = codes "Full"
-cause_text BadNode = codes "BadNode"
-cause_text IsDown = codes "IsDown"
-cause_text IsUp = codes "IsUp"
-cause_text Busy = codes "Busy"
-cause_text NoStep = codes "NoStep"
-cause_text SlotBusy = codes "SlotBusy"
-cause_text NoCall = codes "NoCall"
-cause_text CalleeDown = codes "CalleeDown"
-cause_text CalleeUp = codes "CalleeUp"
-cause_text BadTable = codes "BadTable"
 
 -- a node, or a dash
 abbrev pub node_text : Option ℕ → List ℕ
@@ -55,7 +33,7 @@ task_text (Some owners) = owners_text 44 owners
 
 abbrev pub node_line : ℕ → Vector → List ℕ
 node_line i v =
-    decimal i ++ codes " " ++ status_text v.status ++ codes " " ++ node_text v.coordinator ++ codes " " ++ node_text v.halter
+    decimal i ++ codes " " ++ status_word v.status ++ codes " " ++ node_text v.coordinator ++ codes " " ++ node_text v.halter
     ++ codes " " ++ task_text v.task ++ codes "\n"
 
 -- the lines of the first n nodes
@@ -66,7 +44,7 @@ node_lines w (suc n) = node_lines w n ++ node_line (n + 1) (vector w (n + 1))
 -- the line of the verdict itself
 abbrev pub verdict_head : Verdict → List ℕ
 verdict_head (Verdict.Lawful count) = codes "lawful " ++ decimal count ++ codes "\n"
-verdict_head (Verdict.Refused row why) = codes "refused " ++ decimal row ++ codes " " ++ cause_text why ++ codes "\n"
+verdict_head (Verdict.Refused row why) = codes "refused " ++ decimal row ++ codes " " ++ cause_word why ++ codes "\n"
 verdict_head (Verdict.Differs row) = codes "differs " ++ decimal row ++ codes "\n"
 
 -- with the vectors of the last world, where the trace is lawful

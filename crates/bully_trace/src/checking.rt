@@ -1,12 +1,15 @@
-ghost use Rattle.std.specs.Prelude.{◌≡◌, ◌≢◌, ◌⊎◌, ◌++◌, ℕ, List, [], Option, MatchOption, IfOk, IfErr, OnOk};
+ghost use Rattle.std.specs.Prelude.{◌≡◌, ◌≢◌, ◌⊎◌, ◌++◌, ℕ, List, [], Option, None, MatchOption, IfOk, IfErr, OnOk};
 ghost use Rattle.std.specs.Io.KnownBytes.{Appends};
 ghost use Rattle.std.specs.String.{string_bytes};
-ghost use Rattle.bully_trace.specs.Rows.{HasNoFault, IsFirstFault, IsReadAtItsRow, OfTrace};
-ghost use Rattle.bully_trace.specs.Judging.{AreAllJudged, HasJudged};
+ghost use Rattle.bully_trace.specs.Rows.{HasNoFault, IsFirstFault, IsOfWriting, IsReadAtItsRow, OfTrace};
+ghost use Rattle.bully_base.specs.Setup.{Setup as SetupState};
+ghost use Rattle.bully_trace.specs.declared.trace.Row.{Row as RowState};
+ghost use Rattle.bully_trace.specs.Judging.{AreAllJudged, HasJudged, IsJudgedToEnd};
 ghost use Rattle.bully_trace.specs.RecordsLeft.{EndsReading, IsUnread};
-ghost use Rattle.bully_trace.specs.Verdict.{IsLawfulCount, AgreesAfterEachRow};
+ghost use Rattle.bully_trace.specs.Verdict.{IsJudged, IsLawfulCount, AgreesAfterEachRow};
 ghost use Rattle.bully_trace.specs.VerdictText.{IsJudgedAs, verdict_text, node_lines};
 ghost use Rattle.bully_world.specs.State.{world_of};
+ghost use Rattle.bully_world.specs.World.{first_world};
 
 use crate::judging::Judge;
 use crate::row_reader::{RowReader, no_header};
@@ -43,31 +46,54 @@ pub fn check<R: Read + Drop, W: Write>(
     ensures row { IfErr result (λ fault.
         (fault.cause ≡ TraceCause.Write) ⊎ (fault.cause ≡ TraceCause.OutOfMemory) → fault.row ≡ 0) }
 {
-    let judge = judge_rows(alloc, RowReader::open(alloc, reader))?;
-    let verdict = judge.verdict();
-    let text = text_of(alloc, verdict, judge.world())?;
-    writer.write_all(text.as_bytes()).map_err(not_written)?;
-    Ok(verdict)
+    let judge = judge_text(alloc, reader)?;
+    write_verdict(alloc, &judge, writer)
 }
 
-// Has all rows of a trace judged. Its header makes the judge.
-// (in one loop, and by a reference to each row: so the reading and the judging are built into it)
-fn judge_rows<R: Read + Drop>(alloc: Global, mut rows: RowReader<R>) -> Result<Judge, TraceFault>
-    ensures judged { (known : Option (List ℕ)) → IsUnread known rows → IfOk result (λ judge. AreAllJudged known judge.world.setup judge) }
-    ensures fault { (known : Option (List ℕ)) → IsUnread known rows → IfErr result (EndsReading known) }
+// Has all rows of a text judged.
+fn judge_text<R: Read + Drop>(alloc: Global, reader: R) -> Result<Judge, TraceFault>
+    ensures judged { IfOk result (λ judge. AreAllJudged (R.remaining reader) judge.world.setup judge) }
+    ensures fault { IfErr result (EndsReading (R.remaining reader)) }
+{
+    let mut rows = RowReader::open(alloc, reader);
+    judge_rows(alloc, &mut rows)
+}
+
+// Has all rows judged. The header makes the judge.
+fn judge_rows<R: Read + Drop>(alloc: Global, rows: &mut RowReader<R>) -> Result<Judge, TraceFault>
+    ensures judged { (known : Option (List ℕ)) → IsUnread known rows.old → IfOk result (λ judge. AreAllJudged known judge.world.setup judge) }
+    ensures fault { (known : Option (List ℕ)) → IsUnread known rows.old → IfErr result (EndsReading known) }
 {
     let mut judge: Option<Judge> = None;
+    match judge_each(alloc, rows, &mut judge) {
+        Ok(()) => judge.ok_or(no_header()),
+        Err(fault) => Err(fault),
+    }
+}
+
+// Has each row judged that is still to be read.
+// (in one loop, and by a reference to each row: so the reading and the judging are built into it. What has to be dropped
+// is owned by the functions above, one each: an exit with such a value is dear to prove)
+fn judge_each<R: Read + Drop>(
+    alloc: Global,
+    rows: &mut RowReader<R>,
+    judge: &mut Option<Judge>,
+) -> Result<(), TraceFault>
+    requires { judge.old ≡ None }
+    ensures judged { (known : Option (List ℕ)) → IsUnread known rows.old → OnOk result (IsJudgedToEnd known judge.new) }
+    ensures fault { (known : Option (List ℕ)) → IsUnread known rows.old → IfErr result (EndsReading known) }
+{
     while rows.advance()? {
-        if let Some(judge) = &mut judge {
+        if let Some(judge) = judge {
             match &rows.row(alloc, judge.world().setup())? {
-                Some(row) => judge.take(rows.number(), row),
+                Some(row) => judge.take_row(rows.number(), row),
                 None => return Err(rows.bad_row()),
             }
         } else {
-            begin(alloc, rows.header()?, &mut judge)?;
+            begin(alloc, rows.header()?, judge)?;
         }
     }
-    judge.ok_or(no_header())
+    Ok(())
 }
 
 // The judge begins, before any row.
@@ -78,6 +104,25 @@ fn begin(alloc: Global, setup: Setup, judge: &mut Option<Judge>) -> Result<(), O
 {
     *judge = Some(Judge::new(alloc, setup)?);
     Ok(())
+}
+
+// Writes the verdict of the judge, and tells it.
+fn write_verdict<W: Write>(
+    alloc: Global,
+    judge: &Judge,
+    writer: &mut W,
+) -> Result<Verdict, TraceFault>
+    ensures verdict { (setup : SetupState) (rows : List RowState) → HasJudged setup rows judge.now → IfOk result (λ verdict. IsJudged setup (first_world setup) 0 2 rows verdict (world_of judge.now.world)) }
+    ensures text { IfOk result (λ verdict. Appends (W.contents writer.old) (W.contents writer.new) (verdict_text judge.now.world.setup verdict (world_of judge.now.world))) }
+    ensures fault { IfErr result IsOfWriting }
+    ensures silent { IfErr result (λ fault. fault.cause ≡ TraceCause.OutOfMemory → writer.new ≡ writer.old) }
+{
+    let verdict = judge.verdict();
+    let text = text_of(alloc, verdict, judge.world())?;
+    writer
+        .write_all(text.as_bytes())
+        .map_err(not_written)
+        .and(Ok(verdict))
 }
 
 // The text of the verdict, after which the world is so.

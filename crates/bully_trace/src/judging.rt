@@ -43,31 +43,31 @@ impl Judge {
 
     /// Takes the row of this number. The first event that the world refuses, or the first claim that is false of it,
     /// decides, and no later row changes anything.
-    // (one call for each kind that comes often, and inlined: so what reads a word goes on right to what its event needs,
-    // and none of it chooses by the kind once more)
-    pub fn take(&mut self, number: u32, row: &Row)
+    // (the eight arms are alike, and are kept apart for speed: each has a copy of the call of its own, in which the kind is
+    // known, so what reads a word goes on right to what its event needs, and none of it chooses by the kind once more)
+    pub fn take_row(&mut self, number: u32, row: &Row)
         ensures { (setup : SetupState) (rows : List RowState) → length rows + 2 ≡ number → HasJudged setup rows self.old → HasJudged setup (rows ++ row.now ∷ []) self.new }
     {
         match row {
-            Row::Event(Event::Check(_)) => self.take_row(number, row),
-            Row::Event(Event::Timeout(_)) => self.take_row(number, row),
-            Row::Event(Event::Start(_)) => self.take_row(number, row),
-            Row::Event(Event::Run(_)) => self.take_row(number, row),
-            Row::Event(Event::Lose(_)) => self.take_row(number, row),
-            Row::Event(Event::Return(_)) => self.take_row(number, row),
-            Row::Event(Event::Move(_)) => self.take_row(number, row),
-            _ => self.take_row(number, row),
+            Row::Event(Event::Check(_)) => self.judge_row(number, row),
+            Row::Event(Event::Timeout(_)) => self.judge_row(number, row),
+            Row::Event(Event::Start(_)) => self.judge_row(number, row),
+            Row::Event(Event::Run(_)) => self.judge_row(number, row),
+            Row::Event(Event::Lose(_)) => self.judge_row(number, row),
+            Row::Event(Event::Return(_)) => self.judge_row(number, row),
+            Row::Event(Event::Move(_)) => self.judge_row(number, row),
+            _ => self.judge_row(number, row),
         }
     }
 
-    // Takes the row, as `take` does.
-    // (inlined, as `take` says)
+    // Judges the row, where none before it decided.
+    // (inlined, as `take_row` says)
     #[inline(always)]
-    fn take_row(&mut self, number: u32, row: &Row)
+    fn judge_row(&mut self, number: u32, row: &Row)
         ensures { (setup : SetupState) (rows : List RowState) → length rows + 2 ≡ number → HasJudged setup rows self.old → HasJudged setup (rows ++ row.now ∷ []) self.new }
     {
         if self.stopped.is_none() {
-            if let Some(verdict) = fault_of(&mut self.walk, number, row) {
+            if let Some(verdict) = stopping_verdict(&mut self.walk, number, row) {
                 self.stopped = Some(verdict);
             }
         }
@@ -92,9 +92,9 @@ impl Judge {
 }
 
 // Takes the row of this number to the world: the verdict, where that isn't lawful.
-// (inlined, as `take` says)
+// (inlined, as `take_row` says)
 #[inline(always)]
-fn fault_of(walk: &mut Walk, number: u32, row: &Row) -> Option<Verdict>
+fn stopping_verdict(walk: &mut Walk, number: u32, row: &Row) -> Option<Verdict>
     ensures judged { (more : List RowState) (verdict : VerdictState) (w : WorldOf) → IsJudgedOn (record { world = walk.new; stopped = result }) (number + 1) more verdict w
         → IsJudged walk.old.setup (world_of walk.old) walk.old.events number (row.now ∷ more) verdict w }
     ensures setup { walk.new.setup ≡ walk.old.setup }

@@ -15,6 +15,7 @@ mod row_reader;
 mod text;
 mod trace;
 mod verdict;
+mod words;
 mod writing;
 
 pub use checking::check;

@@ -1,4 +1,4 @@
-ghost use Rattle.std.specs.Prelude.{◌≡◌, ◌≢◌, ◌≤◌, ℕ, List, [], Option, length, IfErr, IfOk};
+ghost use Rattle.std.specs.Prelude.{◌≡◌, ◌≢◌, ◌≤◌, ℕ, List, [], Option, ◌+◌, length, IfErr, IfOk, OnOk};
 ghost use Rattle.bully_trace.specs.Rows.{IsFirstFault, IsReadAtItsRow, IsTraceOf};
 ghost use Rattle.bully_trace.specs.declared.TheConstants.{ROWS_MAX};
 ghost use Rattle.bully_trace.specs.RecordsLeft.{EndsReading, HasRead, IsUnread, rows_left};
@@ -21,17 +21,30 @@ pub fn read_trace<R: Read + Drop>(alloc: Global, reader: R) -> Result<Trace, Tra
     ensures memory { IfErr result (λ f. f.cause ≡ TraceCause.OutOfMemory → f.row ≡ 0) }
 {
     let mut rows = RowReader::open(alloc, reader);
-    let setup = read_setup(&mut rows)?;
-    let read = read_rows(alloc, setup, &mut rows)?;
-    Ok(Trace {
-        setup,
-        rows: Rows::from_vec(read),
-    })
+    read_all(alloc, &mut rows)
+}
+
+// The trace of a text of which nothing was read.
+// (apart from the function that owns the reader, which has to be dropped)
+fn read_all<R: Read + Drop>(alloc: Global, rows: &mut RowReader<R>) -> Result<Trace, TraceFault>
+    ensures read { (known : Option (List ℕ)) → IsUnread known rows.old → IfOk result (IsTraceOf known) }
+    ensures fault { (known : Option (List ℕ)) → IsUnread known rows.old → IfErr result (EndsReading known) }
+{
+    let setup = read_setup(rows)?;
+    let mut read = Vec::new(alloc);
+    match read_rows(alloc, setup, rows, &mut read) {
+        Ok(()) => Ok(Trace {
+            setup,
+            rows: Rows::from_vec(read),
+        }),
+        Err(fault) => Err(fault),
+    }
 }
 
 // The setup of the header, which is the first row.
 fn read_setup<R: Read + Drop>(rows: &mut RowReader<R>) -> Result<Setup, TraceFault>
     ensures read { (known : Option (List ℕ)) → IsUnread known rows.old → IfOk result (λ setup. HasRead known [] (rows_left setup rows.new)) }
+    ensures counted { OnOk result (rows.new.number ≡ rows.old.number + 1) }
     ensures fault { (known : Option (List ℕ)) → IsUnread known rows.old → IfErr result (EndsReading known) }
 {
     if !rows.advance()? {
@@ -40,22 +53,24 @@ fn read_setup<R: Read + Drop>(rows: &mut RowReader<R>) -> Result<Setup, TraceFau
     rows.header()
 }
 
-// All rows that are still to be read of a trace with this setup.
+// Reads all rows that are left of a trace with this setup.
 fn read_rows<R: Read + Drop>(
     alloc: Global,
     setup: Setup,
     rows: &mut RowReader<R>,
-) -> Result<Vec<Row>, TraceFault>
-    ensures read { (known : Option (List ℕ)) → HasRead known [] (rows_left setup rows.old) → IfOk result (λ read. IsTraceOf known (record { setup = setup; rows = read.items })) }
-    ensures within { rows.old.number ≡ 1 → IfOk result (λ read. length read.items ≤ ROWS_MAX) }
+    read: &mut Vec<Row>,
+) -> Result<(), TraceFault>
+    requires empty { read.old.items ≡ [] }
+    requires begun { 1 ≤ rows.old.number }
+    ensures read { (known : Option (List ℕ)) → HasRead known [] (rows_left setup rows.old) → OnOk result (IsTraceOf known (record { setup = setup; rows = read.new.items })) }
+    ensures within { OnOk result (length read.new.items ≤ ROWS_MAX) }
     ensures fault { (known : Option (List ℕ)) → HasRead known [] (rows_left setup rows.old) → IfErr result (EndsReading known) }
 {
-    let mut read = Vec::new(alloc);
     while rows.advance()? {
         match rows.row(alloc, setup)? {
             Some(row) => read.push(row)?,
             None => return Err(rows.bad_row()),
         }
     }
-    Ok(read)
+    Ok(())
 }

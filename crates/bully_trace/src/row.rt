@@ -1,14 +1,14 @@
 ghost use Rattle.std.specs.Prelude.{◌≡◌, ◌<◌, ◌∷◌, [], length, Some, IfOk};
 ghost use Rattle.std.specs.Option.{option_and_then, option_map};
-ghost use Rattle.std.specs.Str.{bytes_eq};
 ghost use Rattle.csv.specs.Records.{fields_of, field_at};
 ghost use Rattle.bully_base.specs.Setup.{Setup as SetupState};
 ghost use Rattle.bully_table.specs.Numeral.{number_of};
 ghost use Rattle.bully_trace.specs.declared.trace.Row.{Row};
-ghost use Rattle.bully_trace.specs.Rows.{row_of, header_of, within, node_in, event_named, status_named, coordinator_in, claim_in};
+ghost use Rattle.bully_trace.specs.Rows.{row_of, header_of, within, node_in, coordinator_in, claim_in};
 
 use crate::trace::{Claim, Row};
-use bully_base::{EVENTS_MAX, NODES_MAX, Node, OutOfMemory, PARTITIONS_MAX, Setup, Status};
+use crate::words::{PLAN, event_named, is_word, status_named};
+use bully_base::{EVENTS_MAX, NODES_MAX, Node, OutOfMemory, PARTITIONS_MAX, Setup};
 use bully_table::{Table, TableFault, read_number};
 use bully_world::Event;
 use csv::ByteRecord;
@@ -60,7 +60,7 @@ fn field(row: &ByteRecord, place: usize) -> &[u8]
 fn setup_in(word: &[u8], version: &[u8], nodes: &[u8], partitions: &[u8]) -> Option<Setup>
     ensures { result ≡ header_of (word.now ∷ version.now ∷ nodes.now ∷ partitions.now ∷ []) }
 {
-    if !is_word(word, b"bully".as_slice()) || !is_word(version, b"1".as_slice()) {
+    if !is_word(word, "bully") || !is_word(version, "1") {
         return None;
     }
     let nodes = number_within(nodes, NODES_MAX)?;
@@ -73,7 +73,7 @@ fn event_row(word: &[u8], node: &[u8]) -> Option<Row>
     ensures { (setup : SetupState) → result ≡ row_of setup (word.now ∷ node.now ∷ []) }
 {
     let node = read_node(node)?;
-    Some(Row::Event(event_of(word, node)?))
+    Some(Row::Event(event_named(word, node)?))
 }
 
 // What three fields mean.
@@ -86,7 +86,7 @@ fn plan_row(
 ) -> Result<Option<Row>, OutOfMemory>
     ensures { IfOk result (λ row. row ≡ row_of setup (word.now ∷ node.now ∷ owners.now ∷ [])) }
 {
-    if !is_word(word, b"plan".as_slice()) {
+    if !is_word(word, PLAN) {
         return Ok(None);
     }
     let Some(node) = read_node(node) else {
@@ -103,7 +103,7 @@ fn plan_row(
 fn claim_row(word: &[u8], node: &[u8], status: &[u8], coordinator: &[u8]) -> Option<Row>
     ensures { (setup : SetupState) → result ≡ row_of setup (word.now ∷ node.now ∷ status.now ∷ coordinator.now ∷ []) }
 {
-    if !is_word(word, b"saw".as_slice()) {
+    if !is_word(word, "saw") {
         return None;
     }
     Some(Row::Claim(claim_of(node, status, coordinator)?))
@@ -114,7 +114,7 @@ fn claim_of(node: &[u8], status: &[u8], coordinator: &[u8]) -> Option<Claim>
     ensures { option_map Row.Claim result ≡ claim_in node.now status.now coordinator.now }
 {
     let node = read_node(node)?;
-    let status = status_of(status)?;
+    let status = status_named(status)?;
     let coordinator = read_coordinator(coordinator)?;
     Some(Claim {
         node,
@@ -123,65 +123,11 @@ fn claim_of(node: &[u8], status: &[u8], coordinator: &[u8]) -> Option<Claim>
     })
 }
 
-// The event of this word at the node.
-// (the words that come most are tried first)
-fn event_of(word: &[u8], node: Node) -> Option<Event>
-    ensures { result ≡ event_named word.now node }
-{
-    if is_word(word, b"start".as_slice()) {
-        Some(Event::Start(node))
-    } else if is_word(word, b"run".as_slice()) {
-        Some(Event::Run(node))
-    } else if is_word(word, b"return".as_slice()) {
-        Some(Event::Return(node))
-    } else if is_word(word, b"check".as_slice()) {
-        Some(Event::Check(node))
-    } else if is_word(word, b"timeout".as_slice()) {
-        Some(Event::Timeout(node))
-    } else if is_word(word, b"move".as_slice()) {
-        Some(Event::Move(node))
-    } else if is_word(word, b"lose".as_slice()) {
-        Some(Event::Lose(node))
-    } else if is_word(word, b"crash".as_slice()) {
-        Some(Event::Crash(node))
-    } else if is_word(word, b"recover".as_slice()) {
-        Some(Event::Recover(node))
-    } else {
-        None
-    }
-}
-
-// The status of this word.
-fn status_of(word: &[u8]) -> Option<Status>
-    ensures { result ≡ status_named word.now }
-{
-    if is_word(word, b"down".as_slice()) {
-        Some(Status::Down)
-    } else if is_word(word, b"election".as_slice()) {
-        Some(Status::Election)
-    } else if is_word(word, b"reorganization".as_slice()) {
-        Some(Status::Reorganization)
-    } else if is_word(word, b"normal".as_slice()) {
-        Some(Status::Normal)
-    } else {
-        None
-    }
-}
-
-// Whether the text is this word.
-// (by its start: `==` calls a function for what is behind the first four bytes)
-#[inline(always)]
-fn is_word(text: &[u8], word: &[u8]) -> bool
-    ensures { result ≡ bytes_eq text.now word.now }
-{
-    text.len() == word.len() && word.starts_with(text)
-}
-
 // A node, or none where the text is a dash.
 fn read_coordinator(text: &[u8]) -> Option<Option<Node>>
     ensures { result ≡ coordinator_in text.now }
 {
-    if is_word(text, b"-".as_slice()) {
+    if is_word(text, "-") {
         return Some(None);
     }
     Some(Some(read_node(text)?))

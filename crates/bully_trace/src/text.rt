@@ -1,46 +1,18 @@
-ghost use Rattle.std.specs.Prelude.{◌≡◌, ◌∷◌, ◌++◌, [], codes, OnOk, string_bytes};
+ghost use Rattle.std.specs.Prelude.{◌≡◌, ◌∷◌, ◌++◌, [], OnOk, string_bytes};
 ghost use Rattle.std.specs.Fmt.{decimal};
 ghost use Rattle.std.specs.Option.{option_copied};
-ghost use Rattle.bully_table.specs.TableText.{owners_text};
+ghost use Rattle.bully_world.specs.declared.event.Event.{Event};
 ghost use Rattle.bully_trace.specs.TraceText.{line_of, event_fields, row_fields, header_fields};
-ghost use Rattle.bully_trace.specs.VerdictText.{status_text, cause_text, node_text, task_text, node_line, verdict_head};
+ghost use Rattle.bully_trace.specs.VerdictText.{node_text, task_text, node_line, verdict_head};
 
+use crate::words::{
+    CHECK, CRASH, LOSE, MOVE, PLAN, RECOVER, RETURN, RUN, START, TIMEOUT, cause_word, status_word,
+};
 use crate::{Claim, Row, Verdict};
-use bully_base::{Node, OutOfMemory, Setup, Status};
+use bully_base::{Node, OutOfMemory, Setup};
 use bully_handlers::Vector;
 use bully_table::{Table, push_owners};
-use bully_world::{Event, Refused};
-
-/// The status as a trace and a verdict spell it.
-pub fn status_word(status: Status) -> &'static str
-    ensures { result.now ≡ status_text status }
-{
-    match status {
-        Status::Down => "down",
-        Status::Election => "election",
-        Status::Reorganization => "reorganization",
-        Status::Normal => "normal",
-    }
-}
-
-/// The cause of a refusal as a verdict spells it.
-pub fn cause_word(cause: Refused) -> &'static str
-    ensures { result.now ≡ cause_text cause }
-{
-    match cause {
-        Refused::Full => "Full",
-        Refused::BadNode => "BadNode",
-        Refused::IsDown => "IsDown",
-        Refused::IsUp => "IsUp",
-        Refused::Busy => "Busy",
-        Refused::NoStep => "NoStep",
-        Refused::SlotBusy => "SlotBusy",
-        Refused::NoCall => "NoCall",
-        Refused::CalleeDown => "CalleeDown",
-        Refused::CalleeUp => "CalleeUp",
-        Refused::BadTable => "BadTable",
-    }
-}
+use bully_world::Event;
 
 /// Appends a node's number, or a dash for none.
 pub fn push_node(text: &mut String, node: Option<Node>) -> Result<(), OutOfMemory>
@@ -118,15 +90,15 @@ fn push_event(text: &mut String, event: &Event) -> Result<(), OutOfMemory>
     ensures { OnOk result (string_bytes text.new ≡ string_bytes text.old ++ line_of (event_fields event.now)) }
 {
     match event {
-        Event::Recover(node) => push_named(text, "recover", *node),
-        Event::Crash(node) => push_named(text, "crash", *node),
-        Event::Check(node) => push_named(text, "check", *node),
-        Event::Timeout(node) => push_named(text, "timeout", *node),
-        Event::Start(node) => push_named(text, "start", *node),
-        Event::Run(node) => push_named(text, "run", *node),
-        Event::Lose(node) => push_named(text, "lose", *node),
-        Event::Return(node) => push_named(text, "return", *node),
-        Event::Move(node) => push_named(text, "move", *node),
+        Event::Recover(node) => push_named(text, RECOVER, *node),
+        Event::Crash(node) => push_named(text, CRASH, *node),
+        Event::Check(node) => push_named(text, CHECK, *node),
+        Event::Timeout(node) => push_named(text, TIMEOUT, *node),
+        Event::Start(node) => push_named(text, START, *node),
+        Event::Run(node) => push_named(text, RUN, *node),
+        Event::Lose(node) => push_named(text, LOSE, *node),
+        Event::Return(node) => push_named(text, RETURN, *node),
+        Event::Move(node) => push_named(text, MOVE, *node),
         Event::Plan(node, table) => push_plan(text, *node, table),
     }
 }
@@ -141,10 +113,11 @@ fn push_named(text: &mut String, word: &str, node: Node) -> Result<(), OutOfMemo
 
 // Appends the line of a Plan.
 fn push_plan(text: &mut String, node: Node, table: &Table) -> Result<(), OutOfMemory>
-    ensures { OnOk result (string_bytes text.new ≡ string_bytes text.old ++ line_of (codes "plan" ∷ decimal node ∷ owners_text 32 table.now ∷ [])) }
+    ensures { OnOk result (string_bytes text.new ≡ string_bytes text.old ++ line_of (event_fields (Event.Plan node table.now))) }
 {
+    let word = PLAN;
     let number = node.number();
-    write!(text, "plan,{number},")?;
+    write!(text, "{word},{number},")?;
     push_owners(text, table, ' ')?;
     text.push('\n')
 }

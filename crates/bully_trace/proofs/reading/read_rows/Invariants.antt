@@ -1,10 +1,14 @@
-use Rattle.std.proofs.Common.{◌+◌, ◌-◌, ℕ, List, [], Option}
+use Rattle.std.proofs.Common.{◌+◌, ◌-◌, ◌≤◌, ℕ, List, [], Option, length}
 use Rattle.bully_trace.specs.declared.TheConstants.{ROWS_MAX}
 use Rattle.bully_trace.specs.RecordsLeft.{HasRead, rows_left}
 use Rattle.bully_trace.proofs.reading.read_rows.Given as goal
 
-abbrev pub invariant-loop-read : goal.invariant-loop-read
-invariant-loop-read g l = (known : Option (List ℕ)) → HasRead known [] (rows_left l.setup l.fn.rows) → HasRead known l.read.items (rows_left l.setup l.rows)
+abbrev pub invariant-loop-rows : goal.invariant-loop-rows
+invariant-loop-rows g l = record {
+  read : (known : Option (List ℕ)) → HasRead known [] (rows_left l.setup l.fn.rows) → HasRead known l.read.items (rows_left l.setup l.rows);
+  within : length l.read.items ≤ ROWS_MAX;
+  counted : length l.read.items + 1 ≤ l.rows.number;
+}
 
-abbrev pub decreases-loop-read : goal.decreases-loop-read
-decreases-loop-read g l = ROWS_MAX + 1 - l.rows.number
+abbrev pub decreases-loop-rows : goal.decreases-loop-rows
+decreases-loop-rows g l = ROWS_MAX + 1 - l.rows.number

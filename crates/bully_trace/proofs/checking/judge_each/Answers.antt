@@ -1,6 +1,6 @@
 use Rattle.std.proofs.Common.{◌∙◌, sym, rules}
 use Rattle.bully_trace.proofs.CheckLemmas.{judged-bad, judged-row, judged-start}
-use Rattle.bully_trace.proofs.checking.judge_rows.Goals as goal
+use Rattle.bully_trace.proofs.checking.judge_each.Goals as goal
 
 pub returns-in-None-clause-fault : goal.returns-in-None-clause-fault
 returns-in-None-clause-fault g c = λ known unread. rw c.bad_row.ensures (
@@ -10,21 +10,21 @@ returns-in-None-clause-fault g c = λ known unread. rw c.bad_row.ensures (
 
 pub loop-judge-preserved-in-Some-2 : goal.loop-judge-preserved-in-Some-2
 loop-judge-preserved-in-Some-2 g c = λ known unread.
-    judged-row known c.loop-judge.rows c.advance.new.self c.loop-judge.judge c.in-Some.judge c.take.new.self c.in_ok-advance.field-0 c.setup.result c.in-Some-2.row c.number.result
+    judged-row known c.loop-judge.rows c.advance.new.self c.loop-judge.judge c.in-Some.judge c.take_row.new.self c.in_ok-advance.field-0 c.setup.result c.in-Some-2.row c.number.result
     c.in_ok-advance.ensures.takes (search rules) c.in_ok-advance.ensures.counted c.in-Some.is (search rules) (sym c.in_ok-row.ensures ∙ c.in-Some-2.is)
-    c.number.ensures c.take.ensures (c.loop-judge.invariant known unread)
+    c.number.ensures c.take_row.ensures (c.loop-judge.invariant known unread)
 
 pub loop-judge-preserved-in-Some-2-2 : goal.loop-judge-preserved-in-Some-2-2
 loop-judge-preserved-in-Some-2-2 g c = λ known unread.
-    judged-row known c.loop-judge.rows c.advance.new.self c.loop-judge.judge c.in-Some.judge c.take.new.self c.in_ok-advance.field-0 c.setup.result c.in-Some-2.row c.number.result
+    judged-row known c.loop-judge.rows c.advance.new.self c.loop-judge.judge c.in-Some.judge c.take_row.new.self c.in_ok-advance.field-0 c.setup.result c.in-Some-2.row c.number.result
     c.in_ok-advance.ensures.takes (search rules) c.in_ok-advance.ensures.counted c.in-Some.is (search rules) (sym c.in_ok-row.ensures ∙ c.in-Some-2.is)
-    c.number.ensures c.take.ensures (c.loop-judge.invariant known unread)
+    c.number.ensures c.take_row.ensures (c.loop-judge.invariant known unread)
 
 pub loop-judge-preserved-in-Some-2-3 : goal.loop-judge-preserved-in-Some-2-3
 loop-judge-preserved-in-Some-2-3 g c = λ known unread.
-    judged-row known c.loop-judge.rows c.advance.new.self c.loop-judge.judge c.in-Some.judge c.take.new.self c.in_ok-advance.field-0 c.setup.result c.in-Some-2.row c.number.result
+    judged-row known c.loop-judge.rows c.advance.new.self c.loop-judge.judge c.in-Some.judge c.take_row.new.self c.in_ok-advance.field-0 c.setup.result c.in-Some-2.row c.number.result
     c.in_ok-advance.ensures.takes (search rules) c.in_ok-advance.ensures.counted c.in-Some.is (search rules) (sym c.in_ok-row.ensures ∙ c.in-Some-2.is)
-    c.number.ensures c.take.ensures (c.loop-judge.invariant known unread)
+    c.number.ensures c.take_row.ensures (c.loop-judge.invariant known unread)
 
 pub loop-judge-preserved : goal.loop-judge-preserved
 loop-judge-preserved g c = λ known unread.
