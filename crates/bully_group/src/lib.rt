@@ -23,6 +23,3 @@ pub use locked::turn::Turn;
 pub use naming::Naming;
 pub use pass::Pass;
 pub use seat::Seat;
-
-#[cfg(test)]
-mod tests;

@@ -17,6 +17,3 @@ pub use knowledge::PublisherId;
 pub use observer::{LookFault, Observer};
 pub use publisher::{OpenFault, Publisher};
 pub use told::Told;
-
-#[cfg(test)]
-mod tests;
