@@ -120,7 +120,7 @@ fn counts_by<L: Naming + Send + Sync, R: Threads + Wait + Sync>(
         Ok((group, mut seats, mut passes)) => {
             seats.truncate(1);
             let counts = match (seats.pop(), passes.pop()) {
-                (Some(seat), Some(pass)) => Some(race(rt, alloc, &group, seat, pass, observer)),
+                (Some(seat), Some(pass)) => Some(race(rt, &group, seat, pass, observer)),
                 _ => None,
             };
             group.close().end(rt);
@@ -135,7 +135,6 @@ fn counts_by<L: Naming + Send + Sync, R: Threads + Wait + Sync>(
 
 fn race<L: Naming + Send + Sync, R: Threads + Wait + Sync>(
     rt: &R,
-    alloc: Global,
     group: &Group<L>,
     seat: Seat,
     pass: Pass<L>,
