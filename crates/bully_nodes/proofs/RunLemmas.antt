@@ -16,7 +16,9 @@ use Rattle.bully_group.specs.Locked.{LockedState, IsLocked}
 use Rattle.bully_group.specs.Seat.{SeatState, AreNewSeats}
 use Rattle.bully_group.specs.Turns.{IfWent, IfWaiting, IfResynced, IfFault, is_went, handed_back, Goes, Waits, Resyncs, Fails}
 use Rattle.bully_play.specs.Play.{IsDue, IsPlay, event_of_fault}
-use Rattle.bully_nodes.specs.Run.{Held, Logs, Tries, PreparesAt, ServesAt, ProceedsAt, HasDueLog, IsKept}
+use Rattle.bully_nodes.specs.Run.{Held, Logs, AppliesAt, PreparesAt, ServesAt, ProceedsAt, HasDueLog, IsKept, IsRoleOf, procedure_of, IsActorsTurn, ActorsTurns}
+use Rattle.bully_nodes.specs.declared.jobs.Role.{Role}
+use Rattle.bully_play.specs.Schedule.{AreLeft}
 use Rattle.bully_play.specs.Turns.{GoesOn, Follows, IsTurnOn, OperatesOn}
 use Rattle.bully_play.proofs.LawfulLemmas.{lawful-bound}
 use Rattle.bully_play.proofs.RecordingLemmas.{step_due, faults_due, later_place}
@@ -38,21 +40,26 @@ abbrev held : SeatState → ℕ → Held
 held seat counted = record { seat = seat; counted = counted }
 
 -- what the calls of a locked group do to a seat and a pass
-turned : (answer : Turn) (s s' : LockedState) (seat seat' : SeatState) (h h' : ProcedureState) (n n' : ℕ) → IfWent answer (Goes s seat h s' seat') → IfWaiting answer (Waits s seat h) → IfResynced answer (Resyncs s seat h) → IfFault answer (Fails s seat h) → (is_went answer ≡ false → (s' ≡ s) × (seat' ≡ seat)) → n' ≡ (if is_went answer then n + 1 else n) → h' ≡ handed_back answer
-    → ProceedsAt (held seat n) h (held seat' n') h'
-turned (Turn.Went p) s s' seat seat' h h' n n' goes waits resyncs fails same counted back =
-    inl (goes.1, record { from = s; to = s'; records = goes.4; counted = counted }, back ∙ goes.5, goes.2)
-turned (Turn.Waiting p) s s' seat seat' h h' n n' goes waits resyncs fails same counted back =
-    inr (rw ((same refl).1, counted) refl, s, inl (rw back waits))
-turned (Turn.Resynced p) s s' seat seat' h h' n n' goes waits resyncs fails same counted back =
-    inr (rw ((same refl).1, counted) refl, s, inr (inl (rw back resyncs)))
-turned (Turn.Fault p f) s s' seat seat' h h' n n' goes waits resyncs fails same counted back =
-    inr (rw ((same refl).1, counted) refl, s, inr (inr (f, rw back fails)))
+turned : (IsState : LockedState → Type 0) (answer : Turn) (s s' : LockedState) (seat seat' : SeatState) (h h' : ProcedureState) (n n' : ℕ) → IsState s → IfWent answer (Goes s seat h s' seat') → IfWaiting answer (Waits s seat h) → IfResynced answer (Resyncs s seat h) → IfFault answer (Fails s seat h) → (is_went answer ≡ false → (s' ≡ s) × (seat' ≡ seat)) → n' ≡ (if is_went answer then n + 1 else n) → h' ≡ handed_back answer
+    → ProceedsAt IsState (held seat n) h (held seat' n') h'
+turned IsState (Turn.Went p) s s' seat seat' h h' n n' is goes waits resyncs fails same counted back =
+    inl (goes.1, record { from = s; is_state = is; to = s'; records = goes.4; counted = counted }, back ∙ goes.5, goes.2)
+turned IsState (Turn.Waiting p) s s' seat seat' h h' n n' is goes waits resyncs fails same counted back =
+    inr (rw ((same refl).1, counted) refl, s, is, inl (rw back waits))
+turned IsState (Turn.Resynced p) s s' seat seat' h h' n n' is goes waits resyncs fails same counted back =
+    inr (rw ((same refl).1, counted) refl, s, is, inr (inl (rw back resyncs)))
+turned IsState (Turn.Fault p f) s s' seat seat' h h' n n' is goes waits resyncs fails same counted back =
+    inr (rw ((same refl).1, counted) refl, s, is, inr (inr (f, rw back fails)))
 
-pub turned_ok : {E : Type 0} (result : Result Procedure E) (answer : Turn) (s s' : LockedState) (seat seat' : SeatState) (h : ProcedureState) (n n' : ℕ) → IfWent answer (Goes s seat h s' seat') → IfWaiting answer (Waits s seat h) → IfResynced answer (Resyncs s seat h) → IfFault answer (Fails s seat h) → (is_went answer ≡ false → (s' ≡ s) × (seat' ≡ seat)) → n' ≡ (if is_went answer then n + 1 else n)
-    → IfOk result (λ p. state_of p ≡ handed_back answer) → IfOk result (λ p. ProceedsAt (held seat n) h (held seat' n') (state_of p))
-turned_ok (Ok p) answer s s' seat seat' h n n' goes waits resyncs fails same counted back = turned answer s s' seat seat' h (state_of p) n n' goes waits resyncs fails same counted back
-turned_ok (Err e) answer s s' seat seat' h n n' goes waits resyncs fails same counted back = tt
+pub turned_ok : {E : Type 0} (IsState : LockedState → Type 0) (result : Result Procedure E) (answer : Turn) (s s' : LockedState) (seat seat' : SeatState) (h : ProcedureState) (n n' : ℕ) → IsState s → IfWent answer (Goes s seat h s' seat') → IfWaiting answer (Waits s seat h) → IfResynced answer (Resyncs s seat h) → IfFault answer (Fails s seat h) → (is_went answer ≡ false → (s' ≡ s) × (seat' ≡ seat)) → n' ≡ (if is_went answer then n + 1 else n)
+    → IfOk result (λ p. state_of p ≡ handed_back answer) → IfOk result (λ p. ProceedsAt IsState (held seat n) h (held seat' n') (state_of p))
+turned_ok IsState (Ok p) answer s s' seat seat' h n n' is goes waits resyncs fails same counted back = turned IsState answer s s' seat seat' h (state_of p) n n' is goes waits resyncs fails same counted back
+turned_ok IsState (Err e) answer s s' seat seat' h n n' is goes waits resyncs fails same counted back = tt
+
+-- a serve is that of any node
+pub served_ok : {E : Type 0} (IsState : LockedState → Type 0) (result : Result Bool E) (before after : Held) (node : ℕ) → IfOk result (λ served. (i : ℕ) → ServesAt IsState before i served after) → IfOk result (λ served. ServesAt IsState before node served after)
+served_ok IsState (Ok served) before after node serves = serves node
+served_ok IsState (Err e) before after node serves = tt
 
 -- a task that is shown has the setup's partitions
 sized : (n : ℕ) (task : Option (List ℕ)) → ((table : List ℕ) → task ≡ Some table → length table ≡ n) → IfSome task (λ t. length t ≡ n)
@@ -64,75 +71,126 @@ viewed_task v i is =
     let there : (shown v i).task ≡ (member is.world i).vector.task = ap (λ (x : View). (shown x i).task) is.view ∙ ap (λ (s : Shown). s.task) (shown_there v.setup (length is.events) is.world i) in
     rw there (sized v.setup.partitions (member is.world i).vector.task ((lawful_fits v.setup is.events is.answers is.world is.lawful).fits i).by_setup.task)
 
--- an entry that is due is kept, and so is a seat as it was
-logs_keep : (faults : List Fault) (actor : ℕ) (e : Event) (before after : Held) → IsDue faults e → Logs e before after → IsKept faults actor before → IsKept faults actor after
-logs_keep faults actor e before after due logs kept = record {
-  actor = logs.records.actor ∙ kept.actor;
-  due = rw logs.records.log (All-push (λ (told : ℕ × Entry). IsDue faults told.1.event) before.seat.log _ kept.due due);
-  counted = logs.counted ∙ (ap (λ (k : ℕ). k + 1) kept.counted ∙ sym (ap length logs.records.log ∙ length-append before.seat.log _));
-}
+-- a turn that is taken on whatever holds a seat and a pass, told of these two
+module _ {S : Type 0} (IsState : LockedState → Type 0) (at : S → Held) where
+  operates_at : (number : ℕ) (faults : List Fault) (before after : S) → OperatesOn (λ (e : Event) (b a : S). AppliesAt IsState e (at b) (at a)) number faults before after → OperatesOn (AppliesAt IsState) number faults (at before) (at after)
+  operates_at number [] before after does = ap at does
+  operates_at number (fault ∷ faults) before after does = by_turn (fault.at == number) does (λ mid rest. operates_at number faults mid after rest)
+    where
+      by_turn : (b : Bool) → MatchBool b ((mid : S) × AppliesAt IsState (event_of_fault fault) (at before) (at mid) × OperatesOn (λ (e : Event) (b a : S). AppliesAt IsState e (at b) (at a)) number faults mid after) (OperatesOn (λ (e : Event) (b a : S). AppliesAt IsState e (at b) (at a)) number faults before after)
+          → ((mid : S) → OperatesOn (λ (e : Event) (b a : S). AppliesAt IsState e (at b) (at a)) number faults mid after → OperatesOn (AppliesAt IsState) number faults (at mid) (at after))
+          → MatchBool b ((mid : Held) × AppliesAt IsState (event_of_fault fault) (at before) mid × OperatesOn (AppliesAt IsState) number faults mid (at after)) (OperatesOn (AppliesAt IsState) number faults (at before) (at after))
+      by_turn true now rest = (at now.0, now.1, rest now.0 now.2)
+      by_turn false now rest = rest before now
 
-tries_keep : (faults : List Fault) (actor : ℕ) (e : Event) (before after : Held) → IsDue faults e → Tries e before after → IsKept faults actor before → IsKept faults actor after
-tries_keep faults actor e before after due (inl logs) kept = logs_keep faults actor e before after due logs kept
-tries_keep faults actor e before after due (inr same) kept = rw same.0 kept
+  goes_on_at : (choice : Choice) (before : S) (h : ProcedureState) (after : S) (h' : ProcedureState) → GoesOn (λ (e : Event) (b a : S). AppliesAt IsState e (at b) (at a)) (λ (b : S) (g : ProcedureState) (a : S) (g' : ProcedureState). ProceedsAt IsState (at b) g (at a) g') choice before h after h' → GoesOn (AppliesAt IsState) (ProceedsAt IsState) choice (at before) h (at after) h'
+  goes_on_at Choice.Check before h after h' does = does
+  goes_on_at Choice.Timeout before h after h' does = does
+  goes_on_at Choice.Proceed before h after h' does = does
 
-serves_keep : (faults : List Fault) (actor node : ℕ) (served : Bool) (before after : Held) → ServesAt before node served after → IsKept faults actor before → IsKept faults actor after
-serves_keep faults actor node true before after (inl ran) kept = logs_keep faults actor (Event.Run ran.0) before after tt ran.1 kept
-serves_keep faults actor node true before after (inr same) kept = rw same.0 kept
-serves_keep faults actor node false before after same kept = rw same.0 kept
+  follows_at : (served : Bool) (period number : ℕ) (before : S) (h : ProcedureState) (after : S) (h' : ProcedureState) → Follows (λ (e : Event) (b a : S). AppliesAt IsState e (at b) (at a)) (λ (b : S) (g : ProcedureState) (a : S) (g' : ProcedureState). ProceedsAt IsState (at b) g (at a) g') served period number before h after h' → Follows (AppliesAt IsState) (ProceedsAt IsState) served period number (at before) h (at after) h'
+  follows_at true period number before h after h' does = (ap at does.0, does.1)
+  follows_at false period number before h after h' does = goes_on_at (chosen_every period number h.point) before h after h' does
 
-proceeds_keep : (faults : List Fault) (actor : ℕ) (before : Held) (h : ProcedureState) (after : Held) (h' : ProcedureState) → ProceedsAt before h after h' → IsKept faults actor before → IsKept faults actor after
-proceeds_keep faults actor before h after h' (inl taken) kept = logs_keep faults actor (event_of taken.0 h) before after (step_due faults taken.0 h) taken.1 kept
-proceeds_keep faults actor before h after h' (inr same) kept = rw same.0 kept
+  pub operator_turn_ok : {X E : Type 0} (result : Result X E) (c : Configuration) (number : ℕ) (left : List Fault) (before after : S) → AreLeft c.faults number left → OnOk result ((faults : List Fault) → AreLeft faults number left → OperatesOn (λ (e : Event) (b a : S). AppliesAt IsState e (at b) (at a)) number faults before after)
+      → OnOk result (IsActorsTurn IsState c number (at before) None (at after) None)
+  operator_turn_ok (Ok x) c number left before after are does = operates_at number c.faults before after (does c.faults are)
+  operator_turn_ok (Err e) c number left before after are does = tt
 
-module _ {S : Type 0} (at : S → Held) (faults : List Fault) (actor : ℕ) where
-  abbrev applies : Event → S → S → Type 0
-  applies e before after = Tries e (at before) (at after)
+  pub node_turn_ok : {X E : Type 0} (result : Result X E) (c : Configuration) (period number : ℕ) (before : S) (h : ProcedureState) (after : S) (h' : ProcedureState) → period ≡ c.period
+      → OnOk result (IsTurnOn (λ (e : Event) (b a : S). AppliesAt IsState e (at b) (at a)) (λ (b : S) (g ready : ProcedureState). PreparesAt IsState (at b) g ready) (λ (b : S) (node : ℕ) (served : Bool) (a : S). ServesAt IsState (at b) node served (at a)) (λ (b : S) (g : ProcedureState) (a : S) (g' : ProcedureState). ProceedsAt IsState (at b) g (at a) g') period number before h after h')
+      → OnOk result (IsActorsTurn IsState c number (at before) (Some h) (at after) (Some h'))
+  node_turn_ok (Ok x) c period number before h after h' same does =
+      subst (λ (n : ℕ). IsTurnOn (AppliesAt IsState) (PreparesAt IsState) (ServesAt IsState) (ProceedsAt IsState) n number (at before) h (at after) h') same
+      (does.0, does.1, at does.2, does.3, does.4, follows_at does.1 period number does.2 does.0 after h' does.5)
+  node_turn_ok (Err e) c period number before h after h' same does = tt
 
-  abbrev proceeds : S → ProcedureState → S → ProcedureState → Type 0
-  proceeds before h after h' = ProceedsAt (at before) h (at after) h'
+-- the same of what the actor's role holds
+pub operator_turned : {X E S : Type 0} (result : Result X E) (IsState : LockedState → Type 0) (c : Configuration) (number : ℕ) (role : Role) (left : List Fault) (before after : S) (at : S → Held) → role ≡ Role.Operator left → IsRoleOf c number role → OnOk result ((faults : List Fault) → AreLeft faults number left → OperatesOn (λ (e : Event) (b a : S). AppliesAt IsState e (at b) (at a)) number faults before after)
+    → OnOk result (IsActorsTurn IsState c number (at before) (procedure_of role) (at after) None)
+operator_turned result IsState c number role left before after at is holds does =
+    subst (λ (r : Role). OnOk result (IsActorsTurn IsState c number (at before) (procedure_of r) (at after) None)) (sym is)
+    (operator_turn_ok IsState at result c number left before after (subst (λ (r : Role). IsRoleOf c number r) is holds) does)
 
-  goes_on_keeps : (choice : Choice) (before : S) (h : ProcedureState) (after : S) (h' : ProcedureState) → GoesOn applies proceeds choice before h after h' → IsKept faults actor (at before) → IsKept faults actor (at after)
-  goes_on_keeps Choice.Check before h after h' does kept = tries_keep faults actor (Event.Check h.node) (at before) (at after) tt does.0 kept
-  goes_on_keeps Choice.Timeout before h after h' does kept = tries_keep faults actor (Event.Timeout h.node) (at before) (at after) tt does.0 kept
-  goes_on_keeps Choice.Proceed before h after h' does kept = proceeds_keep faults actor (at before) h (at after) h' does kept
+pub node_turned : {X E S : Type 0} (result : Result X E) (IsState : LockedState → Type 0) (c : Configuration) (period number : ℕ) (role : Role) (p : Procedure) (h' : ProcedureState) (before after : S) (at : S → Held) → role ≡ Role.Node p → period ≡ c.period
+    → OnOk result (IsTurnOn (λ (e : Event) (b a : S). AppliesAt IsState e (at b) (at a)) (λ (b : S) (g ready : ProcedureState). PreparesAt IsState (at b) g ready) (λ (b : S) (node : ℕ) (served : Bool) (a : S). ServesAt IsState (at b) node served (at a)) (λ (b : S) (g : ProcedureState) (a : S) (g' : ProcedureState). ProceedsAt IsState (at b) g (at a) g') period number before (state_of p) after h')
+    → OnOk result (IsActorsTurn IsState c number (at before) (procedure_of role) (at after) (Some h'))
+node_turned result IsState c period number role p h' before after at is same does =
+    subst (λ (r : Role). OnOk result (IsActorsTurn IsState c number (at before) (procedure_of r) (at after) (Some h'))) (sym is)
+    (node_turn_ok IsState at result c period number before (state_of p) after h' same does)
 
-  follows_keeps : (served : Bool) (period number : ℕ) (before : S) (h : ProcedureState) (after : S) (h' : ProcedureState) → Follows applies proceeds served period number before h after h' → IsKept faults actor (at before) → IsKept faults actor (at after)
-  follows_keeps true period number before h after h' does kept = subst (λ (s : S). IsKept faults actor (at s)) (sym does.0) kept
+module _ (IsState : LockedState → Type 0) (faults : List Fault) (actor : ℕ) where
+  -- an entry that is due is kept, and so is a seat as it was
+  logs_keep : (e : Event) (before after : Held) → IsDue faults e → Logs IsState e before after → IsKept faults actor before → IsKept faults actor after
+  logs_keep e before after due logs kept = record {
+    actor = logs.records.actor ∙ kept.actor;
+    due = rw logs.records.log (All-push (λ (told : ℕ × Entry). IsDue faults told.1.event) before.seat.log _ kept.due due);
+    counted = logs.counted ∙ (ap (λ (k : ℕ). k + 1) kept.counted ∙ sym (ap length logs.records.log ∙ length-append before.seat.log _));
+  }
+
+  applies_keep : (e : Event) (before after : Held) → IsDue faults e → AppliesAt IsState e before after → IsKept faults actor before → IsKept faults actor after
+  applies_keep e before after due (inl logs) kept = logs_keep e before after due logs kept
+  applies_keep e before after due (inr same) kept = rw same.0 kept
+
+  serves_keep : (node : ℕ) (served : Bool) (before after : Held) → ServesAt IsState before node served after → IsKept faults actor before → IsKept faults actor after
+  serves_keep node true before after (inl ran) kept = logs_keep (Event.Run ran.0) before after tt ran.1 kept
+  serves_keep node true before after (inr same) kept = rw same.0 kept
+  serves_keep node false before after same kept = rw same.0 kept
+
+  proceeds_keep : (before : Held) (h : ProcedureState) (after : Held) (h' : ProcedureState) → ProceedsAt IsState before h after h' → IsKept faults actor before → IsKept faults actor after
+  proceeds_keep before h after h' (inl taken) kept = logs_keep (event_of taken.0 h) before after (step_due faults taken.0 h) taken.1 kept
+  proceeds_keep before h after h' (inr same) kept = rw same.0 kept
+
+  goes_on_keeps : (choice : Choice) (before : Held) (h : ProcedureState) (after : Held) (h' : ProcedureState) → GoesOn (AppliesAt IsState) (ProceedsAt IsState) choice before h after h' → IsKept faults actor before → IsKept faults actor after
+  goes_on_keeps Choice.Check before h after h' does kept = applies_keep (Event.Check h.node) before after tt does.0 kept
+  goes_on_keeps Choice.Timeout before h after h' does kept = applies_keep (Event.Timeout h.node) before after tt does.0 kept
+  goes_on_keeps Choice.Proceed before h after h' does kept = proceeds_keep before h after h' does kept
+
+  follows_keeps : (served : Bool) (period number : ℕ) (before : Held) (h : ProcedureState) (after : Held) (h' : ProcedureState) → Follows (AppliesAt IsState) (ProceedsAt IsState) served period number before h after h' → IsKept faults actor before → IsKept faults actor after
+  follows_keeps true period number before h after h' does kept = subst (λ (s : Held). IsKept faults actor s) (sym does.0) kept
   follows_keeps false period number before h after h' does kept = goes_on_keeps (chosen_every period number h.point) before h after h' does kept
 
   -- a node's turn
-  pub turn_keeps : (period number : ℕ) (before : S) (h : ProcedureState) (after : S) (h' : ProcedureState)
-      → IsTurnOn (λ (e : Event) (b a : S). Tries e (at b) (at a)) (λ (b : S) (g ready : ProcedureState). PreparesAt (at b) g ready) (λ (b : S) (node : ℕ) (served : Bool) (a : S). ServesAt (at b) node served (at a)) (λ (b : S) (g : ProcedureState) (a : S) (g' : ProcedureState). ProceedsAt (at b) g (at a) g') period number before h after h'
-      → IsKept faults actor (at before) → IsKept faults actor (at after)
+  turn_keeps : (period number : ℕ) (before : Held) (h : ProcedureState) (after : Held) (h' : ProcedureState)
+      → IsTurnOn (AppliesAt IsState) (PreparesAt IsState) (ServesAt IsState) (ProceedsAt IsState) period number before h after h'
+      → IsKept faults actor before → IsKept faults actor after
   turn_keeps period number before h after h' does kept =
-      follows_keeps does.1 period number does.2 does.0 after h' does.5 (serves_keep faults actor h.node does.1 (at before) (at does.2) does.4 kept)
+      follows_keeps does.1 period number does.2 does.0 after h' does.5 (serves_keep h.node does.1 before does.2 does.4 kept)
 
-  operates_keep : (number place : ℕ) (rest : List Fault) (before after : S) → drop place faults ≡ rest → OperatesOn (λ (e : Event) (b a : S). Tries e (at b) (at a)) number rest before after → IsKept faults actor (at before) → IsKept faults actor (at after)
-  operates_keep number place [] before after is does kept = subst (λ (s : S). IsKept faults actor (at s)) (sym does) kept
+  operates_keep : (number place : ℕ) (rest : List Fault) (before after : Held) → drop place faults ≡ rest → OperatesOn (AppliesAt IsState) number rest before after → IsKept faults actor before → IsKept faults actor after
+  operates_keep number place [] before after is does kept = subst (λ (s : Held). IsKept faults actor s) (sym does) kept
   operates_keep number place (fault ∷ rest) before after is does kept =
       by_turn (fault.at == number) does (faults_due faults place fault rest is) (λ mid later was. operates_keep number (place + 1) rest mid after (later_place faults place fault rest is) later was)
     where
-      by_turn : (b : Bool) → MatchBool b ((mid : S) × Tries (event_of_fault fault) (at before) (at mid) × OperatesOn (λ (e : Event) (b a : S). Tries e (at b) (at a)) number rest mid after) (OperatesOn (λ (e : Event) (b a : S). Tries e (at b) (at a)) number rest before after) → IsDue faults (event_of_fault fault)
-          → ((mid : S) → OperatesOn (λ (e : Event) (b a : S). Tries e (at b) (at a)) number rest mid after → IsKept faults actor (at mid) → IsKept faults actor (at after)) → IsKept faults actor (at after)
-      by_turn true now due later = later now.0 now.2 (tries_keep faults actor (event_of_fault fault) (at before) (at now.0) due now.1 kept)
+      by_turn : (b : Bool) → MatchBool b ((mid : Held) × AppliesAt IsState (event_of_fault fault) before mid × OperatesOn (AppliesAt IsState) number rest mid after) (OperatesOn (AppliesAt IsState) number rest before after) → IsDue faults (event_of_fault fault)
+          → ((mid : Held) → OperatesOn (AppliesAt IsState) number rest mid after → IsKept faults actor mid → IsKept faults actor after) → IsKept faults actor after
+      by_turn true now due later = later now.0 now.2 (applies_keep (event_of_fault fault) before now.0 due now.1 kept)
       by_turn false now due later = later before now kept
 
-  -- the operator's
-  pub operator_keeps : (number : ℕ) (before after : S) → OperatesOn (λ (e : Event) (b a : S). Tries e (at b) (at a)) number faults before after → IsKept faults actor (at before) → IsKept faults actor (at after)
-  operator_keeps number before after does kept = operates_keep number 0 faults before after refl does kept
+-- an actor's turn, and all of them
+actors_turn_keeps : (IsState : LockedState → Type 0) (c : Configuration) (i number : ℕ) (before : Held) (h : Option ProcedureState) (after : Held) (h' : Option ProcedureState) → IsActorsTurn IsState c number before h after h' → IsKept c.faults i before → IsKept c.faults i after
+actors_turn_keeps IsState c i number before None after None does kept = operates_keep IsState c.faults i number 0 c.faults before after refl does kept
+actors_turn_keeps IsState c i number before (Some h) after (Some h') does kept = turn_keeps IsState c.faults i c.period number before h after h' does kept
+actors_turn_keeps IsState c i number before None after (Some h') does kept = elim does [ ]
+actors_turn_keeps IsState c i number before (Some h) after None does kept = elim does [ ]
 
--- the same of a result
-pub turn_kept : {A E S : Type 0} (result : Result A E) (period number : ℕ) (before : S) (h : ProcedureState) (after : S) (h' : ProcedureState) (at : S → Held) (faults : List Fault)
-    → OnOk result (IsTurnOn (λ (e : Event) (b a : S). Tries e (at b) (at a)) (λ (b : S) (g ready : ProcedureState). PreparesAt (at b) g ready) (λ (b : S) (node : ℕ) (served : Bool) (a : S). ServesAt (at b) node served (at a)) (λ (b : S) (g : ProcedureState) (a : S) (g' : ProcedureState). ProceedsAt (at b) g (at a) g') period number before h after h')
-    → OnOk result ((i : ℕ) → IsKept faults i (at before) → IsKept faults i (at after))
-turn_kept (Ok x) period number before h after h' at faults does = λ i kept. turn_keeps at faults i period number before h after h' does kept
-turn_kept (Err e) period number before h after h' at faults does = tt
+pub actors_turns_keep : (IsState : LockedState → Type 0) (c : Configuration) (i turns number : ℕ) (before : Held) (h : Option ProcedureState) (after : Held) (h' : Option ProcedureState) → ActorsTurns IsState c turns number before h after h' → IsKept c.faults i before → IsKept c.faults i after
+actors_turns_keep IsState c i zero number before h after h' does kept = subst (λ (s : Held). IsKept c.faults i s) (sym does.0) kept
+actors_turns_keep IsState c i (suc turns) number before h after h' does kept =
+    actors_turns_keep IsState c i turns (number + 1) does.0 does.1 after h' does.3 (actors_turn_keeps IsState c i number before h does.0 does.1 does.2 kept)
 
-pub operator_kept : {A E S : Type 0} (result : Result A E) (number : ℕ) (before after : S) (at : S → Held) (faults : List Fault) → OnOk result (OperatesOn (λ (e : Event) (b a : S). Tries e (at b) (at a)) number faults before after)
-    → OnOk result ((i : ℕ) → IsKept faults i (at before) → IsKept faults i (at after))
-operator_kept (Ok x) number before after at faults does = λ i kept. operator_keeps at faults i number before after does kept
-operator_kept (Err e) number before after at faults does = tt
+-- a turn more
+turns_more : (IsState : LockedState → Type 0) (c : Configuration) (so_far number last : ℕ) (start before after : Held) (h mid h' : Option ProcedureState) → number + so_far ≡ last → ActorsTurns IsState c so_far number start h before mid → IsActorsTurn IsState c last before mid after h' → ActorsTurns IsState c (suc so_far) number start h after h'
+turns_more IsState c zero number last start before after h mid h' e turns turn =
+    let now : last ≡ number = omega (arith, e) in
+    (after, h', subst (λ (n : ℕ). IsActorsTurn IsState c n start h after h') now (rw (← turns.0, ← turns.1) turn), (refl, refl))
+turns_more IsState c (suc n) number last start before after h mid h' e turns turn =
+    (turns.0, turns.1, turns.2, turns_more IsState c n (number + 1) last turns.0 before after turns.1 mid h' (omega (arith, e)) turns.3 turn)
+
+pub turns_next : (IsState : LockedState → Type 0) (c : Configuration) (so_far : ℕ) (start before after : Held) (h mid h' : Option ProcedureState) → ActorsTurns IsState c so_far 1 start h before mid → IsActorsTurn IsState c (so_far + 1) before mid after h' → ActorsTurns IsState c (so_far + 1) 1 start h after h'
+turns_next IsState c so_far start before after h mid h' turns turn =
+    let more : suc so_far ≡ so_far + 1 = omega arith in
+    subst (λ (n : ℕ). ActorsTurns IsState c n 1 start h after h') more (turns_more IsState c so_far 1 (so_far + 1) start before after h mid h' (omega arith) turns turn)
 
 -- new seats, of actors up to the last node
 pub new_seats : (nodes : ℕ) (seats : List SeatState) → AreNewSeats (nodes + 1) seats → All (λ s. (s.actor ≤ nodes) × (s.log ≡ [])) seats

@@ -5,6 +5,7 @@
 //! on the history being lawful, and its crashes and recoveries faults of the configuration.
 #![tactic(auto)]
 
+mod jobs;
 mod post;
 mod running;
 #[cfg(test)]

@@ -1,14 +1,15 @@
-ghost use Rattle.std.specs.Prelude.{◌≡◌, true, IfOk};
+ghost use Rattle.std.specs.Prelude.{◌≡◌, ℕ, true, IfOk, OnOk};
 ghost use Rattle.bully_agree.specs.View.{shown as shown_at};
+ghost use Rattle.bully_group.specs.Locked.{IsLocked};
 ghost use Rattle.bully_group.specs.Turns.{handed_back};
-ghost use Rattle.bully_nodes.specs.Run.{IsReady};
+ghost use Rattle.bully_nodes.specs.Run.{AppliesAt, ServesAt, ProceedsAt, IsReady};
 ghost use Rattle.bully_play.specs.Turns.{prepared_from};
 ghost use Rattle.bully_steps.specs.Procedure.{state_of};
 ghost use Rattle.bully_steps.specs.ProcedureState.{HasSameNode};
 
 use bully_agree::View;
 use bully_base::{Node, OutOfMemory};
-use bully_group::{Group, Naming, Pass, Seat, StepFault, Turn, ViewFault};
+use bully_group::{Group, Locked, Naming, Pass, Seat, StepFault, Turn, ViewFault};
 use bully_play::{Stage, prepared_from};
 use bully_steps::Procedure;
 use bully_world::Event;
@@ -27,26 +28,24 @@ pub(crate) struct Post<'a, L: Naming, R: Wait> {
 }
 
 impl<'a, L: Naming, R: Wait> Stage for Post<'a, L, R> {
-    ghost use Rattle.bully_nodes.specs.Run.{Tries, PreparesAt, ServesAt, ProceedsAt};
+    ghost use Rattle.bully_group.specs.Locked.{IsLocked};
+    ghost use Rattle.bully_nodes.specs.Run.{AppliesAt, PreparesAt, ServesAt, ProceedsAt};
 
     ghost setup = { λ _. L.setup };
 
-    ghost applies = { λ e before after. Tries e (record { seat = before.seat; counted = before.pass }) (record { seat = after.seat; counted = after.pass }) };
+    ghost applies = { λ e before after. AppliesAt (IsLocked L.setup L.publisher L.parts) e (record { seat = before.seat; counted = before.pass }) (record { seat = after.seat; counted = after.pass }) };
 
-    ghost prepares = { λ before h ready. PreparesAt (record { seat = before.seat; counted = before.pass }) h ready };
+    ghost prepares = { λ before h ready. PreparesAt (IsLocked L.setup L.publisher L.parts) (record { seat = before.seat; counted = before.pass }) h ready };
 
-    ghost serves = { λ before node served after. ServesAt (record { seat = before.seat; counted = before.pass }) node served (record { seat = after.seat; counted = after.pass }) };
+    ghost serves = { λ before node served after. ServesAt (IsLocked L.setup L.publisher L.parts) (record { seat = before.seat; counted = before.pass }) node served (record { seat = after.seat; counted = after.pass }) };
 
-    ghost proceeds = { λ before h after h'. ProceedsAt (record { seat = before.seat; counted = before.pass }) h (record { seat = after.seat; counted = after.pass }) h' };
+    ghost proceeds = { λ before h after h'. ProceedsAt (IsLocked L.setup L.publisher L.parts) (record { seat = before.seat; counted = before.pass }) h (record { seat = after.seat; counted = after.pass }) h' };
 
     fn apply(&mut self, event: Event) -> Result<(), OutOfMemory> {
         let mut guard = self.group.locked.lock(self.rt);
-        let answer = guard.step(&mut self.seat, &event, &mut self.pass);
+        let answer = apply_to(&mut guard, &mut self.seat, &event, &mut self.pass);
         MutexGuard::unlock(guard);
-        match answer {
-            Err(StepFault::OutOfMemory) => Err(AllocError),
-            _ => Ok(()),
-        }
+        answer
     }
 
     // The lock is held for the view alone.
@@ -64,24 +63,67 @@ impl<'a, L: Naming, R: Wait> Stage for Post<'a, L, R> {
         }
     }
 
-    // A refused serve ends the turn.
     fn serve(&mut self, _node: Node) -> Result<bool, OutOfMemory> {
         let mut guard = self.group.locked.lock(self.rt);
-        let answer = guard.serve(&mut self.seat, &mut self.pass);
+        let answer = serve_at(&mut guard, &mut self.seat, &mut self.pass);
         MutexGuard::unlock(guard);
-        match answer {
-            Ok(served) => Ok(served),
-            Err(StepFault::OutOfMemory) => Err(AllocError),
-            Err(_) => Ok(true),
-        }
+        answer
     }
 
     fn proceed(&mut self, procedure: Procedure) -> Result<Procedure, OutOfMemory> {
         let mut guard = self.group.locked.lock(self.rt);
-        let turn = guard.turn(&mut self.seat, procedure, &mut self.pass);
+        let answer = proceed_at(&mut guard, &mut self.seat, procedure, &mut self.pass);
         MutexGuard::unlock(guard);
-        handed_back(turn)
+        answer
     }
+}
+
+// Takes the event's step. A refused one is passed over.
+fn apply_to<L: Naming>(
+    locked: &mut Locked<L>,
+    seat: &mut Seat,
+    event: &Event,
+    pass: &mut Pass<L>,
+) -> Result<(), OutOfMemory>
+    ensures { OnOk result (AppliesAt (IsLocked L.setup L.publisher L.parts) event.now (record { seat = seat.old; counted = pass.old }) (record { seat = seat.new; counted = pass.new })) }
+{
+    // Shows the proof that the group's state is one that its type keeps.
+    let _ = locked.history();
+    match locked.step(seat, event, pass) {
+        Err(StepFault::OutOfMemory) => Err(AllocError),
+        _ => Ok(()),
+    }
+}
+
+// Serves the call that waits for the seat's node. A refused serve ends the turn.
+fn serve_at<L: Naming>(
+    locked: &mut Locked<L>,
+    seat: &mut Seat,
+    pass: &mut Pass<L>,
+) -> Result<bool, OutOfMemory>
+    ensures { IfOk result (λ served. (node : ℕ) → ServesAt (IsLocked L.setup L.publisher L.parts) (record { seat = seat.old; counted = pass.old }) node served (record { seat = seat.new; counted = pass.new })) }
+{
+    let _ = locked.history();
+    match locked.serve(seat, pass) {
+        Ok(served) => Ok(served),
+        Err(StepFault::OutOfMemory) => Err(AllocError),
+        Err(_) => Ok(true),
+    }
+}
+
+// Takes the procedure's turn by the turn rule.
+fn proceed_at<L: Naming>(
+    locked: &mut Locked<L>,
+    seat: &mut Seat,
+    procedure: Procedure,
+    pass: &mut Pass<L>,
+) -> Result<Procedure, OutOfMemory>
+    requires { (state_of procedure).setup ≡ L.setup }
+    ensures proceeds { IfOk result (λ p. ProceedsAt (IsLocked L.setup L.publisher L.parts) (record { seat = seat.old; counted = pass.old }) (state_of procedure) (record { seat = seat.new; counted = pass.new }) (state_of p)) }
+    ensures same_node { IfOk result (λ p. HasSameNode (state_of procedure) (state_of p)) }
+{
+    let _ = locked.history();
+    handed_back(locked.turn(seat, procedure, pass))
 }
 
 // Whether the procedure isn't at Planning, or has its table.

@@ -2,3 +2,4 @@ pub mod LawfulLemmas
 pub mod RecordingLemmas
 pub mod OperatorLemmas
 pub mod RoundLemmas
+pub mod ScheduleLemmas

@@ -1,3 +1,4 @@
 pub mod Play
 pub mod Recording
+pub mod Schedule
 pub mod Turns

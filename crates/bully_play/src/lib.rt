@@ -8,11 +8,13 @@
 
 mod playing;
 mod recording;
+mod schedule;
 mod stage;
 mod trace;
 mod turns;
 
 pub use playing::{PlayFault, play};
+pub use schedule::Schedule;
 pub use stage::Stage;
 pub use trace::trace_with;
-pub use turns::{operator_turn, prepared_from, take_turn};
+pub use turns::{prepared_from, take_node_turn, take_operator_turn};

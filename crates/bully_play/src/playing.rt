@@ -1,7 +1,8 @@
-ghost use Rattle.std.specs.Prelude.{◌≡◌, ◌<◌, List, Err, All, map, IfOk, OnOk};
+ghost use Rattle.std.specs.Prelude.{◌≡◌, ◌+◌, ◌<◌, List, Err, All, map, IfOk, OnOk};
 ghost use Rattle.std.specs.Io.KnownBytes.{Appends};
 ghost use Rattle.bully_play.specs.Play.{IsPlay, trace_with, fault_of};
 ghost use Rattle.bully_play.specs.Recording.{IsRecorded, Continues};
+ghost use Rattle.bully_play.specs.Schedule.{AreLeft};
 ghost use Rattle.bully_play.specs.Turns.{IsTurn, IsRound, IsScheduled, idle_first};
 ghost use Rattle.bully_steps.specs.Procedure.{state_of};
 ghost use Rattle.bully_steps.specs.ProcedureState.{HasSameNode};
@@ -9,7 +10,8 @@ ghost use Rattle.bully_trace.specs.TraceText.{trace_text};
 ghost use Rattle.bully_world.specs.declared.event.Event.{Event};
 
 use crate::recording::Recording;
-use crate::turns::{operator_turn, take_turn};
+use crate::schedule::Schedule;
+use crate::turns::{take_node_turn, take_operator_turn};
 use bully_base::{Node, OutOfMemory, Setup};
 use bully_config::Config;
 use bully_steps::Procedure;
@@ -64,10 +66,17 @@ fn trace_of(alloc: Global, config: &Config) -> Result<Trace, OutOfMemory>
     ensures { IfOk result (λ trace. (events : List Event) × IsPlay config.now events × IsScheduled config.now events × (trace ≡ trace_with config.now.setup events)) }
 {
     let setup = config.setup();
+    let mut schedule = Schedule::new(alloc, config.faults())?;
     let mut recording = Recording::new(alloc, setup)?;
     let mut procedures = idle_procedures(alloc, setup)?;
     for before in 0..config.turns() {
-        take_round(config, before + 1, &mut recording, &mut procedures)?;
+        take_round(
+            config,
+            before + 1,
+            &mut schedule,
+            &mut recording,
+            &mut procedures,
+        )?;
     }
     Ok(recording.into_trace())
 }
@@ -86,29 +95,31 @@ fn idle_procedures(alloc: Global, setup: Setup) -> Result<Vec<Procedure>, OutOfM
 }
 
 // A round: the operator's turn, and then each node's.
-#[tactic(auto, using(crate::proofs::RecordingLemmas::operator_recorded))]
 fn take_round(
     config: &Config,
     turn: u32,
+    schedule: &mut Schedule,
     recording: &mut Recording,
     procedures: &mut [Procedure],
 ) -> Result<(), OutOfMemory>
+    requires left { AreLeft config.now.faults turn schedule.old }
     requires recorded { IsRecorded config.now recording.old }
     requires setups { All (λ p. (state_of p).setup ≡ config.now.setup) procedures.old }
     ensures round { OnOk result (IsRound config.now.faults config.now.period turn recording.old (map state_of procedures.old) recording.new (map state_of procedures.new)) }
+    ensures left { OnOk result (AreLeft config.now.faults (turn + 1) schedule.new) }
     ensures recorded { OnOk result (IsRecorded config.now recording.new) }
     ensures setups { OnOk result (All (λ p. (state_of p).setup ≡ config.now.setup) procedures.new) }
 {
-    operator_turn(recording, config.faults(), turn)?;
+    take_operator_turn(recording, schedule, turn)?;
     let period = config.period();
     for procedure in procedures.iter_mut() {
-        node_turn(recording, period, turn, procedure)?;
+        record_node_turn(recording, period, turn, procedure)?;
     }
     Ok(())
 }
 
 // The turn of the node that holds the procedure.
-fn node_turn(
+fn record_node_turn(
     recording: &mut Recording,
     period: u32,
     turn: u32,
@@ -120,5 +131,5 @@ fn node_turn(
     ensures recorded { OnOk result (Continues recording.old recording.new) }
     ensures same_node { OnOk result (HasSameNode (state_of place.old) (state_of place.new)) }
 {
-    take_turn(recording, period, turn, place)
+    take_node_turn(recording, period, turn, place)
 }

@@ -1,4 +1,6 @@
-ghost use Rattle.std.specs.Prelude.{◌≡◌, ◌<◌, length, IfOk, OnOk};
+ghost use Rattle.std.specs.Prelude.{◌≡◌, ◌+◌, ◌<◌, List, length, IfOk, OnOk};
+ghost use Rattle.bully_config.specs.declared.config.Fault.{Fault as AnyFault};
+ghost use Rattle.bully_play.specs.Schedule.{AreLeft};
 ghost use Rattle.std.specs.Option.{IfSome, option_copied};
 ghost use Rattle.bully_play.specs.Play.{event_of_fault};
 ghost use Rattle.bully_play.specs.Turns.{prepared_from, GoesOn, IsTurnOn, OperatesOn};
@@ -6,6 +8,7 @@ ghost use Rattle.bully_steps.specs.Driver.{chosen_every};
 ghost use Rattle.bully_steps.specs.Procedure.{state_of};
 ghost use Rattle.bully_steps.specs.ProcedureState.{HasSameNode};
 
+use crate::schedule::Schedule;
 use crate::stage::Stage;
 use bully_base::OutOfMemory;
 use bully_config::{Fault, FaultKind};
@@ -16,24 +19,25 @@ use std::alloc::{AllocError, Global};
 use std::mem;
 
 /// The operator's turn: the faults of this turn, in the order of the document. One that is refused is passed over.
-pub fn operator_turn<S: Stage>(
+pub fn take_operator_turn<S: Stage>(
     stage: &mut S,
-    faults: &[Fault],
+    schedule: &mut Schedule,
     turn: u32,
 ) -> Result<(), OutOfMemory>
-    ensures operates { OnOk result (OperatesOn S.applies turn faults.now stage.old stage.new) }
+    ensures operates { OnOk result ((faults : List AnyFault) → AreLeft faults turn schedule.old → OperatesOn S.applies turn faults stage.old stage.new) }
+    ensures left { OnOk result ((faults : List AnyFault) → AreLeft faults turn schedule.old → AreLeft faults (turn + 1) schedule.new) }
     ensures setup { OnOk result (S.setup stage.new ≡ S.setup stage.old) }
 {
-    for fault in faults {
+    while let Some(fault) = schedule.take_until(turn) {
         if fault.at == turn {
-            stage.apply(event_of(*fault))?;
+            stage.apply(fault_event(fault))?;
         }
     }
     Ok(())
 }
 
 // The event of a fault.
-fn event_of(fault: Fault) -> Event
+fn fault_event(fault: Fault) -> Event
     ensures { result ≡ event_of_fault fault }
 {
     match fault.kind {
@@ -45,7 +49,7 @@ fn event_of(fault: Fault) -> Event
 /// The turn of this number of the node that holds the procedure, which goes on. It is prepared first, where it
 /// is Planning. Then the node serves the call that waits for it, if any; else it goes on as it chooses, with a check
 /// once in a period of at least 1.
-pub fn take_turn<S: Stage>(
+pub fn take_node_turn<S: Stage>(
     stage: &mut S,
     period: u32,
     turn: u32,
@@ -63,14 +67,14 @@ pub fn take_turn<S: Stage>(
     *place = if stage.serve(node)? {
         procedure
     } else {
-        go_on(stage, period, turn, procedure)?
+        follow_choice(stage, period, turn, procedure)?
     };
     Ok(())
 }
 
 // The node begins a check or has a timeout, where it chooses so, and holds its procedure as it is; else the
 // procedure goes on by the turn rule.
-fn go_on<S: Stage>(
+fn follow_choice<S: Stage>(
     stage: &mut S,
     period: u32,
     turn: u32,

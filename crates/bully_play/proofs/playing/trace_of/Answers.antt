@@ -15,6 +15,7 @@ loop-before-preserved c =
     = rw (← c.deref_mut.ensures.value) c.in_ok-take_round.ensures.round in
     record {
       rounds = rw items (rounds_next c.args.config.now.faults c.args.config.now.period c.loop-before.before (first_recording setup) c.loop-before.recording _ (idle_first setup setup.nodes) _ _ c.loop-before.invariant.rounds round);
+      left = c.in_ok-take_round.ensures.left;
       recorded = c.in_ok-take_round.ensures.recorded;
       setups = rw items c.in_ok-take_round.ensures.setups;
       end = c.loop-before.invariant.end;

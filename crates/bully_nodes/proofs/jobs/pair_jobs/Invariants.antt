@@ -1,5 +1,5 @@
 use Rattle.std.proofs.Common.{◌≡◌, ◌≤◌, [], All, vec_len}
-use Rattle.bully_nodes.proofs.running.jobs_for.Given as goal
+use Rattle.bully_nodes.proofs.jobs.pair_jobs.Given as goal
 
 abbrev pub invariant-loop-seat : goal.invariant-loop-seat
 invariant-loop-seat g l = record {
