@@ -11,8 +11,6 @@ mod post;
 mod recording;
 mod running;
 mod stage;
-#[cfg(test)]
-mod tests;
 mod turns;
 mod writing;
 
