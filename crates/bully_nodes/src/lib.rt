@@ -8,8 +8,6 @@
 mod jobs;
 mod post;
 mod running;
-#[cfg(test)]
-mod tests;
 mod writing;
 
 pub use bully_play::{PlayFault, play};

@@ -1,9 +1,9 @@
 //! Node threads: that they run at once, that each takes its turns, and what a gate can order.
 
 use super::Narrow;
-use crate::{Gate, NodesFault, PlayFault, run_nodes, write_history};
-use bully_config::Config;
+use super::configurations::{Group, ONE_NODE};
 use bully_group::Closed;
+use bully_nodes::{Gate, NodesFault, PlayFault, run_nodes, write_history};
 use bully_world::Event;
 use std::alloc::Global;
 use std::sync::atomic::{AtomicBool, Ordering};
@@ -12,57 +12,35 @@ use std::test::Fail;
 /// How often a flag is polled, at most.
 const POLLS: u32 = 2_000_000_000;
 
-/// One node, which recovers.
-const ONE_NODE: &str = "nodes = 1
-partitions = 2
-events = 100
-turns = 6
-names = [\"a\"]
-[[fault]]
-at = 1
-node = \"a\"
-kind = \"recover\"
-";
-
 /// Two nodes, which stay down.
-const TWO_NODES: &str = "nodes = 2
-partitions = 1
-events = 100
-turns = 2
-names = [\"a\", \"b\"]
-";
+const BOTH_DOWN: Group = Group {
+    nodes: 2,
+    partitions: 1,
+    events: 100,
+    turns: 2,
+    period: 16,
+    faults: &[],
+};
 
 /// Three nodes, which all recover.
-const ALL_RECOVER: &str = "nodes = 3
-partitions = 3
-events = 100000
-turns = 2000
-names = [\"a\", \"b\", \"c\"]
-[[fault]]
-at = 1
-node = \"a\"
-kind = \"recover\"
-[[fault]]
-at = 1
-node = \"b\"
-kind = \"recover\"
-[[fault]]
-at = 1
-node = \"c\"
-kind = \"recover\"
-";
+const ALL_RECOVER: Group = Group {
+    nodes: 3,
+    partitions: 3,
+    events: 100_000,
+    turns: 2_000,
+    period: 16,
+    faults: &[(1, 1, "recover"), (1, 2, "recover"), (1, 3, "recover")],
+};
 
 /// One node that recovers, in a group of at most one event.
-const FULL: &str = "nodes = 1
-partitions = 1
-events = 1
-turns = 50
-names = [\"a\"]
-[[fault]]
-at = 1
-node = \"a\"
-kind = \"recover\"
-";
+const FULL: Group = Group {
+    nodes: 1,
+    partitions: 1,
+    events: 1,
+    turns: 50,
+    period: 16,
+    faults: &[(1, 1, "recover")],
+};
 
 /// What is written of it.
 const FULL_WRITTEN: &str = "bully,1,1,1\nrecover,1\n";
@@ -120,7 +98,7 @@ impl Gate for Meeting {
 
 #[test]
 fn two_threads_meet(rt: HostRuntime) -> Result<(), Fail> {
-    let config = Config::read(rt.alloc(), TWO_NODES)?;
+    let config = BOTH_DOWN.config(rt.alloc())?;
     let gate = Meeting {
         first: AtomicBool::new(false),
         second: AtomicBool::new(false),
@@ -135,10 +113,12 @@ fn two_threads_meet(rt: HostRuntime) -> Result<(), Fail> {
     Ok(())
 }
 
-/// Node 1 waits before its first turn until the operator has taken its own.
+/// Node 1 waits before its first turn until the operator has taken its own, behind which the operator waits until node 1
+/// has taken all of its six.
 #[derive(Drop)]
 struct OperatorFirst {
     taken: AtomicBool,
+    all_taken: AtomicBool,
     missed: AtomicBool,
 }
 
@@ -150,17 +130,26 @@ impl Gate for OperatorFirst {
     }
 
     fn after(&self, actor: u16, turn: u32) {
-        if actor == 0 && turn == 1 {
-            self.taken.store(true, Ordering::SeqCst);
+        match (actor, turn) {
+            (0, 1) => {
+                self.taken.store(true, Ordering::SeqCst);
+                if !is_seen(&self.all_taken) {
+                    self.missed.store(true, Ordering::SeqCst);
+                }
+            }
+            (1, 6) => self.all_taken.store(true, Ordering::SeqCst),
+            _ => {}
         }
     }
 }
 
+// So the operator's turn comes before what is called behind it: else nothing would come of node 1's turns.
 #[test]
 fn a_gate_orders_two_threads(rt: HostRuntime) -> Result<(), Fail> {
-    let config = Config::read(rt.alloc(), ONE_NODE)?;
+    let config = ONE_NODE.config(rt.alloc())?;
     let gate = OperatorFirst {
         taken: AtomicBool::new(false),
+        all_taken: AtomicBool::new(false),
         missed: AtomicBool::new(false),
     };
     match run_nodes(&rt, rt.alloc(), &config, &gate) {
@@ -194,7 +183,7 @@ fn is_alone(closed: &Closed) -> bool {
 
 #[test]
 fn all_recover(rt: HostRuntime) -> Result<(), Fail> {
-    let config = Config::read(rt.alloc(), ALL_RECOVER)?;
+    let config = ALL_RECOVER.config(rt.alloc())?;
     match run_nodes(&rt, rt.alloc(), &config, &Open) {
         Ok(closed) => {
             let recovered = [1, 2, 3].map(|number: u16| has_recovery(&closed, number));
@@ -217,7 +206,7 @@ fn has_recovery(closed: &Closed, number: u16) -> bool {
 // The bound on events is reached by the recovery.
 #[test]
 fn a_full_group(rt: HostRuntime) -> Result<(), Fail> {
-    let config = Config::read(rt.alloc(), FULL)?;
+    let config = FULL.config(rt.alloc())?;
     match run_nodes(&rt, rt.alloc(), &config, &Open) {
         Ok(closed) => {
             let recovered = closed.history().len() == 1 && has_recovery(&closed, 1);

@@ -1,10 +1,14 @@
 //! Threads that a gate lets take their turns in the order of a round, one at a time: they do what `play` does.
 
-use crate::{Gate, play, run_nodes, write_history};
+use super::configurations::Group;
 use bully_config::Config;
+use bully_nodes::{Gate, NodesFault, play, run_nodes, write_history};
+use std::alloc::Global;
+use std::sync::Wait;
 use std::sync::atomic::{AtomicBool, AtomicU64, Ordering};
 use std::test::Fail;
 use std::thread;
+use std::thread::Threads;
 
 /// How often a thread asks whether its turn has come, at most.
 const ASKS: u32 = 20_000_000;
@@ -13,33 +17,20 @@ const ASKS: u32 = 20_000_000;
 const ACTORS: u64 = 4;
 
 /// Three nodes, which all recover. The coordinator crashes, and comes back.
-const THREE_NODES: &str = "nodes = 3
-partitions = 4
-events = 1000
-turns = 96
-period = 12
-names = [\"a\", \"b\", \"c\"]
-[[fault]]
-at = 1
-node = \"c\"
-kind = \"recover\"
-[[fault]]
-at = 14
-node = \"b\"
-kind = \"recover\"
-[[fault]]
-at = 14
-node = \"a\"
-kind = \"recover\"
-[[fault]]
-at = 50
-node = \"c\"
-kind = \"crash\"
-[[fault]]
-at = 71
-node = \"c\"
-kind = \"recover\"
-";
+const THREE_NODES: Group = Group {
+    nodes: 3,
+    partitions: 4,
+    events: 1_000,
+    turns: 96,
+    period: 12,
+    faults: &[
+        (1, 3, "recover"),
+        (14, 2, "recover"),
+        (14, 1, "recover"),
+        (50, 3, "crash"),
+        (71, 3, "recover"),
+    ],
+};
 
 /// In each turn the operator goes first, and then the nodes in rising order.
 #[derive(Drop)]
@@ -66,25 +57,32 @@ impl Gate for InRounds {
     }
 }
 
+// Whether a run of the configuration with this gate writes this.
+fn runs<R: Threads + Wait + Sync>(
+    rt: &R,
+    alloc: Global,
+    config: &Config,
+    gate: &InRounds,
+    expected: &[u8],
+) -> Result<bool, NodesFault> {
+    let closed = run_nodes(rt, alloc, config, gate)?;
+    let mut text = Vec::new(alloc);
+    let written = write_history(alloc, &mut text, &closed);
+    closed.end(rt);
+    Ok(written.is_ok() && text.as_slice() == expected)
+}
+
 #[test]
 fn threads_in_rounds_do_what_play_does(rt: HostRuntime) -> Result<(), Fail> {
-    let config = Config::read(rt.alloc(), THREE_NODES)?;
+    let config = THREE_NODES.config(rt.alloc())?;
     let mut played = Vec::new(rt.alloc());
     assert!(rt; play(rt.alloc(), &config, &mut played).is_ok());
     let gate = InRounds {
         over: AtomicU64::new(ACTORS),
         missed: AtomicBool::new(false),
     };
-    let mut run = Vec::new(rt.alloc());
-    match run_nodes(&rt, rt.alloc(), &config, &gate) {
-        Ok(closed) => {
-            let written = write_history(rt.alloc(), &mut run, &closed);
-            closed.end(&rt);
-            assert!(rt; written.is_ok());
-        }
-        Err(_) => assert!(rt; false),
-    }
+    let run = runs(&rt, rt.alloc(), &config, &gate, played.as_slice());
+    assert_eq!(rt; run, Ok(true));
     assert!(rt; !gate.missed.load(Ordering::SeqCst));
-    assert_eq!(rt; run.as_slice(), played.as_slice());
     Ok(())
 }

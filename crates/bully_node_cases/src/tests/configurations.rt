@@ -1,0 +1,79 @@
+//! The configurations that are tried.
+
+use bully_base::OutOfMemory;
+use bully_config::Config;
+use std::alloc::Global;
+use std::test::Fail;
+
+/// A group whose nodes are named by their numbers, and its faults: each one's turn, node and kind.
+#[derive(Clone, Copy)]
+pub struct Group {
+    pub nodes: u16,
+    pub partitions: u16,
+    pub events: u32,
+    pub turns: u32,
+    pub period: u32,
+    pub faults: &'static [(u32, u16, &'static str)],
+}
+
+/// One node, which recovers.
+pub const ONE_NODE: Group = Group {
+    nodes: 1,
+    partitions: 2,
+    events: 100,
+    turns: 6,
+    period: 16,
+    faults: &[(1, 1, "recover")],
+};
+
+/// Two nodes, and the higher one recovers.
+pub const TWO_NODES: Group = Group {
+    nodes: 2,
+    partitions: 2,
+    events: 100,
+    turns: 9,
+    period: 16,
+    faults: &[(1, 2, "recover")],
+};
+
+impl Group {
+    /// What is read of its text.
+    pub fn config(self, alloc: Global) -> Result<Config, Fail> {
+        let mut text = String::new(alloc);
+        let written = self.add_to(&mut text);
+        let config = Config::read(alloc, text.as_str());
+        written?;
+        Ok(config?)
+    }
+
+    /// Writes its text.
+    pub fn add_to(self, text: &mut String) -> Result<(), OutOfMemory> {
+        let (nodes, partitions, events) = (self.nodes, self.partitions, self.events);
+        let (turns, period) = (self.turns, self.period);
+        write!(
+            text,
+            "nodes = {nodes}\npartitions = {partitions}\nevents = {events}\nturns = {turns}\nperiod = {period}\n"
+        )?;
+        add_names(text, nodes)?;
+        for (at, node, kind) in self.faults {
+            add_fault(text, *at, *node, *kind)?;
+        }
+        Ok(())
+    }
+}
+
+fn add_names(text: &mut String, nodes: u16) -> Result<(), OutOfMemory> {
+    text.push_str("names = [")?;
+    for number in 1..=nodes {
+        write!(text, "\"{number}\",")?;
+    }
+    text.push_str("]\n")
+}
+
+/// Writes a fault of the node.
+pub fn add_fault(text: &mut String, at: u32, node: u16, kind: &str) -> Result<(), OutOfMemory> {
+    write!(
+        text,
+        "[[fault]]\nat = {at}\nnode = \"{node}\"\nkind = \"{kind}\"\n"
+    )
+}
