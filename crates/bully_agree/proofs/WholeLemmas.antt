@@ -32,15 +32,10 @@ whole-between [] = refl
 whole-between (Event.Start i ∷ []) = refl
 whole-between (Event.Start i ∷ e ∷ []) = sym (and-false (settles i e))
 whole-between (Event.Start i ∷ e ∷ f ∷ events) = ap (λ b. settles i e && (gives_back i f && b)) (whole-between events)
-whole-between (Event.Recover i ∷ events) = whole-between events
-whole-between (Event.Crash i ∷ events) = whole-between events
-whole-between (Event.Check i ∷ events) = whole-between events
-whole-between (Event.Timeout i ∷ events) = whole-between events
-whole-between (Event.Move i ∷ events) = whole-between events
-whole-between (Event.Plan i table ∷ events) = whole-between events
 whole-between (Event.Run i ∷ events) = refl
 whole-between (Event.Lose i ∷ events) = refl
 whole-between (Event.Return i ∷ events) = refl
+whole-between (e ∷ events) = whole-between events
 
 -- the events so far led to this stage
 pub record LedTo (events : List Event) (stage : Stage) : Type 0 where

@@ -5,13 +5,16 @@ use Rattle.bully_base.specs.declared.node.Status.TheVariants.{Down}
 use Rattle.bully_handlers.specs.Vector.{is_down}
 use Rattle.bully_steps.specs.ProcedureState.{ProcedureState}
 use Rattle.bully_watch.specs.History.{whose}
+use Rattle.bully_watch.proofs.PartLemmas.{whose_own}
 use Rattle.bully_world.specs.declared.turn.Next.{Next}
 use Rattle.bully_world.specs.declared.turn.StepKind.{StepKind}
 use Rattle.bully_world.specs.Cause.{is_down_at}
-use Rattle.bully_world.specs.State.{WorldState, IsReached, world_of, KeepsGenerations, RaisesGenerations}
+use Rattle.bully_world.specs.State.{WorldState, IsReached, world_of}
 use Rattle.bully_world.specs.Turn.{turn, event_of, is_in_step}
 use Rattle.bully_world.specs.World.{World, pending, vector}
 use Rattle.bully_world.proofs.NodeInvariantLemmas.{lawful_fits}
+use Rattle.bully_world.proofs.TurnSteps.{turn_own}
+pub use Rattle.bully_world.proofs.TurnTaken.{no_turn_raises}
 
 status_beyond : (s : WorldState) (i : ℕ) → IsReached s → s.setup.nodes < i → (vector (world_of s) i).status ≡ Down
 status_beyond s i r above = ⊎_elim (λ d. d) (λ (n : IsNode s.setup i). absurd (omega (arith, n.1, above))) ((lawful_fits s.setup r.applied r.answers (world_of s) r.lawful).fits i).a_node
@@ -26,19 +29,7 @@ down_beyond s i r above = ap is_down (status_beyond s i r above)
 
 -- a step that is offered is one of the procedure's node
 pub whose_turn : (w : World) (kind : StepKind) (h : ProcedureState) → whose w (event_of kind h) ≡ Some h.node
-whose_turn w StepKind.Start h = refl
-whose_turn w StepKind.Lose h = refl
-whose_turn w StepKind.Return h = refl
-whose_turn w StepKind.Move h = refl
-whose_turn w StepKind.Plan h = refl
-
--- and raises no generation
-pub no_turn_raises : (before after : WorldState) (kind : StepKind) (h : ProcedureState) → KeepsGenerations before after → RaisesGenerations (event_of kind h) before after
-no_turn_raises before after StepKind.Start h keeps i = omega (arith, keeps i)
-no_turn_raises before after StepKind.Lose h keeps i = omega (arith, keeps i)
-no_turn_raises before after StepKind.Return h keeps i = omega (arith, keeps i)
-no_turn_raises before after StepKind.Move h keeps i = omega (arith, keeps i)
-no_turn_raises before after StepKind.Plan h keeps i = omega (arith, keeps i)
+whose_turn w kind h = whose_own w h.node (event_of kind h) (turn_own kind h)
 
 -- a procedure that rests is in step
 pub rest_in_step : (w : WorldState) (h : ProcedureState) → turn w h ≡ Next.Rest → is_in_step w h ≡ true

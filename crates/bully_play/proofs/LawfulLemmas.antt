@@ -45,16 +45,11 @@ balanced-bound setup most table members is = record { owned = is.owned; even = i
 
 -- no step reads the bound
 step-bound : (setup : Setup) (most : ℕ) (w : World) (e : Event) (w' : World) (a : Answer) → Step setup w e w' a → Step (bounded_by setup most) w e w' a
-step-bound setup most w (Event.Recover i) w' a s = s
-step-bound setup most w (Event.Crash i) w' a s = s
-step-bound setup most w (Event.Check i) w' a s = s
-step-bound setup most w (Event.Timeout i) w' a s = s
 step-bound setup most w (Event.Start i) w' a s = grind (arith, s, offered-bound)
-step-bound setup most w (Event.Run i) w' a s = s
-step-bound setup most w (Event.Lose i) w' a s = s
 step-bound setup most w (Event.Return i) w' a s = (s.0, s.1, s.2, s.3, returns-bound setup most w i s.0.is_live s.1 w' a s.4)
 step-bound setup most w (Event.Move i) w' a s = grind (arith, s, offered-bound, proceeds-bound)
 step-bound setup most w (Event.Plan i table) w' a s = (s.0, s.1, s.2, balanced-bound setup most table _ s.3, s.4, s.5)
+step-bound setup most w e w' a s = s
 
 lead-bound : (setup : Setup) (most : ℕ) (w : World) (events : List Event) (answers : List Answer) (w' : World) → LeadTo setup w events answers w' → LeadTo (bounded_by setup most) w events answers w'
 lead-bound setup most w [] [] w' l = l

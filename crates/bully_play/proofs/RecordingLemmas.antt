@@ -22,13 +22,15 @@ use Rattle.bully_trace.specs.declared.trace.Row.{Row}
 use Rattle.bully_trace.specs.declared.trace.Trace.{Trace}
 use Rattle.bully_world.specs.declared.event.Event.{Event}
 use Rattle.bully_world.specs.declared.event.Refused.{Refused}
-use Rattle.bully_world.specs.State.{WorldState, state_at, world_of, cause_in, raises}
+use Rattle.bully_world.specs.State.{WorldState, state_at, world_of, cause_in}
 use Rattle.bully_world.specs.Step.{Step}
 use Rattle.bully_world.specs.Turn.{event_of, procedure_after, turn}
 use Rattle.bully_world.specs.declared.turn.Next.{Next}
 use Rattle.bully_world.specs.declared.turn.StepKind.{StepKind}
-use Rattle.bully_world.specs.declared.turn.StepKind.TheVariants.{Start, Lose, Return, Move, Plan}
 use Rattle.bully_world.proofs.LawfulLemmas.{lawful_more}
+use Rattle.bully_world.proofs.OwnEvents.{IsNodesOwn}
+use Rattle.bully_world.proofs.TurnSteps.{turn_own}
+use Rattle.bully_world.proofs.TurnTaken.{no_turn_raises}
 
 -- an event more
 pub recorded_more : (c : Configuration) (e : Event) (before after : RecordingState) → Records e before after → IsDue c.faults e → IsRecorded c before → IsRecorded c after
@@ -77,11 +79,12 @@ continues_then before mid after one two = record {
 
 -- a node's own step needs no fault
 pub step_due : (faults : List Fault) (kind : StepKind) (h : ProcedureState) → IsDue faults (event_of kind h)
-step_due faults Start h = tt
-step_due faults Lose h = tt
-step_due faults Return h = tt
-step_due faults Move h = tt
-step_due faults Plan h = tt
+step_due faults kind h = own_due (event_of kind h) (turn_own kind h)
+  where
+    own_due : (e : Event) → IsNodesOwn h.node e → IsDue faults e
+    own_due (Event.Recover i) own = elim own [ ]
+    own_due (Event.Crash i) own = elim own [ ]
+    own_due e own = tt
 
 pub steps_continue : (kind : StepKind) (before : RecordingState) (h : ProcedureState) (after : RecordingState) (h' : ProcedureState) → Steps kind before h after h' → Continues before after
 steps_continue kind before h after h' (inl taken) = record {
@@ -117,20 +120,11 @@ pub turn_ok : {A E : Type 0} (result : Result A E) (period number : ℕ) (before
 turn_ok (Ok x) period number before h after h' does = turn_continues period number before h after h' does
 turn_ok (Err e) period number before h after h' does = tt
 
--- a node's own step stops nobody
-generation_stays : (kind : StepKind) (h : ProcedureState) (before after : WorldState) (i : ℕ) → (state_at after i).generation ≡ (state_at before i).generation
-    → (state_at after i).generation ≡ (state_at before i).generation + (if raises (world_of before) (event_of kind h) i then 1 else 0)
-generation_stays Start h before after i same = omega (arith, same)
-generation_stays Lose h before after i same = omega (arith, same)
-generation_stays Return h before after i same = omega (arith, same)
-generation_stays Move h before after i same = omega (arith, same)
-generation_stays Plan h before after i same = omega (arith, same)
-
 -- a step that the world took, with its row
 pub steps_taken : (kind : StepKind) (h h' : ProcedureState) (e : Event) (a : Answer) (w : WorldState) (before after : RecordingState) → e ≡ event_of kind h → Step before.world.setup (world_of before.world) e (world_of w) a → w.setup ≡ before.world.setup
     → w.events ≡ before.world.events + 1 → before.world.events < before.world.setup.events_max → ((i : ℕ) → (state_at w i).generation ≡ (state_at before.world i).generation) → h' ≡ procedure_after kind a h → after ≡ record { world = w; rows = before.rows ++ Row.Event e ∷ [] } → Steps kind before h after h'
 steps_taken kind h h' e a w before after named step setup counted room same went is =
-    rw (is, went) (inl (record { answer = a; step = rw (← named) step; setup = setup; counted = counted; bounded = grind (arith, setup, counted, room); generations = λ i. generation_stays kind h before.world w i (same i); rows = rw named refl }, refl))
+    rw (is, went) (inl (record { answer = a; step = rw (← named) step; setup = setup; counted = counted; bounded = grind (arith, setup, counted, room); generations = no_turn_raises before.world w kind h same; rows = rw named refl }, refl))
 
 -- a fault's event is due
 due_of_kind : (faults : List Fault) (kind : FaultKind) (node : ℕ) → HasFault faults kind node → IsDue faults (event_of_kind kind node)

@@ -12,6 +12,7 @@ use Rattle.bully_world.specs.Step.{Step}
 use Rattle.bully_world.specs.World.{World, first_world}
 use Rattle.bully_world.proofs.ApplyLemmas.{node_in_setup}
 use Rattle.bully_world.proofs.CauseLemmas.{no_cause_if_step}
+use Rattle.bully_world.proofs.OwnEvents.{IsNodesOwn}
 use Rattle.bully_world.proofs.NodeInvariantLemmas.{first_fits, step_fits, call_of_pending}
 use Rattle.bully_watch.specs.declared.entry.Entry.{Entry}
 use Rattle.bully_watch.specs.History.{AreActors, IsHistory, whose, event_of, answer_of, part_from}
@@ -73,14 +74,22 @@ whose_within setup w e w' entry all room same s own = by_event e own (node_in_se
     by_event : (e : Event) → whose w e ≡ Some entry.actor → IsNode setup (node_of e) → entry.actor ≤ setup.nodes
     by_event (Event.Recover i) own node = grind (arith, own)
     by_event (Event.Crash i) own node = grind (arith, own)
-    by_event (Event.Check i) own node = grind (arith, own, node)
-    by_event (Event.Timeout i) own node = grind (arith, own, node)
-    by_event (Event.Start i) own node = grind (arith, own, node)
     by_event (Event.Run i) own node = by_run i own
-    by_event (Event.Lose i) own node = grind (arith, own, node)
-    by_event (Event.Return i) own node = grind (arith, own, node)
-    by_event (Event.Move i) own node = grind (arith, own, node)
-    by_event (Event.Plan i table) own node = grind (arith, own, node)
+    by_event e own node = grind (arith, own, node)
+
+-- whose an event is that is neither the operator's nor a Run
+pub whose_other : (w : World) (e : Event) → ((i : ℕ) → e ≡ Event.Recover i → ⊥) → ((i : ℕ) → e ≡ Event.Crash i → ⊥) → ((i : ℕ) → e ≡ Event.Run i → ⊥) → whose w e ≡ Some (node_of e)
+whose_other w (Event.Recover i) recover crash run = absurd (recover i refl)
+whose_other w (Event.Crash i) recover crash run = absurd (crash i refl)
+whose_other w (Event.Run i) recover crash run = absurd (run i refl)
+whose_other w e recover crash run = refl
+
+-- a node's own event is that node's
+pub whose_own : (w : World) (i : ℕ) (e : Event) → IsNodesOwn i e → whose w e ≡ Some i
+whose_own w i (Event.Recover k) own = elim own [ ]
+whose_own w i (Event.Crash k) own = elim own [ ]
+whose_own w i (Event.Run k) own = elim own [ ]
+whose_own w i e own = ap Some own
 
 actors_within : (setup : Setup) (w : World) (entries : List Entry) (w' : World) → WorldInvariant setup w → length entries ≤ setup.events_max → AreActors setup w entries → LeadTo setup w (map event_of entries) (map answer_of entries) w' → (k : ℕ) (e : Entry) → slice_get entries k ≡ Some e → e.actor ≤ setup.nodes
 actors_within setup w [] w' all room actors lead k e is = absurd (grind (arith, is))

@@ -4,6 +4,7 @@ use Rattle.bully_base.specs.Setup.{Setup}
 use Rattle.bully_calls.specs.declared.call.Answer.{Answer}
 use Rattle.bully_calls.specs.Pending.{Pending}
 use Rattle.bully_world.specs.declared.event.Event.{Event}
+use Rattle.bully_world.specs.Cause.{node_of}
 use Rattle.bully_world.specs.Lawful.{IsLawful}
 use Rattle.bully_world.specs.Step.{Step}
 use Rattle.bully_world.specs.World.{World, first_world, pending}
@@ -16,18 +17,13 @@ operator = 0
 abbrev pub callee_of : Pending → ℕ
 callee_of c = c.call.callee
 
--- Whose event it is in this world. A run is the callee's, and nobody's where no call is there
+-- Whose event it is in this world: a recovery and a crash are the operator's, a run is the callee's, and nobody's where
+-- no call is there, and each other event is the node's that it names.
 abbrev pub whose : World → Event → Option ℕ
 whose w (Event.Recover i) = Some operator
 whose w (Event.Crash i) = Some operator
-whose w (Event.Check i) = Some i
-whose w (Event.Timeout i) = Some i
-whose w (Event.Start i) = Some i
 whose w (Event.Run i) = option_map callee_of (pending w i)
-whose w (Event.Lose i) = Some i
-whose w (Event.Return i) = Some i
-whose w (Event.Move i) = Some i
-whose w (Event.Plan i table) = Some i
+whose w e = Some (node_of e)
 
 abbrev pub event_of : Entry → Event
 event_of e = e.event

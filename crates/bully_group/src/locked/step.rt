@@ -162,13 +162,7 @@ fn actor_of(world: &World, event: &Event) -> Option<u16>
     match event {
         Event::Recover(_) | Event::Crash(_) => Some(0),
         Event::Run(caller) => callee_of(world, *caller),
-        Event::Check(node)
-        | Event::Timeout(node)
-        | Event::Start(node)
-        | Event::Lose(node)
-        | Event::Return(node)
-        | Event::Move(node)
-        | Event::Plan(node, _) => Some(node.number()),
+        _ => Some(event.node().number()),
     }
 }
 
