@@ -2,6 +2,7 @@
 use Rattle.std.proofs.Common.{◌≡◌, ℕ, ◌+◌, ◌<◌, ◌≤◌, ◌⊎◌, inl, inr, Bool, true, false, List, [], ◌∷◌, zero, suc, ◌-◌, length, take, get_or, arith, sym, refl, ◌∙◌, All, Contains, IsTrue, ◌↔◌, slice_index_or}
 use Rattle.std.specs.Prelude.{nat_le}
 use Rattle.std.proofs.lemmas.Bool.Decides.{nat_tests}
+use Rattle.bully_base.specs.declared.TheConstants.{NODES_MAX}
 use Rattle.bully_base.specs.NodeSet.{IsFallingBelow}
 use Rattle.bully_base.specs.Setup.{Setup, IsNodeNumber}
 use Rattle.bully_table.specs.Balance.{count_of, IsBalanced}
@@ -41,12 +42,12 @@ pub record IsBetween (members counts : List ℕ) (least most n : ℕ) : Type 0 w
   pub ordered : slice_index_or counts (least - 1) 0 ≤ slice_index_or counts (most - 1) 0
   pub between : (a : ℕ) → Contains members a → a < n → (slice_index_or counts (least - 1) 0 ≤ slice_index_or counts (a - 1) 0) × (slice_index_or counts (a - 1) 0 ≤ slice_index_or counts (most - 1) 0)
 
-pub between-start : (members counts : List ℕ) (first : ℕ) → IsFallingBelow 65 members → Contains members first → IsBetween members counts first first 1
+pub between-start : (members counts : List ℕ) (first : ℕ) → IsFallingBelow (NODES_MAX + 1) members → Contains members first → IsBetween members counts first first 1
 between-start members counts first falling first_in = record {
   least_in = first_in;
   most_in = first_in;
   ordered = omega arith;
-  between = λ a a_in low. absurd (omega (arith, falling-within 65 members a falling a_in));
+  between = λ a a_in low. absurd (omega (arith, falling-within (NODES_MAX + 1) members a falling a_in));
 }
 
 -- a member is one of the two, which both are members
@@ -81,14 +82,14 @@ between-skip members counts least most n b was has out = record {
     by_case a a_in (inl e) = let held : IsTrue b = has (rw (← e) a_in) in absurd (cc)
     by_case a a_in (inr l) = was.between a a_in l
 
-pub between-end : (members owners counts : List ℕ) (least most n high low : ℕ) → IsFallingBelow 65 members →
+pub between-end : (members owners counts : List ℕ) (least most n high low : ℕ) → IsFallingBelow (NODES_MAX + 1) members →
     ((node : ℕ) → IsNodeNumber node → slice_index_or counts (node - 1) 0 ≡ count_of node owners) →
-    IsBetween members counts least most n → 64 < n → high ≡ slice_index_or counts (most - 1) 0 → low ≡ slice_index_or counts (least - 1) 0 →
+    IsBetween members counts least most n → NODES_MAX < n → high ≡ slice_index_or counts (most - 1) 0 → low ≡ slice_index_or counts (least - 1) 0 →
     IsTrue (nat_le (high - low) 1) ↔ ((a b : ℕ) → Contains members a → Contains members b → count_of a owners ≤ count_of b owners + 1)
 between-end members owners counts least most n high low falling counted was past high_is low_is = (
   λ test. λ a b a_in b_in.
-      let first = was.between a a_in (omega (arith, falling-within 65 members a falling a_in)) in
-      let second = was.between b b_in (omega (arith, falling-within 65 members b falling b_in)) in
+      let first = was.between a a_in (omega (arith, falling-within (NODES_MAX + 1) members a falling a_in)) in
+      let second = was.between b b_in (omega (arith, falling-within (NODES_MAX + 1) members b falling b_in)) in
       let first_is = at a a_in in
       let second_is = at b b_in in
       let close : high - low ≤ 1 = grind (arith, nat_tests) in
@@ -102,7 +103,7 @@ between-end members owners counts least most n high low falling counted was past
 )
   where
     at : (a : ℕ) → Contains members a → slice_index_or counts (a - 1) 0 ≡ count_of a owners
-    at a a_in = counted a ((falling-within 65 members a falling a_in).0, omega (arith, falling-within 65 members a falling a_in))
+    at a a_in = counted a ((falling-within (NODES_MAX + 1) members a falling a_in).0, omega (arith, falling-within (NODES_MAX + 1) members a falling a_in))
 
 -- the two tests, put together; the owners are read off the table twice
 pub balanced-then : (setup : Setup) (table once twice members : List ℕ) (held even : Bool) → once ≡ table → twice ≡ table →

@@ -3,6 +3,7 @@ use Rattle.std.proofs.Common.{◌≡◌, ℕ, ◌+◌, ◌-◌, ◌/◌, ◌<◌
 use Rattle.std.specs.Prelude.{not, nat_lt}
 use Rattle.std.proofs.lemmas.Bool.Decides.{nat_tests}
 use Rattle.std.proofs.lemmas.Grind.{common_steps}
+use Rattle.bully_base.specs.declared.TheConstants.{NODES_MAX}
 use Rattle.bully_base.specs.NodeSet.{IsFallingBelow, below_node}
 use Rattle.bully_base.specs.Setup.{Setup}
 use Rattle.bully_table.specs.Planning.{rest_of, quota}
@@ -70,7 +71,7 @@ shared-none setup bound before members quotas first later above falling first_is
   shared = λ m pos low. absurd (omega arith);
 }
 
-put-share : (setup : Setup) (before members quotas next : List ℕ) (number value : ℕ) → length quotas ≡ 64 → 0 < number → number < 65 → next ≡ slice_set quotas (number - 1) value →
+put-share : (setup : Setup) (before members quotas next : List ℕ) (number value : ℕ) → length quotas ≡ NODES_MAX → 0 < number → number < NODES_MAX + 1 → next ≡ slice_set quotas (number - 1) value →
     ((m : ℕ) → 0 < m → m < number → slice_index_or quotas (m - 1) 0 ≡ share setup before members m) → value ≡ share setup before members number →
     (m : ℕ) → 0 < m → m < number + 1 → slice_index_or next (m - 1) 0 ≡ share setup before members m
 put-share setup before members quotas next number value places pos high is was here m low less = by_case (grind arith)
@@ -79,7 +80,7 @@ put-share setup before members quotas next number value places pos high is was h
     by_case (inl e) = rw (e, is) (grind (arith, common_steps, here, places, high, pos))
     by_case (inr l) = rw is (grind (arith, common_steps, was m low l, l, low))
 
-pub shared-first : (setup : Setup) (bound : ℕ) (before members quotas next : List ℕ) (first later number fewer kept taken : ℕ) → IsFallingBelow bound members → length quotas ≡ 64 → 0 < number → number < 65 →
+pub shared-first : (setup : Setup) (bound : ℕ) (before members quotas next : List ℕ) (first later number fewer kept taken : ℕ) → IsFallingBelow bound members → length quotas ≡ NODES_MAX → 0 < number → number < NODES_MAX + 1 →
     SharedBelow setup before members first later number quotas → Contains members number → firsts setup before members number ≡ true →
     taken ≡ min first 1 → fewer ≡ first - 1 → kept ≡ later → next ≡ slice_set quotas (number - 1) (base setup members + taken) → SharedBelow setup before members fewer kept (number + 1) next
 shared-first setup bound before members quotas next first later number fewer kept taken falling places pos high was x e taken_is fewer_is kept_is is = record {
@@ -89,7 +90,7 @@ shared-first setup bound before members quotas next first later number fewer kep
       (omega (arith, share-inside setup before members number x, quota-first setup before members number first e was.first_left));
 }
 
-pub shared-later : (setup : Setup) (bound : ℕ) (before members quotas next : List ℕ) (first later number fewer kept taken : ℕ) → IsFallingBelow bound members → length quotas ≡ 64 → 0 < number → number < 65 →
+pub shared-later : (setup : Setup) (bound : ℕ) (before members quotas next : List ℕ) (first later number fewer kept taken : ℕ) → IsFallingBelow bound members → length quotas ≡ NODES_MAX → 0 < number → number < NODES_MAX + 1 →
     SharedBelow setup before members first later number quotas → Contains members number → firsts setup before members number ≡ false →
     taken ≡ min later 1 → fewer ≡ later - 1 → kept ≡ first → next ≡ slice_set quotas (number - 1) (base setup members + taken) → SharedBelow setup before members kept fewer (number + 1) next
 shared-later setup bound before members quotas next first later number fewer kept taken falling places pos high was x e taken_is fewer_is kept_is is = record {

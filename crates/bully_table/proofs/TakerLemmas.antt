@@ -5,6 +5,7 @@ use Rattle.std.specs.List.{list_any}
 use Rattle.std.specs.Option.{IsSome, MatchOption}
 use Rattle.std.proofs.lemmas.Bool.Decides.{nat_tests}
 use Rattle.std.proofs.lemmas.List.{length-append, length-replicate, get_or-replicate, get_or_append_left, get_or-append_right, drop_more}
+use Rattle.bully_base.specs.declared.TheConstants.{NODES_MAX}
 use Rattle.bully_base.specs.NodeSet.{IsFallingBelow, below_node}
 use Rattle.bully_base.specs.Setup.{Setup, IsNodeNumber}
 use Rattle.bully_table.specs.Balance.{count_of}
@@ -26,17 +27,17 @@ unfolding takers_from
 takers-next takes n k m e = rw (e, add-one) refl
 
 -- the cursor: on to the next node, one taken, and at its end
-pub left-on : (quotas counts : List ℕ) (node room next more : ℕ) → room ≡ 0 → node < 64 → next ≡ node + 1 → more ≡ spare quotas counts next → takers_left quotas counts next more ≡ takers_left quotas counts node room
+pub left-on : (quotas counts : List ℕ) (node room next more : ℕ) → room ≡ 0 → node < NODES_MAX → next ≡ node + 1 → more ≡ spare quotas counts next → takers_left quotas counts next more ≡ takers_left quotas counts node room
 left-on quotas counts node room next more none low on is =
-    let step = takers-next (spare quotas counts) (64 - node) (64 - (node + 1)) (node + 1) (omega arith) in
+    let step = takers-next (spare quotas counts) (NODES_MAX - node) (NODES_MAX - (node + 1)) (node + 1) (omega arith) in
     rw (none, is, on) (sym step)
 
 pub left-take : (quotas counts : List ℕ) (node room fewer : ℕ) → room ≡ fewer + 1 → takers_left quotas counts node room ≡ node ∷ takers_left quotas counts node fewer
 left-take quotas counts node room fewer e = rw (e, add-one) refl
 
-pub left-none : (quotas counts : List ℕ) (node room : ℕ) → room ≡ 0 → 64 ≤ node → takers_left quotas counts node room ≡ []
+pub left-none : (quotas counts : List ℕ) (node room : ℕ) → room ≡ 0 → NODES_MAX ≤ node → takers_left quotas counts node room ≡ []
 left-none quotas counts node room none high =
-    let all : 64 - node ≡ 0 = omega arith in
+    let all : NODES_MAX - node ≡ 0 = omega arith in
     rw (none, all) (takers-none (spare quotas counts) (node + 1))
 
 -- one number more, whether it is a member or takes nothing
@@ -93,7 +94,7 @@ takers-part takes bound (suc n) m end j i ms falling outside e l is =
 
 -- whoever is no member takes nothing, and a member as often as it has room
 pub record AreRooms (setup : Setup) (before members : List ℕ) (takes : ℕ → ℕ) : Type 0 where
-  pub outside : (k : ℕ) → ¬ Contains members k → 1 ≤ k → k < 65 → takes k ≡ 0
+  pub outside : (k : ℕ) → ¬ Contains members k → 1 ≤ k → k < NODES_MAX + 1 → takes k ≡ 0
   pub inside : (k : ℕ) → Contains members k → takes k ≡ room setup before members k
 
 pub share-outside : (setup : Setup) (before members : List ℕ) (m : ℕ) → ¬ Contains members m → share setup before members m ≡ 0
@@ -108,27 +109,27 @@ share-inside setup before members m x =
     let is_member = (any_decides m members).1 x in
     rw is_member refl
 
-pub are-rooms : (setup : Setup) (before members quotas counts : List ℕ) → Plannable setup 65 before members →
+pub are-rooms : (setup : Setup) (before members quotas counts : List ℕ) → Plannable setup (NODES_MAX + 1) before members →
     ((m : ℕ) → IsNodeNumber m → slice_index_or quotas (m - 1) 0 ≡ share setup before members m) → ((m : ℕ) → IsNodeNumber m → slice_index_or counts (m - 1) 0 ≡ count_of m before) →
     AreRooms setup before members (spare quotas counts)
 are-rooms setup before members quotas counts h shares counted = record {
   outside = λ k out low high. omega (arith, shares k (omega arith, omega arith), share-outside setup before members k out);
   inside = λ k x.
-      let within = falling-within 65 members k h.falling x in
-      omega (arith, shares k (within.0, omega (arith, within.1)), counted k (within.0, omega (arith, within.1)), share-inside setup before members k x, room-is setup 65 before members k h x);
+      let within = falling-within (NODES_MAX + 1) members k h.falling x in
+      omega (arith, shares k (within.0, omega (arith, within.1)), counted k (within.0, omega (arith, within.1)), share-inside setup before members k x, room-is setup (NODES_MAX + 1) before members k h x);
 }
 
-pub takers-all : (setup : Setup) (before members : List ℕ) (takes : ℕ → ℕ) → IsFallingBelow 65 members → AreRooms setup before members takes → length (takers_from takes 64 1) ≡ sum_by (room setup before members) members
+pub takers-all : (setup : Setup) (before members : List ℕ) (takes : ℕ → ℕ) → IsFallingBelow (NODES_MAX + 1) members → AreRooms setup before members takes → length (takers_from takes NODES_MAX 1) ≡ sum_by (room setup before members) members
 takers-all setup before members takes falling rooms =
-    let counted = takers-length takes 65 64 1 65 members falling rooms.outside (omega arith) in
-    omega (arith, below-none takes 65 members falling, total-above takes 65 65 members falling (omega arith), total-same takes (room setup before members) members rooms.inside, total-sum_by (room setup before members) members)
+    let counted = takers-length takes (NODES_MAX + 1) NODES_MAX 1 (NODES_MAX + 1) members falling rooms.outside (omega arith) in
+    omega (arith, below-none takes (NODES_MAX + 1) members falling, total-above takes (NODES_MAX + 1) (NODES_MAX + 1) members falling (omega arith), total-same takes (room setup before members) members rooms.inside, total-sum_by (room setup before members) members)
 
-pub taker-at : (setup : Setup) (before members : List ℕ) (takes : ℕ → ℕ) (j : ℕ) → IsFallingBelow 65 members → AreRooms setup before members takes → j < length (takers_from takes 64 1) →
-    slice_index_or (takers_from takes 64 1) j 0 ≡ taker setup before members j
+pub taker-at : (setup : Setup) (before members : List ℕ) (takes : ℕ → ℕ) (j : ℕ) → IsFallingBelow (NODES_MAX + 1) members → AreRooms setup before members takes → j < length (takers_from takes NODES_MAX 1) →
+    slice_index_or (takers_from takes NODES_MAX 1) j 0 ≡ taker setup before members j
 taker-at setup before members takes j falling rooms l =
-    let found = takers-part takes 65 64 1 65 j j members falling rooms.outside (omega arith) l (omega (arith, below-none takes 65 members falling)) in
-    let below = total takes (below_node (slice_index_or (takers_from takes 64 1) j 0) members) in
-    sym (taken-at setup before 65 members takes (slice_index_or (takers_from takes 64 1) j 0) (j - below) j falling found.0 rooms.inside (omega (arith, found.1)) (omega (arith, found.1, found.2)))
+    let found = takers-part takes (NODES_MAX + 1) NODES_MAX 1 (NODES_MAX + 1) j j members falling rooms.outside (omega arith) l (omega (arith, below-none takes (NODES_MAX + 1) members falling)) in
+    let below = total takes (below_node (slice_index_or (takers_from takes NODES_MAX 1) j 0) members) in
+    sym (taken-at setup before (NODES_MAX + 1) members takes (slice_index_or (takers_from takes NODES_MAX 1) j 0) (j - below) j falling found.0 rooms.inside (omega (arith, found.1)) (omega (arith, found.1, found.2)))
 
 -- who takes the next partition that doesn't stay
 record IsTaking (setup : Setup) (before members takers left : List ℕ) (place : ℕ) : Type 0 where
@@ -136,13 +137,13 @@ record IsTaking (setup : Setup) (before members takers left : List ℕ) (place :
   taker_is : slice_index_or takers (leaving setup before members place) 0 ≡ taker setup before members (leaving setup before members place)
   here : left ≡ slice_index_or takers (leaving setup before members place) 0 ∷ drop (leaving setup before members place + 1) takers
 
-is-taking : (setup : Setup) (before members quotas counts takers left : List ℕ) (place : ℕ) → Plannable setup 65 before members →
+is-taking : (setup : Setup) (before members quotas counts takers left : List ℕ) (place : ℕ) → Plannable setup (NODES_MAX + 1) before members →
     ((m : ℕ) → IsNodeNumber m → slice_index_or quotas (m - 1) 0 ≡ share setup before members m) → ((m : ℕ) → IsNodeNumber m → slice_index_or counts (m - 1) 0 ≡ count_of m before) →
-    takers ≡ takers_from (spare quotas counts) 64 1 → place < setup.partitions → stays setup before members place ≡ false → left ≡ drop (leaving setup before members place) takers → IsTaking setup before members takers left place
+    takers ≡ takers_from (spare quotas counts) NODES_MAX 1 → place < setup.partitions → stays setup before members place ≡ false → left ≡ drop (leaving setup before members place) takers → IsTaking setup before members takers left place
 is-taking setup before members quotas counts takers left place h shares counted takers_is low leaves left_is =
     let rooms = are-rooms setup before members quotas counts h shares counted in
     let all = takers-all setup before members (spare quotas counts) h.falling rooms in
-    let fits = leaving-fits setup 65 before members place h low leaves in
+    let fits = leaving-fits setup (NODES_MAX + 1) before members place h low leaves in
     let inside : leaving setup before members place < length takers = rw takers_is (omega arith) in
     record {
       within = inside;
@@ -150,9 +151,9 @@ is-taking setup before members quotas counts takers left place h shares counted 
       here = left_is ∙ drop_more takers (leaving setup before members place) 0 inside;
     }
 
-pub next-is-some : (setup : Setup) (before members quotas counts takers left next : List ℕ) (place : ℕ) (taken : Option ℕ) → Plannable setup 65 before members →
+pub next-is-some : (setup : Setup) (before members quotas counts takers left next : List ℕ) (place : ℕ) (taken : Option ℕ) → Plannable setup (NODES_MAX + 1) before members →
     ((m : ℕ) → IsNodeNumber m → slice_index_or quotas (m - 1) 0 ≡ share setup before members m) → ((m : ℕ) → IsNodeNumber m → slice_index_or counts (m - 1) 0 ≡ count_of m before) →
-    takers ≡ takers_from (spare quotas counts) 64 1 → place < setup.partitions → stays setup before members place ≡ false → left ≡ drop (leaving setup before members place) takers →
+    takers ≡ takers_from (spare quotas counts) NODES_MAX 1 → place < setup.partitions → stays setup before members place ≡ false → left ≡ drop (leaving setup before members place) takers →
     MatchOption taken ((left ≡ []) × (next ≡ [])) (λ node. left ≡ node ∷ next) → IsSome taken
 next-is-some setup before members quotas counts takers left next place None h shares counted takers_is low leaves left_is told =
     let taking = is-taking setup before members quotas counts takers left place h shares counted takers_is low leaves left_is in
@@ -161,9 +162,9 @@ next-is-some setup before members quotas counts takers left next place None h sh
     absurd (cc)
 next-is-some setup before members quotas counts takers left next place (Some node) h shares counted takers_is low leaves left_is told = refl
 
-pub next-is-planned : (setup : Setup) (before members quotas counts takers left next : List ℕ) (place owner : ℕ) (taken : Option ℕ) → Plannable setup 65 before members →
+pub next-is-planned : (setup : Setup) (before members quotas counts takers left next : List ℕ) (place owner : ℕ) (taken : Option ℕ) → Plannable setup (NODES_MAX + 1) before members →
     ((m : ℕ) → IsNodeNumber m → slice_index_or quotas (m - 1) 0 ≡ share setup before members m) → ((m : ℕ) → IsNodeNumber m → slice_index_or counts (m - 1) 0 ≡ count_of m before) →
-    takers ≡ takers_from (spare quotas counts) 64 1 → place < setup.partitions → stays setup before members place ≡ false → left ≡ drop (leaving setup before members place) takers →
+    takers ≡ takers_from (spare quotas counts) NODES_MAX 1 → place < setup.partitions → stays setup before members place ≡ false → left ≡ drop (leaving setup before members place) takers →
     MatchOption taken ((left ≡ []) × (next ≡ [])) (λ node. left ≡ node ∷ next) → taken ≡ Some owner →
     (owner ≡ planned_owner setup before members place) × (next ≡ drop (leaving setup before members (place + 1)) takers)
 next-is-planned setup before members quotas counts takers left next place owner None h shares counted takers_is low leaves left_is told is = absurd (cc)

@@ -23,9 +23,9 @@ pub fn quotas_of(setup: Setup, members: &NodeSet, counts: &[usize; PLACES]) -> [
         let node = Node::new(number).unwrap();
         if members.has(node) {
             let more = if count_at(counts, node) > base {
-                take_one(&mut first_rest)
+                spend_one(&mut first_rest)
             } else {
-                take_one(&mut later_rest)
+                spend_one(&mut later_rest)
             };
             quotas[usize::from(number - 1)] = base + more;
         }
@@ -48,12 +48,12 @@ fn count_above(members: &NodeSet, counts: &[usize; PLACES], base: usize) -> usiz
     above
 }
 
-// Takes one where any are left: how many it took.
-fn take_one(left: &mut usize) -> usize
-    ensures taken { result ≡ min left.old 1 }
+// Spends one where any are left: how many it spent.
+fn spend_one(left: &mut usize) -> usize
+    ensures spent { result ≡ min left.old 1 }
     ensures left { left.new ≡ left.old - 1 }
 {
-    let taken = (*left).min(1);
-    *left -= taken;
-    taken
+    let spent = (*left).min(1);
+    *left -= spent;
+    spent
 }

@@ -1,6 +1,7 @@
-use Rattle.std.proofs.Common.{◌≡◌, ℕ, List, false, arith, ◌∙◌, ap, map, length, is_none}
+use Rattle.std.proofs.Common.{◌+◌, ◌≡◌, ℕ, List, false, arith, ◌∙◌, ap, map, length, is_none}
 use Rattle.std.specs.List.{range_with_len}
 use Rattle.std.specs.Option.{option_copied}
+use Rattle.bully_base.specs.declared.TheConstants.{NODES_MAX}
 use Rattle.bully_table.specs.Planning.{owners_before, planned_owner, planned}
 use Rattle.bully_table.proofs.StayLemmas.{Plannable}
 use Rattle.bully_table.proofs.PlannedLemmas.{planned-covers, planned-fewest, fewest-keeps, moves-within, covers-from, lengths-from, some-from}
@@ -24,9 +25,9 @@ overflow_sub-result c =
 pub returns-clause-fewest : goal.returns-clause-fewest
 returns-clause-fewest c =
     let some : is_none c.highest.result ≡ false = grind (arith, c.is_none.ensures, c.if-is_none.false) in
-    let plannable : Plannable c.args.setup 65 (owners_before (option_copied c.args.old)) c.args.members.now = record { falling = c.highest.ensures.falling; some = some-from c.highest.result c.args.members.now c.highest.ensures.highest some; covers = covers-from c.args.setup (option_copied c.args.old) c.requires } in
+    let plannable : Plannable c.args.setup (NODES_MAX + 1) (owners_before (option_copied c.args.old)) c.args.members.now = record { falling = c.highest.ensures.falling; some = some-from c.highest.result c.args.members.now c.highest.ensures.highest some; covers = covers-from c.args.setup (option_copied c.args.old) c.requires } in
     let is : c.of-table.result ≡ planned c.args.setup (option_copied c.args.old) c.args.members.now = c.of-table.ensures ∙ (c.in_ok-owners.ensures ∙ ap (λ (before : List ℕ). map (planned_owner c.args.setup before c.args.members.now) (range_with_len 0 c.args.setup.partitions)) c.owners_before.ensures) in
-    rw is (planned-fewest c.args.setup 65 (option_copied c.args.old) c.args.members.now plannable)
+    rw is (planned-fewest c.args.setup (NODES_MAX + 1) (option_copied c.args.old) c.args.members.now plannable)
 
 pub returns-clause-bound : goal.returns-clause-bound
 returns-clause-bound c =

@@ -1,6 +1,7 @@
-use Rattle.std.proofs.Common.{◌≡◌, ◌-◌, ◌++◌, ◌∷◌, [], arith, sym, refl, ◌∙◌}
+use Rattle.std.proofs.Common.{◌+◌, ◌≡◌, ◌-◌, ◌++◌, ◌∷◌, [], arith, sym, refl, ◌∙◌}
 use Rattle.std.proofs.lemmas.Grind.{common_steps}
 use Rattle.std.proofs.lemmas.List.{get_or-replicate}
+use Rattle.bully_base.specs.declared.TheConstants.{NODES_MAX}
 use Rattle.bully_table.specs.Planning.{owner_at, stays, planned_owner}
 use Rattle.bully_table.proofs.StayLemmas.{Plannable}
 use Rattle.bully_table.proofs.PlannedLemmas.{some-length, planned-more, planned-stays, leaving-none, told-stays, told-leaves}
@@ -12,12 +13,12 @@ pub loop-place-init : goal.loop-place-init
 loop-place-init c = record {
   planned = grind (arith, common_steps, c.in_ok-owners.ensures.items);
   taking = rw (← (leaving-none c.args.setup c.args.before.now c.args.members.now)) refl;
-  seen = λ m within. get_or-replicate 64 (m - 1) 0 0 (omega arith);
+  seen = λ m within. get_or-replicate NODES_MAX (m - 1) 0 0 (omega arith);
 }
 
 pub unwrap-owner-requires : goal.unwrap-owner-requires
 unwrap-owner-requires c =
-    let plannable : Plannable c.args.setup 65 c.args.before.now c.args.members.now = record { falling = c.requires.falling; some = some-length c.args.members.now c.requires.some; covers = c.requires.covers } in
+    let plannable : Plannable c.args.setup (NODES_MAX + 1) c.args.before.now c.args.members.now = record { falling = c.requires.falling; some = some-length c.args.members.now c.requires.some; covers = c.requires.covers } in
     let shares = c.quotas_of-quotas.ensures c.args.before.now c.counts_of-counts.ensures in
     let leaves = told-leaves (stays c.args.setup c.args.before.now c.args.members.now c.loop-place.place) (owner_at c.args.before.now c.loop-place.place) (sym c.in-None.is ∙ c.staying_owner.ensures.owner c.args.setup c.args.members.now c.requires.falling shares) in
     next-is-some c.args.setup c.args.before.now c.args.members.now c.quotas_of-quotas.result c.counts_of-counts.result c.of-takers.result c.loop-place.takers c.next.new.self c.loop-place.place c.next.result plannable shares c.counts_of-counts.ensures c.of-takers.ensures (omega arith) leaves c.loop-place.invariant.taking c.next.ensures
@@ -35,7 +36,7 @@ loop-place-preserved c =
             seen = c.staying_owner.ensures.seen;
           }
       | in-None w ↦
-          let plannable : Plannable c.args.setup 65 c.args.before.now c.args.members.now = record { falling = c.requires.falling; some = some-length c.args.members.now c.requires.some; covers = c.requires.covers } in
+          let plannable : Plannable c.args.setup (NODES_MAX + 1) c.args.before.now c.args.members.now = record { falling = c.requires.falling; some = some-length c.args.members.now c.requires.some; covers = c.requires.covers } in
           let leaves = told-leaves (stays c.args.setup c.args.before.now c.args.members.now c.loop-place.place) (owner_at c.args.before.now c.loop-place.place) (sym w.in-None.is ∙ c.staying_owner.ensures.owner c.args.setup c.args.members.now c.requires.falling shares) in
           let taken = next-is-planned c.args.setup c.args.before.now c.args.members.now c.quotas_of-quotas.result c.counts_of-counts.result c.of-takers.result c.loop-place.takers w.next.new.self c.loop-place.place w.unwrap-owner.result w.next.result plannable shares c.counts_of-counts.ensures c.of-takers.ensures (omega arith) leaves c.loop-place.invariant.taking w.next.ensures w.unwrap-owner.ensures in
           record {
