@@ -13,8 +13,6 @@ mod fault;
 mod lookup;
 mod reading;
 mod refusal;
-#[cfg(test)]
-mod tests;
 
 pub use config::{Config, Fault, FaultKind};
 pub use fault::{ConfigFault, Key};

@@ -10,8 +10,6 @@ mod plan_taking;
 mod point;
 mod procedure;
 mod states;
-#[cfg(test)]
-mod tests;
 
 pub use driver::{Choice, Driver};
 pub use point::{Point, Want, begin_check, begin_recovery, begin_timeout};

@@ -21,6 +21,3 @@ pub use planning::{PlanFault, TablePlan, plan};
 pub use room::TableRoom;
 pub use table::{Table, TableFault};
 pub use text::push_owners;
-
-#[cfg(test)]
-mod tests;

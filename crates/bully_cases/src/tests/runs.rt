@@ -3,13 +3,19 @@
 use super::scripts::{ALL_UP, ALONE, ORPHAN_HALT, ORPHAN_READY};
 use super::{node, setup};
 use bully_agree::{RunFault, View, Walk, WholeFault, run, run_whole, view};
-use bully_base::{Setup, Status};
-use bully_table::Table;
+use bully_base::{Node, Setup};
+use bully_table::push_owners;
 use bully_trace::{Row, read_trace};
 use bully_world::{Event, Refused, World};
 use std::alloc::Global;
-use std::process::Abort;
 use std::test::Fail;
+
+/// What is shown where each of three nodes is Normal.
+const ALL_NORMAL: &str = "26 events
+1 Normal Some(3) 1 2 3
+2 Normal Some(3) 1 2 3
+3 Normal Some(3) 1 2 3
+";
 
 // The script's setup and its events.
 fn script(alloc: Global, text: &str) -> Result<(Setup, Vec<Event>), Fail> {
@@ -23,77 +29,97 @@ fn script(alloc: Global, text: &str) -> Result<(Setup, Vec<Event>), Fail> {
     Ok((trace.setup, events))
 }
 
-// The view shows the node so.
-fn assert_shown(
-    rt: &impl Abort,
-    view: &View,
-    number: u16,
-    status: Status,
-    coordinator: Option<u16>,
-    task: Option<&Table>,
-) {
-    let node = node(rt, number);
-    assert!(rt; node.number() <= view.nodes());
-    assert_eq!(rt; view.status(node), status);
-    assert_eq!(rt;
-        view.coordinator(node).map(|node| node.number()),
-        coordinator
-    );
-    assert!(rt; view.task(node) == task);
+// What the view shows, in a line for the events and one for each node.
+fn shown(alloc: Global, view: &View) -> Option<String> {
+    let mut text = String::new(alloc);
+    match add_view(&mut text, view) {
+        Some(()) => Some(text),
+        None => None,
+    }
+}
+
+fn add_view(text: &mut String, view: &View) -> Option<()> {
+    let events = view.events();
+    writeln!(text, "{events} events").ok()?;
+    for number in 1..=view.nodes() {
+        add_node(text, view, Node::new(number)?)?;
+    }
+    Some(())
+}
+
+fn add_node(text: &mut String, view: &View, node: Node) -> Option<()> {
+    if view.nodes() < node.number() {
+        return None;
+    }
+    let (number, status) = (node.number(), view.status(node));
+    let coordinator = view.coordinator(node).map(|node| node.number());
+    write!(text, "{number} {status:?} {coordinator:?} ").ok()?;
+    match view.task(node) {
+        Some(table) => push_owners(text, table, ' ').ok()?,
+        None => text.push_str("-").ok()?,
+    }
+    text.push_str("\n").ok()
+}
+
+// Whether the view shows this.
+fn shows(alloc: Global, view: &View, expected: &str) -> bool {
+    match shown(alloc, view) {
+        Some(text) => text.as_str() == expected,
+        None => false,
+    }
+}
+
+// What a run of the script in whole calls shows.
+fn run_in_whole_calls(alloc: Global, text: &str) -> Result<(World, View), Fail> {
+    let (group, events) = script(alloc, text)?;
+    Ok(run_whole(alloc, group, events.as_slice())?)
 }
 
 #[test]
 fn whole_call_lists(rt: HostRuntime) -> Result<(), Fail> {
-    let alloc = rt.alloc();
-    let (three, events) = script(alloc, ALL_UP)?;
-    let (world, view) = run_whole(alloc, three, events.as_slice())?;
-    let table = Table::read(alloc, three, "1 2 3")?;
+    let (world, view) = run_in_whole_calls(rt.alloc(), ALL_UP)?;
     assert_eq!(rt; world.events(), 26);
-    assert_eq!(rt; view.events(), 26);
-    for number in 1..=3 {
-        assert_shown(&rt, &view, number, Status::Normal, Some(3), Some(&table));
-    }
-    let (three, events) = script(alloc, ORPHAN_HALT)?;
-    assert_eq!(rt;
-        run_whole(alloc, three, events.as_slice()).err(),
-        Some(WholeFault::NotWhole { index: 7 })
-    );
+    assert!(rt; shows(rt.alloc(), &view, ALL_NORMAL));
+    Ok(())
+}
+
+// Why the script doesn't run in whole calls.
+fn whole_fault(alloc: Global, text: &str) -> Result<Option<WholeFault>, Fail> {
+    let (group, events) = script(alloc, text)?;
+    Ok(run_whole(alloc, group, events.as_slice()).err())
+}
+
+#[test]
+fn call_that_is_not_whole(rt: HostRuntime) -> Result<(), Fail> {
+    let fault = whole_fault(rt.alloc(), ORPHAN_HALT)?;
+    assert_eq!(rt; fault, Some(WholeFault::NotWhole { index: 7 }));
+    Ok(())
+}
+
+#[test]
+fn short_lists(rt: HostRuntime) {
+    let alloc = rt.alloc();
     let one = node(&rt, 1);
+    let started = [Event::Recover(one), Event::Start(one)];
     assert_eq!(rt;
-        run_whole(
-            alloc,
-            setup(&rt, 2, 2, 9),
-            &[Event::Recover(one), Event::Start(one)]
-        )
-        .err(),
+        run_whole(alloc, setup(&rt, 2, 2, 9), &started).err(),
         Some(WholeFault::NotWhole { index: 2 })
     );
+    let moved = [Event::Recover(one), Event::Move(one)];
     assert_eq!(rt;
-        run_whole(
-            alloc,
-            setup(&rt, 2, 2, 1),
-            &[Event::Recover(one), Event::Move(one)]
-        )
-        .err(),
+        run_whole(alloc, setup(&rt, 2, 2, 1), &moved).err(),
         Some(WholeFault::Stop {
             index: 1,
             cause: Refused::Full
         })
     );
-    Ok(())
-}
-
-#[test]
-fn lone_run(rt: HostRuntime) {
-    let alloc = rt.alloc();
-    let one = node(&rt, 1);
-    let alone = setup(&rt, 1, 1, 9);
+    let alone = [Event::Run(one)];
     assert_eq!(rt;
-        run_whole(alloc, alone, &[Event::Run(one)]).err(),
+        run_whole(alloc, setup(&rt, 1, 1, 9), &alone).err(),
         Some(WholeFault::NotWhole { index: 0 })
     );
     assert_eq!(rt;
-        run(alloc, alone, &[Event::Run(one)]).err(),
+        run(alloc, setup(&rt, 1, 1, 9), &alone).err(),
         Some(RunFault::Stop {
             index: 0,
             cause: Refused::IsDown
@@ -101,64 +127,77 @@ fn lone_run(rt: HostRuntime) {
     );
 }
 
-#[test]
-fn stopped_run(rt: HostRuntime) -> Result<(), Fail> {
-    let alloc = rt.alloc();
-    let (three, events) = script(alloc, ORPHAN_READY)?;
-    assert_eq!(rt;
-        run(alloc, three, events.as_slice()).err(),
-        Some(RunFault::Stop {
-            index: 22,
-            cause: Refused::SlotBusy
-        })
-    );
-    Ok(())
+// What a run of the script gives with this bound on events.
+fn run_with(alloc: Global, text: &str, events_max: u32) -> Result<Result<View, RunFault>, Fail> {
+    let (group, events) = script(alloc, text)?;
+    let setup = Setup::new(group.nodes(), group.partitions(), events_max)?;
+    match run(alloc, setup, events.as_slice()) {
+        Ok((_, view)) => Ok(Ok(view)),
+        Err(fault) => Ok(Err(fault)),
+    }
 }
 
-#[test]
-fn bound_on_runs(rt: HostRuntime) -> Result<(), Fail> {
-    let alloc = rt.alloc();
-    let (_, events) = script(alloc, ALONE)?;
-    assert_eq!(rt;
-        run(alloc, setup(&rt, 1, 2, 5), events.as_slice()).err(),
-        Some(RunFault::Stop {
-            index: 5,
-            cause: Refused::Full
-        })
-    );
-    let enough = setup(&rt, 1, 2, 6);
-    let (world, view) = run(alloc, enough, events.as_slice())?;
-    let table = Table::read(alloc, enough, "1 1")?;
-    assert_eq!(rt; world.events(), 6);
-    assert_eq!(rt; view.events(), 6);
-    assert_shown(&rt, &view, 1, Status::Normal, Some(1), Some(&table));
-    Ok(())
-}
+/// A script, a bound on events, at which event it stops, and why.
+const STOPS: [(&str, u32, usize, Refused); 2] = [
+    (ORPHAN_READY, 1_000_000, 22, Refused::SlotBusy),
+    (ALONE, 5, 5, Refused::Full),
+];
 
 #[test]
-fn view_of_a_new_world(rt: HostRuntime) -> Result<(), Fail> {
-    let alloc = rt.alloc();
-    let two = setup(&rt, 2, 2, 9);
-    let shown = view(alloc, &World::new(alloc, two)?)?;
-    assert_eq!(rt; shown.setup(), two);
-    assert_eq!(rt; shown.events(), 0);
-    assert_eq!(rt; shown.nodes(), 2);
-    for number in 1..=2 {
-        assert_shown(&rt, &shown, number, Status::Down, None, None);
+fn stopped_runs(rt: HostRuntime) -> Result<(), Fail> {
+    for (text, events_max, index, cause) in STOPS.iter() {
+        let stop = RunFault::Stop {
+            index: *index,
+            cause: *cause,
+        };
+        let fault = run_with(rt.alloc(), *text, *events_max)?.err();
+        assert_eq!(rt; fault, Some(stop));
     }
     Ok(())
 }
 
 #[test]
+fn run_to_the_bound(rt: HostRuntime) -> Result<(), Fail> {
+    match run_with(rt.alloc(), ALONE, 6)? {
+        Ok(view) => {
+            let expected = "6 events\n1 Normal Some(1) 1 1\n";
+            assert!(rt; shows(rt.alloc(), &view, expected));
+        }
+        Err(_) => assert!(rt; false),
+    }
+    Ok(())
+}
+
+#[test]
+fn view_of_a_new_world(rt: HostRuntime) -> Result<(), Fail> {
+    let two = setup(&rt, 2, 2, 9);
+    let world = World::new(rt.alloc(), two)?;
+    let view = view(rt.alloc(), &world)?;
+    assert_eq!(rt; view.setup(), two);
+    assert!(rt;
+        shows(
+            rt.alloc(),
+            &view,
+            "0 events\n1 Down None -\n2 Down None -\n"
+        )
+    );
+    Ok(())
+}
+
+// Whether the walk shows this.
+fn walk_shows(alloc: Global, walk: &Walk, expected: &str) -> bool {
+    match walk.view(alloc) {
+        Ok(view) => shows(alloc, &view, expected),
+        Err(_) => false,
+    }
+}
+
+#[test]
 fn views_of_a_walk(rt: HostRuntime) -> Result<(), Fail> {
-    let alloc = rt.alloc();
-    let mut walk = Walk::new(alloc, setup(&rt, 1, 2, 9))?;
-    let shown = walk.view(alloc)?;
-    assert_eq!(rt; shown.events(), 0);
-    assert_shown(&rt, &shown, 1, Status::Down, None, None);
-    assert!(rt; walk.apply(&Event::Recover(node(&rt, 1))).is_ok());
-    let shown = walk.view(alloc)?;
-    assert_eq!(rt; shown.events(), 1);
-    assert_shown(&rt, &shown, 1, Status::Election, None, None);
+    let recover = Event::Recover(node(&rt, 1));
+    let mut walk = Walk::new(rt.alloc(), setup(&rt, 1, 2, 9))?;
+    assert!(rt; walk_shows(rt.alloc(), &walk, "0 events\n1 Down None -\n"));
+    assert!(rt; walk.apply(&recover).is_ok());
+    assert!(rt; walk_shows(rt.alloc(), &walk, "1 events\n1 Election None -\n"));
     Ok(())
 }

@@ -1,8 +1,9 @@
 //! Readers and writers of traces that fail.
 
-use super::changed;
 use super::scripts::{ALONE, OTHERS_DOWN};
+use super::traces::changed;
 use bully_trace::{TraceCause, TraceFault, check, read_trace};
+use std::alloc::Global;
 use std::io;
 use std::io::{ErrorKind, Read};
 use std::test::Fail;
@@ -17,25 +18,26 @@ impl Read for Broken {
     }
 }
 
+/// How many rows are read, and the row at which the read failed.
+const READS: [(usize, u32); 6] = [(0, 1), (1, 2), (2, 3), (3, 4), (12, 13), (13, 14)];
+
+// Whether the text behind which the reader fails is neither judged nor read, for that at this row, and nothing is written.
+fn fails_at(alloc: Global, text: &str, row: u32) -> bool {
+    let cause = TraceCause::Read;
+    let mut output = Vec::new(alloc);
+    let judged = check(alloc, text.as_bytes().chain(Broken), &mut output);
+    let read = read_trace(alloc, text.as_bytes().chain(Broken));
+    judged == Err(TraceFault { row, cause })
+        && read.err() == Some(TraceFault { row, cause })
+        && output.is_empty()
+}
+
 #[test]
 fn failed_read(rt: HostRuntime) -> Result<(), Fail> {
-    let alloc = rt.alloc();
-    let mut output = Vec::new(alloc);
-    for (rows, row) in [(0, 1), (1, 2), (2, 3), (3, 4), (12, 13), (13, 14)] {
-        let text = changed(alloc, OTHERS_DOWN, rows, "")?;
-        let cause = TraceCause::Read;
-        let input = text.as_bytes().chain(Broken);
-        assert_eq!(rt;
-            check(alloc, input, &mut output),
-            Err(TraceFault { row, cause })
-        );
-        let input = text.as_bytes().chain(Broken);
-        assert_eq!(rt;
-            read_trace(alloc, input).err(),
-            Some(TraceFault { row, cause })
-        );
+    for (rows, row) in READS.iter() {
+        let text = changed(rt.alloc(), OTHERS_DOWN, *rows, "")?;
+        assert!(rt; fails_at(rt.alloc(), text.as_str(), *row), "{row}");
     }
-    assert!(rt; output.is_empty());
     Ok(())
 }
 

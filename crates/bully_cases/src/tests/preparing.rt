@@ -1,27 +1,14 @@
-//! A table that was planned by hand, prepared.
+//! A table that was planned by hand is prepared.
 
-ghost use Rattle.std.specs.Prelude.{◌≡◌, [], ◌∷◌, None, false, length};
+ghost use Rattle.std.specs.Prelude.{◌≡◌, [], ◌∷◌, None, false};
 ghost use Rattle.bully_steps.specs.ProcedureState.{procedure_state};
 ghost use Rattle.bully_steps.specs.Procedure.{state_of};
 
-use crate::{Point, Procedure};
+use super::full_size::prepares;
 use bully_base::{Node, NodeSet, Setup};
+use bully_steps::{Point, Procedure};
 use bully_table::Table;
-use std::alloc::Global;
 use std::test::Fail;
-
-// Whether the planning procedure prepares the expected table from the old one.
-fn prepares(alloc: Global, procedure: Procedure, old: &Table, expected: &Table) -> bool
-    requires { length old.now ≡ (state_of procedure).setup.partitions }
-{
-    let Procedure::Planning(planning) = procedure else {
-        return false;
-    };
-    match planning.prepare(alloc, Some(old)) {
-        Ok(planned) => Procedure::Planned(planned).table() == Some(expected),
-        Err(_) => false,
-    }
-}
 
 // Node 2 of a group of three plans for itself and node 1.
 fn planning_node(setup: Setup) -> Procedure

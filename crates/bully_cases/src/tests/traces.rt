@@ -1,0 +1,220 @@
+//! What the checker writes of traces, and why it judges none.
+
+use super::scripts::{
+    ALL_UP, ALONE, ANNOUNCED_TOO_LATE, LATE_FAILURE, ORPHAN_HALT, ORPHAN_READY, OTHERS_DOWN,
+    REPLY_LOST,
+};
+use bully_trace::{TraceFault, check, read_trace, write_trace};
+use std::alloc::Global;
+use std::test::Fail;
+
+/// More rows than any script has.
+const ALL: usize = 99;
+
+/// A script, how many of its rows are taken, the rows behind them, and what the checker writes.
+const SCRIPTS: [(&str, usize, &str, &str); 14] = [
+    (ALONE, ALL, "", "lawful 6\n1 normal 1 1 1,1\n"),
+    (
+        OTHERS_DOWN,
+        ALL,
+        "",
+        "lawful 12\n1 down - - -\n2 down - - -\n3 normal 3 3 3,3,3\n",
+    ),
+    (
+        ALL_UP,
+        ALL,
+        "",
+        "lawful 26\n1 normal 3 3 1,2,3\n2 normal 3 3 1,2,3\n3 normal 3 3 1,2,3\n",
+    ),
+    (
+        REPLY_LOST,
+        ALL,
+        "",
+        "lawful 15\n1 down - - -\n2 down - - -\n3 normal 3 3 3,3,3\n",
+    ),
+    (
+        ORPHAN_HALT,
+        ALL,
+        "",
+        "lawful 38\n1 election - 2 -\n2 normal 3 3 1,2,3\n3 election 3 3 1,2,3\n",
+    ),
+    (
+        ANNOUNCED_TOO_LATE,
+        ALL,
+        "",
+        "lawful 21\n1 election - 3 -\n2 election 2 3 -\n3 election - 3 -\n",
+    ),
+    (ORPHAN_READY, ALL, "", "refused 24 SlotBusy\n"),
+    (LATE_FAILURE, ALL, "", "refused 12 NoStep\n"),
+    (
+        REPLY_LOST,
+        14,
+        "plan,3,2 3 3\nmove,3\n",
+        "refused 15 BadTable\n",
+    ),
+    (
+        ORPHAN_READY,
+        23,
+        "run,2\nreturn,2\nstart,2\n",
+        "lawful 25\n1 normal 2 2 1,2\n2 election 2 3 1,2\n3 down - - -\n",
+    ),
+    (OTHERS_DOWN, 11, "plan,3,3 3", "fault 12 BadRow"),
+    (ALL_UP, 27, "saw,2,normal,2\n", "differs 28\n"),
+    (
+        ALL_UP,
+        27,
+        "saw,2,normal,3\n",
+        "lawful 26\n1 normal 3 3 1,2,3\n2 normal 3 3 1,2,3\n3 normal 3 3 1,2,3\n",
+    ),
+    (
+        ALL_UP,
+        27,
+        "crash,3\ntimeout,1\nstart,1\nlose,1\nreturn,1\nstart,1\nrun,1\nreturn,1\n",
+        "lawful 34\n1 normal 3 3 1,2,3\n2 normal 3 3 1,2,3\n3 down - - -\n",
+    ),
+];
+
+/// A trace, and what the checker writes.
+const TRACES: [(&str, &str); 30] = [
+    ("bully,1,2,1\n", "lawful 0\n1 down - - -\n2 down - - -\n"),
+    ("bully,1,1,1\nrecover,1\nrecover,1\n", "refused 3 IsUp\n"),
+    // headers
+    ("", "fault 1 BadHeader"),
+    ("bully,2,1,1\n", "fault 1 BadHeader"),
+    ("bully,1,0,1\n", "fault 1 BadHeader"),
+    ("bully,1,65,1\n", "fault 1 BadHeader"),
+    ("bully,1,1,257\n", "fault 1 BadHeader"),
+    ("bully,1,1\n", "fault 1 BadHeader"),
+    ("Bully,1,1,1\n", "fault 1 BadHeader"),
+    ("bully,1,1,1,1\n", "fault 1 BadHeader"),
+    ("bully,1,01,1\n", "fault 1 BadHeader"),
+    // rows
+    ("bully,1,2,2\nrecover,01\n", "fault 2 BadRow"),
+    ("bully,1,2,2\nrecover,0\n", "fault 2 BadRow"),
+    ("bully,1,2,2\nrecover,65\n", "fault 2 BadRow"),
+    ("bully,1,2,2\nhalt,1\n", "fault 2 BadRow"),
+    ("bully,1,2,2\ncrash,1\nstop,1\n", "fault 3 BadRow"),
+    ("bully,1,2,2\nplan,1,1 3\n", "fault 2 BadRow"),
+    ("bully,1,2,2\nrecover\n", "fault 2 BadRow"),
+    ("bully,1,2,2\nrecover,1,1\n", "fault 2 BadRow"),
+    ("bully,1,2,2\nsaw,1,up,-\n", "fault 2 BadRow"),
+    ("bully,1,2,2\nsaw,1,down,0\n", "fault 2 BadRow"),
+    ("bully,1,2,2\ndrop,1\n", "fault 2 BadRow"),
+    ("bully,1,2,2\nrecover,3\n", "refused 2 BadNode\n"),
+    ("bully,1,2,2\nsaw,3,down,-\n", "differs 2\n"),
+    ("bully,1,2,2\nsaw,2,down,64\n", "differs 2\n"),
+    (
+        "bully,1,2,2\nsaw,2,down,-\n",
+        "lawful 0\n1 down - - -\n2 down - - -\n",
+    ),
+    ("bully,1,2,2\ncrash,1\n", "refused 2 IsDown\n"),
+    ("bully,1,2,2\nplan,1,1 1\n", "refused 2 IsDown\n"),
+    // quotes and line ends
+    (
+        "\n\"bully\",\"1\",2,2",
+        "lawful 0\n1 down - - -\n2 down - - -\n",
+    ),
+    (
+        "bully,1,2,2\rsaw,1,down,-\r",
+        "lawful 0\n1 down - - -\n2 down - - -\n",
+    ),
+];
+
+/// The same of traces with a mark at the front, an open quote, or bytes that are no text.
+const ODD_TRACES: [(&[u8], &str); 5] = [
+    (
+        b"\xEF\xBB\xBFbully,1,2,2\r\n\r\n\n",
+        "lawful 0\n1 down - - -\n2 down - - -\n",
+    ),
+    (b"bully,1,2,2\n\"\"\n", "fault 2 BadRow"),
+    (b"\xFF\xFE\n", "fault 1 BadHeader"),
+    (b"bully,1,2,2\nrecover,\xFF\n", "fault 2 BadRow"),
+    (b"bully,1,2,2\n\"recover,1\n", "fault 2 BadRow"),
+];
+
+/// The script's rows up to this number, with others behind them.
+pub fn changed(alloc: Global, script: &str, rows: usize, more: &str) -> Result<String, Fail> {
+    let mut text = String::new(alloc);
+    for line in script.lines().take(rows) {
+        text.push_str(line)?;
+        text.push('\n')?;
+    }
+    text.push_str(more)?;
+    Ok(text)
+}
+
+// What the checker writes of the trace; where it is at fault, this, and nothing is written.
+fn told(alloc: Global, trace: &[u8]) -> Option<String> {
+    let mut output = Vec::new(alloc);
+    match check(alloc, trace, &mut output) {
+        Ok(_) => String::from_utf8(output).ok(),
+        Err(fault) => fault_text(alloc, fault, output.as_slice()),
+    }
+}
+
+fn fault_text(alloc: Global, fault: TraceFault, output: &[u8]) -> Option<String> {
+    if !output.is_empty() {
+        return None;
+    }
+    let (row, cause) = (fault.row, fault.cause);
+    format!(in alloc; "fault {row} {cause}").ok()
+}
+
+// Whether the checker tells this of the trace.
+fn tells(alloc: Global, trace: &[u8], expected: &str) -> bool {
+    match told(alloc, trace) {
+        Some(text) => text.as_str() == expected,
+        None => false,
+    }
+}
+
+#[test]
+fn scripts(rt: HostRuntime) -> Result<(), Fail> {
+    for (script, rows, more, expected) in SCRIPTS.iter() {
+        let text = changed(rt.alloc(), *script, *rows, *more)?;
+        assert!(rt; tells(rt.alloc(), text.as_bytes(), *expected), "{expected}");
+    }
+    Ok(())
+}
+
+#[test]
+fn headers_and_rows(rt: HostRuntime) {
+    for (trace, expected) in TRACES.iter() {
+        assert!(rt; tells(rt.alloc(), trace.as_bytes(), *expected), "{trace}");
+    }
+}
+
+#[test]
+fn odd_texts(rt: HostRuntime) {
+    for (trace, expected) in ODD_TRACES.iter() {
+        assert!(rt; tells(rt.alloc(), *trace, *expected), "{trace:?}");
+    }
+}
+
+// Whether the trace is written as it was read.
+fn is_written_again(alloc: Global, text: &str) -> Result<bool, Fail> {
+    let trace = read_trace(alloc, text.as_bytes())?;
+    let mut output = Vec::new(alloc);
+    let written = write_trace(alloc, &mut output, &trace);
+    Ok(written.is_ok() && output.as_slice() == text.as_bytes())
+}
+
+#[test]
+fn read_and_written_again(rt: HostRuntime) -> Result<(), Fail> {
+    for text in [ALONE, ALL_UP, ORPHAN_HALT, ANNOUNCED_TOO_LATE].iter() {
+        assert!(rt; is_written_again(rt.alloc(), *text)?, "{text}");
+    }
+    Ok(())
+}
+
+// How many rows there are, and the bound on events.
+fn counts(alloc: Global, text: &str) -> Result<(usize, u32), Fail> {
+    let trace = read_trace(alloc, text.as_bytes())?;
+    Ok((trace.rows.as_slice().len(), trace.setup.events_max()))
+}
+
+#[test]
+fn rows_and_bound(rt: HostRuntime) -> Result<(), Fail> {
+    assert_eq!(rt; counts(rt.alloc(), ALONE)?, (6, 1_000_000));
+    Ok(())
+}
