@@ -104,33 +104,69 @@ fn tell<R: Print>(rt: &R, answer: &str, text: &String) -> Option<()> {
     println!(rt; "{answer}\n{text}").ok()
 }
 
+// What the calls are tried on.
+#[derive(Clone, Copy)]
+enum Kind {
+    Table,
+    New,
+    Event,
+    Watched,
+    Text,
+    Threads,
+}
+
+// Each call that isn't one on a group that nobody watches.
+const KINDS: [(&str, Kind); 30] = [
+    ("Table::read", Kind::Table),
+    ("Table::read_bytes", Kind::Table),
+    ("Table::copy", Kind::Table),
+    ("TableRoom::new", Kind::Table),
+    ("push_owners", Kind::Table),
+    ("plan", Kind::Table),
+    ("Slot::new", Kind::New),
+    ("Waiting::new", Kind::New),
+    ("Vector::new", Kind::New),
+    ("World::new", Kind::New),
+    ("Walk::new", Kind::New),
+    ("Planning::prepare", Kind::Event),
+    ("Event::copy", Kind::Event),
+    ("Entry::copy", Kind::Event),
+    ("run", Kind::Event),
+    ("run_whole", Kind::Event),
+    ("view", Kind::Event),
+    ("Walk::view", Kind::Event),
+    ("Walk::apply", Kind::Event),
+    ("Publisher::open", Kind::Watched),
+    ("Observer::look", Kind::Watched),
+    ("Locked::publish", Kind::Watched),
+    ("Group::open_watched", Kind::Watched),
+    ("read_trace", Kind::Text),
+    ("write_trace", Kind::Text),
+    ("check", Kind::Text),
+    ("Config::read", Kind::Text),
+    ("play", Kind::Text),
+    ("action_of", Kind::Text),
+    ("run_nodes", Kind::Threads),
+];
+
+fn kind_of(name: &str) -> Option<Kind> {
+    for (call, kind) in KINDS.iter() {
+        if *call == name {
+            return Some(*kind);
+        }
+    }
+    None
+}
+
 // What becomes of the call of this name.
 fn outcome_of<R: Print + Threads + Wait + Sync>(trial: &Trial<R>, name: &str) -> Option<Outcome> {
-    match name {
-        "Table::read"
-        | "Table::read_bytes"
-        | "Table::copy"
-        | "TableRoom::new"
-        | "push_owners"
-        | "plan" => table_call(trial, name),
-        "Slot::new" | "Waiting::new" | "Vector::new" | "World::new" | "Walk::new" => {
-            new_call(trial, name)
-        }
-        "Planning::prepare"
-        | "Event::copy"
-        | "Entry::copy"
-        | "run"
-        | "run_whole"
-        | "view"
-        | "Walk::view"
-        | "Walk::apply" => event_call(trial, name),
-        "Publisher::open" | "Observer::look" | "Locked::publish" | "Group::open_watched" => {
-            watched_call(trial, name)
-        }
-        "read_trace" | "write_trace" | "check" | "Config::read" | "play" | "action_of" => {
-            text_call(trial, name)
-        }
-        "run_nodes" => run_nodes_call(trial),
-        _ => group_call(trial, name),
+    match kind_of(name) {
+        Some(Kind::Table) => table_call(trial, name),
+        Some(Kind::New) => new_call(trial, name),
+        Some(Kind::Event) => event_call(trial, name),
+        Some(Kind::Watched) => watched_call(trial, name),
+        Some(Kind::Text) => text_call(trial, name),
+        Some(Kind::Threads) => run_nodes_call(trial),
+        None => group_call(trial, name),
     }
 }

@@ -1,5 +1,6 @@
 use crate::texts::CONFIG;
 use crate::trying::{Outcome, Trial, ended, text_of};
+use bully_base::Setup;
 use bully_config::Config;
 use bully_nodes::{Gate, NodesFault, run_nodes};
 use std::sync::Wait;
@@ -19,16 +20,22 @@ impl Gate for OpenGate {
 /// another one each time, so only its setup is told.
 pub fn run_nodes_call<R: Print + Threads + Wait + Sync>(trial: &Trial<R>) -> Option<Outcome> {
     let config = Config::read(trial.alloc, CONFIG).ok()?;
-    trial.begin();
-    let answer = run_nodes(trial.rt, trial.alloc, &config, &OpenGate);
-    trial.end();
-    match answer {
-        Ok(closed) => {
-            let setup = closed.setup();
-            closed.end(trial.rt);
-            ended(false, text_of(trial.alloc, &setup))
-        }
+    match setup_of_run(trial, &config) {
+        Ok(setup) => ended(false, text_of(trial.alloc, &setup)),
         Err(NodesFault::OutOfMemory) | Err(NodesFault::Spawn) => Some(Outcome::Refused),
         Err(_) => None,
     }
+}
+
+fn setup_of_run<R: Print + Threads + Wait + Sync>(
+    trial: &Trial<R>,
+    config: &Config,
+) -> Result<Setup, NodesFault> {
+    trial.begin();
+    let answer = run_nodes(trial.rt, trial.alloc, config, &OpenGate);
+    trial.end();
+    let closed = answer?;
+    let setup = closed.setup();
+    closed.end(trial.rt);
+    Ok(setup)
 }

@@ -256,25 +256,45 @@ fn publish_call<L: Naming, R: Print + Wait>(
 ) -> Option<Outcome>
     requires { L.publisher ≡ Some observer.old.publisher }
 {
-    let one = Node::new(1)?;
-    published(trial, opened, observer, &Event::Recover(one))?;
+    published(trial, opened, observer, &Event::Recover(Node::new(1)?))?;
     let before = look_of(trial.alloc, observer);
+    let was_refused = crashes_call(trial, opened, observer, &before);
+    let after = look_of(trial.alloc, observer);
+    ended(was_refused?, after)
+}
+
+// The steps before the publish, which is made again where it was refused memory: whether it was.
+fn crashes_call<L: Naming, R: Print + Wait>(
+    trial: &Trial<R>,
+    opened: &mut Opened<L>,
+    observer: &mut Observer,
+    before: &Option<String>,
+) -> Option<bool>
+    requires { L.publisher ≡ Some observer.old.publisher }
+    ensures { observer.new.publisher ≡ observer.old.publisher }
+{
+    crash_three_times(opened)?;
+    let was_refused = crash_call(trial, opened, observer)?;
+    if was_refused {
+        let after = look_of(trial.alloc, observer);
+        if !is_same(before, &after) {
+            return None;
+        }
+        learned(trial, opened, observer)?;
+    }
+    Some(was_refused)
+}
+
+// Node 1 crashes, and comes back twice.
+fn crash_three_times<L: Naming>(opened: &mut Opened<L>) -> Option<()> {
+    let one = Node::new(1)?;
     opened.play(&[
         Event::Crash(one),
         Event::Recover(one),
         Event::Crash(one),
         Event::Recover(one),
         Event::Crash(one),
-    ])?;
-    let was_refused = crash_call(trial, opened, observer)?;
-    if was_refused {
-        let after = look_of(trial.alloc, observer);
-        if !is_same(&before, &after) {
-            return None;
-        }
-        learned(trial, opened, observer)?;
-    }
-    ended(was_refused, look_of(trial.alloc, observer))
+    ])
 }
 
 // The publish itself, of which the observer learns: whether it was refused memory, and then left the group as it was.

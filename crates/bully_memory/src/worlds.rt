@@ -48,12 +48,23 @@ pub const BEFORE_RUN: usize = 5;
 /// A call that goes over a list of events, or looks at a world.
 pub fn event_call<R: Print>(trial: &Trial<R>, name: &str) -> Option<Outcome> {
     let events = election(trial.alloc)?;
+    call_on(trial, name, events.as_slice())
+}
+
+fn call_on<R: Print>(trial: &Trial<R>, name: &str, events: &[Event]) -> Option<Outcome> {
     match name {
-        "run" => run_call(trial, &events),
-        "run_whole" => run_whole_call(trial, &events),
-        "view" => view_call(trial, &world(trial.alloc, &events)?),
-        "Walk::view" => walk_view_call(trial, &events),
-        "Walk::apply" => apply_call(trial, &events),
+        "run" => run_call(trial, events),
+        "run_whole" => run_whole_call(trial, events),
+        "view" => view_call(trial, events),
+        "Walk::view" => walk_view_call(trial, events),
+        "Walk::apply" => apply_call(trial, events),
+        _ => planning_call(trial, name, events),
+    }
+}
+
+// A call on the plan of the election, or one that comes to it.
+fn planning_call<R: Print>(trial: &Trial<R>, name: &str, events: &[Event]) -> Option<Outcome> {
+    match name {
         "Event::copy" => event_copy_call(trial, events.get(BEFORE_PLAN)?),
         "Entry::copy" => entry_copy_call(trial, events.get(BEFORE_PLAN)?),
         "Planning::prepare" => prepare_call(trial, events.get(..BEFORE_PLAN)?),
@@ -93,9 +104,10 @@ fn world(alloc: Global, events: &[Event]) -> Option<World> {
     Some(world)
 }
 
-fn view_call<R: Print>(trial: &Trial<R>, world: &World) -> Option<Outcome> {
+fn view_call<R: Print>(trial: &Trial<R>, events: &[Event]) -> Option<Outcome> {
+    let world = world(trial.alloc, events)?;
     trial.begin();
-    let answer = view(trial.alloc, world);
+    let answer = view(trial.alloc, &world);
     trial.outcome(&answer, "AllocError")
 }
 
