@@ -1,0 +1,64 @@
+-- What the program answers to `play` and `table` where the configuration's file holds these bytes: the status, and what
+-- then stands on the output and on the errors.
+use Rattle.std.specs.Prelude.{◌≡◌, ◌≢◌, ◌⊎◌, ℕ, List, Option, Ok, Err}
+use Rattle.std.specs.Io.KnownBytes.{Appends, Keeps}
+use Rattle.bully_config.specs.Configuration.{Configuration}
+use Rattle.bully_config.specs.declared.fault.ConfigFault.{ConfigFault}
+use Rattle.bully_play.specs.Play.{IsPlay, trace_with}
+use Rattle.bully_play.specs.Turns.{IsScheduled}
+use Rattle.bully_play.specs.declared.playing.PlayFault.{PlayFault}
+use Rattle.bully_table.specs.declared.planning.TablePlan.{TablePlan}
+use Rattle.bully_trace.specs.TraceText.{trace_text}
+use Rattle.bully_world.specs.declared.event.Event.{Event}
+use Rattle.bully_commands.specs.Answer.{KnownBytes, Tells, stop_line}
+use Rattle.bully_commands.specs.PlanText.{plan_text}
+use Rattle.bully_commands.specs.RefusalText.{refusal_line, refusal_status}
+use Rattle.bully_commands.specs.Wanted.{ReadsAs, Wanted, Wants, IsPlanFor}
+use Rattle.bully_commands.specs.declared.refusals.Refusal.{Refusal}
+use Rattle.bully_commands.specs.declared.telling.Stop.{Stop}
+
+-- reading, writing or memory failed: that is told on the errors, and the output is touched by a failed write alone
+abbrev pub IsStopped : KnownBytes → KnownBytes → KnownBytes → KnownBytes → ℕ → Type 0
+IsStopped output output' errors errors' status =
+    (stop : Stop) × (stop ≢ Stop.Write → Keeps output output') × Tells errors errors' (stop_line stop) × (status ≡ 4)
+
+-- a refusal is told on the errors, and nothing stands on the output
+abbrev pub IsRefused : Refusal → KnownBytes → KnownBytes → KnownBytes → KnownBytes → ℕ → Type 0
+IsRefused refusal output output' errors errors' status =
+    Keeps output output' × Tells errors errors' (refusal_line refusal) × (status ≡ refusal_status refusal)
+
+-- nothing is done with the group, or not all of it: the configuration is refused, or something failed
+abbrev pub IsNotDone : List ℕ → KnownBytes → KnownBytes → KnownBytes → KnownBytes → ℕ → Type 0
+IsNotDone bytes output output' errors errors' status =
+    ((fault : ConfigFault) × ReadsAs bytes (Err fault) × IsRefused (Refusal.Config fault) output output' errors errors' status)
+    ⊎ IsStopped output output' errors errors' status
+
+-- what stops the program where a trace of a group isn't written
+abbrev pub stop_of_trace : PlayFault → Stop
+stop_of_trace PlayFault.Write = Stop.Write
+stop_of_trace PlayFault.OutOfMemory = Stop.OutOfMemory
+
+-- the configuration is played, and the trace of a play of it stands on the output
+abbrev pub IsPlayed : List ℕ → KnownBytes → KnownBytes → KnownBytes → KnownBytes → ℕ → Type 0
+IsPlayed bytes output output' errors errors' status =
+    (config : Configuration) × (events : List Event) × ReadsAs bytes (Ok config) × IsPlay config events × IsScheduled config events
+    × Appends output output' (trace_text (trace_with config.setup events)) × Keeps errors errors' × (status ≡ 0)
+
+-- the answer to `play`
+abbrev pub IsPlayAnswer : List ℕ → KnownBytes → KnownBytes → KnownBytes → KnownBytes → ℕ → Type 0
+IsPlayAnswer bytes output output' errors errors' status =
+    IsPlayed bytes output output' errors errors' status
+    ⊎ IsNotDone bytes output output' errors errors' status
+
+-- the table is planned, and its plan stands on the output
+abbrev pub IsPlanned : List ℕ → List (List ℕ) → Option (List ℕ) → KnownBytes → KnownBytes → KnownBytes → KnownBytes → ℕ → Type 0
+IsPlanned bytes names old output output' errors errors' status =
+    (wanted : Wanted) × (plan : TablePlan) × Wants bytes names old (Ok wanted) × IsPlanFor wanted plan
+    × Appends output output' (plan_text plan.table plan.moves plan.bound) × Keeps errors errors' × (status ≡ 0)
+
+-- the answer to `table` with these names of members and this text of an old table
+abbrev pub IsTableAnswer : List ℕ → List (List ℕ) → Option (List ℕ) → KnownBytes → KnownBytes → KnownBytes → KnownBytes → ℕ → Type 0
+IsTableAnswer bytes names old output output' errors errors' status =
+    IsPlanned bytes names old output output' errors errors' status
+    ⊎ ((refusal : Refusal) × Wants bytes names old (Err refusal) × IsRefused refusal output output' errors errors' status)
+    ⊎ IsStopped output output' errors errors' status
