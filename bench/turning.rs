@@ -145,18 +145,23 @@ impl Locked {
         }
         match self.world.node(me).slot.phase {
             Phase::Empty => self.go(seat),
-            Phase::Sent => self.lose(seat),
+            Phase::Sent => self.give_up(seat),
             Phase::Ran(outcome) => self.take_back(seat, outcome),
             Phase::Failed => self.take_back(seat, Outcome::Failed),
         }
         *procedure = shown(self.world.node(me));
     }
 
-    fn lose(&mut self, seat: &mut Seat) {
-        let callee = self.world.node(seat.actor).slot.callee;
-        if self.world.node(callee).is_down() {
+    /// A sent call is lost where its callee is down; else it is dropped where it is an orphan.
+    fn give_up(&mut self, seat: &mut Seat) {
+        let node = self.world.node(seat.actor);
+        let is_orphan = node.has_orphan();
+        if self.world.node(node.slot.callee).is_down() {
             self.world.node_mut(seat.actor).slot.phase = Phase::Failed;
             self.record(seat, Action::Lose, seat.actor, Answer::Done, None);
+        } else if is_orphan {
+            self.world.node_mut(seat.actor).slot.phase = Phase::Empty;
+            self.record(seat, Action::Drop, seat.actor, Answer::Discarded, None);
         }
     }
 

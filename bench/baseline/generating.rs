@@ -15,6 +15,7 @@ pub struct Tally {
     pub calls_lost: u32,
     pub calls_orphaned: u32,
     pub orphans_run: u32,
+    pub orphans_dropped: u32,
     pub plans: u32,
     pub claims: u32,
 }
@@ -26,7 +27,8 @@ impl fmt::Display for Tally {
         write!(text, "{} plans, {} crashes, ", self.plans, self.crashes)?;
         write!(text, "{} calls lost, ", self.calls_lost)?;
         write!(text, "{} orphaned by a halt, ", self.calls_orphaned)?;
-        write!(text, "{} orphans run, {} claims", self.orphans_run, self.claims)
+        write!(text, "{} orphans run, {} dropped, ", self.orphans_run, self.orphans_dropped)?;
+        write!(text, "{} claims", self.claims)
     }
 }
 
@@ -104,14 +106,14 @@ impl<W: Write> Generator<W> {
                 return event;
             }
         }
-        let replies_fail = self.random.once_in(2);
+        let gives_up = self.random.once_in(2);
         if !self.random.once_in(4) {
-            let mut steps = (1..=nodes).rev().map(|node| (self.step_of(node, replies_fail), node));
+            let mut steps = (1..=nodes).rev().map(|node| (self.step_of(node, gives_up), node));
             if let Some((Some(action), node)) = steps.find(|(step, _)| step.is_some()) {
                 return (action, node);
             }
         }
-        self.act_anywhere(replies_fail)
+        self.act_anywhere(gives_up)
     }
 
     /// A node that is down recovers; one that is up crashes now and then.
@@ -127,16 +129,26 @@ impl<W: Write> Generator<W> {
     }
 
     /// A step of any node that is up, a check or a timeout where it has none; a node recovers where all are down.
-    fn act_anywhere(&mut self, replies_fail: bool) -> (Action, u8) {
+    fn act_anywhere(&mut self, gives_up: bool) -> (Action, u8) {
         let start = self.any_node();
         let nodes = self.world.setup.nodes;
         let from_start = (start..=nodes).chain(1..start);
         for node in from_start {
             if !self.world.node(node).is_down() {
-                return (self.step_of(node, replies_fail).unwrap_or_else(|| self.begin()), node);
+                return (self.act_of(node, gives_up), node);
             }
         }
         (Action::Recover, start)
+    }
+
+    /// A node that was stopped may begin anew while its orphan is under way.
+    fn act_of(&mut self, number: u8, gives_up: bool) -> Action {
+        let node = self.world.node(number);
+        let was_stopped = node.has_orphan() && node.point == Point::Idle;
+        if was_stopped && self.random.once_in(2) {
+            return self.begin();
+        }
+        self.step_of(number, gives_up).unwrap_or_else(|| self.begin())
     }
 
     fn begin(&mut self) -> Action {
@@ -147,8 +159,9 @@ impl<W: Write> Generator<W> {
         }
     }
 
-    /// The step that brings a node on, if it has one. The reply of a callee that is down by now may fail.
-    fn step_of(&self, number: u8, replies_fail: bool) -> Option<Action> {
+    /// The step that brings a node on, if it has one. A node that gives up drops its orphan, and finds that the reply of a
+    /// callee that is down by now failed.
+    fn step_of(&self, number: u8, gives_up: bool) -> Option<Action> {
         let node = self.world.node(number);
         if node.is_down() {
             return None;
@@ -156,10 +169,13 @@ impl<W: Write> Generator<W> {
         if node.slot.phase == Phase::Empty {
             return offered_step(node.offer(self.world.setup.nodes));
         }
+        if gives_up && node.has_orphan() {
+            return Some(Action::Drop);
+        }
         let callee_down = self.world.node(node.slot.callee).is_down();
         match node.slot.phase {
             Phase::Sent if callee_down => Some(Action::Lose),
-            Phase::Ran(_) if callee_down && replies_fail => Some(Action::Lose),
+            Phase::Ran(_) if callee_down && gives_up => Some(Action::Lose),
             Phase::Sent => Some(Action::Run),
             _ => Some(Action::Return),
         }
@@ -186,6 +202,7 @@ impl<W: Write> Generator<W> {
             Action::Move if matches!(node.point, Point::Readying(_)) => tally.elections_won += 1,
             Action::Crash => tally.crashes += 1,
             Action::Lose => tally.calls_lost += 1,
+            Action::Drop => tally.orphans_dropped += 1,
             Action::Plan => tally.plans += 1,
             Action::Run => {
                 let called = self.world.node(node.slot.callee);

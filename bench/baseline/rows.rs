@@ -53,6 +53,7 @@ fn action(word: &[u8]) -> Option<Action> {
         b"run" => Some(Action::Run),
         b"lose" => Some(Action::Lose),
         b"return" => Some(Action::Return),
+        b"drop" => Some(Action::Drop),
         b"move" => Some(Action::Move),
         _ => None,
     }

@@ -5,9 +5,9 @@ use crate::random::Random;
 use crate::world::Setup;
 use std::io::{self, Write};
 
-const WORDS: [&str; 14] = [
-    "recover", "recover", "recover", "crash", "check", "timeout", "start", "run", "lose", "return", "move", "plan",
-    "saw", "halt",
+const WORDS: [&str; 15] = [
+    "recover", "recover", "recover", "crash", "check", "timeout", "start", "run", "lose", "return", "drop", "move",
+    "plan", "saw", "halt",
 ];
 const STATUSES: [&str; 5] = ["down", "election", "reorganization", "normal", "up"];
 /// The bytes of traces, and some that are near to them.

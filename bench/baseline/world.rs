@@ -72,6 +72,7 @@ pub enum Action {
     Run,
     Lose,
     Return,
+    Drop,
     Move,
     Plan,
 }
@@ -88,6 +89,7 @@ pub enum Refusal {
     CalleeDown,
     CalleeUp,
     BadTable,
+    NotOrphan,
 }
 
 pub struct Slot {
@@ -127,6 +129,7 @@ pub fn action_word(action: Action) -> &'static str {
         Action::Run => "run",
         Action::Lose => "lose",
         Action::Return => "return",
+        Action::Drop => "drop",
         Action::Move => "move",
         Action::Plan => "plan",
     }
@@ -268,6 +271,17 @@ impl Node {
         if !is_orphan {
             self.proceed(me, nodes, outcome);
         }
+    }
+
+    fn drop_call(&mut self) -> Result<(), Refusal> {
+        if self.slot.phase == Phase::Empty {
+            return Err(Refusal::NoCall);
+        }
+        if !self.has_orphan() {
+            return Err(Refusal::NotOrphan);
+        }
+        self.slot.phase = Phase::Empty;
+        Ok(())
     }
 
     /// The point moves by the outcome of its call.
@@ -448,6 +462,7 @@ impl World {
             (Action::Run, _) => self.run(me)?,
             (Action::Lose, _) => self.lose(me)?,
             (Action::Return, _) => node.take_back(me, nodes)?,
+            (Action::Drop, _) => node.drop_call()?,
             (Action::Move, _) => node.move_on(me, nodes)?,
             (Action::Plan, _) => node.plan(me, owners)?,
         }

@@ -100,6 +100,7 @@ impl Group {
         match node.slot.phase {
             Phase::Ran(_) | Phase::Failed => Some(Action::Return),
             Phase::Sent if self.world.node(node.slot.callee).is_down() => Some(Action::Lose),
+            Phase::Sent if node.has_orphan() => Some(Action::Drop),
             Phase::Sent => None,
             Phase::Empty => match node.offer(self.world.setup.nodes) {
                 Offer::Nothing => None,

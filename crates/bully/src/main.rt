@@ -1,12 +1,22 @@
 //! The program `bully`: it judges recorded traces, plays groups, runs them in threads, and plans tables.
 //!
-//! It is a thin `main` over `answer` of bully_answer. No crate stands on it; its callers rely on the statuses: 0 done,
-//! lawful or help asked for; 1 refused or differs; 2 bad words; 3 a fault of form in a trace or a configuration; 4 what
-//! stops it from outside, as Read, Write, Spawn, Finish or OutOfMemory.
+//! It stands on bully_nodes, bully_trace, bully_config, bully_table, the crates below them, and bully_words. No crate
+//! stands on it; its callers rely on the statuses: 0 done, lawful or help asked for; 1 refused or differs; 2 bad words;
+//! 3 a fault of form in a trace or a configuration; 4 what stops it from outside, as Read, Write, Spawn, Finish or
+//! OutOfMemory.
 #![tactic(auto)]
 
-pub use bully_answer::answer;
-use bully_answer::{Stop, answer_stop, answer_unread};
+mod answering;
+mod checking;
+mod configs;
+mod playing;
+mod refusals;
+mod running;
+mod tables;
+mod telling;
+
+use crate::answering::answer;
+use crate::telling::{Stop, answer_stop, answer_unread};
 use std::io::BufWriter;
 use std::process::ExitCode;
 use std::{env, io};

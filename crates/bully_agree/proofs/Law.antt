@@ -13,6 +13,7 @@ use Rattle.bully_agree.specs.Agreement.{Agreement}
 use Rattle.bully_world.proofs.CauseLemmas.{no_cause_if_step, step_if_no_cause}
 use Rattle.bully_agree.proofs.Checking.{check_keeps, timeout_keeps}
 use Rattle.bully_agree.proofs.Crashing.{crash_keeps}
+use Rattle.bully_agree.proofs.Dropping.{drop_keeps}
 use Rattle.bully_agree.proofs.Fitting.{summary_at, summary_of}
 use Rattle.bully_agree.proofs.Losing.{lose_keeps}
 use Rattle.bully_agree.proofs.Moving.{move_keeps}
@@ -65,6 +66,7 @@ step_keeps setup w (Event.Start i) w' a s all kept = rw s.4 (start_keeps setup w
 step_keeps setup w (Event.Run i) w' a s all kept = rw s.4 (run_keeps setup w i s.0 all kept s.1 s.2 s.3)
 step_keeps setup w (Event.Lose i) w' a s all kept = rw s.4 (lose_keeps setup w i s.0 all kept s.1 s.2 s.3)
 step_keeps setup w (Event.Return i) w' a s all kept = return_keeps setup w w' i s.0 s.1 a s.0.is_live refl all kept s.2 s.3 s.4
+step_keeps setup w (Event.Drop i) w' a s all kept = rw s.3 (drop_keeps setup w i s.0 all kept s.1 s.2)
 step_keeps setup w (Event.Move i) w' a s all kept = move_keeps setup w w' i all kept s.0 s.1 s.2 s.3
 step_keeps setup w (Event.Plan i table) w' a s all kept = rw s.4 (plan_keeps setup w i table all kept s.0 s.1)
 

@@ -6,6 +6,7 @@ pub mod Crashing
 pub mod Checking
 pub mod Starting
 pub mod Losing
+pub mod Dropping
 pub mod Returning
 pub mod Moving
 pub mod Planning

@@ -241,8 +241,9 @@ fn number_of(event: &Event) -> u64 {
         Event::Run(_) => 5,
         Event::Lose(_) => 6,
         Event::Return(_) => 7,
-        Event::Move(_) => 8,
-        Event::Plan(_, _) => 9,
+        Event::Drop(_) => 8,
+        Event::Move(_) => 9,
+        Event::Plan(_, _) => 10,
     }
 }
 

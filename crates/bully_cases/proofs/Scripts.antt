@@ -6,7 +6,7 @@ use Rattle.bully_calls.specs.declared.call.Phase.{Phase}
 use Rattle.bully_world.specs.declared.event.Refused.{Refused}
 use Rattle.bully_world.specs.World.{point}
 use Rattle.bully_cases.specs.Claims.{EndsAs, IsRefusedAt, IsAnsweredAt, After, Goes, Saw, shown_at, call_at, phase_at}
-use Rattle.bully_cases.specs.Scripts.{trace_setup, down, alone, alone_shown, others_down, node_3_alone, others_down_points, all_up, all_normal, all_up_calls, coordinator_crashed, coordinator_crashed_shown, coordinator_crashed_points, recovered_twice, reply_lost, reply_lost_unbalanced, orphan_halt, orphan_halt_shown, orphan_halt_late, orphan_halt_points, orphan_ready, orphan_ready_points, orphan_ready_returned, orphan_ready_shown, late_failure, late_failure_points, announced_too_late, announced_too_late_shown, announced_too_late_node}
+use Rattle.bully_cases.specs.Scripts.{trace_setup, down, alone, alone_shown, others_down, node_3_alone, others_down_points, all_up, all_normal, all_up_calls, coordinator_crashed, coordinator_crashed_shown, coordinator_crashed_points, recovered_twice, reply_lost, reply_lost_unbalanced, orphan_halt, orphan_halt_shown, orphan_halt_late, orphan_halt_points, orphan_ready, orphan_ready_points, orphan_ready_returned, orphan_ready_shown, orphan_ready_dropped, orphan_ready_dropped_calls, orphan_ready_dropped_shown, dropped_live, dropped_nothing, dropped_down, late_failure, late_failure_points, announced_too_late, announced_too_late_shown, announced_too_late_node}
 use Rattle.bully_cases.proofs.Claims.{after, ends, refused_at, answered_at, goes}
 
 pub header_alone : EndsAs (trace_setup 2 1) [] 0 (down ∷ down ∷ [])
@@ -82,6 +82,25 @@ orphan_ready_goes = goes (trace_setup 3 2) orphan_ready (λ w. point w 2) orphan
 
 pub orphan_ready_ends : EndsAs (trace_setup 3 2) orphan_ready_returned 25 orphan_ready_shown
 orphan_ready_ends = ends (trace_setup 3 2) orphan_ready_returned _ refl refl refl
+
+pub orphan_ready_dropped_ends : EndsAs (trace_setup 3 2) orphan_ready_dropped 24 orphan_ready_dropped_shown
+orphan_ready_dropped_ends = ends (trace_setup 3 2) orphan_ready_dropped _ refl refl refl
+
+pub orphan_ready_dropped_goes : Goes (trace_setup 3 2) orphan_ready_dropped (λ w. call_at w 2) orphan_ready_dropped_calls
+orphan_ready_dropped_goes =
+    goes (trace_setup 3 2) orphan_ready_dropped (λ w. call_at w 2) orphan_ready_dropped_calls refl (refl, (refl, (refl, tt)))
+
+pub orphan_ready_dropped_discarded : IsAnsweredAt (trace_setup 3 2) orphan_ready_dropped 22 Answer.Discarded
+orphan_ready_dropped_discarded = answered_at (trace_setup 3 2) orphan_ready_dropped 22 Answer.Discarded refl refl
+
+pub dropped_live_refused : IsRefusedAt (trace_setup 2 1) dropped_live 2 Refused.NotOrphan
+dropped_live_refused = refused_at (trace_setup 2 1) dropped_live 2 _ Refused.NotOrphan refl refl refl
+
+pub dropped_nothing_refused : IsRefusedAt (trace_setup 2 1) dropped_nothing 1 Refused.NoCall
+dropped_nothing_refused = refused_at (trace_setup 2 1) dropped_nothing 1 _ Refused.NoCall refl refl refl
+
+pub dropped_down_refused : IsRefusedAt (trace_setup 2 1) dropped_down 0 Refused.IsDown
+dropped_down_refused = refused_at (trace_setup 2 1) dropped_down 0 _ Refused.IsDown refl refl refl
 
 pub late_failure_refused : IsRefusedAt (trace_setup 3 1) late_failure 10 Refused.NoStep
 late_failure_refused = refused_at (trace_setup 3 1) late_failure 10 _ Refused.NoStep refl refl refl

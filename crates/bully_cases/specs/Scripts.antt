@@ -1,15 +1,15 @@
 -- The scripts, and what a checked trace of each prints of its nodes in the end.
 use Rattle.std.specs.Prelude.{ℕ, List, [], ◌∷◌, ◌++◌, Option, Some, None}
 use Rattle.bully_base.specs.declared.node.Status.{Status}
-use Rattle.bully_base.specs.declared.node.Status.TheVariants.{Down, Election, Normal}
+use Rattle.bully_base.specs.declared.node.Status.TheVariants.{Down, Election, Reorganization, Normal}
 use Rattle.bully_base.specs.Setup.{Setup}
 use Rattle.bully_calls.specs.declared.call.Call.{Call}
 use Rattle.bully_calls.specs.declared.call.CallKind.{CallKind}
-use Rattle.bully_calls.specs.declared.call.CallKind.TheVariants.{Halt, NewCoordinator, Ready}
+use Rattle.bully_calls.specs.declared.call.CallKind.TheVariants.{AreYouUp, Halt, NewCoordinator, Ready}
 use Rattle.bully_steps.specs.declared.point.Point.{Point}
 use Rattle.bully_steps.specs.declared.point.Point.TheVariants.{Idle, Asking, Halting, Announcing, Planning, Readying, Inquiring}
 use Rattle.bully_world.specs.declared.event.Event.{Event}
-use Rattle.bully_world.specs.declared.event.Event.TheVariants.{Recover, Crash, Check, Timeout, Start, Run, Lose, Return, Move, Plan}
+use Rattle.bully_world.specs.declared.event.Event.TheVariants.{Recover, Crash, Check, Timeout, Start, Run, Lose, Return, Drop, Move, Plan}
 use Rattle.bully_cases.specs.Claims.{Shown}
 
 -- the setup of a trace with so many nodes and partitions
@@ -155,6 +155,28 @@ orphan_ready_returned = orphan_ready_begun ++ (Run 2 ∷ Return 2 ∷ Start 2 �
 
 abbrev pub orphan_ready_shown : List Shown
 orphan_ready_shown = normal 2 (1 ∷ 2 ∷ []) ∷ row Election (Some 2) (Some 3) (Some (1 ∷ 2 ∷ [])) ∷ down ∷ []
+
+-- or it is dropped, and never runs
+abbrev pub orphan_ready_dropped : List Event
+orphan_ready_dropped = orphan_ready_begun ++ (Drop 2 ∷ Start 2 ∷ [])
+
+-- the call in node 2's slot, after so many events: the orphan, none, and the call of the new election
+abbrev pub orphan_ready_dropped_calls : List (ℕ × Option Call)
+orphan_ready_dropped_calls = (22, call_to 1 Ready) ∷ (23, None) ∷ (24, call_to 3 AreYouUp) ∷ []
+
+abbrev pub orphan_ready_dropped_shown : List Shown
+orphan_ready_dropped_shown =
+    row Reorganization (Some 2) (Some 2) None ∷ row Election (Some 2) (Some 3) (Some (1 ∷ 2 ∷ [])) ∷ down ∷ []
+
+-- a live call isn't dropped
+abbrev pub dropped_live : List Event
+dropped_live = Recover 1 ∷ Start 1 ∷ Drop 1 ∷ []
+
+abbrev pub dropped_nothing : List Event
+dropped_nothing = Recover 1 ∷ Drop 1 ∷ []
+
+abbrev pub dropped_down : List Event
+dropped_down = Drop 1 ∷ []
 
 -- the failure of an orphan comes back late
 abbrev pub late_failure : List Event

@@ -10,7 +10,7 @@ ghost use Rattle.bully_base.specs.declared.node.Status.{Status};
 ghost use Rattle.bully_calls.specs.declared.call.Answer.{Answer};
 ghost use Rattle.bully_calls.specs.declared.call.Phase.{Phase};
 ghost use Rattle.bully_cases.specs.Claims.{EndsAs, IsRefusedAt, IsAnsweredAt, After, Goes, Saw, shown_at, call_at, phase_at};
-ghost use Rattle.bully_cases.specs.Scripts.{trace_setup, down, alone, alone_shown, others_down, node_3_alone, others_down_points, all_up, all_normal, all_up_calls, coordinator_crashed, coordinator_crashed_shown, coordinator_crashed_points, recovered_twice, reply_lost, reply_lost_unbalanced, orphan_halt, orphan_halt_shown, orphan_halt_late, orphan_halt_points, orphan_ready, orphan_ready_points, orphan_ready_returned, orphan_ready_shown, late_failure, late_failure_points, announced_too_late, announced_too_late_shown, announced_too_late_node};
+ghost use Rattle.bully_cases.specs.Scripts.{trace_setup, down, alone, alone_shown, others_down, node_3_alone, others_down_points, all_up, all_normal, all_up_calls, coordinator_crashed, coordinator_crashed_shown, coordinator_crashed_points, recovered_twice, reply_lost, reply_lost_unbalanced, orphan_halt, orphan_halt_shown, orphan_halt_late, orphan_halt_points, orphan_ready, orphan_ready_points, orphan_ready_returned, orphan_ready_shown, orphan_ready_dropped, orphan_ready_dropped_calls, orphan_ready_dropped_shown, dropped_live, dropped_nothing, dropped_down, late_failure, late_failure_points, announced_too_late, announced_too_late_shown, announced_too_late_node};
 ghost use Rattle.bully_world.specs.Lawful.{IsLawful};
 ghost use Rattle.bully_world.specs.World.{World, point};
 ghost use Rattle.bully_world.specs.declared.event.Event.{Event};
@@ -43,6 +43,12 @@ pub fn worked_scripts()
     ensures orphan_ready_refused { IsRefusedAt (trace_setup 3 2) orphan_ready 22 Refused.SlotBusy }
     ensures orphan_ready_goes { Goes (trace_setup 3 2) orphan_ready (λ w. point w 2) orphan_ready_points }
     ensures orphan_ready_ends { EndsAs (trace_setup 3 2) orphan_ready_returned 25 orphan_ready_shown }
+    ensures orphan_ready_dropped_ends { EndsAs (trace_setup 3 2) orphan_ready_dropped 24 orphan_ready_dropped_shown }
+    ensures orphan_ready_dropped_goes { Goes (trace_setup 3 2) orphan_ready_dropped (λ w. call_at w 2) orphan_ready_dropped_calls }
+    ensures orphan_ready_dropped_discarded { IsAnsweredAt (trace_setup 3 2) orphan_ready_dropped 22 Answer.Discarded }
+    ensures dropped_live_refused { IsRefusedAt (trace_setup 2 1) dropped_live 2 Refused.NotOrphan }
+    ensures dropped_nothing_refused { IsRefusedAt (trace_setup 2 1) dropped_nothing 1 Refused.NoCall }
+    ensures dropped_down_refused { IsRefusedAt (trace_setup 2 1) dropped_down 0 Refused.IsDown }
     ensures late_failure_refused { IsRefusedAt (trace_setup 3 1) late_failure 10 Refused.NoStep }
     ensures late_failure_failed { After (trace_setup 3 1) late_failure 3 (λ w. phase_at w 2 ≡ Some Phase.Failed) }
     ensures late_failure_discarded { IsAnsweredAt (trace_setup 3 1) late_failure 9 Answer.Discarded }

@@ -22,6 +22,7 @@ pub enum Asked {
     Step,
     Serve,
     Turn,
+    NodeTurn,
     View,
     Finish,
     WriteHistory,
@@ -36,6 +37,7 @@ pub fn group_call<R: Print + Wait>(trial: &Trial<R>, name: &str) -> Option<Outco
         "Locked::step" => Asked::Step,
         "Locked::serve" => Asked::Serve,
         "Locked::turn" => Asked::Turn,
+        "Locked::serve_or_turn" => Asked::NodeTurn,
         "Locked::view" => Asked::View,
         "Locked::finish" => Asked::Finish,
         "write_history" => Asked::WriteHistory,
@@ -210,7 +212,7 @@ fn change_call<L: Naming, R: Print>(
 }
 
 // The call: node 3 takes the event, which plans, so that its entry has the table; node 2 runs node 3's halt; or node 3
-// takes its turn with the planned procedure.
+// takes its turn, alone or as the whole turn, with the planned procedure.
 fn change<L: Naming>(
     asked: Asked,
     opened: &mut Opened<L>,
@@ -220,6 +222,7 @@ fn change<L: Naming>(
     match asked {
         Asked::Serve => opened.serve(SECOND),
         Asked::Turn => opened.turn(THIRD, held),
+        Asked::NodeTurn => opened.node_turn(THIRD, held),
         _ => opened.step(THIRD, event),
     }
 }

@@ -53,6 +53,7 @@ Locked::open
 Locked::step
 Locked::serve
 Locked::turn
+Locked::serve_or_turn
 Locked::view
 Locked::publish
 Locked::finish

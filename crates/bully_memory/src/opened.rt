@@ -1,7 +1,7 @@
 ghost use Rattle.std.specs.Prelude.{◌≡◌, IfOk, Some};
 
 use crate::trying::add;
-use bully_group::{Locked, Naming, Pass, PublishFault, Seat, StepFault, Turn};
+use bully_group::{Locked, Naming, NodeTurn, Pass, PublishFault, Seat, StepFault, Turn};
 use bully_steps::Procedure;
 use bully_watch::Told;
 use bully_world::Event;
@@ -120,6 +120,22 @@ impl<L: Naming> Opened<L> {
         told
     }
 
+    /// The whole turn of the seat at this place with the procedure, where it lies. No fault where no entry is added.
+    pub fn node_turn(
+        &mut self,
+        place: usize,
+        held: &mut Option<Procedure>,
+    ) -> Result<(), Option<StepFault>> {
+        let (Some(seat), Some(pass)) = (self.seats.get_mut(place), self.passes.get_mut(place))
+        else {
+            return Err(None);
+        };
+        match held {
+            Some(procedure) => turned_in_place(&mut self.locked, seat, pass, procedure),
+            None => Err(None),
+        }
+    }
+
     /// The operator publishes.
     pub fn publish<R: Wait>(&mut self, rt: &R) -> Result<Told, Option<PublishFault>>
         ensures { IfOk result (λ told. L.publisher ≡ Some told.publisher) }
@@ -148,5 +164,22 @@ fn turned<L: Naming>(
         Turn::Went(back) => (back, Ok(())),
         Turn::Waiting(back) | Turn::Resynced(back) => (back, Err(None)),
         Turn::Fault(back, fault) => (back, Err(Some(fault))),
+    }
+}
+
+// The same of a whole turn, in which the procedure stays where it lies.
+fn turned_in_place<L: Naming>(
+    locked: &mut Locked<L>,
+    seat: &mut Seat,
+    pass: &mut Pass<L>,
+    procedure: &mut Procedure,
+) -> Result<(), Option<StepFault>> {
+    if procedure.setup() != locked.setup() {
+        return Err(None);
+    }
+    match locked.serve_or_turn(seat, procedure, pass) {
+        Ok(NodeTurn::Served | NodeTurn::Went) => Ok(()),
+        Ok(NodeTurn::Waiting | NodeTurn::Resynced) => Err(None),
+        Err(fault) => Err(Some(fault)),
     }
 }

@@ -5,7 +5,7 @@ use Rattle.bully_base.specs.declared.node.Status.{Status}
 use Rattle.bully_base.specs.declared.node.Status.TheVariants.{Down, Election, Reorganization, Normal}
 use Rattle.bully_world.specs.declared.event.Event.{Event}
 use Rattle.bully_world.specs.declared.event.Refused.{Refused}
-use Rattle.bully_world.specs.declared.event.Refused.TheVariants.{Full, BadNode, IsDown, IsUp, Busy, NoStep, SlotBusy, NoCall, CalleeDown, CalleeUp, BadTable}
+use Rattle.bully_world.specs.declared.event.Refused.TheVariants.{Full, BadNode, IsDown, IsUp, Busy, NoStep, SlotBusy, NoCall, CalleeDown, CalleeUp, BadTable, NotOrphan}
 
 abbrev pub plan_word : List ℕ
 plan_word = codes "plan"
@@ -19,6 +19,7 @@ event_word (Event.Start i) = codes "start"
 event_word (Event.Run i) = codes "run"
 event_word (Event.Lose i) = codes "lose"
 event_word (Event.Return i) = codes "return"
+event_word (Event.Drop i) = codes "drop"
 event_word (Event.Move i) = codes "move"
 event_word (Event.Plan i table) = plan_word
 
@@ -40,6 +41,7 @@ cause_word NoCall = codes "NoCall"
 cause_word CalleeDown = codes "CalleeDown"
 cause_word CalleeUp = codes "CalleeUp"
 cause_word BadTable = codes "BadTable"
+cause_word NotOrphan = codes "NotOrphan"
 
 -- the first of these that has the word
 abbrev pub first_named : {A : Type 0} → (A → List ℕ) → List ℕ → List A → Option A
@@ -50,7 +52,7 @@ first_named word_of word (x ∷ xs) = if bytes_eq word (word_of x) then Some x e
 abbrev pub event_named : List ℕ → ℕ → Option Event
 event_named word i =
     first_named event_word word (Event.Recover i ∷ Event.Crash i ∷ Event.Check i ∷ Event.Timeout i ∷ Event.Start i
-    ∷ Event.Run i ∷ Event.Lose i ∷ Event.Return i ∷ Event.Move i ∷ [])
+    ∷ Event.Run i ∷ Event.Lose i ∷ Event.Return i ∷ Event.Drop i ∷ Event.Move i ∷ [])
 
 abbrev pub status_named : List ℕ → Option Status
 status_named word = first_named status_word word (Down ∷ Election ∷ Reorganization ∷ Normal ∷ [])

@@ -6,7 +6,8 @@ ghost use Rattle.bully_trace.specs.TraceText.{line_of, event_fields, row_fields,
 ghost use Rattle.bully_trace.specs.VerdictText.{node_text, task_text, node_line, verdict_head};
 
 use crate::words::{
-    CHECK, CRASH, LOSE, MOVE, PLAN, RECOVER, RETURN, RUN, START, TIMEOUT, cause_word, status_word,
+    CHECK, CRASH, DROP, LOSE, MOVE, PLAN, RECOVER, RETURN, RUN, START, TIMEOUT, cause_word,
+    status_word,
 };
 use crate::{Claim, Row, Verdict};
 use bully_base::{Node, OutOfMemory, Setup};
@@ -98,6 +99,7 @@ fn push_event(text: &mut String, event: &Event) -> Result<(), OutOfMemory>
         Event::Run(node) => push_named(text, RUN, *node),
         Event::Lose(node) => push_named(text, LOSE, *node),
         Event::Return(node) => push_named(text, RETURN, *node),
+        Event::Drop(node) => push_named(text, DROP, *node),
         Event::Move(node) => push_named(text, MOVE, *node),
         Event::Plan(node, table) => push_plan(text, *node, table),
     }

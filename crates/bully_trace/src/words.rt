@@ -23,6 +23,8 @@ pub const LOSE: &str = "lose";
 
 pub const RETURN: &str = "return";
 
+pub const DROP: &str = "drop";
+
 pub const MOVE: &str = "move";
 
 pub const PLAN: &str = "plan";
@@ -55,6 +57,7 @@ pub fn cause_word(cause: Refused) -> &'static str
         Refused::CalleeDown => "CalleeDown",
         Refused::CalleeUp => "CalleeUp",
         Refused::BadTable => "BadTable",
+        Refused::NotOrphan => "NotOrphan",
     }
 }
 
@@ -77,6 +80,8 @@ pub fn event_named(word: &[u8], node: Node) -> Option<Event>
         Some(Event::Move(node))
     } else if is_word(word, LOSE) {
         Some(Event::Lose(node))
+    } else if is_word(word, DROP) {
+        Some(Event::Drop(node))
     } else if is_word(word, CRASH) {
         Some(Event::Crash(node))
     } else if is_word(word, RECOVER) {

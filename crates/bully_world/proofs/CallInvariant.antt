@@ -10,7 +10,7 @@ use Rattle.bully_steps.specs.declared.point.Point.{Point}
 use Rattle.bully_steps.specs.declared.point.Want.{Want}
 use Rattle.bully_steps.specs.Point.{offered, IsPointOf}
 use Rattle.bully_world.specs.NodeInvariant.{NodeInvariant, WorldInvariant, SuitsSetup, SuitsPoint, SuitsCallee, SuitsTable, SuitsPhase}
-use Rattle.bully_world.specs.Step.{sent, carried, with_phase}
+use Rattle.bully_world.specs.Step.{sent, carried, with_phase, emptied}
 use Rattle.bully_world.specs.World.{World, Member, member, pending}
 use Rattle.bully_world.proofs.MemberLemmas.{node_of_fits, up_of_fits, call_of_fits, node_of_pending, written_fits}
 
@@ -57,7 +57,7 @@ phase_fits setup i m c f fits is suits =
       by_call = record { live = s.live; orphan = s.orphan; to_node = s.to_node; callee = s.callee; table = s.table; phase = suits };
     }
 
--- an orphan's return
+-- the call is taken out
 pub free_fits : (setup : Setup) (i : ℕ) (m : Member) → NodeInvariant setup i m → NodeInvariant setup i (record m { pending = None })
 free_fits setup i m fits = record {
   a_node = fits.a_node;
@@ -73,3 +73,7 @@ free_fits setup i m fits = record {
 pub with_phase_fits : (setup : Setup) (w : World) (i : ℕ) (c : Pending) (f : Phase) → WorldInvariant setup w → pending w i ≡ Some c → SuitsPhase c.call.kind f → WorldInvariant setup (with_phase w i c f)
 with_phase_fits setup w i c f all is suits =
     written_fits setup w i _ all (node_of_pending setup w i c all is).0 (phase_fits setup i (member w i) c f (all.fits i) is suits)
+
+-- the call of node i is taken out
+pub emptied_fits : (setup : Setup) (w : World) (i : ℕ) (c : Pending) → WorldInvariant setup w → pending w i ≡ Some c → WorldInvariant setup (emptied w i)
+emptied_fits setup w i c all is = written_fits setup w i _ all (node_of_pending setup w i c all is).0 (free_fits setup i (member w i) (all.fits i))

@@ -11,6 +11,7 @@ use Rattle.bully_world.proofs.Events.Starting.{start_laws}
 use Rattle.bully_world.proofs.Events.Running.{run_laws}
 use Rattle.bully_world.proofs.Events.Losing.{lose_laws}
 use Rattle.bully_world.proofs.Events.Returning.{return_laws}
+use Rattle.bully_world.proofs.Events.Dropping.{drop_laws}
 use Rattle.bully_world.proofs.Events.Moving.{move_laws}
 use Rattle.bully_world.proofs.Events.Planning.{plan_laws}
 pub mod Recovering
@@ -20,6 +21,7 @@ pub mod Starting
 pub mod Running
 pub mod Losing
 pub mod Returning
+pub mod Dropping
 pub mod Moving
 pub mod Planning
 
@@ -32,6 +34,7 @@ own_laws setup (Event.Start i) other = start_laws setup i
 own_laws setup (Event.Run i) other = absurd (other i refl)
 own_laws setup (Event.Lose i) other = lose_laws setup i
 own_laws setup (Event.Return i) other = return_laws setup i
+own_laws setup (Event.Drop i) other = drop_laws setup i
 own_laws setup (Event.Move i) other = move_laws setup i
 own_laws setup (Event.Plan i table) other = plan_laws setup i table
 

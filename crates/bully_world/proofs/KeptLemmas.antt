@@ -40,6 +40,9 @@ kept_empty setup events i m k = record {
 pub kept_later : (setup : Setup) (events i : ℕ) (m : MemberState) → IsKept setup events i m → IsKept setup (events + 1) i m
 kept_later setup events i m k = kept_with setup events i m m.vector.vector m.point m.generation (omega arith) (omega arith) k
 
+pub kept_emptied : (setup : Setup) (events i : ℕ) (m : MemberState) → IsKept setup events i m → IsKept setup (events + 1) i (with_content None m)
+kept_emptied setup events i m k = kept_later setup events i (with_content None m) (kept_empty setup events i m k)
+
 pub kept_phased : (setup : Setup) (events i : ℕ) (m : MemberState) (f : Phase) → IsKept setup events i m → IsKept setup events i (phased_state f m)
 kept_phased setup events i m f k = record {
   vector_room = k.vector_room;

@@ -17,9 +17,10 @@ use Rattle.bully_steps.specs.NextPoint.{next_point, next_vector}
 use Rattle.bully_steps.specs.Point.{offered}
 use Rattle.bully_world.specs.declared.event.Event.{Event}
 use Rattle.bully_world.specs.declared.turn.StepKind.{StepKind}
+use Rattle.bully_world.specs.Cause.{is_live_in}
 use Rattle.bully_world.specs.NodeInvariant.{WorldInvariant, SuitsPhase}
-use Rattle.bully_world.specs.Step.{Step, IsUp, Returns, sent}
-use Rattle.bully_world.specs.Turn.{is_live_in, event_of, outcome_after, procedure_after}
+use Rattle.bully_world.specs.Step.{Step, IsUp, Returns, sent, emptied}
+use Rattle.bully_world.specs.Turn.{event_of, outcome_after, procedure_after}
 use Rattle.bully_world.specs.World.{World, Member, member, vector, point, pending, with_member}
 use Rattle.bully_world.proofs.AgreeLemmas.{Agrees, resumed_agrees}
 use Rattle.bully_world.proofs.MemberLemmas.{member_here, node_of_up, node_of_pending, call_of_pending}
@@ -137,6 +138,16 @@ module _ (setup : Setup) (w : World) (i g : ℕ) (h : ProcedureState) (all : Wor
       let there : member w' i ≡ m = ap (λ x. member x i) s.4 ∙ here m (node_of_pending setup w i s.0 all s.1).0 in
       (subst (λ x. Agrees h (shown setup i g x)) (sym there) (stays m refl refl (ap is_live_in (sym s.1))), tt)
 
+  -- it stays as it is where an orphan is taken out of its node's slot
+  orphan_out : (c : Pending) (w' : World) → pending w i ≡ Some c → c.is_live ≡ false → w' ≡ emptied w i → Agrees h (shown setup i g (member w' i))
+  orphan_out c w' is orphan becomes =
+      let m : Member = record (member w i) { pending = None } in
+      let there : member w' i ≡ m = ap (λ x. member x i) becomes ∙ here m (node_of_pending setup w i c all is).0 in
+      subst (λ x. Agrees h (shown setup i g x)) (sym there) (stays m refl refl (sym orphan ∙ ap is_live_in (sym is)))
+
+  drop_on : (w' : World) (answer : Answer) → Step setup w (Event.Drop i) w' answer → GoesOn StepKind.Drop w' answer
+  drop_on w' answer s = (orphan_out s.0 w' s.1 s.2 s.3, tt)
+
   return_by : (c : Pending) (o : Outcome) (w' : World) (answer : Answer) → pending w i ≡ Some c → outcome_of c.phase ≡ Some o → (b : Bool) → c.is_live ≡ b → Returns setup w i b o w' answer → GoesOn StepKind.Return w' answer
   return_by c o w' answer is done true live r =
       let m : Member = record { vector = next_vector i (point w i) o (vector w i); point = r.0.0; pending = None } in
@@ -149,11 +160,8 @@ module _ (setup : Setup) (w : World) (i g : ℕ) (h : ProcedureState) (all : Wor
       let can : CanResume h o = subst (λ q. CanCome q h.point o) (sym want) (subst (λ p. CanCome Want.Await p o) (sym a.point) (can_come setup (vector w i).coordinator (point w i) c.call c.phase o (call.live live) call.phase done)) in
       (subst (λ q. Agrees (option_map_or (resumed h) q h) (shown setup i g (member w' i))) (sym after) on, subst (λ q. IfSome q (CanResume h)) (sym after) can)
   return_by c o w' answer is done false live r =
-      let m : Member = record (member w i) { pending = None } in
-      let there : member w' i ≡ m = ap (λ x. member x i) r.0 ∙ here m (node_of_pending setup w i c all is).0 in
       let after : outcome_after StepKind.Return answer ≡ None = ap (outcome_after StepKind.Return) r.1 in
-      let on : Agrees h (shown setup i g (member w' i)) = subst (λ x. Agrees h (shown setup i g x)) (sym there) (stays m refl refl (sym live ∙ ap is_live_in (sym is))) in
-      (subst (λ q. Agrees (option_map_or (resumed h) q h) (shown setup i g (member w' i))) (sym after) on, subst (λ q. IfSome q (CanResume h)) (sym after) tt)
+      (subst (λ q. Agrees (option_map_or (resumed h) q h) (shown setup i g (member w' i))) (sym after) (orphan_out c w' is live r.0), subst (λ q. IfSome q (CanResume h)) (sym after) tt)
 
   -- after each step of the turn rule
   pub step_on : (kind : StepKind) (w' : World) (answer : Answer) → Step setup w (event_of kind h) w' answer → GoesOn kind w' answer
@@ -161,6 +169,7 @@ module _ (setup : Setup) (w : World) (i g : ℕ) (h : ProcedureState) (all : Wor
   step_on StepKind.Move w' answer s = move_on w' answer (subst (λ k. Step setup w (Event.Move k) w' answer) ne s)
   step_on StepKind.Plan w' answer s = plan_on (unwrap_or h.table []) w' answer (subst (λ k. Step setup w (Event.Plan k (unwrap_or h.table [])) w' answer) ne s)
   step_on StepKind.Lose w' answer s = lose_on w' answer (subst (λ k. Step setup w (Event.Lose k) w' answer) ne s)
+  step_on StepKind.Drop w' answer s = drop_on w' answer (subst (λ k. Step setup w (Event.Drop k) w' answer) ne s)
   step_on StepKind.Return w' answer s =
       let r : Step setup w (Event.Return i) w' answer = subst (λ k. Step setup w (Event.Return k) w' answer) ne s in
       return_by r.0 r.1 w' answer r.2 r.3 r.0.is_live refl r.4

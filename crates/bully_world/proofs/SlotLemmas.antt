@@ -6,8 +6,8 @@ use Rattle.bully_calls.specs.declared.call.Phase.{Phase}
 use Rattle.bully_calls.specs.Slot.{SlotCall, pending_of, phased}
 use Rattle.bully_world.specs.Cause.{in_phase}
 use Rattle.bully_world.specs.State.{MemberState, member_of, tag_in, tag_of_call}
-use Rattle.bully_world.specs.StateAfter.{phased_state}
-use Rattle.bully_world.specs.Step.{with_phase}
+use Rattle.bully_world.specs.StateAfter.{phased_state, with_content}
+use Rattle.bully_world.specs.Step.{with_phase, emptied}
 use Rattle.bully_world.specs.World.{World, Member, member, pending, with_member}
 
 content_there : (test : Phase → Bool) (g : ℕ) (q : Option SlotCall) → in_phase test (option_map (pending_of g) q) ≡ true → (p : SlotCall) × (q ≡ Some p) × (test p.phase ≡ true)
@@ -42,3 +42,7 @@ module _ (w : World) (i : ℕ) (m : MemberState) (here : member w i ≡ member_o
   pub phase_written : (p : SlotCall) (f : Phase) → m.slot.content ≡ Some p → with_member w i (member_of (phased_state f m)) ≡ with_phase w i (pending_of m.generation p) f
   phase_written p f e =
       ap (with_member w i) (phased_is m p f e ∙ ap (λ (q : Member). record q { pending = Some (record (pending_of m.generation p) { phase = f }) }) (sym here))
+
+  -- the emptying of the slot
+  pub slot_emptied : with_member w i (member_of (with_content None m)) ≡ emptied w i
+  slot_emptied = ap (λ (q : Member). with_member w i (record q { pending = None })) (sym here)

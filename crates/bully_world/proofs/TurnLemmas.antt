@@ -10,9 +10,9 @@ use Rattle.bully_steps.specs.declared.point.Point.{Point}
 use Rattle.bully_steps.specs.declared.point.Point.TheVariants.{Idle, Asking, Halting, Announcing, Planning, Readying, Checking, Inquiring}
 use Rattle.bully_steps.specs.ProcedureState.{IsCall, SuitsInquiry}
 use Rattle.bully_steps.specs.Point.{offered}
+use Rattle.bully_world.specs.Cause.{is_live_in}
 use Rattle.bully_world.specs.NodeInvariant.{NodeInvariant, WorldInvariant, SuitsSetup, SuitsPoint, SuitsPending}
 use Rattle.bully_world.specs.State.{WorldState, IsReached, state_at, member_of, world_of}
-use Rattle.bully_world.specs.Turn.{is_live_in}
 use Rattle.bully_world.proofs.MembersOf.{member-members_of}
 use Rattle.bully_world.proofs.NodeInvariantLemmas.{lawful_fits}
 

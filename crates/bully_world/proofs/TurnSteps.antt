@@ -18,10 +18,10 @@ use Rattle.bully_steps.specs.Point.{offered}
 use Rattle.bully_world.specs.declared.event.Event.{Event}
 use Rattle.bully_world.specs.declared.turn.Next.{Next}
 use Rattle.bully_world.specs.declared.turn.StepKind.{StepKind}
-use Rattle.bully_world.specs.Cause.{cause, is_call, is_down_at}
+use Rattle.bully_world.specs.Cause.{cause, is_call, is_down_at, is_live_in}
 use Rattle.bully_world.specs.NodeInvariant.{NodeInvariant, WorldInvariant}
 use Rattle.bully_world.specs.Step.{IsUp, offer}
-use Rattle.bully_world.specs.Turn.{is_live_in, turn_of_call, turn_of_want, turn_in_step, has_table, event_of}
+use Rattle.bully_world.specs.Turn.{turn_of_call, turn_of_want, turn_in_step, has_table, event_of}
 use Rattle.bully_world.specs.World.{World, Member, member, vector, pending}
 use Rattle.bully_world.proofs.AgreeLemmas.{Agrees}
 use Rattle.bully_world.proofs.MemberLemmas.{node_of_up, node_of_pending}
@@ -54,22 +54,29 @@ pub plan_offered : (w : World) (q : Option Pending) (h : ProcedureState) → tur
 plan_offered w None h t = (refl, (plan_wanted (has_table h) (want_of h) t).0, (plan_wanted (has_table h) (want_of h) t).1)
 plan_offered w (Some c) h t = absurd (grind (arith, t))
 
-never_full : (b : Bool) (q : Want) (kind : StepKind) → (kind ≡ StepKind.Lose) ⊎ (kind ≡ StepKind.Return) → turn_of_want b q ≡ Next.Take kind → ⊥
+never_full : (b : Bool) (q : Want) (kind : StepKind) → (kind ≡ StepKind.Lose) ⊎ ((kind ≡ StepKind.Return) ⊎ (kind ≡ StepKind.Drop)) → turn_of_want b q ≡ Next.Take kind → ⊥
 never_full b q kind full t = grind (arith, full, t)
 
-lost : (b : Bool) (f : Phase) → turn_of_call b f ≡ Next.Take StepKind.Lose → (f ≡ Phase.Sent) × (b ≡ true)
-lost b f t = (grind (arith, t), grind (arith, t))
+lost : (b live : Bool) (f : Phase) → turn_of_call b live f ≡ Next.Take StepKind.Lose → (f ≡ Phase.Sent) × (b ≡ true)
+lost b live f t = (grind (arith, t), grind (arith, t))
 
-come : (b : Bool) (f : Phase) → turn_of_call b f ≡ Next.Take StepKind.Return → is_sent f ≡ false
-come b f t = grind (arith, t)
+come : (b live : Bool) (f : Phase) → turn_of_call b live f ≡ Next.Take StepKind.Return → is_sent f ≡ false
+come b live f t = grind (arith, t)
+
+dropped : (b live : Bool) (f : Phase) → turn_of_call b live f ≡ Next.Take StepKind.Drop → live ≡ false
+dropped b live f t = grind (arith, t)
 
 pub lose_offered : (w : World) (q : Option Pending) (h : ProcedureState) → turn_in_step w q h ≡ Next.Take StepKind.Lose → (c : Pending) × (q ≡ Some c) × (c.phase ≡ Phase.Sent) × (is_down_at w c.call.callee ≡ true)
 lose_offered w None h t = absurd (never_full (has_table h) (want_of h) StepKind.Lose (inl refl) t)
-lose_offered w (Some c) h t = (c, refl, (lost (is_down_at w c.call.callee) c.phase t).0, (lost (is_down_at w c.call.callee) c.phase t).1)
+lose_offered w (Some c) h t = (c, refl, (lost (is_down_at w c.call.callee) c.is_live c.phase t).0, (lost (is_down_at w c.call.callee) c.is_live c.phase t).1)
 
 pub return_offered : (w : World) (q : Option Pending) (h : ProcedureState) → turn_in_step w q h ≡ Next.Take StepKind.Return → (c : Pending) × (q ≡ Some c) × (is_sent c.phase ≡ false)
-return_offered w None h t = absurd (never_full (has_table h) (want_of h) StepKind.Return (inr refl) t)
-return_offered w (Some c) h t = (c, refl, come (is_down_at w c.call.callee) c.phase t)
+return_offered w None h t = absurd (never_full (has_table h) (want_of h) StepKind.Return (inr (inl refl)) t)
+return_offered w (Some c) h t = (c, refl, come (is_down_at w c.call.callee) c.is_live c.phase t)
+
+pub drop_offered : (w : World) (q : Option Pending) (h : ProcedureState) → turn_in_step w q h ≡ Next.Take StepKind.Drop → (c : Pending) × (q ≡ Some c) × (c.is_live ≡ false)
+drop_offered w None h t = absurd (never_full (has_table h) (want_of h) StepKind.Drop (inr (inr refl)) t)
+drop_offered w (Some c) h t = (c, refl, dropped (is_down_at w c.call.callee) c.is_live c.phase t)
 
 -- What it needs.
 
@@ -110,6 +117,9 @@ lose_possible setup w count i c room node up is phase down = grind (arith, nat_t
 return_possible : (setup : Setup) (w : World) (count i : ℕ) (c : Pending) → count < setup.events_max → IsNode setup i → IsUp w i → pending w i ≡ Some c → is_sent c.phase ≡ false → cause setup w count (Event.Return i) ≡ None
 return_possible setup w count i c room node up is come = grind (arith, nat_tests, room, node, up, is, come)
 
+drop_possible : (setup : Setup) (w : World) (count i : ℕ) (c : Pending) → count < setup.events_max → IsNode setup i → IsUp w i → pending w i ≡ Some c → c.is_live ≡ false → cause setup w count (Event.Drop i) ≡ None
+drop_possible setup w count i c room node up is orphan = grind (arith, nat_tests, room, node, up, is, orphan)
+
 -- the planned table is one that the node may take
 planned_suits : (h : ProcedureState) → IsProcedureState h → has_table h ≡ true → (h.point ≡ Planning) × IfSome h.up (λ up. IsPlannedOver h.setup h.node up (unwrap_or h.table []))
 planned_suits h is there = by_table h.table is.plan there
@@ -147,11 +157,16 @@ offered_possible setup w count i g h StepKind.Return all is se ne a t room =
     let full = return_offered w (pending w i) h t in
     let there = node_of_pending setup w i full.0 all full.1 in
     subst (λ k. cause setup w count (Event.Return k) ≡ None) (sym ne) (return_possible setup w count i full.0 room there.0 there.1 full.1 full.2)
+offered_possible setup w count i g h StepKind.Drop all is se ne a t room =
+    let full = drop_offered w (pending w i) h t in
+    let there = node_of_pending setup w i full.0 all full.1 in
+    subst (λ k. cause setup w count (Event.Drop k) ≡ None) (sym ne) (drop_possible setup w count i full.0 room there.0 there.1 full.1 full.2)
 
 -- a turn's event is its node's own
 pub turn_own : (kind : StepKind) (h : ProcedureState) → IsNodesOwn h.node (event_of kind h)
 turn_own StepKind.Start h = refl
 turn_own StepKind.Lose h = refl
 turn_own StepKind.Return h = refl
+turn_own StepKind.Drop h = refl
 turn_own StepKind.Move h = refl
 turn_own StepKind.Plan h = refl

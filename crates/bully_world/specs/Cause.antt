@@ -1,4 +1,4 @@
--- Why an event is refused: the first of eleven refusals that holds.
+-- Why an event is refused: the first of twelve refusals that holds.
 use Rattle.std.specs.Prelude.{ℕ, Bool, true, false, List, [], ◌∷◌, length, Option, Some, None, ◌&&◌, not, nat_le, ◌==◌, if◌then◌else◌}
 use Rattle.bully_base.specs.NodeSet.{with_node}
 use Rattle.bully_base.specs.Setup.{Setup, is_node}
@@ -10,7 +10,7 @@ use Rattle.bully_steps.specs.declared.point.Point.{Point}
 use Rattle.bully_steps.specs.declared.point.Want.{Want}
 use Rattle.bully_world.specs.declared.event.Event.{Event}
 use Rattle.bully_world.specs.declared.event.Refused.{Refused}
-use Rattle.bully_world.specs.declared.event.Refused.TheVariants.{Full, BadNode, IsDown, IsUp, Busy, NoStep, SlotBusy, NoCall, CalleeDown, CalleeUp, BadTable}
+use Rattle.bully_world.specs.declared.event.Refused.TheVariants.{Full, BadNode, IsDown, IsUp, Busy, NoStep, SlotBusy, NoCall, CalleeDown, CalleeUp, BadTable, NotOrphan}
 use Rattle.bully_world.specs.Step.{offer}
 use Rattle.bully_world.specs.World.{World, vector, point, pending}
 
@@ -24,6 +24,7 @@ node_of (Event.Start i) = i
 node_of (Event.Run i) = i
 node_of (Event.Lose i) = i
 node_of (Event.Return i) = i
+node_of (Event.Drop i) = i
 node_of (Event.Move i) = i
 node_of (Event.Plan i table) = i
 
@@ -49,6 +50,11 @@ is_plan _ = false
 abbrev pub is_pending : Option Pending → Bool
 is_pending None = false
 is_pending (Some c) = true
+
+-- a live call is pending
+abbrev pub is_live_in : Option Pending → Bool
+is_live_in None = false
+is_live_in (Some c) = c.is_live
 
 -- there is a call, in a phase that passes the test
 abbrev pub in_phase : (Phase → Bool) → Option Pending → Bool
@@ -77,15 +83,17 @@ refuses setup w count (Event.Plan i table) SlotBusy = is_pending (pending w i)
 refuses setup w count (Event.Run i) NoCall = not (in_phase is_sent (pending w i))
 refuses setup w count (Event.Lose i) NoCall = not (in_phase (λ f. not (is_failed f)) (pending w i))
 refuses setup w count (Event.Return i) NoCall = not (in_phase (λ f. not (is_sent f)) (pending w i))
+refuses setup w count (Event.Drop i) NoCall = not (is_pending (pending w i))
 refuses setup w count (Event.Run i) CalleeDown = callee_is_down w (pending w i)
 refuses setup w count (Event.Lose i) CalleeUp = not (callee_is_down w (pending w i))
 refuses setup w count (Event.Plan i table) BadTable =
     not ((length table == setup.partitions) && is_balanced setup table (with_node i (vector w i).up))
+refuses setup w count (Event.Drop i) NotOrphan = is_live_in (pending w i)
 refuses setup w count e _ = false
 
 -- the refusals in their one order; the later ones speak of a node that is up
 abbrev pub later_refusals : List Refused
-later_refusals = Busy ∷ NoStep ∷ SlotBusy ∷ NoCall ∷ CalleeDown ∷ CalleeUp ∷ BadTable ∷ []
+later_refusals = Busy ∷ NoStep ∷ SlotBusy ∷ NoCall ∷ CalleeDown ∷ CalleeUp ∷ BadTable ∷ NotOrphan ∷ []
 
 abbrev pub refusals : List Refused
 refusals = Full ∷ BadNode ∷ IsDown ∷ IsUp ∷ later_refusals

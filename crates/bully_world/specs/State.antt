@@ -109,10 +109,11 @@ tag_of_call p = p.tag
 abbrev pub tag_in : MemberState → Option Tag
 tag_in m = option_map tag_of_call m.slot.content
 
--- the event fills or empties node j's slot: it is j's own Start, Return or Crash
+-- the event fills or empties node j's slot: it is j's own Start, Return, Drop or Crash
 abbrev pub changes_slot : Event → ℕ → Bool
 changes_slot (Event.Start i) j = i == j
 changes_slot (Event.Return i) j = i == j
+changes_slot (Event.Drop i) j = i == j
 changes_slot (Event.Crash i) j = i == j
 changes_slot e j = false
 

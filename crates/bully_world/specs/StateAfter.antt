@@ -114,6 +114,7 @@ node_after setup (Event.Start i) m = started_state setup i m
 node_after setup (Event.Run i) m = m
 node_after setup (Event.Lose i) m = phased_state Phase.Failed m
 node_after setup (Event.Return i) m = node_after_return setup i m m.slot.content
+node_after setup (Event.Drop i) m = with_content None m
 node_after setup (Event.Move i) m = proceeded_state setup i Outcome.Moved m
 node_after setup (Event.Plan i table) m = planned_state table m
 
@@ -137,6 +138,7 @@ return_answer generation (Some p) =
 -- what an event other than a Run is answered
 abbrev pub node_answer : Event → MemberState → Answer
 node_answer (Event.Return i) m = return_answer m.generation m.slot.content
+node_answer (Event.Drop i) m = Answer.Discarded
 node_answer e m = Answer.Done
 
 abbrev pub run_answer : List MemberState → Option SlotCall → Answer
@@ -162,6 +164,7 @@ MayApply setup (Event.Crash i) m = Unit {0}
 MayApply setup (Event.Check i) m = Unit {0}
 MayApply setup (Event.Timeout i) m = Unit {0}
 MayApply setup (Event.Run i) m = ⊥
+MayApply setup (Event.Drop i) m = Unit {0}
 MayApply setup (Event.Move i) m = Unit {0}
 
 -- the call of `calling` was sent and may run at `called`

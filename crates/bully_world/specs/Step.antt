@@ -64,6 +64,10 @@ ran w i c =
     let answered = with_phase w i c (Phase.Ran (reply c.call.kind (vector w j))) in
     with_member answered j (called i c (member answered j))
 
+-- node i's call is taken out of its slot
+abbrev pub emptied : World → ℕ → World
+emptied w i = with_member w i (record (member w i) { pending = None })
+
 -- node i, with no call pending, goes on by this outcome
 abbrev pub Proceeds : Setup → World → ℕ → Outcome → World → Type 0
 Proceeds setup w i o w' =
@@ -74,7 +78,7 @@ Proceeds setup w i o w' =
 -- a live call's return moves the point, an orphan's is discarded
 abbrev pub Returns : Setup → World → ℕ → Bool → Outcome → World → Answer → Type 0
 Returns setup w i true o w' a = Proceeds setup w i o w' × (a ≡ answer_of o)
-Returns setup w i false o w' a = (w' ≡ with_member w i (record (member w i) { pending = None })) × (a ≡ Answer.Discarded)
+Returns setup w i false o w' a = (w' ≡ emptied w i) × (a ≡ Answer.Discarded)
 
 -- from w the event leads to w', with this answer
 abbrev pub Step : Setup → World → Event → World → Answer → Type 0
@@ -124,6 +128,12 @@ Step setup w (Event.Return i) w' a =
     × (pending w i ≡ Some c)
     × (outcome_of c.phase ≡ Some o)
     × Returns setup w i c.is_live o w' a
+Step setup w (Event.Drop i) w' a =
+    (c : Pending)
+    × (pending w i ≡ Some c)
+    × (c.is_live ≡ false)
+    × (w' ≡ emptied w i)
+    × (a ≡ Answer.Discarded)
 Step setup w (Event.Move i) w' a =
     IsUp w i
     × (pending w i ≡ None)

@@ -16,7 +16,7 @@ use Rattle.bully_steps.specs.NextPoint.{next_point, next_vector, election, check
 use Rattle.bully_world.specs.declared.event.Event.{Event}
 use Rattle.bully_world.specs.Cause.{is_down_at, is_idle, is_pending}
 use Rattle.bully_world.specs.Lawful.{LeadTo, IsLawful}
-use Rattle.bully_world.specs.Step.{Step, offer, sent, with_phase, ran}
+use Rattle.bully_world.specs.Step.{Step, offer, sent, with_phase, ran, emptied}
 use Rattle.bully_world.specs.World.{World, member, vector, point, pending, with_member, first_world}
 
 -- the next world and the answer; none where the step isn't possible
@@ -59,11 +59,15 @@ proceed_of setup w i o a =
 abbrev pub outcome_step : Setup → World → ℕ → Bool → Option Outcome → StepResult
 outcome_step setup w i b None = None
 outcome_step setup w i true (Some o) = proceed_of setup w i o (answer_of o)
-outcome_step setup w i false (Some o) = Some (with_member w i (record (member w i) { pending = None }), Discarded)
+outcome_step setup w i false (Some o) = Some (emptied w i, Discarded)
 
 abbrev pub return_of : Setup → World → ℕ → Option Pending → StepResult
 return_of setup w i None = None
 return_of setup w i (Some c) = outcome_step setup w i c.is_live (outcome_of c.phase)
+
+abbrev pub drop_of : World → ℕ → Option Pending → StepResult
+drop_of w i None = None
+drop_of w i (Some c) = when (not c.is_live) (emptied w i) Discarded
 
 abbrev pub move_of : Setup → World → ℕ → Bool → Want → StepResult
 move_of setup w i true Want.Move = proceed_of setup w i Outcome.Moved Done
@@ -89,6 +93,7 @@ step_of setup w (Event.Start i) = start_of w i (is_ready w i) (offer setup w i)
 step_of setup w (Event.Run i) = run_of w i (pending w i)
 step_of setup w (Event.Lose i) = lose_of w i (pending w i)
 step_of setup w (Event.Return i) = return_of setup w i (pending w i)
+step_of setup w (Event.Drop i) = drop_of w i (pending w i)
 step_of setup w (Event.Move i) = move_of setup w i (is_ready w i) (offer setup w i)
 step_of setup w (Event.Plan i table) =
     when (is_planning (point w i) && not (is_pending (pending w i)) && is_plannable setup table i (vector w i).up)

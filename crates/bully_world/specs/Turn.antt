@@ -17,15 +17,10 @@ use Rattle.bully_world.specs.declared.take.TakenStep.{TakenStep}
 use Rattle.bully_world.specs.declared.turn.Next.{Next}
 use Rattle.bully_world.specs.declared.turn.Next.TheVariants.{Resync, Rest, Take}
 use Rattle.bully_world.specs.declared.turn.StepKind.{StepKind}
-use Rattle.bully_world.specs.declared.turn.StepKind.TheVariants.{Start, Lose, Return, Move, Plan}
-use Rattle.bully_world.specs.Cause.{is_down_at}
+use Rattle.bully_world.specs.declared.turn.StepKind.TheVariants.{Start, Lose, Return, Drop, Move, Plan}
+use Rattle.bully_world.specs.Cause.{is_down_at, is_live_in}
 use Rattle.bully_world.specs.State.{WorldState, MemberState, state_at, member_of, world_of}
 use Rattle.bully_world.specs.World.{World}
-
--- a live call is pending
-abbrev pub is_live_in : Option Pending → Bool
-is_live_in None = false
-is_live_in (Some c) = c.is_live
 
 -- the procedure of node i that what is kept of it shows; it awaits exactly where a live call of i is pending
 abbrev pub procedure_by : Setup → ℕ → MemberState → ProcedureState
@@ -71,11 +66,12 @@ agree h shown =
 abbrev pub is_in_step : WorldState → ProcedureState → Bool
 is_in_step w h = agree h (procedure_in w h.node)
 
--- the turn where the slot is full: what ran or failed returns, and what was sent to a node that is Down is lost
-abbrev pub turn_of_call : Bool → Phase → Next
-turn_of_call callee_is_down Phase.Sent = if callee_is_down then Take Lose else Rest
-turn_of_call callee_is_down (Phase.Ran answer) = Take Return
-turn_of_call callee_is_down Phase.Failed = Take Return
+-- the turn where the slot is full: what ran or failed returns; what was sent to a node that is Down is lost; and of
+-- what was sent to a node that is up an orphan is dropped
+abbrev pub turn_of_call : Bool → Bool → Phase → Next
+turn_of_call callee_is_down is_live Phase.Sent = if callee_is_down then Take Lose else if is_live then Rest else Take Drop
+turn_of_call callee_is_down is_live (Phase.Ran answer) = Take Return
+turn_of_call callee_is_down is_live Phase.Failed = Take Return
 
 -- the turn where the slot is empty: what is wanted, a plan only with its table
 abbrev pub turn_of_want : Bool → Want → Next
@@ -91,7 +87,7 @@ has_table h = option_map_or (λ table. true) h.table false
 -- the turn of a procedure that is in step, by the call in its node's slot
 abbrev pub turn_in_step : World → Option Pending → ProcedureState → Next
 turn_in_step w None h = turn_of_want (has_table h) (want_of h)
-turn_in_step w (Some c) h = turn_of_call (is_down_at w c.call.callee) c.phase
+turn_in_step w (Some c) h = turn_of_call (is_down_at w c.call.callee) c.is_live c.phase
 
 -- the turn rule
 abbrev pub turn : WorldState → ProcedureState → Next
@@ -102,6 +98,7 @@ abbrev pub event_at : StepKind → ℕ → Option (List ℕ) → Event
 event_at Start i table = Event.Start i
 event_at Lose i table = Event.Lose i
 event_at Return i table = Event.Return i
+event_at Drop i table = Event.Drop i
 event_at Move i table = Event.Move i
 event_at Plan i table = Event.Plan i (unwrap_or table [])
 
@@ -109,7 +106,7 @@ event_at Plan i table = Event.Plan i (unwrap_or table [])
 abbrev pub event_of : StepKind → ProcedureState → Event
 event_of kind h = event_at kind h.node h.table
 
--- the outcome by which the procedure goes on; none at a loss, and none where an orphan returned
+-- the outcome by which the procedure goes on; none at a loss, and none where an orphan returned or was dropped
 abbrev pub outcome_after : StepKind → Answer → Option Outcome
 outcome_after Start answer = Some Outcome.Started
 outcome_after Lose answer = None
@@ -117,6 +114,7 @@ outcome_after Return Answer.Yes = Some Outcome.Yes
 outcome_after Return Answer.No = Some Outcome.No
 outcome_after Return Answer.Failed = Some Outcome.Failed
 outcome_after Return answer = None
+outcome_after Drop answer = None
 outcome_after Move answer = Some Outcome.Moved
 outcome_after Plan answer = Some Outcome.Planned
 
@@ -138,6 +136,7 @@ abbrev pub procedure_left : StepKind → ProcedureState → ProcedureState
 procedure_left Start h = h
 procedure_left Lose h = h
 procedure_left Return h = h
+procedure_left Drop h = h
 procedure_left Move h = h
 procedure_left Plan h = resumed h Outcome.Planned
 
@@ -145,5 +144,6 @@ abbrev pub outcome_left : StepKind → Answer → Option Outcome
 outcome_left Start answer = outcome_after Start answer
 outcome_left Lose answer = None
 outcome_left Return answer = outcome_after Return answer
+outcome_left Drop answer = None
 outcome_left Move answer = outcome_after Move answer
 outcome_left Plan answer = None

@@ -3,7 +3,7 @@ ghost use Rattle.bully_base.specs.NodeSet.{with_node};
 ghost use Rattle.bully_table.specs.Balance.{is_balanced};
 ghost use Rattle.bully_calls.specs.Pending.{is_sent, is_failed};
 ghost use Rattle.bully_steps.specs.Point.{offered, IsPointOf};
-ghost use Rattle.bully_world.specs.Cause.{refuses, first_of, later_refusals, cause, is_idle, is_call, is_move, is_plan, node_of, in_phase, is_pending, callee_is_down};
+ghost use Rattle.bully_world.specs.Cause.{refuses, first_of, later_refusals, cause, is_idle, is_call, is_move, is_plan, node_of, in_phase, is_pending, is_live_in, callee_is_down};
 ghost use Rattle.bully_world.specs.NodeInvariant.{WorldInvariant};
 ghost use Rattle.bully_world.specs.State.{member_of, members_of};
 ghost use Rattle.bully_world.specs.World.{member};
@@ -62,6 +62,7 @@ fn later_cause(setup: Setup, members: &[Member], named: &Member, event: &Event) 
         Event::Run(_) => run_cause(members, named),
         Event::Lose(_) => lose_cause(members, named),
         Event::Return(_) => { refused_if(!has_come(named), Refused::NoCall) }
+        Event::Drop(_) => drop_cause(named),
     }
 }
 
@@ -187,4 +188,16 @@ fn lose_cause(members: &[Member], member: &Member) -> Option<Refused>
         return Some(Refused::NoCall);
     }
     refused_if(!callee_down(members, member), Refused::CalleeUp)
+}
+
+// Why a Drop of the member's call is refused.
+fn drop_cause(member: &Member) -> Option<Refused>
+    ensures { result ≡ (if not (is_pending (member_of member.now).pending) then Some Refused.NoCall
+        else if is_live_in (member_of member.now).pending then Some Refused.NotOrphan else None) }
+{
+    let slot = member.slot();
+    if slot.call().is_none() {
+        return Some(Refused::NoCall);
+    }
+    refused_if(!slot.is_orphan(member.generation()), Refused::NotOrphan)
 }

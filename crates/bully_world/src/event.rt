@@ -12,6 +12,7 @@ pub enum Event {
     Run(Node),
     Lose(Node),
     Return(Node),
+    Drop(Node),
     Move(Node),
     Plan(Node, Table),
 }
@@ -33,7 +34,8 @@ pub enum Refused {
     NoStep,
     /// Start, Move or Plan at a node whose slot is full.
     SlotBusy,
-    /// Run without a sent call, Lose without a sent call or one that ran, Return without one that ran or failed.
+    /// Run without a sent call, Lose without a sent call or one that ran, Return without one that ran or failed,
+    /// Drop without a call.
     NoCall,
     /// Run of a call whose callee is Down.
     CalleeDown,
@@ -41,6 +43,8 @@ pub enum Refused {
     CalleeUp,
     /// Plan with a table of another number of partitions, or one that isn't balanced over the node and its up set.
     BadTable,
+    /// Drop of a live call.
+    NotOrphan,
 }
 
 impl Event {
@@ -60,6 +64,7 @@ impl Event {
             | Event::Run(node)
             | Event::Lose(node)
             | Event::Return(node)
+            | Event::Drop(node)
             | Event::Move(node)
             | Event::Plan(node, _) => *node,
         }
@@ -78,6 +83,7 @@ impl Event {
             Event::Run(node) => Event::Run(*node),
             Event::Lose(node) => Event::Lose(*node),
             Event::Return(node) => Event::Return(*node),
+            Event::Drop(node) => Event::Drop(*node),
             Event::Move(node) => Event::Move(*node),
             Event::Plan(node, table) => Event::Plan(*node, table.copy()?),
         })
@@ -96,6 +102,7 @@ impl Event {
             | (Event::Run(node), Event::Run(same))
             | (Event::Lose(node), Event::Lose(same))
             | (Event::Return(node), Event::Return(same))
+            | (Event::Drop(node), Event::Drop(same))
             | (Event::Move(node), Event::Move(same)) => node == same,
             (Event::Plan(node, table), Event::Plan(same, other)) => node == same && table == other,
             _ => false,

@@ -11,7 +11,7 @@ ghost use Rattle.bully_world.specs.Cause.{node_of};
 ghost use Rattle.bully_world.specs.State.{empty_state};
 ghost use Rattle.bully_world.specs.Step.{carried};
 ghost use Rattle.bully_world.specs.Waiting.{sent_in};
-ghost use Rattle.bully_world.specs.StateAfter.{with_vector, halted_number, is_readied, recovered_state, crashed_state, begun_state, opened_state, phased_state, callee_state_after, proceeded_state, node_after_return, return_answer, planned_state, started_state, node_after, node_answer, MayApply};
+ghost use Rattle.bully_world.specs.StateAfter.{with_vector, with_content, halted_number, is_readied, recovered_state, crashed_state, begun_state, opened_state, phased_state, callee_state_after, proceeded_state, node_after_return, return_answer, planned_state, started_state, node_after, node_answer, MayApply};
 
 use crate::event::Event;
 use bully_base::{Node, OutOfMemory, Setup, Status};
@@ -122,7 +122,7 @@ impl Member {
     {
         self.vector.crash();
         self.point = Point::Idle;
-        self.slot.clear();
+        self.discard();
         self.generation += 1;
     }
 
@@ -196,11 +196,10 @@ impl Member {
         ensures after { self.new ≡ node_after_return setup node self.old self.old.slot.content }
         ensures answer { result ≡ return_answer self.old.generation self.old.slot.content }
     {
-        let is_orphan = self.slot.is_orphan(self.generation);
-        let outcome = self.slot.take();
-        if is_orphan {
-            return Answer::Discarded;
+        if self.slot.is_orphan(self.generation) {
+            return self.discard();
         }
+        let outcome = self.slot.take();
         self.proceed(setup, node, outcome);
         match outcome {
             Outcome::Yes => Answer::Yes,
@@ -208,6 +207,17 @@ impl Member {
             Outcome::Failed => Answer::Failed,
             Outcome::Started | Outcome::Moved | Outcome::Planned => unreachable!(),
         }
+    }
+
+    /// The node's call, if any, is taken out of its slot, in whatever phase, and comes to nothing.
+    // (inlined, as `World::apply_allowed` is)
+    #[inline(always)]
+    pub fn discard(&mut self) -> Answer
+        ensures after { self.new ≡ with_content None self.old }
+        ensures answer { result ≡ Answer.Discarded }
+    {
+        self.slot.clear();
+        Answer::Discarded
     }
 
     /// The node goes on by this outcome: its vector and its point change as the profile says.
@@ -277,6 +287,7 @@ impl Member {
             Event::Run(_) => unreachable!(),
             Event::Lose(_) => self.lose(),
             Event::Return(node) => return self.take_back(setup, *node),
+            Event::Drop(_) => return self.discard(),
             Event::Move(node) => self.proceed(setup, *node, Outcome::Moved),
             Event::Plan(_, table) => self.plan(table),
         }

@@ -25,7 +25,7 @@ pub struct TakenStep {
 
 impl World {
     /// Takes the step that the turn rule offers the procedure, whose setup is the world's: applies its event, and
-    /// resumes the procedure by the outcome. After a loss and after an orphan's return it is the same.
+    /// resumes the procedure by the outcome. After a loss, and after an orphan's return or drop, it is the same.
     /// Takes no memory: a plan's event has the procedure's table. Refused as Full where as many events as the setup
     /// bounds were applied; then the world is unchanged, and the procedure is handed back.
     pub fn take(
@@ -93,7 +93,7 @@ fn outcome_by(kind: StepKind, answer: Answer) -> Option<Outcome>
             Answer::Done | Answer::Discarded => None,
         },
         StepKind::Move => Some(Outcome::Moved),
-        StepKind::Lose | StepKind::Plan => None,
+        StepKind::Lose | StepKind::Drop | StepKind::Plan => None,
     }
 }
 

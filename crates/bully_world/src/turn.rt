@@ -2,7 +2,8 @@ ghost use Rattle.std.specs.Prelude.{◌≡◌, ◌≤◌, true, IsSome, bytes_eq
 ghost use Rattle.bully_calls.specs.Slot.{pending_in};
 ghost use Rattle.bully_steps.specs.ProcedureState.{IsProcedureState, want_of, up_at, coordinator_at};
 ghost use Rattle.bully_steps.specs.Procedure.{state_of};
-ghost use Rattle.bully_world.specs.Turn.{event_at, is_live_in, procedure_by, procedure_in, is_in_step, agree, same_point, same_set, same_node, turn, turn_of_call, turn_of_want, has_table};
+ghost use Rattle.bully_world.specs.Cause.{is_live_in};
+ghost use Rattle.bully_world.specs.Turn.{event_at, procedure_by, procedure_in, is_in_step, agree, same_point, same_set, same_node, turn, turn_of_call, turn_of_want, has_table};
 ghost use Rattle.bully_world.specs.declared.turn.StepKind.{StepKind};
 
 use crate::World;
@@ -22,6 +23,8 @@ pub enum StepKind {
     Lose,
     /// Its call returns.
     Return,
+    /// Its call, an orphan, is taken out.
+    Drop,
     /// Its procedure moves.
     Move,
     /// Its table becomes its task.
@@ -38,6 +41,7 @@ impl StepKind {
             StepKind::Start => Event::Start(node),
             StepKind::Lose => Event::Lose(node),
             StepKind::Return => Event::Return(node),
+            StepKind::Drop => Event::Drop(node),
             StepKind::Move => Event::Move(node),
             StepKind::Plan => Event::Plan(node, table.unwrap()),
         }
@@ -78,8 +82,9 @@ impl World {
     }
 
     /// What the turn rule says of the procedure, whose setup is the world's. Resync where it isn't in step. Where
-    /// its node's slot is full, Return for a call that ran or failed, Lose for a sent one whose callee is Down.
-    /// Where the slot is empty, what the procedure wants, Plan only with its table. Else Rest.
+    /// its node's slot is full, Return for a call that ran or failed, Lose for a sent one whose callee is Down, and
+    /// Drop for a sent orphan whose callee isn't. Where the slot is empty, what the procedure wants, Plan only with
+    /// its table. Else Rest.
     pub fn next(&self, procedure: &Procedure) -> Next
         requires { (state_of procedure.now).setup ≡ self.now.setup }
         ensures { result ≡ turn self.now (state_of procedure.now) }
@@ -92,7 +97,12 @@ impl World {
         let slot = member.slot();
         match (slot.call(), slot.phase()) {
             (Some(call), Some(phase)) => {
-                next_of_call(self.vector(call.callee).status() == Status::Down, phase)
+                let callee_is_down = self.vector(call.callee).status() == Status::Down;
+                next_of_call(
+                    callee_is_down,
+                    holds_live_call(slot, member.generation()),
+                    phase,
+                )
             }
             _ => next_of_want(procedure),
         }
@@ -107,12 +117,13 @@ fn holds_live_call(slot: &Slot, generation: u32) -> bool
 }
 
 // What the turn rule says of a call in this phase.
-fn next_of_call(callee_is_down: bool, phase: Phase) -> Next
-    ensures { result ≡ turn_of_call callee_is_down phase }
+fn next_of_call(callee_is_down: bool, is_live: bool, phase: Phase) -> Next
+    ensures { result ≡ turn_of_call callee_is_down is_live phase }
 {
     match phase {
         Phase::Sent if callee_is_down => Next::Take(StepKind::Lose),
-        Phase::Sent => Next::Rest,
+        Phase::Sent if is_live => Next::Rest,
+        Phase::Sent => Next::Take(StepKind::Drop),
         Phase::Ran(_) | Phase::Failed => Next::Take(StepKind::Return),
     }
 }

@@ -72,6 +72,24 @@ returns-clause-orphan_ready_goes c = scripts.orphan_ready_goes
 pub returns-clause-orphan_ready_ends : goal.returns-clause-orphan_ready_ends
 returns-clause-orphan_ready_ends c = scripts.orphan_ready_ends
 
+pub returns-clause-orphan_ready_dropped_ends : goal.returns-clause-orphan_ready_dropped_ends
+returns-clause-orphan_ready_dropped_ends c = scripts.orphan_ready_dropped_ends
+
+pub returns-clause-orphan_ready_dropped_goes : goal.returns-clause-orphan_ready_dropped_goes
+returns-clause-orphan_ready_dropped_goes c = scripts.orphan_ready_dropped_goes
+
+pub returns-clause-orphan_ready_dropped_discarded : goal.returns-clause-orphan_ready_dropped_discarded
+returns-clause-orphan_ready_dropped_discarded c = scripts.orphan_ready_dropped_discarded
+
+pub returns-clause-dropped_live_refused : goal.returns-clause-dropped_live_refused
+returns-clause-dropped_live_refused c = scripts.dropped_live_refused
+
+pub returns-clause-dropped_nothing_refused : goal.returns-clause-dropped_nothing_refused
+returns-clause-dropped_nothing_refused c = scripts.dropped_nothing_refused
+
+pub returns-clause-dropped_down_refused : goal.returns-clause-dropped_down_refused
+returns-clause-dropped_down_refused c = scripts.dropped_down_refused
+
 pub returns-clause-late_failure_refused : goal.returns-clause-late_failure_refused
 returns-clause-late_failure_refused c = scripts.late_failure_refused
 

@@ -12,7 +12,7 @@ use std::test::Fail;
 const ALL: usize = 99;
 
 /// A script, how many of its rows are taken, the rows behind them, and what the checker writes.
-const SCRIPTS: [(&str, usize, &str, &str); 14] = [
+const SCRIPTS: [(&str, usize, &str, &str); 17] = [
     (ALONE, ALL, "", "lawful 6\n1 normal 1 1 1,1\n"),
     (
         OTHERS_DOWN,
@@ -58,6 +58,19 @@ const SCRIPTS: [(&str, usize, &str, &str); 14] = [
         "run,2\nreturn,2\nstart,2\n",
         "lawful 25\n1 normal 2 2 1,2\n2 election 2 3 1,2\n3 down - - -\n",
     ),
+    (
+        ORPHAN_READY,
+        23,
+        "drop,2\nstart,2\n",
+        "lawful 24\n1 reorganization 2 2 -\n2 election 2 3 1,2\n3 down - - -\n",
+    ),
+    (
+        ORPHAN_READY,
+        23,
+        "run,2\ndrop,2\nstart,2\n",
+        "lawful 25\n1 normal 2 2 1,2\n2 election 2 3 1,2\n3 down - - -\n",
+    ),
+    (LATE_FAILURE, 10, "drop,2\nmove,2\n", "refused 12 NoStep\n"),
     (OTHERS_DOWN, 11, "plan,3,3 3", "fault 12 BadRow"),
     (ALL_UP, 27, "saw,2,normal,2\n", "differs 28\n"),
     (
@@ -75,7 +88,7 @@ const SCRIPTS: [(&str, usize, &str, &str); 14] = [
 ];
 
 /// A trace, and what the checker writes.
-const TRACES: [(&str, &str); 30] = [
+const TRACES: [(&str, &str); 33] = [
     ("bully,1,2,1\n", "lawful 0\n1 down - - -\n2 down - - -\n"),
     ("bully,1,1,1\nrecover,1\nrecover,1\n", "refused 3 IsUp\n"),
     // headers
@@ -99,7 +112,7 @@ const TRACES: [(&str, &str); 30] = [
     ("bully,1,2,2\nrecover,1,1\n", "fault 2 BadRow"),
     ("bully,1,2,2\nsaw,1,up,-\n", "fault 2 BadRow"),
     ("bully,1,2,2\nsaw,1,down,0\n", "fault 2 BadRow"),
-    ("bully,1,2,2\ndrop,1\n", "fault 2 BadRow"),
+    ("bully,1,2,2\nDrop,1\n", "fault 2 BadRow"),
     ("bully,1,2,2\nrecover,3\n", "refused 2 BadNode\n"),
     ("bully,1,2,2\nsaw,3,down,-\n", "differs 2\n"),
     ("bully,1,2,2\nsaw,2,down,64\n", "differs 2\n"),
@@ -109,6 +122,13 @@ const TRACES: [(&str, &str); 30] = [
     ),
     ("bully,1,2,2\ncrash,1\n", "refused 2 IsDown\n"),
     ("bully,1,2,2\nplan,1,1 1\n", "refused 2 IsDown\n"),
+    // drops
+    (
+        "bully,1,2,1\nrecover,1\nstart,1\ndrop,1\n",
+        "refused 4 NotOrphan\n",
+    ),
+    ("bully,1,2,1\nrecover,1\ndrop,1\n", "refused 3 NoCall\n"),
+    ("bully,1,2,1\ndrop,1\n", "refused 2 IsDown\n"),
     // quotes and line ends
     (
         "\n\"bully\",\"1\",2,2",
@@ -201,7 +221,8 @@ fn is_written_again(alloc: Global, text: &str) -> Result<bool, Fail> {
 
 #[test]
 fn read_and_written_again(rt: HostRuntime) -> Result<(), Fail> {
-    for text in [ALONE, ALL_UP, ORPHAN_HALT, ANNOUNCED_TOO_LATE].iter() {
+    let dropped = "bully,1,2,1\ndrop,1\n";
+    for text in [ALONE, ALL_UP, ORPHAN_HALT, ANNOUNCED_TOO_LATE, dropped].iter() {
         assert!(rt; is_written_again(rt.alloc(), *text)?, "{text}");
     }
     Ok(())

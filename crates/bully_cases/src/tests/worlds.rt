@@ -12,9 +12,14 @@ const WAITING: &str = "\
 bully,1,3,3\nrecover,1\nstart,1\nlose,1\nreturn,1\nstart,1\nrecover,2\nstart,2\nlose,1\n\
 crash,2\n";
 
+/// Node 1 waits for node 2, and drops its call once node 3 has halted it.
+const DROPPED: &str = "\
+bully,1,3,3\nrecover,1\nrecover,2\nstart,1\nrecover,3\nmove,3\nstart,3\nrun,3\nreturn,3\n\
+start,3\ndrop,1\nrun,3\ndrop,1\ndrop,1\n";
+
 /// A trace, a bound on events, and two nodes. Of each event the cause is told, the answer, and who waits for the first
 /// node; at last how many events there are, and the second node's status and generation.
-const WORLDS: [(&str, u32, u16, u16, &str); 2] = [
+const WORLDS: [(&str, u32, u16, u16, &str); 3] = [
     (
         ALONE,
         5,
@@ -44,6 +49,27 @@ None Ok(Done) Some(1)
 None Ok(Done) Some(2)
 None Ok(Done) None
 9 Down 1
+",
+    ),
+    (
+        DROPPED,
+        100,
+        2,
+        1,
+        "None Ok(Done) None
+None Ok(Done) None
+None Ok(Done) Some(1)
+None Ok(Done) Some(1)
+None Ok(Done) Some(1)
+None Ok(Done) Some(1)
+None Ok(Yes) Some(1)
+None Ok(Yes) Some(1)
+None Ok(Done) Some(1)
+Some(NotOrphan) Err(NotOrphan) Some(1)
+None Ok(Yes) Some(1)
+None Ok(Discarded) None
+Some(NoCall) Err(NoCall) None
+11 Election 1
 ",
     ),
 ];

@@ -7,7 +7,7 @@ use super::held::{Opened, Way, finished, open, refused};
 use bully_agree::View;
 use bully_base::{Node, Setup, Status};
 use bully_calls::Answer;
-use bully_group::{Closed, Naming, Turn};
+use bully_group::{Closed, Naming, NodeTurn, Turn};
 use bully_steps::Procedure;
 use bully_table::Table;
 use bully_watch::Entry;
@@ -23,10 +23,12 @@ pub enum Deed {
     Recover,
     Crash,
     Check,
+    Timeout,
     Start,
     Run,
-    Return,
     Lose,
+    Return,
+    Drop,
     Move,
     Plan(&'static str),
 }
@@ -38,6 +40,8 @@ pub enum Ask {
     Step(usize, Deed, u16),
     Serve(usize),
     Turn(usize),
+    /// A serve, or else a turn, in one call.
+    NodeTurn(usize),
     View(usize),
     Publish(usize),
     /// The procedure that is held is prepared, without an old table.
@@ -66,10 +70,12 @@ fn event_of(alloc: Global, setup: Setup, deed: Deed, number: u16) -> Option<Even
         Deed::Recover => Event::Recover(node),
         Deed::Crash => Event::Crash(node),
         Deed::Check => Event::Check(node),
+        Deed::Timeout => Event::Timeout(node),
         Deed::Start => Event::Start(node),
         Deed::Run => Event::Run(node),
-        Deed::Return => Event::Return(node),
         Deed::Lose => Event::Lose(node),
+        Deed::Return => Event::Return(node),
+        Deed::Drop => Event::Drop(node),
         Deed::Move => Event::Move(node),
         Deed::Plan(owners) => Event::Plan(node, Table::read(alloc, setup, owners).ok()?),
     })
@@ -204,6 +210,7 @@ fn perform<L: Naming, R: Wait>(
 {
     match asked {
         Ask::Turn(actor) => turn(rt, opened, actor, procedure, text),
+        Ask::NodeTurn(actor) => node_turn(rt, opened, actor, procedure, text),
         Ask::Prepare => prepare(alloc, procedure, text),
         _ => {
             let (setup, node) = (procedure.setup(), procedure.node());
@@ -268,6 +275,39 @@ fn turn<L: Naming, R: Wait>(
             let _ = writeln!(text, "{fault:?}");
             procedure
         }
+    }
+}
+
+fn node_turn<L: Naming, R: Wait>(
+    rt: &R,
+    opened: &mut Opened<L>,
+    actor: usize,
+    procedure: Procedure,
+    text: &mut String,
+) -> Procedure
+    requires { (state_of procedure).setup ≡ L.setup }
+    ensures { (state_of result).setup ≡ L.setup }
+{
+    let mut procedure = procedure;
+    let (Some(seat), Some(pass)) = (opened.seats.get_mut(actor), opened.passes.get_mut(actor))
+    else {
+        return procedure;
+    };
+    match opened.held.serve_or_turn(rt, seat, &mut procedure, pass) {
+        Ok(turn) => told_of(word_of(turn), procedure, text),
+        Err(fault) => {
+            let _ = writeln!(text, "{fault:?}");
+            procedure
+        }
+    }
+}
+
+fn word_of(turn: NodeTurn) -> &'static str {
+    match turn {
+        NodeTurn::Served => "served",
+        NodeTurn::Went => "went",
+        NodeTurn::Waiting => "waits",
+        NodeTurn::Resynced => "resynced",
     }
 }
 

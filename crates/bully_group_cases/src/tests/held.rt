@@ -3,12 +3,13 @@
 ghost use Rattle.std.specs.Prelude.{◌≡◌, ◌+◌, [], IfOk, Some, None};
 ghost use Rattle.bully_group.specs.Turns.{handed_back};
 ghost use Rattle.bully_steps.specs.Procedure.{state_of};
+ghost use Rattle.bully_steps.specs.ProcedureState.{HasSameNode};
 
 use bully_agree::View;
 use bully_base::Setup;
 use bully_group::{
-    Closed, FinishFault, Group, Locked, Naming, Pass, PublishFault, Seat, StepFault, Turn,
-    ViewFault,
+    Closed, FinishFault, Group, Locked, Naming, NodeTurn, Pass, PublishFault, Seat, StepFault,
+    Turn, ViewFault,
 };
 use bully_steps::Procedure;
 use bully_watch::{Publisher, Told};
@@ -228,6 +229,27 @@ impl<L: Naming> Held<L> {
             Held::Shared(group) => {
                 let mut guard = group.locked.lock(rt);
                 let answer = guard.turn(seat, procedure, pass);
+                MutexGuard::unlock(guard);
+                answer
+            }
+        }
+    }
+
+    pub fn serve_or_turn<R: Wait>(
+        &mut self,
+        rt: &R,
+        seat: &mut Seat,
+        procedure: &mut Procedure,
+        pass: &mut Pass<L>,
+    ) -> Result<NodeTurn, StepFault>
+        requires { (state_of procedure.old).setup ≡ L.setup }
+        ensures { HasSameNode (state_of procedure.old) (state_of procedure.new) }
+    {
+        match self {
+            Held::Bare(locked) => locked.serve_or_turn(seat, procedure, pass),
+            Held::Shared(group) => {
+                let mut guard = group.locked.lock(rt);
+                let answer = guard.serve_or_turn(seat, procedure, pass);
                 MutexGuard::unlock(guard);
                 answer
             }

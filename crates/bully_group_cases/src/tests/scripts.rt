@@ -5,10 +5,12 @@ use bully_base::Status;
 use bully_calls::Answer;
 
 /// Each is tried on a bare `Locked`, and through the lock of a `Group`.
-pub const CASES: [Case; 6] = [
+pub const CASES: [Case; 8] = [
     SMALL_GROUP,
     ALONE_BY_TURNS,
     TURNS_AND_A_STOP,
+    NODE_TURNS,
+    DROPPED_CALL,
     STALE_PLAN,
     KEPT_PROCEDURES,
     FULL_GROUP,
@@ -153,6 +155,150 @@ a pass less: SeatCount
     status: Status::Election,
 };
 
+// Node 1 takes whole turns. Node 2 recovers and halts it: the Halt runs by such a turn, which leaves the procedure as it
+// was, and the next one resyncs. Then there is nothing to do; with a procedure of node 1, no other actor has a turn.
+const NODE_TURNS: Case = Case {
+    nodes: 2,
+    partitions: 2,
+    events_max: 100,
+    node: 1,
+    asks: &[
+        Ask::Step(0, Deed::Recover, 1),
+        Ask::NodeTurn(1),
+        Ask::NodeTurn(1),
+        Ask::NodeTurn(1),
+        Ask::NodeTurn(1),
+        Ask::Step(0, Deed::Recover, 2),
+        Ask::Step(2, Deed::Move, 2),
+        Ask::Step(2, Deed::Start, 2),
+        Ask::NodeTurn(1),
+        Ask::NodeTurn(1),
+        Ask::NodeTurn(1),
+        Ask::NodeTurn(2),
+        Ask::NodeTurn(0),
+    ],
+    told: "Ok(())
+resynced Asking(2) 0
+went Asking(2) 0
+went Asking(2) 0
+went Asking(3) 0
+Ok(())
+Ok(())
+Ok(())
+served Asking(3) 0
+resynced Idle 1
+waits Idle 1
+NotYours
+NotYours
+a seat less: SeatCount
+a pass less: SeatCount
+",
+    history: &[
+        (0, Deed::Recover, 1, Answer::Done),
+        (1, Deed::Start, 1, Answer::Done),
+        (1, Deed::Lose, 1, Answer::Done),
+        (1, Deed::Return, 1, Answer::Failed),
+        (0, Deed::Recover, 2, Answer::Done),
+        (2, Deed::Move, 2, Answer::Done),
+        (2, Deed::Start, 2, Answer::Done),
+        (1, Deed::Run, 2, Answer::Yes),
+    ],
+    entries: 8,
+    status: Status::Election,
+};
+
+// Node 2 is halted while its Ready is under way, and begins a new election; its turn drops the orphan, and the next one
+// starts the call of that election.
+const DROPPED_CALL: Case = Case {
+    nodes: 3,
+    partitions: 2,
+    events_max: 100,
+    node: 2,
+    asks: &[
+        Ask::Step(0, Deed::Recover, 1),
+        Ask::Step(0, Deed::Recover, 2),
+        Ask::Step(2, Deed::Start, 2),
+        Ask::Step(2, Deed::Lose, 2),
+        Ask::Step(2, Deed::Return, 2),
+        Ask::Step(2, Deed::Move, 2),
+        Ask::Step(2, Deed::Start, 2),
+        Ask::Step(1, Deed::Run, 2),
+        Ask::Step(2, Deed::Return, 2),
+        Ask::Step(2, Deed::Move, 2),
+        Ask::Step(2, Deed::Start, 2),
+        Ask::Step(1, Deed::Run, 2),
+        Ask::Step(2, Deed::Return, 2),
+        Ask::Step(2, Deed::Move, 2),
+        Ask::Step(2, Deed::Plan("1 2"), 2),
+        Ask::Step(2, Deed::Start, 2),
+        Ask::Step(0, Deed::Recover, 3),
+        Ask::Step(3, Deed::Move, 3),
+        Ask::Step(3, Deed::Start, 3),
+        Ask::Step(2, Deed::Run, 3),
+        Ask::Step(0, Deed::Crash, 3),
+        Ask::Step(2, Deed::Timeout, 2),
+        Ask::Turn(2),
+        Ask::Turn(2),
+        Ask::Turn(2),
+    ],
+    told: "Ok(())
+Ok(())
+Ok(())
+Ok(())
+Ok(())
+Ok(())
+Ok(())
+Ok(())
+Ok(())
+Ok(())
+Ok(())
+Ok(())
+Ok(())
+Ok(())
+Ok(())
+Ok(())
+Ok(())
+Ok(())
+Ok(())
+Ok(())
+Ok(())
+Ok(())
+resynced Asking(3) 1
+went Asking(3) 1
+went Asking(3) 1
+a seat less: SeatCount
+a pass less: SeatCount
+",
+    history: &[
+        (0, Deed::Recover, 1, Answer::Done),
+        (0, Deed::Recover, 2, Answer::Done),
+        (2, Deed::Start, 2, Answer::Done),
+        (2, Deed::Lose, 2, Answer::Done),
+        (2, Deed::Return, 2, Answer::Failed),
+        (2, Deed::Move, 2, Answer::Done),
+        (2, Deed::Start, 2, Answer::Done),
+        (1, Deed::Run, 2, Answer::Yes),
+        (2, Deed::Return, 2, Answer::Yes),
+        (2, Deed::Move, 2, Answer::Done),
+        (2, Deed::Start, 2, Answer::Done),
+        (1, Deed::Run, 2, Answer::Yes),
+        (2, Deed::Return, 2, Answer::Yes),
+        (2, Deed::Move, 2, Answer::Done),
+        (2, Deed::Plan("1 2"), 2, Answer::Done),
+        (2, Deed::Start, 2, Answer::Done),
+        (0, Deed::Recover, 3, Answer::Done),
+        (3, Deed::Move, 3, Answer::Done),
+        (3, Deed::Start, 3, Answer::Done),
+        (2, Deed::Run, 3, Answer::Yes),
+        (0, Deed::Crash, 3, Answer::Done),
+        (2, Deed::Timeout, 2, Answer::Done),
+        (2, Deed::Drop, 2, Answer::Discarded),
+        (2, Deed::Start, 2, Answer::Done),
+    ],
+    entries: 24,
+    status: Status::Election,
+};
+
 // Node 2 plans for itself, and keeps the plan over an election in which node 1 is up: another up set, and the same
 // generation.
 const STALE_PLAN: Case = Case {
@@ -260,9 +406,15 @@ const FULL_GROUP: Case = Case {
     partitions: 2,
     events_max: 1,
     node: 1,
-    asks: &[Ask::Step(0, Deed::Recover, 1), Ask::Turn(1), Ask::Turn(1)],
+    asks: &[
+        Ask::Step(0, Deed::Recover, 1),
+        Ask::Turn(1),
+        Ask::Turn(1),
+        Ask::NodeTurn(1),
+    ],
     told: "Ok(())
 resynced Asking(2) 0
+Refused(Full)
 Refused(Full)
 a seat less: SeatCount
 a pass less: SeatCount

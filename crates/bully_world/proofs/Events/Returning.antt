@@ -22,12 +22,12 @@ use Rattle.bully_world.specs.StateAfter.{proceeded_state, returned_state, node_a
 use Rattle.bully_world.specs.Step.{Step, Returns}
 use Rattle.bully_world.specs.StepOf.{outcome_step}
 use Rattle.bully_world.specs.World.{World, Member, member, vector, point, pending, with_member}
-use Rattle.bully_world.proofs.CallInvariant.{free_fits}
+use Rattle.bully_world.proofs.CallInvariant.{emptied_fits}
 use Rattle.bully_world.proofs.EventLaws.{OwnLaws, IsFree}
-use Rattle.bully_world.proofs.KeptLemmas.{kept_later, kept_empty, kept_proceeded}
-use Rattle.bully_world.proofs.MemberLemmas.{written_fits, node_of_pending, call_of_pending}
+use Rattle.bully_world.proofs.KeptLemmas.{kept_later, kept_empty, kept_emptied, kept_proceeded}
+use Rattle.bully_world.proofs.MemberLemmas.{node_of_pending, call_of_pending}
 use Rattle.bully_world.proofs.MoveInvariant.{has_point, proceeds_fits}
-use Rattle.bully_world.proofs.SlotLemmas.{pending_there, call_in_slot}
+use Rattle.bully_world.proofs.SlotLemmas.{pending_there, call_in_slot, slot_emptied}
 
 return_facts : (setup : Setup) (w : World) (count i : ℕ) → cause setup w count (Event.Return i) ≡ None → in_phase (λ f. not (is_sent f)) (pending w i) ≡ true
 return_facts setup w count i n = grind (arith, n)
@@ -59,7 +59,7 @@ module _ (setup : Setup) (i : ℕ) (w : World) (count : ℕ) (m : MemberState) (
       let call = call_of_pending setup w i c f.all (pending_there w i m f.here p e) in
       let next = has_point (next_point setup i (vector w i).up (point w i) o) (leads_on setup i (vector w i) (point w i) c o call live done) in
       ((next.0, next.1, ap (with_member w i) (returned_is setup i o m (member w i) next.0 f.here next.1)), refl)
-  returns_by p o e done false live = (ap (λ (q : Member). with_member w i (record q { pending = None })) (sym f.here), refl)
+  returns_by p o e done false live = (slot_emptied w i m f.here, refl)
 
   return_with : (p : SlotCall) (o : Outcome) → m.slot.content ≡ Some p → outcome_of p.phase ≡ Some o → Step setup w (Event.Return i) (with_member w i (member_of (node_after_return setup i m m.slot.content))) (return_answer m.generation m.slot.content)
   return_with p o e done =
@@ -108,7 +108,7 @@ kept_returned setup events i m (Some p) k = by_outcome (outcome_of p.phase)
   where
     by_test : (b : Bool) (o : Outcome) → IsKept setup (events + 1) i (if b then proceeded_state setup i o (with_content None m) else with_content None m)
     by_test true o = kept_proceeded setup events i o (with_content None m) (kept_empty setup events i m k)
-    by_test false o = kept_later setup events i (with_content None m) (kept_empty setup events i m k)
+    by_test false o = kept_emptied setup events i m k
 
     by_outcome : (o : Option Outcome) → IsKept setup (events + 1) i (option_map_or (λ o. returned_state setup i p o m) o m)
     by_outcome None = kept_later setup events i m k
@@ -132,8 +132,7 @@ outcome_unplanned f o is e = grind (arith, is, e)
 
 returns_fits : (setup : Setup) (w : World) (i : ℕ) (c : Pending) (o : Outcome) (w' : World) (a : Answer) (live : Bool) → WorldInvariant setup w → pending w i ≡ Some c → outcome_of c.phase ≡ Some o → Returns setup w i live o w' a → WorldInvariant setup w'
 returns_fits setup w i c o w' a true all is done r = proceeds_fits setup w i o w' all (node_of_pending setup w i c all is).1 (outcome_unplanned c.phase o done) r.0
-returns_fits setup w i c o w' a false all is done r =
-    rw r.0 (written_fits setup w i _ all (node_of_pending setup w i c all is).0 (free_fits setup i (member w i) (all.fits i)))
+returns_fits setup w i c o w' a false all is done r = rw r.0 (emptied_fits setup w i c all is)
 
 returns_computed : (setup : Setup) (w : World) (i : ℕ) (b : Bool) (o : Outcome) (w' : World) (a : Answer) → Returns setup w i b o w' a → outcome_step setup w i b (Some o) ≡ Some (w', a)
 returns_computed setup w i true o w' a r = grind (arith, r)

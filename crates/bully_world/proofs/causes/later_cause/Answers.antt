@@ -10,6 +10,7 @@ use Rattle.bully_world.proofs.Events.Planning.{plan-cause}
 use Rattle.bully_world.proofs.Events.Running.{run-cause}
 use Rattle.bully_world.proofs.Events.Losing.{lose-cause}
 use Rattle.bully_world.proofs.Events.Returning.{return-cause}
+use Rattle.bully_world.proofs.Events.Dropping.{drop-cause}
 use Rattle.bully_world.proofs.causes.later_cause.Goals as goal
 
 pub offer-requires : goal.offer-requires
@@ -66,6 +67,11 @@ pub returns-in-Return : goal.returns-in-Return
 returns-in-Return c =
     let here = named_is (members_of c.args.members.now) (member_of c.args.named.now) c.args.event.now (Event.Return c.in-Return.field-0) c.in-Return.is c.requires.named in
     λ count. at_event c.args.setup (members_of c.args.members.now) count c.args.event.now (Event.Return c.in-Return.field-0) _ c.in-Return.is (grind (arith, return-cause c.args.setup (members_of c.args.members.now) count c.in-Return.field-0 (member_of c.args.named.now) here, c.refused_if-in-Return.ensures, c.has_come.ensures))
+
+pub returns-in-Drop : goal.returns-in-Drop
+returns-in-Drop c =
+    let here = named_is (members_of c.args.members.now) (member_of c.args.named.now) c.args.event.now (Event.Drop c.in-Drop.field-0) c.in-Drop.is c.requires.named in
+    λ count. at_event c.args.setup (members_of c.args.members.now) count c.args.event.now (Event.Drop c.in-Drop.field-0) _ c.in-Drop.is (grind (arith, drop-cause c.args.setup (members_of c.args.members.now) count c.in-Drop.field-0 (member_of c.args.named.now) here, c.drop_cause.ensures))
 
 pub returns-in-Check : goal.returns-in-Check
 returns-in-Check c =

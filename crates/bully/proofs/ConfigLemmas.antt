@@ -1,0 +1,196 @@
+-- From what is read and planned to what the program answers to `play`, to `run` and to `table`.
+use Rattle.std.proofs.Common.{◌≡◌, ◌≢◌, ◌⊎◌, inl, inr, ℕ, List, [], ◌∷◌, Option, Some, None, Result, Ok, Err, IsOk, refl, sym, ap, subst, ◌∙◌, arith}
+use Rattle.std.specs.Io.KnownBytes.{Appends, Keeps}
+use Rattle.bully_base.specs.Setup.{Setup}
+use Rattle.bully_config.specs.Configuration.{Configuration}
+use Rattle.bully_config.specs.declared.fault.ConfigFault.{ConfigFault}
+use Rattle.bully_play.specs.Play.{IsPlay, trace_with}
+use Rattle.bully_nodes.specs.Run.{IsNodesFault}
+use Rattle.bully_play.specs.Turns.{IsScheduled}
+use Rattle.bully_nodes.specs.declared.running.NodesFault.{NodesFault}
+use Rattle.bully_table.specs.Planning.{IsFewest, IsMostKept, moves_from, planned}
+use Rattle.bully_table.specs.TableText.{table_of_text}
+use Rattle.bully_table.specs.declared.planning.PlanFault.{PlanFault}
+use Rattle.bully_table.specs.declared.planning.TablePlan.{TablePlan}
+use Rattle.bully_table.specs.declared.table.TableFault.{TableFault}
+use Rattle.bully_trace.specs.TraceText.{trace_text}
+use Rattle.bully_words.specs.Words.{planning}
+use Rattle.bully_world.specs.declared.event.Event.{Event}
+use Rattle.bully.specs.Answer.{KnownBytes, Tells, stop_line}
+use Rattle.bully.specs.ConfigAnswer.{IsNotDone, IsPlayAnswer, IsRefused, IsRunAnswer, IsStopped, IsTableAnswer, nodes_line}
+use Rattle.bully.specs.PlanText.{plan_text}
+use Rattle.bully.specs.RefusalText.{refusal_line, refusal_of_config, refusal_of_plan, refusal_of_table, refusal_status}
+use Rattle.bully.specs.Wanted.{IsPlanOf, ReadsAs, Wanted, Wants, wanted_after, wanted_for, wanted_from, wanted_in, wanted_over}
+use Rattle.bully.specs.declared.refusals.Refusal.{Refusal}
+use Rattle.bully.specs.declared.telling.Stop.{Stop}
+use Rattle.bully.proofs.KnownBytesLemmas.{keeps-same}
+
+-- ---- what a fault is refused as
+
+pub of-config : (fault : ConfigFault) → (refusal_of_config fault ≡ Refusal.Stop Stop.OutOfMemory) ⊎ ((fault ≢ ConfigFault.OutOfMemory) × (refusal_of_config fault ≡ Refusal.Config fault))
+of-config ConfigFault.Toml = inr ((λ e. grind (arith, e)), refl)
+of-config (ConfigFault.Missing key) = inr ((λ e. grind (arith, e)), refl)
+of-config (ConfigFault.Kind key) = inr ((λ e. grind (arith, e)), refl)
+of-config (ConfigFault.Range key) = inr ((λ e. grind (arith, e)), refl)
+of-config ConfigFault.DoubleName = inr ((λ e. grind (arith, e)), refl)
+of-config ConfigFault.UnknownKey = inr ((λ e. grind (arith, e)), refl)
+of-config ConfigFault.OutOfMemory = inl refl
+
+of-table : (fault : TableFault) → (refusal_of_table fault ≡ Refusal.Stop Stop.OutOfMemory) ⊎ ((fault ≢ TableFault.OutOfMemory) × (refusal_of_table fault ≡ Refusal.Old fault))
+of-table TableFault.Length = inr ((λ e. grind (arith, e)), refl)
+of-table TableFault.Owner = inr ((λ e. grind (arith, e)), refl)
+of-table TableFault.Syntax = inr ((λ e. grind (arith, e)), refl)
+of-table TableFault.OutOfMemory = inl refl
+
+-- ---- the plan of what is wanted
+
+-- the configuration isn't read
+pub plan-unread : (bytes : List ℕ) (names : List (List ℕ)) (old : Option (List ℕ)) (fault : ConfigFault) (refusal : Refusal)
+    → (fault ≢ ConfigFault.OutOfMemory → ReadsAs bytes (Err fault)) → refusal ≡ refusal_of_config fault
+    → IsPlanOf (Wants bytes names old) (Err refusal)
+plan-unread bytes names old fault refusal reads is = elim (of-config fault) [
+  | inl memory ↦ inl (is ∙ memory)
+  | inr form ↦ inr (inr (fault, reads form.0, ap Err (sym (is ∙ form.1))))
+]
+
+-- the configuration is read
+pub plan-read : (bytes : List ℕ) (names : List (List ℕ)) (old : Option (List ℕ)) (config : Configuration) (r : Result TablePlan Refusal)
+    → ReadsAs bytes (Ok config) → IsPlanOf (λ answer. wanted_in config names old ≡ answer) r → IsPlanOf (Wants bytes names old) r
+plan-read bytes names old config (Ok plan) reads (wanted, wants, is) = (wanted, inl (config, reads, wants), is)
+plan-read bytes names old config (Err refusal) reads (inl memory) = inl memory
+plan-read bytes names old config (Err refusal) reads (inr wants) = inr (inl (config, reads, wants))
+
+-- the same is wanted
+pub plan-same : (r : Result TablePlan Refusal) (x y : Result Wanted Refusal) → y ≡ x → IsPlanOf (λ answer. x ≡ answer) r → IsPlanOf (λ answer. y ≡ answer) r
+plan-same r x y same is = subst (λ z. IsPlanOf (λ answer. z ≡ answer) r) (sym same) is
+
+-- the members are found
+pub over-members : (config : Configuration) (found : Option (List ℕ)) (members : List ℕ) (old : Option (List ℕ)) → found ≡ Some members → wanted_over config.setup found old ≡ wanted_after config.setup members old
+over-members config found members old is = ap (λ x. wanted_over config.setup x old) is
+
+-- a name is no node's
+pub over-nobody : (config : Configuration) (found : Option (List ℕ)) (old : Option (List ℕ)) (refusal : Refusal) → refusal ≡ Refusal.Member → found ≡ None
+    → wanted_over config.setup found old ≡ Err refusal
+over-nobody config found old refusal is none = ap (λ x. wanted_over config.setup x old) none ∙ ap Err (sym is)
+
+-- the old table is read, or isn't
+pub from-table : (setup : Setup) (members : List ℕ) (text table : List ℕ) → table_of_text setup text ≡ Ok table → wanted_after setup members (Some text) ≡ wanted_for setup members (Some table)
+from-table setup members text table is = ap (wanted_from setup members) is
+
+pub from-fault : (setup : Setup) (members text : List ℕ) (fault : TableFault) (refusal : Refusal)
+    → (table_of_text setup text ≡ Err fault) ⊎ ((fault ≡ TableFault.OutOfMemory) × IsOk (table_of_text setup text)) → refusal ≡ refusal_of_table fault
+    → IsPlanOf (λ answer. wanted_after setup members (Some text) ≡ answer) (Err refusal)
+from-fault setup members text fault refusal (inr (memory, good)) is = inl (is ∙ ap refusal_of_table memory)
+from-fault setup members text fault refusal (inl told) is = elim (of-table fault) [
+  | inl memory ↦ inl (is ∙ memory)
+  | inr form ↦ inr (ap (wanted_from setup members) told ∙ ap Err (sym (is ∙ form.1)))
+]
+
+-- there is a plan
+pub plan-made : (setup : Setup) (old : Option (List ℕ)) (members : List ℕ) (plan : TablePlan) → members ≢ []
+    → plan.table ≡ planned setup old members → IsFewest setup old plan.table members → plan.moves ≡ moves_from setup old plan.table → IsMostKept setup old members plan.bound
+    → IsPlanOf (λ answer. wanted_for setup members old ≡ answer) (Ok plan)
+plan-made setup old [] plan some table fewest moves bound = absurd (some refl)
+plan-made setup old (m ∷ ms) plan some table fewest moves bound =
+    (record { setup = setup; old = old; members = m ∷ ms }, refl, record { planned = table; fewest = fewest; moves = moves; bound = bound })
+
+-- there is none
+pub plan-refused : (setup : Setup) (old : Option (List ℕ)) (members : List ℕ) (fault : PlanFault) (refusal : Refusal)
+    → (fault ≡ PlanFault.NoMember → members ≡ []) → refusal ≡ refusal_of_plan fault
+    → IsPlanOf (λ answer. wanted_for setup members old ≡ answer) (Err refusal)
+plan-refused setup old members PlanFault.NoMember refusal none is = inr (ap (λ ms. wanted_for setup ms old) (none refl) ∙ ap Err (sym is))
+plan-refused setup old members PlanFault.OutOfMemory refusal none is = inl is
+
+-- ---- the answers
+
+-- a refusal that was told, or there was no memory for its line
+told-or-stopped : (refusal : Refusal) (output output' errors errors' : KnownBytes) (status : ℕ) → Keeps output output'
+    → ((status ≡ refusal_status refusal) × Tells errors errors' (refusal_line refusal)) ⊎ ((status ≡ 4) × Tells errors errors' (stop_line Stop.OutOfMemory))
+    → IsRefused refusal output output' errors errors' status ⊎ IsStopped output output' errors errors' status
+told-or-stopped refusal output output' errors errors' status kept (inl (done, told)) = inl (kept, told, done)
+told-or-stopped refusal output output' errors errors' status kept (inr (done, told)) = inr (Stop.OutOfMemory, (λ _. kept), told, done)
+
+-- want of memory that was told
+memory-stops : (output output' errors errors' : KnownBytes) (status : ℕ) → Keeps output output'
+    → ((status ≡ 4) × Tells errors errors' (stop_line Stop.OutOfMemory)) ⊎ ((status ≡ 4) × Tells errors errors' (stop_line Stop.OutOfMemory))
+    → IsStopped output output' errors errors' status
+memory-stops output output' errors errors' status kept (inl (done, told)) = (Stop.OutOfMemory, (λ _. kept), told, done)
+memory-stops output output' errors errors' status kept (inr (done, told)) = (Stop.OutOfMemory, (λ _. kept), told, done)
+
+abbrev IsTold : Refusal → KnownBytes → KnownBytes → ℕ → Type 0
+IsTold refusal errors errors' status =
+    ((status ≡ refusal_status refusal) × Tells errors errors' (refusal_line refusal)) ⊎ ((status ≡ 4) × Tells errors errors' (stop_line Stop.OutOfMemory))
+
+-- the configuration whose group is to do something is refused
+pub config-refused : (bytes : List ℕ) (fault : ConfigFault) (refusal : Refusal) (output output' errors errors' : KnownBytes) (status : ℕ)
+    → (fault ≢ ConfigFault.OutOfMemory → ReadsAs bytes (Err fault)) → refusal ≡ refusal_of_config fault → Keeps output output' → IsTold refusal errors errors' status
+    → IsNotDone bytes output output' errors errors' status
+config-refused bytes fault refusal output output' errors errors' status reads is kept told = elim (of-config fault) [
+  | inl memory ↦ inr (memory-stops output output' errors errors' status kept (subst (λ r. IsTold r errors errors' status) (is ∙ memory) told))
+  | inr form ↦ elim (told-or-stopped (Refusal.Config fault) output output' errors errors' status kept (subst (λ r. IsTold r errors errors' status) (is ∙ form.1) told)) [
+    | inl refused ↦ inl (fault, reads form.0, refused)
+    | inr stopped ↦ inr stopped
+  ]
+]
+
+-- the table isn't planned
+pub table-refused : (bytes : List ℕ) (names : List (List ℕ)) (old : Option (List ℕ)) (refusal : Refusal) (output output' errors errors' : KnownBytes) (status : ℕ)
+    → IsPlanOf (Wants bytes names old) (Err refusal) → Keeps output output' → IsTold refusal errors errors' status
+    → IsTableAnswer bytes names old output output' errors errors' status
+table-refused bytes names old refusal output output' errors errors' status (inl memory) kept told =
+    inr (inr (memory-stops output output' errors errors' status kept (subst (λ r. IsTold r errors errors' status) memory told)))
+table-refused bytes names old refusal output output' errors errors' status (inr wants) kept told = elim (told-or-stopped refusal output output' errors errors' status kept told) [
+  | inl refused ↦ inr (inl (refusal, wants, refused))
+  | inr stopped ↦ inr (inr stopped)
+]
+
+-- a stop, from what it says of the writers
+stopped-from : {W E : Type 0} (written : W → KnownBytes) (told : E → KnownBytes) (output output' : W) (errors errors' : E) (status : ℕ)
+    → (status ≡ 4) × (stop : Stop) × (stop ≢ Stop.Write → output' ≡ output) × Tells (told errors) (told errors') (stop_line stop)
+    → IsStopped (written output) (written output') (told errors) (told errors') status
+stopped-from written told output output' errors errors' status (four, stop, kept, line) =
+    (stop, (λ other. keeps-same _ _ (ap written (kept other))), line, four)
+
+-- the configuration is played
+pub play-answered : {W E : Type 0} (written : W → KnownBytes) (told : E → KnownBytes) (bytes : List ℕ) (config : Configuration) (output output' : W) (errors errors' : E) (status : ℕ)
+    → ReadsAs bytes (Ok config)
+    → ((status ≡ 0) × (errors' ≡ errors) × ((events : List Event) × IsPlay config events × IsScheduled config events × Appends (written output) (written output') (trace_text (trace_with config.setup events))))
+    ⊎ ((status ≡ 4) × (stop : Stop) × (stop ≢ Stop.Write → output' ≡ output) × Tells (told errors) (told errors') (stop_line stop))
+    → IsPlayAnswer bytes (written output) (written output') (told errors) (told errors') status
+play-answered written told bytes config output output' errors errors' status reads (inl (done, same, (events, play, scheduled, text))) =
+    inl (config, events, reads, play, scheduled, text, keeps-same _ _ (ap told same), done)
+play-answered written told bytes config output output' errors errors' status reads (inr stopped) =
+    inr (inr (stopped-from written told output output' errors errors' status stopped))
+
+-- the configuration is run
+pub run-answered : {W E : Type 0} (written : W → KnownBytes) (told : E → KnownBytes) (bytes : List ℕ) (config : Configuration) (output output' : W) (errors errors' : E) (status : ℕ)
+    → ReadsAs bytes (Ok config)
+    → ((status ≡ 0) × (errors' ≡ errors) × ((events : List Event) × IsPlay config events × Appends (written output) (written output') (trace_text (trace_with config.setup events))))
+    ⊎ ((status ≡ 4) × (fault : NodesFault) × IsNodesFault fault × (output' ≡ output) × Tells (told errors) (told errors') (nodes_line fault))
+    ⊎ ((status ≡ 4) × (stop : Stop) × (stop ≢ Stop.Write → output' ≡ output) × Tells (told errors) (told errors') (stop_line stop))
+    → IsRunAnswer bytes (written output) (written output') (told errors) (told errors') status
+run-answered written told bytes config output output' errors errors' status reads (inl (done, same, (events, play, text))) =
+    inl (config, events, reads, play, text, keeps-same _ _ (ap told same), done)
+run-answered written told bytes config output output' errors errors' status reads (inr (inl (four, fault, is, same, line))) =
+    inr (inl (config, fault, reads, is, keeps-same _ _ (ap written same), line, four))
+run-answered written told bytes config output output' errors errors' status reads (inr (inr stopped)) =
+    inr (inr (inr (stopped-from written told output output' errors errors' status stopped)))
+
+-- the table is planned
+pub table-answered : {W E : Type 0} (written : W → KnownBytes) (told : E → KnownBytes) (bytes : List ℕ) (names : List (List ℕ)) (old : Option (List ℕ)) (plan : TablePlan) (output output' : W) (errors errors' : E) (status : ℕ)
+    → IsPlanOf (Wants bytes names old) (Ok plan)
+    → ((status ≡ 0) × Appends (written output) (written output') (plan_text plan.table plan.moves plan.bound) × (errors' ≡ errors))
+    ⊎ ((status ≡ 4) × (stop : Stop) × (stop ≢ Stop.Write → output' ≡ output) × Tells (told errors) (told errors') (stop_line stop))
+    → IsTableAnswer bytes names old (written output) (written output') (told errors) (told errors') status
+table-answered written told bytes names old plan output output' errors errors' status (wanted, wants, is) (inl (done, text, same)) =
+    inl (wanted, plan, wants, is, text, keeps-same _ _ (ap told same), done)
+table-answered written told bytes names old plan output output' errors errors' status planned (inr stopped) =
+    inr (inr (stopped-from written told output output' errors errors' status stopped))
+
+-- the words name the same members and the same old table
+pub table-named : (bytes : List ℕ) (path path' : List ℕ) (names names' : List (List ℕ)) (old old' : Option (List ℕ)) (output output' errors errors' : KnownBytes) (status : ℕ)
+    → planning path names old ≡ planning path' names' old'
+    → IsTableAnswer bytes names old output output' errors errors' status → IsTableAnswer bytes names' old' output output' errors errors' status
+table-named bytes path path' names names' old old' output output' errors errors' status same answer =
+    subst (λ l. IsTableAnswer bytes l old' output output' errors errors' status) (grind (arith, same))
+    (subst (λ o. IsTableAnswer bytes names o output output' errors errors' status) (grind (arith, same)) answer)

@@ -1,0 +1,4 @@
+pub mod KnownBytesLemmas
+pub mod AnswerLemmas
+mod MemberLemmas
+mod ConfigLemmas

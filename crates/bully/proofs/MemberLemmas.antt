@@ -1,0 +1,62 @@
+-- The set of the nodes of some names, name by name.
+use Rattle.std.proofs.Common.{◌≡◌, ◌∙◌, ℕ, ◌+◌, ◌<◌, ◌≤◌, List, [], ◌∷◌, length, drop, map, Option, Some, None, refl, sym, ap, arith}
+use Rattle.std.specs.Prelude.{option_and_then, option_map, slice_index_or}
+use Rattle.std.specs.Borrow.{Bor}
+use Rattle.std.proofs.lemmas.Bool.Decides.{nat_tests}
+use Rattle.std.proofs.lemmas.Grind.{common_steps}
+use Rattle.std.proofs.lemmas.List.{drop_more}
+use Rattle.bully_base.specs.NodeSet.{with_node}
+use Rattle.bully_config.specs.Configuration.{node_named}
+use Rattle.bully.specs.Wanted.{members_named}
+
+-- the set with the nodes of these names
+abbrev pub named_onto : List (List ℕ) → List (List ℕ) → List ℕ → Option (List ℕ)
+named_onto names [] members = Some members
+named_onto names (word ∷ words) members = option_and_then (λ node. named_onto names words (with_node node members)) (node_named names word)
+
+-- two nodes come in in either order
+with_node-swap : (j k : ℕ) (ms : List ℕ) → with_node j (with_node k ms) ≡ with_node k (with_node j ms)
+with_node-swap j k [] = grind (arith, nat_tests)
+with_node-swap j k (m ∷ ms) =
+    let rest = with_node-swap j k ms in
+    grind (arith, nat_tests, rest)
+
+onto-more : (names words : List (List ℕ)) (node : ℕ) (members : List ℕ) → named_onto names words (with_node node members) ≡ option_map (with_node node) (named_onto names words members)
+onto-more names [] node members = refl
+onto-more names (word ∷ words) node members = go (node_named names word) (onto-more names words)
+  where
+    go : (o : Option ℕ) → ((k : ℕ) (ms : List ℕ) → named_onto names words (with_node k ms) ≡ option_map (with_node k) (named_onto names words ms))
+        → option_and_then (λ k. named_onto names words (with_node k (with_node node members))) o ≡ option_map (with_node node) (option_and_then (λ k. named_onto names words (with_node k members)) o)
+    go None more = refl
+    go (Some k) more = ap (named_onto names words) (with_node-swap k node members) ∙ more node (with_node k members)
+
+-- from the empty set on: the set of the names
+pub onto-none : (names words : List (List ℕ)) → named_onto names words [] ≡ members_named names words
+onto-none names [] = refl
+onto-none names (word ∷ words) = go (node_named names word) (onto-more names words) (onto-none names words)
+  where
+    go : (o : Option ℕ) → ((k : ℕ) (ms : List ℕ) → named_onto names words (with_node k ms) ≡ option_map (with_node k) (named_onto names words ms))
+        → named_onto names words [] ≡ members_named names words
+        → option_and_then (λ k. named_onto names words (with_node k [])) o ≡ option_and_then (λ k. option_map (with_node k) (members_named names words)) o
+    go None more rest = refl
+    go (Some k) more rest = more k [] ∙ ap (option_map (with_node k)) rest
+
+-- the texts from a place on, at that place and at the end
+pub texts-next : (xs : List (Bor (List ℕ))) (i : ℕ) (x : Bor (List ℕ)) → i < length xs → x ≡ slice_index_or xs i x
+    → map (λ s. s.now) (drop i xs) ≡ x.now ∷ map (λ s. s.now) (drop (i + 1) xs)
+texts-next xs i x h e = ap (map (λ s. s.now)) (drop_more xs i x h) ∙ ap (λ y. y.now ∷ map (λ s. s.now) (drop (i + 1) xs)) (sym e)
+
+pub texts-end : (xs : List (Bor (List ℕ))) (i : ℕ) → length xs ≤ i → map (λ s. s.now) (drop i xs) ≡ []
+texts-end [] i h = grind (arith, common_steps)
+texts-end (x ∷ xs) i h = grind (arith, common_steps)
+
+-- one name more, whose node there is or isn't
+pub onto-node : (names : List (List ℕ)) (all rest : List (List ℕ)) (word : List ℕ) (node : ℕ) (members : List ℕ) → all ≡ word ∷ rest → node_named names word ≡ Some node
+    → named_onto names all members ≡ named_onto names rest (with_node node members)
+onto-node names all rest word node members is named =
+    ap (λ l. named_onto names l members) is ∙ ap (option_and_then (λ k. named_onto names rest (with_node k members))) named
+
+pub onto-nobody : (names : List (List ℕ)) (all rest : List (List ℕ)) (word : List ℕ) (members : List ℕ) → all ≡ word ∷ rest → node_named names word ≡ None
+    → named_onto names all members ≡ None
+onto-nobody names all rest word members is named =
+    ap (λ l. named_onto names l members) is ∙ ap (option_and_then (λ k. named_onto names rest (with_node k members))) named

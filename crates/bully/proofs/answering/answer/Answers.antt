@@ -1,0 +1,55 @@
+use Rattle.std.proofs.Common.{◌⊎◌, inl, inr, [], ap, sym, subst, map, arith}
+use Rattle.clap.specs.Words.{fault_of}
+use Rattle.bully_words.specs.Words.{ParsesAsCheck, program, texts_of}
+use Rattle.bully.specs.declared.telling.Stop.{Stop}
+use Rattle.bully.proofs.KnownBytesLemmas.{keeps-same}
+use Rattle.bully.proofs.AnswerLemmas.{stop-case}
+use Rattle.bully_words.proofs.WordsLemmas.{check-parses, mistake-kind, help-kind}
+use Rattle.bully.proofs.answering.answer.Goals as goal
+
+-- a stop at a write is a stop
+some_stop : {A : Type 0} {B : Type 0} {C : Stop → Type 0} → A ⊎ (B × C Stop.Write) → A ⊎ (B × (stop : Stop) × C stop)
+some_stop (inl shown) = inl shown
+some_stop (inr (stopped, told)) = inr (stopped, Stop.Write, told)
+
+pub returns-in-Err-clause-check : goal.returns-in-Err-clause-check
+returns-in-Err-clause-check g c = λ alone.
+    let stopped = c.answer_words.ensures.memory (c.in-Err.ensures.check (subst ParsesAsCheck (sym alone) check-parses)) in
+    stop-case (g.R.Read.remaining c.args.input) Stop.OutOfMemory _ _ _ _ _ (λ _. keeps-same _ _ (ap g.W.Write.contents stopped.1)) (λ e. absurd (grind (arith, e))) (stopped.0, stopped.2)
+
+pub returns-in-Err-clause-parsed : goal.returns-in-Err-clause-parsed
+returns-in-Err-clause-parsed g c = λ parses.
+    let stopped = c.answer_words.ensures.memory (c.in-Err.ensures.check parses) in
+    stop-case (g.R.Read.remaining c.args.input) Stop.OutOfMemory _ _ _ _ _ (λ _. keeps-same _ _ (ap g.W.Write.contents stopped.1)) (λ e. absurd (grind (arith, e))) (stopped.0, stopped.2)
+
+pub returns-in-Err-clause-mistake : goal.returns-in-Err-clause-mistake
+returns-in-Err-clause-mistake g c = λ mistake.
+    c.answer_words.ensures.mistake (mistake-kind (fault_of program (map g.S.AsStr.text c.args.words.now)) c.in-Err.error mistake c.in-Err.ensures.fault)
+
+pub returns-in-Err-clause-help : goal.returns-in-Err-clause-help
+returns-in-Err-clause-help g c = λ help.
+    elim (help-kind (fault_of program (map g.S.AsStr.text c.args.words.now)) c.in-Err.error help c.in-Err.ensures.fault) [
+      | inl memory ↦ (let stopped = c.answer_words.ensures.memory memory in inr (stopped.0, Stop.OutOfMemory, stopped.2))
+      | inr shown ↦ some_stop (c.answer_words.ensures.help shown)
+    ]
+
+pub returns-in-Ok-clause-check : goal.returns-in-Ok-clause-check
+returns-in-Ok-clause-check g c = λ alone. c.act.ensures.check (ap texts_of (c.in-Ok.ensures.check (subst ParsesAsCheck (sym alone) check-parses)))
+
+pub returns-in-Ok-clause-parsed : goal.returns-in-Ok-clause-parsed
+returns-in-Ok-clause-parsed g c = λ parses. c.act.ensures.check (ap texts_of (c.in-Ok.ensures.check parses))
+
+pub returns-in-Err-clause-play : goal.returns-in-Err-clause-play
+returns-in-Err-clause-play g c = λ path parses.
+    let stopped = c.answer_words.ensures.memory (c.in-Err.ensures.play path parses) in
+    ([], inr (inr (Stop.OutOfMemory, (λ _. keeps-same _ _ (ap g.W.Write.contents stopped.1)), stopped.2, stopped.0)))
+
+pub returns-in-Err-clause-run : goal.returns-in-Err-clause-run
+returns-in-Err-clause-run g c = λ path parses.
+    let stopped = c.answer_words.ensures.memory (c.in-Err.ensures.run path parses) in
+    ([], inr (inr (inr (Stop.OutOfMemory, (λ _. keeps-same _ _ (ap g.W.Write.contents stopped.1)), stopped.2, stopped.0))))
+
+pub returns-in-Err-clause-table : goal.returns-in-Err-clause-table
+returns-in-Err-clause-table g c = λ path members old parses.
+    let stopped = c.answer_words.ensures.memory (c.in-Err.ensures.table path members old parses) in
+    ([], inr (inr (Stop.OutOfMemory, (λ _. keeps-same _ _ (ap g.W.Write.contents stopped.1)), stopped.2, stopped.0)))

@@ -1,4 +1,0 @@
-pub mod KnownBytesLemmas
-pub mod AnswerLemmas
-mod MemberLemmas
-pub mod ConfigLemmas

@@ -1,6 +1,0 @@
-use Rattle.std.proofs.Common.{inr, refl}
-use Rattle.bully_commands.specs.declared.telling.Stop.{Stop}
-use Rattle.bully_commands.proofs.tables.answer_plan.Goals as goal
-
-pub returns-then-is_err : goal.returns-then-is_err
-returns-then-is_err g c = inr (c.answer_stop-then-is_err.ensures.status, Stop.Write, (λ other. absurd (other refl)), c.answer_stop-then-is_err.ensures.line)
