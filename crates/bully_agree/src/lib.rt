@@ -27,7 +27,8 @@ pub use whole_calls::{WholeFault, run_whole};
 
 /// The agreement law. Whatever lawful list of events leads to a world, its nodes agree there: all that are in
 /// Reorganization or Normal have one coordinator, and all that are Normal have one task. Halts, crashes and
-/// recoveries may stand between the start, the run and the return of any call, and orphans may run late.
+/// recoveries may stand between the start, the run and the return of any call, and an orphan may run late or be
+/// dropped.
 pub fn agreement()
     ensures { (setup : Setup) (events : List Event) (answers : List Answer) (w : World)
         → IsLawful setup events answers w → Agreement w }

@@ -1,4 +1,4 @@
--- A call that was started and hasn't returned.
+-- A call that was started and is still in its caller's slot.
 use Rattle.std.specs.Prelude.{ℕ, Bool, true, false, List, Option, Some, None}
 use Rattle.bully_calls.specs.declared.call.Answer.{Answer}
 use Rattle.bully_calls.specs.declared.call.Call.{Call}

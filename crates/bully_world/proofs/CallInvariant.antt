@@ -1,4 +1,4 @@
--- The start, the phases and the return of a call keep what holds of its caller.
+-- A call's start, its phases and its being taken out keep what holds of its caller.
 use Rattle.std.proofs.Common.{◌≡◌, ◌≢◌, ℕ, Some, None, arith, refl}
 use Rattle.bully_base.specs.declared.node.Status.TheVariants.{Down}
 use Rattle.bully_base.specs.Setup.{Setup, IsNode}
