@@ -1,12 +1,16 @@
 -- The set of the nodes of some names, name by name.
-use Rattle.std.proofs.Common.{◌≡◌, ◌∙◌, ℕ, ◌+◌, ◌<◌, ◌≤◌, List, [], ◌∷◌, length, drop, map, Option, Some, None, refl, sym, ap, arith}
+use Rattle.std.proofs.Common.{◌≡◌, ◌∙◌, ℕ, ◌+◌, ◌<◌, ◌≤◌, ◌==◌, Bool, true, false, List, [], ◌∷◌, length, drop, map, All, Option, Some, None, if◌then◌else◌, nat_lt, bytes_eq, refl, sym, ap, subst, arith}
 use Rattle.std.specs.Prelude.{option_and_then, option_map, slice_index_or}
 use Rattle.std.specs.Borrow.{Bor}
 use Rattle.std.proofs.lemmas.Bool.Decides.{nat_tests}
 use Rattle.std.proofs.lemmas.Grind.{common_steps}
 use Rattle.std.proofs.lemmas.List.{drop_more}
+use Rattle.std.proofs.lemmas.List.Elements.{All-cons, All-nil, All-tail}
+use Rattle.std.proofs.lemmas.Option.{same_Some}
 use Rattle.bully_base.specs.NodeSet.{with_node}
-use Rattle.bully_config.specs.Configuration.{node_named}
+use Rattle.bully_base.specs.Setup.{Setup}
+use Rattle.bully_config.specs.Configuration.{Configuration, IsConfiguration, node_named}
+use Rattle.bully_config.proofs.FaultLemmas.{position_within}
 use Rattle.bully.specs.Wanted.{members_named}
 
 -- the set with the nodes of these names
@@ -60,3 +64,34 @@ pub onto-nobody : (names : List (List ℕ)) (all rest : List (List ℕ)) (word :
     → named_onto names all members ≡ None
 onto-nobody names all rest word members is named =
     ap (λ l. named_onto names l members) is ∙ ap (option_and_then (λ k. named_onto names rest (with_node k members))) named
+
+-- ---- all of them are nodes of the configuration
+
+-- what holds of a node and of each member holds of each member of the set with the node
+with_node-all : (P : ℕ → Type 0) (k : ℕ) (ms : List ℕ) → P k → All P ms → All P (with_node k ms)
+with_node-all P k [] here all = All-cons P k [] here all
+with_node-all P k (m ∷ ms) here all = by_test (nat_lt m k) (m == k) (with_node-all P k ms here (All-tail P m ms all))
+  where
+    by_test : (a b : Bool) → All P (with_node k ms) → All P (if a then k ∷ m ∷ ms else (if b then m ∷ ms else m ∷ with_node k ms))
+    by_test true b more = All-cons P k (m ∷ ms) here all
+    by_test false true more = all
+    by_test false false more = All-cons P m (with_node k ms) (all 0 m (omega arith)) more
+
+pub named-within : (names words : List (List ℕ)) (members : List ℕ) → members_named names words ≡ Some members → All (λ m. m ≤ length names) members
+named-within names [] members e = subst (λ ms. All (λ m. m ≤ length names) ms) (same_Some _ _ e) (All-nil (λ m. m ≤ length names))
+named-within names (word ∷ words) members e = by_node (node_named names word) (members_named names words) refl e (named-within names words)
+  where
+    by_node : (o : Option ℕ) (more : Option (List ℕ)) → node_named names word ≡ o → option_and_then (λ node. option_map (with_node node) more) o ≡ Some members
+        → ((ms : List ℕ) → more ≡ Some ms → All (λ m. m ≤ length names) ms) → All (λ m. m ≤ length names) members
+    by_node None more named e later = absurd (cc e)
+    by_node (Some k) None named e later = absurd (cc e)
+    by_node (Some k) (Some ms) named e later =
+        let (low, high) = position_within (bytes_eq word) 1 k names named in
+        subst (λ xs. All (λ m. m ≤ length names) xs) (same_Some _ _ e) (with_node-all (λ m. m ≤ length names) k ms (omega (arith, high)) (later ms refl))
+
+-- the names are as many as the nodes
+pub members-within : (c : Configuration) (setup : Setup) (words : List (List ℕ)) (members : List ℕ) → IsConfiguration c → setup ≡ c.setup → members_named c.names words ≡ Some members
+    → All (λ m. m ≤ setup.nodes) members
+members-within c setup words members is same named =
+    let count : length c.names ≡ setup.nodes = rw same is.names in
+    subst (λ n. All (λ m. m ≤ n) members) count (named-within c.names words members named)

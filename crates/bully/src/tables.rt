@@ -1,4 +1,4 @@
-ghost use Rattle.std.specs.Prelude.{◌≡◌, ◌≢◌, ◌≤◌, ◌⊎◌, ℕ, List, None, Some, length, map, option_map, IfOk, IfErr, IfSome, string_bytes};
+ghost use Rattle.std.specs.Prelude.{◌≡◌, ◌≢◌, ◌≤◌, ◌⊎◌, ℕ, List, All, None, Some, length, map, option_map, IfOk, IfErr, IfSome, string_bytes};
 ghost use Rattle.std.specs.Option.{option_copied};
 ghost use Rattle.std.specs.Io.KnownBytes.{Appends};
 ghost use Rattle.bully.specs.Answer.{Tells, stop_line};
@@ -11,7 +11,7 @@ use crate::refusals::{Refusal, answer_refusal};
 use crate::telling::{Stop, answer_stop, finish};
 use bully_base::{NodeSet, OutOfMemory, Setup};
 use bully_config::Config;
-use bully_table::{Table, TablePlan, plan, push_owners};
+use bully_table::{Table, TablePlan, plan_in, push_owners};
 use bully_words::TableWords;
 use std::alloc::Global;
 use std::io::Write;
@@ -59,13 +59,13 @@ fn plan_of(alloc: Global, bytes: &[u8], words: &TableWords<'_>) -> Result<TableP
     ensures { IsPlanOf (Wants bytes.now (map (λ s. s.now) words.now.members.items) (option_map (λ s. s.now) words.now.old)) result }
 {
     match config_of(alloc, bytes) {
-        Ok(config) => plan_in(alloc, &config, words),
+        Ok(config) => plan_with(alloc, &config, words),
         Err(fault) => Err(Refusal::from(fault)),
     }
 }
 
 // The plan that the words ask for, over this configuration.
-fn plan_in(alloc: Global, config: &Config, words: &TableWords<'_>) -> Result<TablePlan, Refusal>
+fn plan_with(alloc: Global, config: &Config, words: &TableWords<'_>) -> Result<TablePlan, Refusal>
     ensures { IsPlanOf (λ answer. wanted_in config.now (map (λ s. s.now) words.now.members.items) (option_map (λ s. s.now) words.now.old) ≡ answer) result }
 {
     let members = members_of(config, words.members.as_slice())?;
@@ -75,14 +75,15 @@ fn plan_in(alloc: Global, config: &Config, words: &TableWords<'_>) -> Result<Tab
 // The plan over these members, from the old table of this text.
 fn plan_after(
     alloc: Global,
-    setup: Setup,
+    setup: &Setup,
     members: &NodeSet,
     old: Option<&str>,
 ) -> Result<TablePlan, Refusal>
-    ensures { IsPlanOf (λ answer. wanted_after setup members.now (option_map (λ s. s.now) old.entry) ≡ answer) result }
+    requires { All (λ m. m ≤ setup.now.nodes) members.now }
+    ensures { IsPlanOf (λ answer. wanted_after setup.now members.now (option_map (λ s. s.now) old.entry) ≡ answer) result }
 {
     match old {
-        Some(owners) => match Table::read(alloc, setup, owners) {
+        Some(owners) => match Table::read_in(alloc, setup, owners.as_bytes()) {
             Ok(table) => plan_for(alloc, setup, members, Some(&table)),
             Err(fault) => Err(Refusal::from(fault)),
         },
@@ -93,14 +94,15 @@ fn plan_after(
 // The plan over these members, from this old table.
 fn plan_for(
     alloc: Global,
-    setup: Setup,
+    setup: &Setup,
     members: &NodeSet,
     old: Option<&Table>,
 ) -> Result<TablePlan, Refusal>
-    requires { IfSome (option_copied old) (λ table. length table ≡ setup.partitions) }
-    ensures { IsPlanOf (λ answer. wanted_for setup members.now (option_copied old.entry) ≡ answer) result }
+    requires members { All (λ m. m ≤ setup.now.nodes) members.now }
+    requires old { IfSome (option_copied old) (λ table. length table ≡ setup.now.partitions) }
+    ensures { IsPlanOf (λ answer. wanted_for setup.now members.now (option_copied old.entry) ≡ answer) result }
 {
-    match plan(alloc, setup, members, old) {
+    match plan_in(alloc, setup, members, old) {
         Ok(plan) => Ok(plan),
         Err(fault) => Err(Refusal::from(fault)),
     }

@@ -1,4 +1,4 @@
--- A node crashes: nothing is to be said of it any more.
+-- A node crashes: nothing is to be said of it any more. A task that it keeps says nothing, since it isn't Normal.
 use Rattle.std.proofs.Common.{ℕ, None, arith, refl}
 use Rattle.bully_base.specs.Setup.{Setup}
 use Rattle.bully_handlers.specs.Vector.{crashed}

@@ -1,4 +1,4 @@
--- A node recovers: it was Idle with no call, and less is to be said of it.
+-- A node recovers: it was Idle with no call, and less is to be said of it, whether it keeps its task or not.
 use Rattle.std.proofs.Common.{◌≡◌, ℕ, None, arith}
 use Rattle.bully_base.specs.declared.node.Status.TheVariants.{Down}
 use Rattle.bully_base.specs.Setup.{Setup, IsNode}

@@ -1,5 +1,5 @@
 -- A call returns: its caller's election comes no further than the call had brought it.
-use Rattle.std.proofs.Common.{◌≡◌, ℕ, Bool, true, false, Some, None, arith, refl}
+use Rattle.std.proofs.Common.{◌≡◌, ℕ, Bool, true, false, Some, None, arith}
 use Rattle.bully_base.specs.Setup.{Setup}
 use Rattle.bully_calls.specs.declared.call.Answer.{Answer}
 use Rattle.bully_calls.specs.declared.call.Outcome.{Outcome}

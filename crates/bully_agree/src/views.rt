@@ -45,10 +45,10 @@ impl Model for View {
 
 impl View {
     /// What the group was set up with.
-    pub fn setup(&self) -> Setup
-        ensures { result ≡ self.now.setup }
+    pub fn setup(&self) -> &Setup
+        ensures { result.now ≡ self.now.setup }
     {
-        self.setup
+        &self.setup
     }
 
     /// How many events were applied, from 0 to the setup's bound. Every view agrees, and is of a world that a lawful

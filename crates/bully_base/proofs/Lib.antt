@@ -1,3 +1,4 @@
 pub mod NodeSetLemmas
 pub mod PlaceLemmas
+pub mod SetupLemmas
 pub mod WordLemmas

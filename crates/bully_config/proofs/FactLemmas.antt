@@ -14,18 +14,19 @@ use Rattle.bully_config.specs.declared.TheConstants.{TURNS_MAX, PERIOD_MIN, PERI
 use Rattle.bully_config.specs.Answers.{refusal_of}
 use Rattle.bully_config.specs.Configuration.{Configuration, has_double, is_empty, IsConfiguration}
 use Rattle.bully_config.specs.Document.{list_of, value_at, items_at}
-use Rattle.bully_config.specs.Refusals.{are_names, first_in, fits, is_table, fault_out_of_range, out_of_range_in, missing_in, misfit_in, has_double_in, has_unlisted_in}
+use Rattle.bully_config.specs.Refusals.{are_names, are_weights, first_in, fits, is_table, fault_out_of_range, out_of_range_in, missing_in, misfit_in, has_double_in, has_unlisted_in}
 use Rattle.std.specs.Prelude.{map, Result, Ok, Err, ◌↔◌}
 use Rattle.std.specs.Result.{IsOk}
 use Rattle.std.proofs.lemmas.List.{length-map}
 use Rattle.toml.specs.declared.value.Value.{Value}
 use Rattle.toml.specs.View.{view}
-use Rattle.bully_base.specs.Setup.{Setup, IsNodeNumber, IsPartitionCount, IsEventsBound}
+use Rattle.bully_base.specs.Setup.{Setup, AreWeights, IsNodeNumber, IsPartitionCount, IsEventsBound}
 use Rattle.bully_base.specs.declared.setup.SetupFault.{SetupFault}
 use Rattle.bully_config.specs.Document.{text_of}
 use Rattle.std.proofs.lemmas.Bool.{false≢true}
 use Rattle.bully_base.specs.declared.TheConstants.{NODES_MAX, PARTITIONS_MAX, EVENTS_MAX}
 use Rattle.bully_config.proofs.FaultLemmas.{faults_all, number_within, period_within, faults_within, faults_few}
+use Rattle.bully_config.proofs.WeightLemmas.{weights-fit}
 use Rattle.bully_config.specs.Values.{number_at, nodes_in, partitions_in, events_in, turns_in, period_in, or_zero, names_of, faults_in, values_of}
 
 -- the parts of it that the values rest on
@@ -38,6 +39,7 @@ pub record Facts (ms : Members) : Type 0 where
   pub names : length (names_of (items_at Key.Names ms)) ≡ or_zero (nodes_in ms)
   pub full : list_any is_empty (names_of (items_at Key.Names ms)) ≡ false
   pub few : length (items_at Key.Fault ms) ≤ FAULTS_MAX
+  pub weights : are_weights (or_zero (nodes_in ms)) ms ≡ true
   pub distinct : has_double (names_of (items_at Key.Names ms)) ≡ false
 
 ranged : (ms : Members) → out_of_range_in ms ≡ None → has_double_in ms ≡ false → Facts ms
@@ -50,6 +52,7 @@ ranged ms e d = record {
   names = grind (arith, common_steps, e);
   full = grind (arith, common_steps, e);
   few = grind (arith, common_steps, e);
+  weights = grind (arith, common_steps, e);
   distinct = d;
 }
 
@@ -95,6 +98,10 @@ number_there key limit ms e = number_within key limit (or_zero (number_at key li
 period_there : (ms : Members) → is_some (period_in ms) ≡ true → (PERIOD_MIN ≤ or_zero (period_in ms)) × (or_zero (period_in ms) ≤ PERIOD_MAX)
 period_there ms e = period_within (or_zero (period_in ms)) ms (there (period_in ms) e)
 
+-- the weights are those of so many nodes
+pub weights_there : (n : ℕ) (ms : Members) → refusal_of ms ≡ None → nodes_in ms ≡ Some n → are_weights n ms ≡ true
+weights_there n ms e told = subst (λ i. are_weights i ms ≡ true) (ap or_zero told) (facts ms e).weights
+
 pub configured : (ms : Members) → refusal_of ms ≡ None → IsConfiguration (values_of ms)
 configured ms e =
     let f = facts ms e in
@@ -103,6 +110,7 @@ configured ms e =
         nodes = number_there Key.Nodes NODES_MAX ms f.nodes;
         partitions = number_there Key.Partitions PARTITIONS_MAX ms f.partitions;
         events = number_there Key.Events EVENTS_MAX ms f.events;
+        weights = weights-fit (or_zero (nodes_in ms)) ms f.weights;
       };
       turns = number_there Key.Turns TURNS_MAX ms f.turns;
       period = period_there ms f.period;
@@ -125,15 +133,17 @@ names_short nodes ms vs told names =
     let long : length (names_of (map view vs)) ≡ length vs = length-map (map view vs) text_of ∙ length-map vs view in
     omega (arith, high, same, long)
 
--- numbers in their ranges make a setup
-pub setup_made : (r : Result Setup SetupFault) (n p e : ℕ) → (r ≡ Err SetupFault.BadNodes) ↔ ¬ IsNodeNumber n
+-- numbers and weights in their ranges make a setup
+pub setup_made : (r : Result Setup SetupFault) (n p e : ℕ) (ws : List ℕ) → (r ≡ Err SetupFault.BadNodes) ↔ ¬ IsNodeNumber n
     → (r ≡ Err SetupFault.BadPartitions) ↔ (IsNodeNumber n × ¬ IsPartitionCount p)
     → (r ≡ Err SetupFault.BadLimit) ↔ (IsNodeNumber n × IsPartitionCount p × ¬ IsEventsBound e)
-    → IsNodeNumber n → IsPartitionCount p → IsEventsBound e → IsOk r
-setup_made (Ok s) n p e a b c x y z = refl
-setup_made (Err SetupFault.BadNodes) n p e a b c x y z = absurd (a.0 refl x)
-setup_made (Err SetupFault.BadPartitions) n p e a b c x y z = absurd ((b.0 refl).1 y)
-setup_made (Err SetupFault.BadLimit) n p e a b c x y z = absurd ((c.0 refl).2 z)
+    → (r ≡ Err SetupFault.BadWeights) ↔ (IsNodeNumber n × IsPartitionCount p × IsEventsBound e × ¬ AreWeights n ws)
+    → IsNodeNumber n → IsPartitionCount p → IsEventsBound e → AreWeights n ws → IsOk r
+setup_made (Ok s) n p e ws a b c d x y z w = refl
+setup_made (Err SetupFault.BadNodes) n p e ws a b c d x y z w = absurd (a.0 refl x)
+setup_made (Err SetupFault.BadPartitions) n p e ws a b c d x y z w = absurd ((b.0 refl).1 y)
+setup_made (Err SetupFault.BadLimit) n p e ws a b c d x y z w = absurd ((c.0 refl).2 z)
+setup_made (Err SetupFault.BadWeights) n p e ws a b c d x y z w = absurd ((d.0 refl).3 w)
 
 -- the parts that were read are the values
 pub same_parts : (ms : Members) (s : Setup) (t p : ℕ) (names : List (List ℕ)) (faults : List Fault) (vs items : List Data)
@@ -172,25 +182,28 @@ value_fits : (o : Option Data) → fits Key.Fault o ≡ true → list_all is_tab
 value_fits None h = refl
 value_fits (Some d) h = items_fit (as_array d) h
 
--- the last of seven tests, where none fails
-last_fits : (a b c d e f g : Bool) (rest : Option Key)
-    → option_or (if a then if b then if c then if d then if e then if f then if g then None else Some Key.Fault else Some Key.Names else Some Key.Period else Some Key.Turns else Some Key.Events else Some Key.Partitions else Some Key.Nodes) rest ≡ None
-    → g ≡ true
-last_fits true true true true true true true rest h = refl
-last_fits true true true true true true false rest h = grind (arith, h)
-last_fits true true true true true false g rest h = grind (arith, h)
-last_fits true true true true false f g rest h = grind (arith, h)
-last_fits true true true false e f g rest h = grind (arith, h)
-last_fits true true false d e f g rest h = grind (arith, h)
-last_fits true false c d e f g rest h = grind (arith, h)
-last_fits false b c d e f g rest h = grind (arith, h)
+-- the last of nine tests, where none fails
+last_fits : (a b c d e f g h i : Bool) (rest : Option Key)
+    → option_or (if a then if b then if c then if d then if e then if f then if g then if h then if i then None else Some Key.Fault else Some Key.Keep else Some Key.Weights else Some Key.Names else Some Key.Period else Some Key.Turns else Some Key.Events else Some Key.Partitions else Some Key.Nodes) rest ≡ None
+    → i ≡ true
+last_fits true true true true true true true true true rest none = refl
+last_fits true true true true true true true true false rest none = grind (arith, none)
+last_fits true true true true true true true false i rest none = grind (arith, none)
+last_fits true true true true true true false h i rest none = grind (arith, none)
+last_fits true true true true true false g h i rest none = grind (arith, none)
+last_fits true true true true false f g h i rest none = grind (arith, none)
+last_fits true true true false e f g h i rest none = grind (arith, none)
+last_fits true true false d e f g h i rest none = grind (arith, none)
+last_fits true false c d e f g h i rest none = grind (arith, none)
+last_fits false b c d e f g h i rest none = grind (arith, none)
 
 tables_there : (ms : Members) → misfit_in ms ≡ None → list_all is_table (items_at Key.Fault ms) ≡ true
 unfolding items_at
 tables_there ms e =
     value_fits (value_at Key.Fault ms)
     (last_fits (fits Key.Nodes (value_at Key.Nodes ms)) (fits Key.Partitions (value_at Key.Partitions ms)) (fits Key.Events (value_at Key.Events ms))
-    (fits Key.Turns (value_at Key.Turns ms)) (fits Key.Period (value_at Key.Period ms)) (fits Key.Names (value_at Key.Names ms)) (fits Key.Fault (value_at Key.Fault ms)) _ e)
+    (fits Key.Turns (value_at Key.Turns ms)) (fits Key.Period (value_at Key.Period ms)) (fits Key.Names (value_at Key.Names ms)) (fits Key.Weights (value_at Key.Weights ms))
+    (fits Key.Keep (value_at Key.Keep ms)) (fits Key.Fault (value_at Key.Fault ms)) _ e)
 
 inside : (ms : Members) → out_of_range_in ms ≡ None → first_in (fault_out_of_range (or_zero (turns_in ms)) (names_of (items_at Key.Names ms))) (items_at Key.Fault ms) ≡ None
 inside ms e = grind (arith, common_steps, e)

@@ -29,7 +29,7 @@ position_within test i k (x ∷ xs) e = by_test (test x) refl (position_within t
         let (low, high) = more rest in
         (omega (arith, low), omega (arith, high))
 
-within_range : (least most n : ℕ) (z : ℤ) → within least most z ≡ Some n → (least ≤ n) × (n ≤ most)
+pub within_range : (least most n : ℕ) (z : ℤ) → within least most z ≡ Some n → (least ≤ n) × (n ≤ most)
 within_range least most n (pos m) h = grind (arith, common_steps, h)
 within_range least most n (negsuc m) h = grind (arith, h)
 

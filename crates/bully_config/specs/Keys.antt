@@ -11,6 +11,8 @@ word_of Key.Events = codes "events"
 word_of Key.Turns = codes "turns"
 word_of Key.Period = codes "period"
 word_of Key.Names = codes "names"
+word_of Key.Weights = codes "weights"
+word_of Key.Keep = codes "keep"
 word_of Key.Fault = codes "fault"
 word_of Key.At = codes "at"
 word_of Key.Node = codes "node"
@@ -22,7 +24,7 @@ required_keys = Key.Nodes ∷ Key.Partitions ∷ Key.Events ∷ Key.Turns ∷ Ke
 
 -- the keys that a document may have, in their order
 abbrev pub top_keys : List Key
-top_keys = Key.Nodes ∷ Key.Partitions ∷ Key.Events ∷ Key.Turns ∷ Key.Period ∷ Key.Names ∷ Key.Fault ∷ []
+top_keys = Key.Nodes ∷ Key.Partitions ∷ Key.Events ∷ Key.Turns ∷ Key.Period ∷ Key.Names ∷ Key.Weights ∷ Key.Keep ∷ Key.Fault ∷ []
 
 -- the keys that each fault must have, in their order, and it may have no other
 abbrev pub fault_keys : List Key

@@ -3,13 +3,13 @@ use Rattle.std.specs.Prelude.{ℕ, Bool, true, false, not, ◌||◌, ◌&&◌, �
 use Rattle.std.specs.Option.{option_or, unwrap_or}
 use Rattle.std.specs.List.{list_all, list_any}
 use Rattle.std.specs.Str.{bytes_eq}
-use Rattle.toml.specs.Data.{Data, Members, no_members, member, as_str, as_integer, as_array, as_table}
+use Rattle.toml.specs.Data.{Data, Members, no_members, member, as_str, as_integer, as_bool, as_array, as_table}
 use Rattle.bully_config.specs.declared.TheConstants.{FAULTS_MAX}
 use Rattle.bully_config.specs.declared.fault.Key.{Key}
 use Rattle.bully_config.specs.Configuration.{has_double, is_empty}
 use Rattle.bully_config.specs.Document.{list_of, value_at, items_at}
 use Rattle.bully_config.specs.Keys.{word_of, required_keys, top_keys, fault_keys}
-use Rattle.bully_config.specs.Values.{nodes_in, partitions_in, events_in, turns_in, period_in, or_zero, names_of, turn_in, node_in, kind_in}
+use Rattle.bully_config.specs.Values.{nodes_in, partitions_in, events_in, turns_in, period_in, or_zero, names_of, weight_in, turn_in, node_in, kind_in}
 
 -- the first of the keys that fails the test
 abbrev pub first_failing : (Key → Bool) → List Key → Option Key
@@ -33,6 +33,12 @@ is_table d = is_some (as_table d)
 abbrev pub is_string : Data → Bool
 is_string d = is_some (as_str d)
 
+abbrev pub is_integer : Data → Bool
+is_integer d = is_some (as_integer d)
+
+abbrev pub is_boolean : Data → Bool
+is_boolean d = is_some (as_bool d)
+
 -- faults that aren't all tables are passed over here
 abbrev pub missing_in : Members → Option Key
 missing_in ms = option_or (first_absent required_keys ms)
@@ -48,14 +54,16 @@ is_array_of test d = elim (as_array d) [
 
 -- the value is of the key's kind
 abbrev pub has_kind : Key → Data → Bool
-has_kind Key.Nodes d = is_some (as_integer d)
-has_kind Key.Partitions d = is_some (as_integer d)
-has_kind Key.Events d = is_some (as_integer d)
-has_kind Key.Turns d = is_some (as_integer d)
-has_kind Key.Period d = is_some (as_integer d)
+has_kind Key.Nodes d = is_integer d
+has_kind Key.Partitions d = is_integer d
+has_kind Key.Events d = is_integer d
+has_kind Key.Turns d = is_integer d
+has_kind Key.Period d = is_integer d
 has_kind Key.Names d = is_array_of is_string d
+has_kind Key.Weights d = is_array_of is_integer d
+has_kind Key.Keep d = is_boolean d
 has_kind Key.Fault d = is_array_of is_table d
-has_kind Key.At d = is_some (as_integer d)
+has_kind Key.At d = is_integer d
 has_kind Key.Node d = is_string d
 has_kind Key.Kind d = is_string d
 
@@ -77,6 +85,15 @@ misfit_in ms = option_or (first_misfit top_keys ms) (first_in (first_misfit faul
 abbrev pub are_names : ℕ → List (List ℕ) → Bool
 are_names nodes names = (length names == nodes) && not (list_any is_empty names)
 
+abbrev pub is_weight : Data → Bool
+is_weight d = is_some (weight_in d)
+
+-- as many as there are nodes, and each in its range, where the key is there
+abbrev pub are_weights : ℕ → Members → Bool
+are_weights nodes ms =
+    not (is_some (value_at Key.Weights ms))
+    || ((length (items_at Key.Weights ms) == nodes) && list_all is_weight (items_at Key.Weights ms))
+
 -- the first key of a fault that is out of its range
 abbrev pub fault_out_of_range : ℕ → List (List ℕ) → Members → Option Key
 fault_out_of_range turns names ms =
@@ -95,6 +112,7 @@ out_of_range_in ms =
     else if not (is_some (turns_in ms)) then Some Key.Turns
     else if not (is_some (period_in ms)) then Some Key.Period
     else if not (are_names (or_zero (nodes_in ms)) names) then Some Key.Names
+    else if not (are_weights (or_zero (nodes_in ms)) ms) then Some Key.Weights
     else if nat_lt FAULTS_MAX (length faults) then Some Key.Fault
     else first_in (fault_out_of_range (or_zero (turns_in ms)) names) faults
 

@@ -1,9 +1,9 @@
 -- The values of a document: what the configuration has where nothing refuses the document.
-use Rattle.std.specs.Prelude.{ℕ, ℤ, pos, negsuc, ◌&&◌, nat_le, codes, List, [], ◌∷◌, map, Option, Some, None, option_map, option_and_then, if◌then◌else◌}
+use Rattle.std.specs.Prelude.{ℕ, ℤ, pos, negsuc, Bool, false, ◌&&◌, nat_le, codes, List, [], ◌∷◌, map, replicate, Option, Some, None, is_some, option_map, option_and_then, if◌then◌else◌}
 use Rattle.std.specs.Option.{unwrap_or}
 use Rattle.std.specs.Str.{bytes_eq}
-use Rattle.toml.specs.Data.{Data, Members, as_integer, as_table}
-use Rattle.bully_base.specs.declared.TheConstants.{NODES_MAX, PARTITIONS_MAX, EVENTS_MAX}
+use Rattle.toml.specs.Data.{Data, Members, as_bool, as_integer, as_table}
+use Rattle.bully_base.specs.declared.TheConstants.{NODES_MAX, PARTITIONS_MAX, EVENTS_MAX, WEIGHT_MAX}
 use Rattle.bully_config.specs.declared.TheConstants.{TURNS_MAX, PERIOD, PERIOD_MIN, PERIOD_MAX}
 use Rattle.bully_config.specs.declared.config.Fault.{Fault}
 use Rattle.bully_config.specs.declared.config.FaultKind.{FaultKind}
@@ -48,6 +48,21 @@ or_zero n = unwrap_or n 0
 abbrev pub names_of : List Data → List (List ℕ)
 names_of items = map text_of items
 
+-- the weight that an item tells, where it is in its range
+abbrev pub weight_in : Data → Option ℕ
+weight_in d = option_and_then (within 1 WEIGHT_MAX) (as_integer d)
+
+abbrev pub weight_told : Data → ℕ
+weight_told d = or_zero (weight_in d)
+
+-- what so many nodes weigh, in the order of the array: 1 each where the key isn't there
+abbrev pub weights_in : ℕ → Members → List ℕ
+weights_in nodes ms = if is_some (value_at Key.Weights ms) then map weight_told (items_at Key.Weights ms) else replicate nodes 1
+
+-- whether tasks are kept over a crash: they aren't where the key isn't there
+unfoldable pub keeps_in : Members → Bool
+keeps_in ms = unwrap_or (option_and_then as_bool (value_at Key.Keep ms)) false
+
 -- what a fault's word says that happens
 abbrev pub kind_named : List ℕ → Option FaultKind
 kind_named word =
@@ -85,7 +100,13 @@ values_of ms =
     let turns = or_zero (turns_in ms) in
     let names = names_of (items_at Key.Names ms) in
     record {
-      setup = record { nodes = or_zero (nodes_in ms); partitions = or_zero (partitions_in ms); events_max = or_zero (events_in ms) };
+      setup = record {
+        nodes = or_zero (nodes_in ms);
+        partitions = or_zero (partitions_in ms);
+        events_max = or_zero (events_in ms);
+        keeps = keeps_in ms;
+        weights = weights_in (or_zero (nodes_in ms)) ms;
+      };
       turns = turns;
       period = or_zero (period_in ms);
       names = names;

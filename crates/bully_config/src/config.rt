@@ -71,11 +71,11 @@ impl Config {
     }
 
     /// The setup: its nodes are as many as the names.
-    pub fn setup(&self) -> Setup
-        ensures setup { result ≡ self.now.setup }
+    pub fn setup(&self) -> &Setup
+        ensures setup { result.now ≡ self.now.setup }
         ensures within { IsConfiguration self.now }
     {
-        self.setup
+        &self.setup
     }
 
     /// How many turns each thread has, from 1 to [`crate::TURNS_MAX`].

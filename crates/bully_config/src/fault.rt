@@ -4,7 +4,7 @@ ghost use Rattle.bully_config.specs.Keys.{word_of, name_of, key_of};
 use std::alloc::AllocError;
 use std::fmt;
 
-/// A key of a configuration. The first seven stand at the top, the last three in a fault.
+/// A key of a configuration. The first nine stand at the top, the last three in a fault.
 #[derive(Clone, Copy, PartialEq, Eq, Debug)]
 pub enum Key {
     /// How many nodes the group has: an integer from 1 to 64.
@@ -19,6 +19,11 @@ pub enum Key {
     Period,
     /// The names of the nodes, in the order of their numbers: an array of as many strings as nodes, none empty.
     Names,
+    /// What the nodes weigh, in the order of their numbers: an array of as many integers as nodes, each from 1 to 1,000.
+    /// It may be left out, and all are 1 then.
+    Weights,
+    /// Whether a node keeps its task over a crash: a boolean. It may be left out, and is `false` then.
+    Keep,
     /// The faults: an array of at most 10,000 tables. It may be left out.
     Fault,
     /// The turn of a fault: an integer from 1 to the turns.
@@ -41,6 +46,8 @@ impl Key {
             Key::Turns => "turns",
             Key::Period => "period",
             Key::Names => "names",
+            Key::Weights => "weights",
+            Key::Keep => "keep",
             Key::Fault => "fault",
             Key::At => "at",
             Key::Node => "node",
@@ -69,7 +76,7 @@ pub enum ConfigFault {
     Toml,
     /// A required key isn't there.
     Missing(Key),
-    /// A value, or a member of `names` or `fault`, has another kind than the profile's.
+    /// A value, or a member of `names`, `weights` or `fault`, has another kind than the profile's.
     Kind(Key),
     /// A value is out of its range.
     Range(Key),

@@ -4,12 +4,12 @@ ghost use Rattle.toml.specs.View.{view, table_view};
 ghost use Rattle.bully_base.specs.declared.TheConstants.{NODES_MAX};
 ghost use Rattle.bully_config.specs.Configuration.{node_named};
 ghost use Rattle.bully_config.specs.Document.{value_at, integer_at, string_at, items_at, text_of};
-ghost use Rattle.bully_config.specs.Values.{number_at, period_in, within, names_of, kind_named, node_in, kind_in};
+ghost use Rattle.bully_config.specs.Values.{number_at, period_in, within, names_of, weight_in, keeps_in, kind_named, node_in, kind_in};
 
 use crate::config::FaultKind;
 use crate::fault::Key;
 use crate::{PERIOD, PERIOD_MAX, PERIOD_MIN};
-use bully_base::Node;
+use bully_base::{Node, WEIGHT_MAX};
 use toml::{Table, Value};
 
 /// The value at a key.
@@ -49,6 +49,26 @@ pub fn period_at(document: &Table) -> Option<u32>
     match value_at(document, Key::Period) {
         Some(value) => number_within(value.as_integer()?, PERIOD_MIN, PERIOD_MAX),
         None => Some(PERIOD),
+    }
+}
+
+/// The weight that an item tells, where it is in its range.
+#[tactic(auto, using(crate::proofs::FaultLemmas::within_range))]
+pub fn weight_of(item: &Value) -> Option<u16>
+    ensures { result ≡ weight_in (view item.now) }
+{
+    let weight = number_within(item.as_integer()?, 1, u32::from(WEIGHT_MAX))?;
+    Some(weight as u16)
+}
+
+/// Whether tasks are kept over a crash: they aren't where the document doesn't tell it.
+#[tactic(auto, unfolding(crate::specs::Values::keeps_in))]
+pub fn keeps_at(document: &Table) -> bool
+    ensures { result ≡ keeps_in (table_view document.now) }
+{
+    match value_at(document, Key::Keep) {
+        Some(value) => value.as_bool().unwrap_or(false),
+        None => false,
     }
 }
 

@@ -1,5 +1,5 @@
 //! Reading a configuration: the text's document, its first refusal, and else its values.
-ghost use Rattle.std.specs.Prelude.{Some, ◌≡◌, ◌≢◌, ◌≤◌, map, length, false, None, Ok, Err, IfOk, IfErr, string_bytes, option_and_then};
+ghost use Rattle.std.specs.Prelude.{Some, ◌≡◌, ◌≢◌, ◌≤◌, ◌++◌, map, drop, replicate, length, false, None, Ok, Err, IfOk, IfErr, string_bytes, option_and_then};
 ghost use Rattle.toml.specs.Errors.{IsBlank};
 ghost use Rattle.toml.specs.Parse.{parse_document};
 ghost use Rattle.toml.specs.View.{view, table_view};
@@ -8,12 +8,14 @@ ghost use Rattle.bully_config.specs.Answers.{TellsEachFault, answer_of, refusal_
 ghost use Rattle.toml.specs.Data.{Members, as_table};
 ghost use Rattle.bully_config.specs.Document.{items_at};
 ghost use Rattle.bully_config.specs.Configuration.{has_double};
-ghost use Rattle.bully_config.specs.Values.{values_of, fault_in, faults_in, names_of};
+ghost use Rattle.bully_config.specs.Values.{values_of, fault_in, faults_in, names_of, weight_told};
 
 use crate::TURNS_MAX;
 use crate::config::{Config, Fault};
 use crate::fault::{ConfigFault, Key};
-use crate::lookup::{items_at, kind_at, node_at, number_at, period_at, text_of};
+use crate::lookup::{
+    items_at, keeps_at, kind_at, node_at, number_at, period_at, text_of, weight_of,
+};
 use crate::refusal::first_refusal;
 use bully_base::{EVENTS_MAX, NODES_MAX, OutOfMemory, PARTITIONS_MAX, Setup};
 use indexmap::IndexSet;
@@ -61,7 +63,22 @@ fn setup_of(document: &Table) -> Setup
     let nodes = number_at(document, Key::Nodes, u32::from(NODES_MAX)).unwrap();
     let partitions = number_at(document, Key::Partitions, u32::from(PARTITIONS_MAX)).unwrap();
     let events_max = number_at(document, Key::Events, EVENTS_MAX).unwrap();
-    Setup::new(nodes as u16, partitions as u16, events_max).unwrap()
+    let all = read_weights(items_at(document, Key::Weights));
+    let weights = &all[..nodes as usize];
+    let keeps = keeps_at(document);
+    Setup::weighted(nodes as u16, partitions as u16, events_max, weights, keeps).unwrap()
+}
+
+// The weights that the items tell, and 1 at each place behind them.
+fn read_weights(items: &[Value]) -> [u16; NODES_MAX as usize]
+    requires { length items.now ≤ NODES_MAX }
+    ensures { result ≡ map weight_told (map view items.now) ++ drop (length items.now) (replicate NODES_MAX 1) }
+{
+    let mut weights = [1; NODES_MAX as usize];
+    for (place, item) in items.iter().enumerate() {
+        weights[place] = weight_of(item).unwrap_or(0);
+    }
+    weights
 }
 
 // The faults that the tables tell, in their order.

@@ -9,12 +9,14 @@ ghost use Rattle.std.specs.Str.{bytes_eq};
 ghost use Rattle.bully_config.specs.Configuration.{has_double, is_empty};
 ghost use Rattle.bully_config.specs.Document.{value_at};
 ghost use Rattle.bully_config.specs.Keys.{fault_keys};
-ghost use Rattle.bully_config.specs.Refusals.{first_failing, first_in, first_absent, missing_in, is_table, is_string, has_kind, first_misfit, misfit_in, are_names, fault_out_of_range, out_of_range_in, is_listed, has_unlisted, fault_has_unlisted, has_unlisted_in, fits};
+ghost use Rattle.bully_config.specs.Refusals.{first_failing, first_in, first_absent, missing_in, is_table, is_string, is_integer, is_weight, has_kind, first_misfit, misfit_in, are_names, are_weights, fault_out_of_range, out_of_range_in, is_listed, has_unlisted, fault_has_unlisted, has_unlisted_in, fits};
 ghost use Rattle.bully_config.specs.Searches.{Computes};
 ghost use Rattle.bully_config.specs.Values.{names_of};
 
 use crate::fault::{ConfigFault, Key};
-use crate::lookup::{items_at, kind_at, node_at, number_at, period_at, text_of, value_at};
+use crate::lookup::{
+    items_at, kind_at, node_at, number_at, period_at, text_of, value_at, weight_of,
+};
 use crate::{FAULTS_MAX, TURNS_MAX};
 use bully_base::{EVENTS_MAX, NODES_MAX, PARTITIONS_MAX};
 use toml::{Table, Value};
@@ -29,13 +31,15 @@ const REQUIRED_KEYS: [Key; 5] = [
 ];
 
 /// The keys that a document may have.
-const TOP_KEYS: [Key; 7] = [
+const TOP_KEYS: [Key; 9] = [
     Key::Nodes,
     Key::Partitions,
     Key::Events,
     Key::Turns,
     Key::Period,
     Key::Names,
+    Key::Weights,
+    Key::Keep,
     Key::Fault,
 ];
 
@@ -127,6 +131,11 @@ fn has_kind(key: Key, value: &Value) -> bool
             Some(items) => are_strings(items),
             None => false,
         },
+        Key::Weights => match value.as_array() {
+            Some(items) => are_integers(items),
+            None => false,
+        },
+        Key::Keep => value.is_bool(),
         Key::Fault => match value.as_array() {
             Some(items) => are_tables(items),
             None => false,
@@ -140,6 +149,13 @@ fn are_strings(items: &[Value]) -> bool
     ensures { result ≡ list_all is_string (map view items.now) }
 {
     items.iter().all(|item| item.is_str())
+}
+
+// Whether each item is an integer.
+fn are_integers(items: &[Value]) -> bool
+    ensures { result ≡ list_all is_integer (map view items.now) }
+{
+    items.iter().all(|item| item.is_integer())
 }
 
 // Whether each item is a table.
@@ -173,6 +189,9 @@ fn key_out_of_range(document: &Table) -> Option<Key>
     if !are_names(names, nodes) {
         return Some(Key::Names);
     }
+    if !are_weights(document, nodes) {
+        return Some(Key::Weights);
+    }
     let faults = items_at(document, Key::Fault);
     if faults.len() > FAULTS_MAX {
         return Some(Key::Fault);
@@ -195,6 +214,22 @@ fn has_empty(names: &[Value]) -> bool
     ensures { result ≡ list_any is_empty (names_of (map view names.now)) }
 {
     names.iter().any(|item| text_of(item).is_empty())
+}
+
+// Whether the weights are as many as the nodes, and each is in its range, where the document tells them.
+fn are_weights(document: &Table, nodes: u32) -> bool
+    ensures { result ≡ are_weights nodes (table_view document.now) }
+{
+    let items = items_at(document, Key::Weights);
+    value_at(document, Key::Weights).is_none()
+        || (items.len() == nodes as usize && have_weights(items))
+}
+
+// Whether each item is a weight in its range.
+fn have_weights(items: &[Value]) -> bool
+    ensures { result ≡ list_all is_weight (map view items.now) }
+{
+    items.iter().all(|item| weight_of(item).is_some())
 }
 
 // The first key of a fault whose value is out of its range.

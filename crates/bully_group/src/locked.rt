@@ -126,9 +126,9 @@ impl<L: Naming> Locked<L> {
     }
 
     /// What the group was set up with.
-    pub fn setup(&self) -> Setup
-        ensures setup { result ≡ self.now.world.setup }
-        ensures named { result ≡ L.setup }
+    pub fn setup(&self) -> &Setup
+        ensures setup { result.now ≡ self.now.world.setup }
+        ensures named { result.now ≡ L.setup }
     {
         self.world.setup()
     }

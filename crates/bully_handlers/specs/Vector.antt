@@ -1,5 +1,5 @@
 -- What a node believes of itself and of the group.
-use Rattle.std.specs.Prelude.{ℕ, Bool, true, false, List, [], Option, Some, None, ◌==◌}
+use Rattle.std.specs.Prelude.{ℕ, Bool, true, false, List, [], Option, Some, None, ◌==◌, if◌then◌else◌}
 use Rattle.bully_base.specs.declared.node.Status.{Status}
 use Rattle.bully_base.specs.declared.node.Status.TheVariants.{Down, Election, Reorganization, Normal}
 use Rattle.bully_base.specs.Setup.{Setup}
@@ -15,13 +15,17 @@ pub record Vector : Type 0 where
 abbrev pub empty_vector : Vector
 empty_vector = record { status = Down; coordinator = None; halter = None; up = []; task = None }
 
+-- the task that is kept over a crash, if tasks are
+abbrev pub kept_task : Bool → Vector → Option (List ℕ)
+kept_task keeps v = if keeps then v.task else None
+
 -- what a crash leaves of it
 abbrev pub crashed : Setup → Vector → Vector
-crashed setup v = empty_vector
+crashed setup v = record empty_vector { task = kept_task setup.keeps v }
 
 -- what a recovery makes of it
 abbrev pub recovered : Setup → Vector → Vector
-recovered setup v = record empty_vector { status = Election }
+recovered setup v = record empty_vector { status = Election; task = kept_task setup.keeps v }
 
 -- a vector as it is kept, with the number of partitions of a task that fits in
 pub record StoredVector : Type 0 where

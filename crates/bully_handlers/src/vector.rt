@@ -3,7 +3,7 @@ ghost use Rattle.std.specs.Option.{option_copied};
 ghost use Rattle.bully_base.specs.NodeSet.{with_node};
 ghost use Rattle.bully_calls.specs.declared.call.CallKind.TheVariants.{AreYouUp, AreYouNormal, Halt, NewCoordinator, Ready};
 ghost use Rattle.bully_handlers.specs.Handler.{callee_after, reply};
-ghost use Rattle.bully_handlers.specs.Vector.{empty_vector};
+ghost use Rattle.bully_handlers.specs.Vector.{empty_vector, kept_task};
 
 use bully_base::{Node, NodeSet, OutOfMemory, Setup, Status};
 use bully_calls::Answer;
@@ -141,22 +141,24 @@ impl Vector {
         Answer::Yes
     }
 
-    /// The node crashed: its vector is empty.
-    pub fn crash(&mut self)
-        ensures { self.new ≡ record self.old { vector = empty_vector } }
+    /// The node crashed: its vector is empty, but for the task, where `keeps`.
+    pub fn crash(&mut self, keeps: bool)
+        ensures { self.new ≡ record self.old { vector = record empty_vector { task = kept_task keeps self.old.vector } } }
     {
         self.status = Status::Down;
         self.coordinator = None;
         self.halter = None;
         self.up = NodeSet::new();
-        self.task.clear();
+        if !keeps {
+            self.task.clear();
+        }
     }
 
-    /// The node recovered: its vector is empty but for the status, which is Election.
-    pub fn recover(&mut self)
-        ensures { self.new ≡ record self.old { vector = record empty_vector { status = Status.Election } } }
+    /// The node recovered: its vector is empty, but for the status, which is Election, and for the task, where `keeps`.
+    pub fn recover(&mut self, keeps: bool)
+        ensures { self.new ≡ record self.old { vector = record empty_vector { status = Status.Election; task = kept_task keeps self.old.vector } } }
     {
-        self.crash();
+        self.crash(keeps);
         self.status = Status::Election;
     }
 

@@ -161,7 +161,7 @@ fn first_role(alloc: Global, config: &Config, actor: u16) -> Result<Role, OutOfM
     ensures first { IfOk result (λ role. procedure_of role ≡ first_of config.now.setup actor) }
 {
     match Node::new(actor) {
-        Some(node) => Ok(Role::Node(Procedure::idle(config.setup(), node, 0))),
+        Some(node) => Ok(Role::Node(Procedure::idle_in(config.setup(), node, 0))),
         None => Ok(Role::Operator(Schedule::new(alloc, config.faults())?)),
     }
 }

@@ -84,7 +84,7 @@ fn run_group<L: Scheduled + Send + Sync, R: Threads + Wait + Sync, G: Gate>(
     ensures play { IfOk result (λ closed. IsPlay config.now (map event_of closed.history)) }
     ensures fault { IfErr result IsNodesFault }
 {
-    let Ok((group, seats, passes)) = Group::<L>::open(alloc, config.setup(), blank) else {
+    let Ok((group, seats, passes)) = Group::<L>::open(alloc, *config.setup(), blank) else {
         return Err(NodesFault::OutOfMemory);
     };
     let (seats, passes) = match run_jobs(rt, alloc, &group, config, gate, seats, passes) {

@@ -32,8 +32,11 @@ pub fn write_history<W: Write>(
 fn trace_of(alloc: Global, closed: &Closed) -> Result<Trace, OutOfMemory>
     ensures { IfOk result (λ trace. trace ≡ trace_with closed.now.view.setup (map event_of closed.now.history)) }
 {
+    let setup = closed.setup();
+    // Its limits show the proof that there are no more entries than a trace has rows.
+    let _ = setup.events_max();
     let rows = rows_of(alloc, closed.history())?;
-    Ok(trace_with(closed.setup(), rows))
+    Ok(trace_with(setup, rows))
 }
 
 // A row for the event of each entry.

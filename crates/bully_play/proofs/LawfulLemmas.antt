@@ -1,4 +1,6 @@
--- A list of events that is lawful with some bound on events is so with each larger one: no step reads the bound.
+-- A list of events that is lawful with some bound on events is so with each larger one: no step reads the bound. What a step
+-- reads of a setup is the same in both: the numbers of nodes and partitions, the weights, and for a crash and a recovery
+-- whether tasks are kept.
 use Rattle.std.proofs.Common.{◌≡◌, ℕ, zero, suc, ◌≤◌, List, [], ◌∷◌, Option, Bool, true, false, arith, refl}
 use Rattle.bully_base.specs.Setup.{Setup}
 use Rattle.bully_calls.specs.declared.call.Answer.{Answer}
@@ -7,7 +9,7 @@ use Rattle.bully_steps.specs.declared.point.Point.{Point}
 use Rattle.bully_steps.specs.declared.point.Point.TheVariants.{Idle, Asking, Halting, Announcing, Planning, Readying, Checking, Inquiring}
 use Rattle.bully_steps.specs.NextPoint.{next_point}
 use Rattle.bully_steps.specs.Point.{offered}
-use Rattle.bully_table.specs.Balance.{IsBalanced}
+use Rattle.bully_table.specs.Balance.{IsBalanced, base_of, total_weight}
 use Rattle.bully_world.specs.declared.event.Event.{Event}
 use Rattle.bully_world.specs.Lawful.{LeadTo, IsLawful}
 use Rattle.bully_world.specs.Step.{Step, Returns, Proceeds}
@@ -40,8 +42,15 @@ returns-bound : (setup : Setup) (most : ℕ) (w : World) (i : ℕ) (live : Bool)
 returns-bound setup most w i true o w' a s = (proceeds-bound setup most w i o w' s.0, s.1)
 returns-bound setup most w i false o w' a s = s
 
+base-bound : (setup : Setup) (most : ℕ) (members : List ℕ) (m : ℕ) → base_of (bounded_by setup most) members m ≡ base_of setup members m
+unfolding base_of total_weight
+base-bound setup most members m = refl
+
 balanced-bound : (setup : Setup) (most : ℕ) (table members : List ℕ) → IsBalanced setup table members → IsBalanced (bounded_by setup most) table members
-balanced-bound setup most table members is = record { owned = is.owned; even = is.even }
+balanced-bound setup most table members is = record {
+  owned = is.owned;
+  fair = λ m x. rw (base-bound setup most members m) (is.fair m x);
+}
 
 -- no step reads the bound
 step-bound : (setup : Setup) (most : ℕ) (w : World) (e : Event) (w' : World) (a : Answer) → Step setup w e w' a → Step (bounded_by setup most) w e w' a

@@ -1,5 +1,5 @@
 -- What is recorded stays a lawful list, event by event.
-use Rattle.std.proofs.Common.{◌≡◌, ◌∙◌, ℕ, ◌+◌, ◌<◌, ◌==◌, Bool, true, false, inl, inr, drop, List, [], ◌∷◌, ◌++◌, Option, Some, None, MatchOption, if◌then◌else◌, Result, Ok, Err, OnOk, get_or, length, length-append, arith, refl, sym, ap, subst}
+use Rattle.std.proofs.Common.{◌≡◌, ◌∙◌, ℕ, ◌+◌, ◌<◌, ◌==◌, Bool, true, false, inl, inr, drop, List, [], ◌∷◌, ◌++◌, Option, Some, None, MatchOption, Result, Ok, Err, OnOk, get_or, length, length-append, arith, refl, sym, ap, subst}
 use Rattle.std.proofs.lemmas.Grind.{common_steps}
 use Rattle.std.proofs.lemmas.List.{map-append}
 use Rattle.std.specs.Bool.{MatchBool}
@@ -19,7 +19,7 @@ use Rattle.bully_steps.specs.declared.driver.Choice.{Choice}
 use Rattle.bully_steps.specs.Driver.{chosen_every}
 use Rattle.bully_steps.specs.ProcedureState.{ProcedureState}
 use Rattle.bully_trace.specs.declared.trace.Row.{Row}
-use Rattle.bully_trace.specs.declared.trace.Trace.{Trace}
+use Rattle.bully_trace.specs.Trace.{Trace, trace_for}
 use Rattle.bully_world.specs.declared.event.Event.{Event}
 use Rattle.bully_world.specs.declared.event.Refused.{Refused}
 use Rattle.bully_world.specs.State.{WorldState, state_at, world_of, cause_in}
@@ -168,6 +168,8 @@ recorded_play c r within is = record {
 
 -- and so is its trace
 pub recorded_trace : (c : Configuration) (r : RecordingState) (hs : List ProcedureState) (trace : Trace) → IsSetup c.setup → Rounds c.faults c.period c.turns 1 (first_recording c.setup) (idle_first c.setup c.setup.nodes) r hs → (is : IsRecorded c r)
-    → trace ≡ record { setup = trace_setup r.world.setup; rows = r.rows } → (events : List Event) × IsPlay c events × IsScheduled c events × (trace ≡ trace_with c.setup events)
+    → trace ≡ trace_for (trace_setup r.world.setup) r.rows → (events : List Event) × IsPlay c events × IsScheduled c events × (trace ≡ trace_with c.setup events)
 recorded_trace c r hs trace within rounds is same =
-    (is.events, recorded_play c r within is, record { last = r; procedures = hs; rounds = rounds; rows = is.rows }, grind (arith, same, is.setup, is.rows))
+    let told : trace ≡ trace_with c.setup is.events =
+    same ∙ ap (λ (setup : Setup). trace_for (trace_setup setup) r.rows) is.setup ∙ ap (trace_for (trace_setup c.setup)) is.rows in
+    (is.events, recorded_play c r within is, record { last = r; procedures = hs; rounds = rounds; rows = is.rows }, told)

@@ -8,8 +8,8 @@ use Rattle.bully_config.specs.declared.config.Fault.{Fault}
 use Rattle.bully_config.specs.declared.config.FaultKind.{FaultKind}
 use Rattle.bully_play.specs.declared.playing.PlayFault.{PlayFault}
 use Rattle.bully_trace.specs.declared.trace.Row.{Row}
-use Rattle.bully_trace.specs.declared.trace.Trace.{Trace}
 use Rattle.bully_trace.specs.declared.trace.TraceCause.{TraceCause}
+use Rattle.bully_trace.specs.Trace.{Trace, trace_for}
 use Rattle.bully_world.specs.declared.event.Event.{Event}
 use Rattle.bully_world.specs.Lawful.{IsLawful}
 use Rattle.bully_world.specs.World.{World}
@@ -36,9 +36,9 @@ event_of_fault fault = event_of_kind fault.kind fault.node
 abbrev pub trace_setup : Setup → Setup
 trace_setup setup = record setup { events_max = EVENTS_MAX }
 
--- the trace of these events
+-- the trace of these events, in the first version that can tell the setup
 abbrev pub trace_with : Setup → List Event → Trace
-trace_with setup events = record { setup = trace_setup setup; rows = map Row.Event events }
+trace_with setup events = trace_for (trace_setup setup) (map Row.Event events)
 
 -- the events are a play of the configuration: they are lawful with its bound on events, and so with a trace's,
 -- and each crash and each recovery is one of its faults

@@ -49,7 +49,8 @@ impl From<TraceFault> for PlayFault {
     }
 }
 
-/// Plays the configuration on one thread, and writes the trace of what happened. In each of the configuration's
+/// Plays the configuration on one thread, and writes the trace of what happened, in version 1 where that can tell the
+/// setup, and else in version 2. In each of the configuration's
 /// turns the operator comes first, and then the nodes in rising order. Refused as `OutOfMemory` where an
 /// allocation fails, and then nothing was written; as `Write` where the writer fails, and then a prefix of the
 /// trace may have been written. The rule: docs/ALGORITHM.md.
@@ -67,7 +68,7 @@ fn trace_of(alloc: Global, config: &Config) -> Result<Trace, OutOfMemory>
 {
     let setup = config.setup();
     let mut schedule = Schedule::new(alloc, config.faults())?;
-    let mut recording = Recording::new(alloc, setup)?;
+    let mut recording = Recording::new(alloc, *setup)?;
     let mut procedures = idle_procedures(alloc, setup)?;
     for before in 0..config.turns() {
         take_round(
@@ -82,14 +83,14 @@ fn trace_of(alloc: Global, config: &Config) -> Result<Trace, OutOfMemory>
 }
 
 // The procedures that the nodes hold at first.
-fn idle_procedures(alloc: Global, setup: Setup) -> Result<Vec<Procedure>, OutOfMemory>
-    ensures idle { IfOk result (λ procedures. map state_of procedures.items ≡ idle_first setup setup.nodes) }
-    ensures setups { IfOk result (λ procedures. All (λ p. (state_of p).setup ≡ setup) procedures.items) }
+fn idle_procedures(alloc: Global, setup: &Setup) -> Result<Vec<Procedure>, OutOfMemory>
+    ensures idle { IfOk result (λ procedures. map state_of procedures.items ≡ idle_first setup.now setup.now.nodes) }
+    ensures setups { IfOk result (λ procedures. All (λ p. (state_of p).setup ≡ setup.now) procedures.items) }
 {
     let mut procedures = Vec::with_capacity(alloc, usize::from(setup.nodes()))?;
     for before in 0..setup.nodes() {
         let node = Node::new(before + 1).unwrap();
-        procedures.push(Procedure::idle(setup, node, 0))?;
+        procedures.push(Procedure::idle_in(setup, node, 0))?;
     }
     Ok(procedures)
 }

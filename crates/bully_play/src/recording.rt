@@ -3,6 +3,7 @@ ghost use Rattle.bully_play.specs.Play.{trace_setup};
 ghost use Rattle.bully_play.specs.Recording.{Steps};
 ghost use Rattle.bully_steps.specs.Procedure.{state_of};
 ghost use Rattle.bully_steps.specs.ProcedureState.{HasSameNode};
+ghost use Rattle.bully_trace.specs.Trace.{trace_for};
 ghost use Rattle.bully_trace.specs.declared.TheConstants.{ROWS_MAX};
 ghost use Rattle.bully_world.specs.State.{first_state};
 ghost use Rattle.bully_world.specs.Turn.{turn};
@@ -64,9 +65,10 @@ impl Recording {
     /// The trace of what was recorded.
     pub fn into_trace(self) -> Trace
         requires { length self.rows ≤ ROWS_MAX }
-        ensures { result ≡ record { setup = trace_setup self.world.setup; rows = self.rows } }
+        ensures { result ≡ trace_for (trace_setup self.world.setup) self.rows }
     {
-        trace_with(self.world.setup(), self.rows)
+        let Recording { world, rows } = self;
+        trace_with(world.setup(), rows)
     }
 
     // A row for an event that was applied.

@@ -1,19 +1,16 @@
 ghost use Rattle.std.specs.Prelude.{◌≡◌, ◌≤◌, length};
 ghost use Rattle.bully_play.specs.Play.{trace_setup};
+ghost use Rattle.bully_trace.specs.Trace.{trace_for};
 ghost use Rattle.bully_trace.specs.declared.TheConstants.{ROWS_MAX};
 
 use bully_base::{EVENTS_MAX, Setup};
 use bully_trace::{Row, Rows, Trace};
 
-/// The trace with these rows, at most [`bully_trace::ROWS_MAX`]. Its header has no bound on events, so that is the
-/// profile's.
-pub fn trace_with(setup: Setup, rows: Vec<Row>) -> Trace
+/// The trace with these rows, at most [`bully_trace::ROWS_MAX`]. It has version 1 where that can tell the setup, and else
+/// version 2. No header has a bound on events, so that is the profile's.
+pub fn trace_with(setup: &Setup, rows: Vec<Row>) -> Trace
     requires { length rows.items ≤ ROWS_MAX }
-    ensures { result ≡ record { setup = trace_setup setup; rows = rows.items } }
+    ensures { result ≡ trace_for (trace_setup setup.now) rows.items }
 {
-    let setup = Setup::new(setup.nodes(), setup.partitions(), EVENTS_MAX).unwrap();
-    Trace {
-        setup,
-        rows: Rows::from_vec(rows),
-    }
+    Trace::new(setup.with_events_max(EVENTS_MAX), Rows::from_vec(rows))
 }

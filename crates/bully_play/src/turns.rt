@@ -62,7 +62,7 @@ pub fn take_node_turn<S: Stage>(
     ensures setup { OnOk result (S.setup stage.new ≡ S.setup stage.old) }
 {
     let node = place.node();
-    let idle = Procedure::idle(place.setup(), node, 0);
+    let idle = Procedure::idle_in(place.setup(), node, 0);
     let procedure = stage.prepare(mem::replace(place, idle))?;
     *place = if stage.serve(node)? {
         procedure

@@ -12,7 +12,10 @@ mod procedure;
 mod states;
 
 pub use driver::{Choice, Driver};
-pub use point::{Point, Want, begin_check, begin_recovery, begin_timeout};
+pub use point::{
+    Point, Want, begin_check, begin_check_in, begin_recovery, begin_timeout, election_of,
+    timeout_of,
+};
 pub use procedure::Procedure;
 pub use states::{
     Announcing, Asking, Checking, Halting, Idle, Inquiring, Planned, Planning, Readying,

@@ -48,9 +48,9 @@ impl Point {
     /// What the point offers at a node that has this coordinator. The rule: docs/ALGORITHM.md.
     // (inlined, so that a point that was just read stays in registers)
     #[inline(always)]
-    pub fn offers(self, setup: Setup, node: Node, coordinator: Option<Node>) -> Want
-        requires { IsPointOf setup node self }
-        ensures { result ≡ offered setup coordinator self }
+    pub fn offers(self, setup: &Setup, node: Node, coordinator: Option<Node>) -> Want
+        requires { IsPointOf setup.now node self }
+        ensures { result ≡ offered setup.now coordinator self }
     {
         match self {
             Point::Idle => Want::Nothing,
@@ -69,10 +69,17 @@ impl Point {
 
     /// The point that follows this one at the node, whose up set is `up`, by the outcome. `Started` keeps a point
     /// that offers a call. None for each outcome that docs/ALGORITHM.md doesn't list at the point.
-    // (inlined, so that a point that was just read stays in registers)
-    #[inline(always)]
     pub fn next(self, setup: Setup, node: Node, up: &NodeSet, outcome: Outcome) -> Option<Point>
         ensures { result ≡ next_point setup node up.now self outcome }
+    {
+        self.next_in(&setup, node, up, outcome)
+    }
+
+    /// [`Point::next`], with the setup by reference.
+    // (inlined, so that a point that was just read stays in registers)
+    #[inline(always)]
+    pub fn next_in(self, setup: &Setup, node: Node, up: &NodeSet, outcome: Outcome) -> Option<Point>
+        ensures { result ≡ next_point setup.now node up.now self outcome }
     {
         match self {
             Point::Idle => None,
@@ -99,6 +106,13 @@ impl Point {
 pub fn begin_check(setup: Setup, node: Node, status: Status, coordinator: Option<Node>) -> Point
     ensures { result ≡ checked setup node status coordinator }
 {
+    begin_check_in(&setup, node, status, coordinator)
+}
+
+/// [`begin_check`], with the setup by reference.
+pub fn begin_check_in(setup: &Setup, node: Node, status: Status, coordinator: Option<Node>) -> Point
+    ensures { result ≡ checked setup.now node status coordinator }
+{
     let leads = status == Status::Normal && coordinator == Some(node);
     if leads && setup.nodes() > 1 {
         checking_at(setup, node, 1)
@@ -108,12 +122,19 @@ pub fn begin_check(setup: Setup, node: Node, status: Status, coordinator: Option
 }
 
 /// Where Timeout leads an idle node: to an election, or to ask its coordinator where that is another node.
-pub fn begin_timeout(setup: Setup, node: Node, status: Status, coordinator: Option<Node>) -> Point
+pub fn begin_timeout(_setup: Setup, node: Node, status: Status, coordinator: Option<Node>) -> Point
+    ensures { result ≡ timed_out node status coordinator }
+{
+    timeout_of(node, status, coordinator)
+}
+
+/// [`begin_timeout`] at a node of any setup: it reads none.
+pub fn timeout_of(node: Node, status: Status, coordinator: Option<Node>) -> Point
     ensures { result ≡ timed_out node status coordinator }
 {
     match status {
         Status::Down => Point::Idle,
-        Status::Election => begin_recovery(setup, node, status, coordinator),
+        Status::Election => election_of(node),
         Status::Reorganization | Status::Normal => match coordinator {
             Some(other) if other != node => Point::Inquiring,
             _ => Point::Idle,
@@ -134,7 +155,7 @@ pub fn begin_recovery(
 }
 
 // An election of the node begins here.
-fn election_of(node: Node) -> Point
+pub fn election_of(node: Node) -> Point
     ensures { result ≡ election node }
 {
     Point::Asking(node.number() + 1)
@@ -151,9 +172,9 @@ fn start_or_move(callee: Option<Node>, kind: CallKind) -> Want
 }
 
 // The node of this number, where the setup has one.
-fn next_asked(setup: Setup, number: u16) -> Option<Node>
+fn next_asked(setup: &Setup, number: u16) -> Option<Node>
     requires { 0 < number }
-    ensures { result ≡ (if nat_le number setup.nodes then Some number else None) }
+    ensures { result ≡ (if nat_le number setup.now.nodes then Some number else None) }
 {
     if number <= setup.nodes() {
         Node::new(number)
@@ -163,10 +184,10 @@ fn next_asked(setup: Setup, number: u16) -> Option<Node>
 }
 
 // The check of the node goes on at this number, or behind it where it is the node's own; it ends above the last.
-fn checking_at(setup: Setup, node: Node, number: u16) -> Point
+fn checking_at(setup: &Setup, node: Node, number: u16) -> Point
     requires positive { 0 < number }
     requires small { number ≤ NODES_MAX + 1 }
-    ensures { result ≡ checking_from setup node number }
+    ensures { result ≡ checking_from setup.now node number }
 {
     let other = if number == node.number() {
         number + 1
@@ -179,8 +200,8 @@ fn checking_at(setup: Setup, node: Node, number: u16) -> Point
     }
 }
 
-fn after_asking(setup: Setup, node: Node, number: u16, outcome: Outcome) -> Option<Point>
-    ensures { result ≡ next_point setup node [] (Point.Asking number) outcome }
+fn after_asking(setup: &Setup, node: Node, number: u16, outcome: Outcome) -> Option<Point>
+    ensures { result ≡ next_point setup.now node [] (Point.Asking number) outcome }
 {
     let calls = number <= setup.nodes();
     match outcome {
@@ -230,8 +251,8 @@ fn after_readying(node: Node, rest: NodeSet, outcome: Outcome) -> Option<Point>
     }
 }
 
-fn after_checking(setup: Setup, node: Node, callee: Node, outcome: Outcome) -> Option<Point>
-    ensures { (up : List ℕ) → result ≡ next_point setup node up (Point.Checking callee) outcome }
+fn after_checking(setup: &Setup, node: Node, callee: Node, outcome: Outcome) -> Option<Point>
+    ensures { (up : List ℕ) → result ≡ next_point setup.now node up (Point.Checking callee) outcome }
 {
     match outcome {
         Outcome::Started => Some(Point::Checking(callee)),

@@ -34,6 +34,14 @@ impl Procedure {
         requires { node ≤ setup.nodes }
         ensures { state_of result ≡ procedure_state setup node generation Point.Idle [] None false }
     {
+        Procedure::idle_in(&setup, node, generation)
+    }
+
+    /// [`Procedure::idle`], with the setup by reference.
+    pub fn idle_in(setup: &Setup, node: Node, generation: u32) -> Procedure
+        requires { node ≤ setup.now.nodes }
+        ensures { state_of result ≡ procedure_state setup.now node generation Point.Idle [] None false }
+    {
         Procedure::Idle(Idle {
             identity: Identity::new(setup, node, generation),
         })
@@ -57,6 +65,26 @@ impl Procedure {
         requires inquiry { SuitsInquiry setup node coordinator point }
         requires call { awaits ≡ true → IsCall (offered setup coordinator point) }
         ensures { state_of result ≡ procedure_state setup node generation point up.now coordinator awaits }
+    {
+        Procedure::at_in(&setup, node, generation, point, up, coordinator, awaits)
+    }
+
+    /// [`Procedure::at`], with the setup by reference.
+    pub fn at_in(
+        setup: &Setup,
+        node: Node,
+        generation: u32,
+        point: Point,
+        up: &NodeSet,
+        coordinator: Option<Node>,
+        awaits: bool,
+    ) -> Procedure
+        requires node { node ≤ setup.now.nodes }
+        requires up { IsFallingBelow node up.now }
+        requires point { IsPointOf setup.now node point }
+        requires inquiry { SuitsInquiry setup.now node coordinator point }
+        requires call { awaits ≡ true → IsCall (offered setup.now coordinator point) }
+        ensures { state_of result ≡ procedure_state setup.now node generation point up.now coordinator awaits }
     {
         let up = *up;
         let identity = Identity::new(setup, node, generation);
@@ -99,11 +127,11 @@ impl Procedure {
     }
 
     /// The setup of the node's group.
-    pub fn setup(&self) -> Setup
-        ensures setup { result ≡ (state_of self.now).setup }
+    pub fn setup(&self) -> &Setup
+        ensures setup { result.now ≡ (state_of self.now).setup }
         ensures state { IsProcedureState (state_of self.now) }
     {
-        self.identity().setup
+        &self.identity().setup
     }
 
     /// The node, which is one of the setup's.
@@ -204,17 +232,13 @@ impl Procedure {
         ensures state { state_of result ≡ resumed (state_of self) outcome }
         ensures point { next_of (state_of self) outcome ≡ Some (state_of result).point }
     {
-        let Identity {
-            setup,
-            node,
-            generation,
-        } = self.identity();
+        let (setup, node, generation) = (self.setup(), self.node(), self.generation());
         let up = self.up().unwrap_or(NodeSet::new());
-        let next = self.point().next(setup, node, &up, outcome).unwrap();
+        let next = self.point().next_in(setup, node, &up, outcome).unwrap();
         let next_up = self.up_after(outcome);
         let coordinator = self.coordinator();
         let awaits = is_started(outcome);
-        Procedure::at(setup, node, generation, next, &next_up, coordinator, awaits)
+        Procedure::at_in(setup, node, generation, next, &next_up, coordinator, awaits)
     }
 
     // The up set that goes with the point to which the outcome leads: a node that answered its halt joins it.
@@ -229,22 +253,22 @@ impl Procedure {
     }
 
     // Whose procedure it is.
-    fn identity(&self) -> Identity
-        ensures setup { result.setup ≡ (state_of self.now).setup }
-        ensures node { result.node ≡ (state_of self.now).node }
-        ensures generation { result.generation ≡ (state_of self.now).generation }
+    fn identity(&self) -> &Identity
+        ensures setup { result.now.setup ≡ (state_of self.now).setup }
+        ensures node { result.now.node ≡ (state_of self.now).node }
+        ensures generation { result.now.generation ≡ (state_of self.now).generation }
         ensures state { IsProcedureState (state_of self.now) }
     {
         match self {
-            Procedure::Idle(idle) => idle.identity,
-            Procedure::Asking(asking) => asking.identity,
-            Procedure::Halting(halting) => halting.identity,
-            Procedure::Announcing(announcing) => announcing.identity,
-            Procedure::Planning(planning) => planning.identity,
-            Procedure::Planned(planned) => planned.identity,
-            Procedure::Readying(readying) => readying.identity,
-            Procedure::Checking(checking) => checking.identity,
-            Procedure::Inquiring(inquiring) => inquiring.identity,
+            Procedure::Idle(idle) => &idle.identity,
+            Procedure::Asking(asking) => &asking.identity,
+            Procedure::Halting(halting) => &halting.identity,
+            Procedure::Announcing(announcing) => &announcing.identity,
+            Procedure::Planning(planning) => &planning.identity,
+            Procedure::Planned(planned) => &planned.identity,
+            Procedure::Readying(readying) => &readying.identity,
+            Procedure::Checking(checking) => &checking.identity,
+            Procedure::Inquiring(inquiring) => &inquiring.identity,
         }
     }
 }

@@ -3,10 +3,10 @@ use Rattle.std.proofs.Common.{◌≡◌, ℕ, zero, suc, ◌+◌, ◌<◌, ◌�
 use Rattle.std.specs.Prelude.{◌||◌, ◌==◌, nat_le, slice_index_or, All, Contains}
 use Rattle.std.specs.List.{list_all, list_any}
 use Rattle.std.specs.Bool.{Decides}
-use Rattle.std.proofs.lemmas.Bool.Decides.{nat_tests, Decides-eqb, Decides-by_and, Decides-and}
+use Rattle.std.proofs.lemmas.Bool.Decides.{nat_tests, Decides-eqb, Decides-by_and, Decides-and, Decides-at}
 use Rattle.std.proofs.lemmas.List.Elements.{All-nil, All-cons, All-contains}
 use Rattle.bully_base.specs.Setup.{Setup}
-use Rattle.bully_table.specs.Balance.{count_of, IsBalanced, is_balanced}
+use Rattle.bully_table.specs.Balance.{count_of, base_of, IsFair, is_fair, IsBalanced, is_balanced}
 
 pub all_decides : (test : ℕ → Bool) (P : ℕ → Type 0) → ((x : ℕ) → Decides (test x) (P x)) → (xs : List ℕ) → Decides (list_all test xs) (All P xs)
 all_decides test P each xs = Decides-by_and test P (list_all test) each refl (λ _ _. refl) xs
@@ -49,16 +49,27 @@ All-from_contains P (x ∷ xs) h = All-cons P x xs (h x (0, omega arith, refl)) 
 leb_decides : (a b : ℕ) → Decides (nat_le a b) (a ≤ b)
 leb_decides a b = (λ e. grind (arith, nat_tests, e), λ l. grind (arith, nat_tests, l))
 
-even_decides : (table ms : List ℕ) → Decides (list_all (λ a. list_all (λ b. nat_le (count_of a table) (count_of b table + 1)) ms) ms) (All (λ a. All (λ b. count_of a table ≤ count_of b table + 1) ms) ms)
-even_decides table ms = all_decides _ _ (λ a. all_decides _ _ (λ b. leb_decides (count_of a table) (count_of b table + 1)) ms) ms
+fair_decides : (base count : ℕ) → Decides (is_fair base count) (IsFair base count)
+fair_decides base count = Decides-and _ _ (leb_decides base count) (leb_decides count (base + 1))
 
 owned_decides : (table ms : List ℕ) → Decides (list_all (λ owner. list_any (λ m. m == owner) ms) table) (All (Contains ms) table)
 owned_decides table ms = all_decides _ _ (λ owner. any_decides owner ms) table
 
+-- each member owns its base, or one more
+abbrev AreFair : Setup → List ℕ → List ℕ → Type 0
+AreFair setup t m = All (λ a. IsFair (base_of setup m a) (count_of a t)) m
+
+fairs_decides : (setup : Setup) (t m : List ℕ) → Decides (list_all (λ a. is_fair (base_of setup m a) (count_of a t)) m) (AreFair setup t m)
+fairs_decides setup t m = all_decides _ _ (λ a. fair_decides (base_of setup m a) (count_of a t)) m
+
 pub is_balanced_decides : (setup : Setup) (t m : List ℕ) → (is_balanced setup t m ≡ true → IsBalanced setup t m) × (IsBalanced setup t m → is_balanced setup t m ≡ true)
 is_balanced_decides setup t m =
-    let both = Decides-and _ _ (owned_decides t m) (even_decides t m) in
-    (to both.0, λ h. both.1 (h.owned, All-from_contains _ m (λ a x. All-from_contains _ m (λ b y. h.even a b x y))))
+    let both = Decides-and _ _ (owned_decides t m) (fairs_decides setup t m) in
+    (to both.0, λ h. both.1 (h.owned, All-from_contains _ m (λ a x. h.fair a x)))
   where
-    to : (is_balanced setup t m ≡ true → All (Contains m) t × All (λ a. All (λ b. count_of a t ≤ count_of b t + 1) m) m) → is_balanced setup t m ≡ true → IsBalanced setup t m
-    to both e = record { owned = (both e).0; even = λ a b x y. All-contains (λ b. count_of a t ≤ count_of b t + 1) m b (All-contains (λ a. All (λ b. count_of a t ≤ count_of b t + 1) m) m a (both e).1 x) y }
+    to : (is_balanced setup t m ≡ true → All (Contains m) t × AreFair setup t m) → is_balanced setup t m ≡ true → IsBalanced setup t m
+    to both e = record { owned = (both e).0; fair = λ a x. All-contains (λ b. IsFair (base_of setup m b) (count_of b t)) m a (both e).1 x }
+
+-- what the code tests of one member
+pub fair-test : (base count : ℕ) (b : Bool) → b ≡ is_fair base count → Decides b (IsFair base count)
+fair-test base count b e = Decides-at b (is_fair base count) e (fair_decides base count)

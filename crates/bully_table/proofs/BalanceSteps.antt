@@ -1,13 +1,11 @@
 -- What is known of owners one by one.
-use Rattle.std.proofs.Common.{◌≡◌, ℕ, ◌+◌, ◌<◌, ◌≤◌, ◌⊎◌, inl, inr, Bool, true, false, List, [], ◌∷◌, zero, suc, ◌-◌, length, take, get_or, arith, sym, refl, ◌∙◌, All, Contains, IsTrue, ◌↔◌, slice_index_or}
-use Rattle.std.specs.Prelude.{nat_le}
-use Rattle.std.proofs.lemmas.Bool.Decides.{nat_tests}
-use Rattle.bully_base.specs.declared.TheConstants.{NODES_MAX}
+use Rattle.std.proofs.Common.{◌≡◌, ℕ, ◌+◌, ◌<◌, ◌≤◌, ◌⊎◌, inl, inr, Bool, true, false, List, [], ◌∷◌, zero, suc, length, take, get_or, arith, sym, refl, ◌∙◌, All, Contains, IsTrue, ◌↔◌}
 use Rattle.bully_base.specs.NodeSet.{IsFallingBelow}
-use Rattle.bully_base.specs.Setup.{Setup, IsNodeNumber}
-use Rattle.bully_table.specs.Balance.{count_of, IsBalanced}
+use Rattle.bully_base.specs.Setup.{Setup}
+use Rattle.bully_table.specs.Balance.{count_of, base_of, IsFair, IsBalanced}
+use Rattle.bully_table.proofs.BalanceLemmas.{All-from_contains}
 use Rattle.std.proofs.lemmas.Grind.{common_steps}
-use Rattle.std.proofs.lemmas.List.Elements.{All-get_or, All-more, All-same}
+use Rattle.std.proofs.lemmas.List.Elements.{All-get_or, All-more, All-same, All-head, All-contains}
 
 -- an owner that is no member
 pub not-all : (members owners : List ℕ) (i x : ℕ) (b : Bool) → i < length owners → x ≡ get_or owners i x → (Contains members x → IsTrue b) → b ≡ false → IsTrue false ↔ All (Contains members) owners
@@ -35,87 +33,45 @@ falling-within bound (m ∷ ms) j f (suc k, l, e) =
     let lower = falling-within m ms j f.2 (k, omega arith, e) in
     (lower.0, omega arith)
 
--- which members have the lowest and the highest count, of the node numbers below n
-pub record IsBetween (members counts : List ℕ) (least most n : ℕ) : Type 0 where
-  pub least_in : Contains members least
-  pub most_in : Contains members most
-  pub ordered : slice_index_or counts (least - 1) 0 ≤ slice_index_or counts (most - 1) 0
-  pub between : (a : ℕ) → Contains members a → a < n → (slice_index_or counts (least - 1) 0 ≤ slice_index_or counts (a - 1) 0) × (slice_index_or counts (a - 1) 0 ≤ slice_index_or counts (most - 1) 0)
+-- and below what bounds them
+pub falling-nodes : (bound nodes : ℕ) (members : List ℕ) → IsFallingBelow bound members → All (λ m. m ≤ nodes) members → IsFallingBelow (nodes + 1) members
+falling-nodes bound nodes [] f all = tt
+falling-nodes bound nodes (m ∷ ms) f all = (f.0, omega (arith, All-head (λ k. k ≤ nodes) m ms all), f.2)
 
-pub between-start : (members counts : List ℕ) (first : ℕ) → IsFallingBelow (NODES_MAX + 1) members → Contains members first → IsBetween members counts first first 1
-between-start members counts first falling first_in = record {
-  least_in = first_in;
-  most_in = first_in;
-  ordered = omega arith;
-  between = λ a a_in low. absurd (omega (arith, falling-within (NODES_MAX + 1) members a falling a_in));
-}
+pub falling-wider : (bound wider : ℕ) (members : List ℕ) → bound ≤ wider → IsFallingBelow bound members → IsFallingBelow wider members
+falling-wider bound wider [] l f = tt
+falling-wider bound wider (m ∷ ms) l f = (f.0, omega (arith, f.1), f.2)
 
--- a member is one of the two, which both are members
-one-in : (members : List ℕ) (c a b : ℕ) → Contains members a → Contains members b → (c ≡ a) ⊎ (c ≡ b) → Contains members c
-one-in members c a b a_in b_in (inl e) = rw e a_in
-one-in members c a b a_in b_in (inr e) = rw e b_in
+pub nodes-falling : (bound nodes : ℕ) (members : List ℕ) → IsFallingBelow bound members → bound ≤ nodes + 1 → All (λ m. m ≤ nodes) members
+nodes-falling bound nodes members f l = All-from_contains (λ m. m ≤ nodes) members (λ m x. omega (arith, falling-within bound members m f x))
 
-pub between-step : (members counts : List ℕ) (least most low high n : ℕ) → IsBetween members counts least most n → Contains members n →
-    (low ≡ n) ⊎ (low ≡ least) → slice_index_or counts (low - 1) 0 ≤ slice_index_or counts (n - 1) 0 → slice_index_or counts (low - 1) 0 ≤ slice_index_or counts (least - 1) 0 →
-    (high ≡ n) ⊎ (high ≡ most) → slice_index_or counts (n - 1) 0 ≤ slice_index_or counts (high - 1) 0 → slice_index_or counts (most - 1) 0 ≤ slice_index_or counts (high - 1) 0 →
-    IsBetween members counts low high (n + 1)
-between-step members counts least most low high n was n_in low_is low_n low_least high_is high_n high_most = record {
-  least_in = one-in members low n least n_in was.least_in low_is;
-  most_in = one-in members high n most n_in was.most_in high_is;
-  ordered = omega arith;
-  between = λ a a_in lower. by_case a a_in (grind arith);
-}
+-- what holds of the members below a number: of none, of one number more, and of all
+pub below-first : (P : ℕ → Type 0) (bound : ℕ) (members : List ℕ) → IsFallingBelow bound members → (m : ℕ) → Contains members m → m < 1 → P m
+below-first P bound members falling m x l = absurd (omega (arith, falling-within bound members m falling x))
+
+pub below-next : (P : ℕ → Type 0) (members : List ℕ) (n node : ℕ) → ((m : ℕ) → Contains members m → m < n → P m) → n ≡ node → (Contains members node → P node) →
+    (m : ℕ) → Contains members m → m < n + 1 → P m
+below-next P members n node was same here m x l = by_case (grind arith)
   where
-    by_case : (a : ℕ) → Contains members a → (a ≡ n) ⊎ (a < n) → (slice_index_or counts (low - 1) 0 ≤ slice_index_or counts (a - 1) 0) × (slice_index_or counts (a - 1) 0 ≤ slice_index_or counts (high - 1) 0)
-    by_case a a_in (inl e) = rw e (low_n, high_n)
-    by_case a a_in (inr l) = let has = was.between a a_in l in (omega arith, omega arith)
+    by_case : (m ≡ node) ⊎ (m < n) → P m
+    by_case (inl e) = rw e (here (rw (← e) x))
+    by_case (inr low) = was m x low
 
-pub between-skip : (members counts : List ℕ) (least most n : ℕ) (b : Bool) → IsBetween members counts least most n → (Contains members n → IsTrue b) → b ≡ false → IsBetween members counts least most (n + 1)
-between-skip members counts least most n b was has out = record {
-  least_in = was.least_in;
-  most_in = was.most_in;
-  ordered = was.ordered;
-  between = λ a a_in lower. by_case a a_in (grind arith);
-}
-  where
-    by_case : (a : ℕ) → Contains members a → (a ≡ n) ⊎ (a < n) → (slice_index_or counts (least - 1) 0 ≤ slice_index_or counts (a - 1) 0) × (slice_index_or counts (a - 1) 0 ≤ slice_index_or counts (most - 1) 0)
-    by_case a a_in (inl e) = let held : IsTrue b = has (rw (← e) a_in) in absurd (cc)
-    by_case a a_in (inr l) = was.between a a_in l
-
-pub between-end : (members owners counts : List ℕ) (least most n high low : ℕ) → IsFallingBelow (NODES_MAX + 1) members →
-    ((node : ℕ) → IsNodeNumber node → slice_index_or counts (node - 1) 0 ≡ count_of node owners) →
-    IsBetween members counts least most n → NODES_MAX < n → high ≡ slice_index_or counts (most - 1) 0 → low ≡ slice_index_or counts (least - 1) 0 →
-    IsTrue (nat_le (high - low) 1) ↔ ((a b : ℕ) → Contains members a → Contains members b → count_of a owners ≤ count_of b owners + 1)
-between-end members owners counts least most n high low falling counted was past high_is low_is = (
-  λ test. λ a b a_in b_in.
-      let first = was.between a a_in (omega (arith, falling-within (NODES_MAX + 1) members a falling a_in)) in
-      let second = was.between b b_in (omega (arith, falling-within (NODES_MAX + 1) members b falling b_in)) in
-      let first_is = at a a_in in
-      let second_is = at b b_in in
-      let close : high - low ≤ 1 = grind (arith, nat_tests) in
-      omega arith,
-  λ even.
-      let far = even most least was.most_in was.least_in in
-      let first_is = at most was.most_in in
-      let second_is = at least was.least_in in
-      let close : high - low ≤ 1 = omega arith in
-      grind (arith, nat_tests),
-)
-  where
-    at : (a : ℕ) → Contains members a → slice_index_or counts (a - 1) 0 ≡ count_of a owners
-    at a a_in = counted a ((falling-within (NODES_MAX + 1) members a falling a_in).0, omega (arith, falling-within (NODES_MAX + 1) members a falling a_in))
+pub below-last : (P : ℕ → Type 0) (members : List ℕ) (n nodes : ℕ) → ((m : ℕ) → Contains members m → m < n → P m) → nodes < n → All (λ m. m ≤ nodes) members →
+    (m : ℕ) → Contains members m → P m
+below-last P members n nodes was past all m x = was m x (omega (arith, All-contains (λ k. k ≤ nodes) members m all x))
 
 -- the two tests, put together; the owners are read off the table twice
-pub balanced-then : (setup : Setup) (table once twice members : List ℕ) (held even : Bool) → once ≡ table → twice ≡ table →
+pub balanced-then : (setup : Setup) (table once twice members : List ℕ) (held fair : Bool) → once ≡ table → twice ≡ table →
     (IsTrue held ↔ All (Contains members) once) →
-    (IsTrue even ↔ ((a b : ℕ) → Contains members a → Contains members b → count_of a twice ≤ count_of b twice + 1)) →
-    held ≡ true → IsTrue even ↔ IsBalanced setup table members
-balanced-then setup table once twice members held even once_is twice_is holds evens is = (
+    (IsTrue fair ↔ ((m : ℕ) → Contains members m → IsFair (base_of setup members m) (count_of m twice))) →
+    held ≡ true → IsTrue fair ↔ IsBalanced setup table members
+balanced-then setup table once twice members held fair once_is twice_is holds fairs is = (
   λ t. record {
     owned = rw (← once_is) (holds.0 is);
-    even = rw (← twice_is) (evens.0 t);
+    fair = rw (← twice_is) (fairs.0 t);
   },
-  λ b. evens.1 (rw twice_is b.even),
+  λ b. fairs.1 (rw twice_is b.fair),
 )
 
 pub balanced-else : (setup : Setup) (table once members : List ℕ) (held : Bool) → once ≡ table →

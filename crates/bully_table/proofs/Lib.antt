@@ -1,13 +1,16 @@
 pub mod NumeralLemmas
 pub mod PieceLemmas
-pub mod BalanceSteps
 pub mod BalanceLemmas
+pub mod BalanceSteps
 pub mod TotalLemmas
+pub mod PartLemmas
 pub mod PlaceCounts
 pub mod ShareLemmas
 pub mod StayLemmas
 pub mod PlannedLemmas
 pub mod PlanSteps
 pub mod TakerLemmas
+pub mod BaseSteps
 pub mod QuotaSteps
+pub mod EvenLaws
 pub mod OwnerTexts

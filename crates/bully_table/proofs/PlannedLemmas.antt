@@ -1,19 +1,21 @@
 -- The planned table is balanced, and no balanced table has fewer moves.
-use Rattle.std.proofs.Common.{◌≡◌, ◌≢◌, ℕ, zero, suc, ◌+◌, ◌-◌, ◌/◌, ◌<◌, ◌≤◌, min, ◌⊎◌, inl, inr, Bool, true, false, cond, List, [], ◌∷◌, ◌++◌, map, length, arith, sym, refl, ◌∙◌, ap, Contains, add-one, Option, Some, None}
+use Rattle.std.proofs.Common.{◌≡◌, ◌≢◌, ℕ, zero, suc, ◌+◌, ◌-◌, ◌<◌, ◌≤◌, min, ◌⊎◌, inl, inr, Bool, true, false, cond, List, [], ◌∷◌, ◌++◌, map, length, arith, sym, refl, ◌∙◌, ap, Contains, add-one, Option, Some, None}
 use Rattle.std.specs.Prelude.{◌&&◌, not, ◌==◌, IfSome, is_none, sum_by}
 use Rattle.std.specs.List.{range_with_len}
 use Rattle.std.proofs.lemmas.Bool.Decides.{nat_tests}
 use Rattle.std.proofs.lemmas.List.Elements.{All-get_or, All-from_get_or}
 use Rattle.std.proofs.lemmas.List.FromFn.{length-map-range_with_len, get_or-map-range_with_len, map-range_with_len_more}
 use Rattle.std.proofs.lemmas.List.Sums.{sum_by_push}
+use Rattle.bully_base.specs.declared.TheConstants.{NODES_MAX}
 use Rattle.bully_base.specs.NodeSet.{IsFallingBelow, highest_of}
 use Rattle.bully_base.specs.Setup.{Setup}
-use Rattle.bully_table.specs.Balance.{count_of, IsBalanced}
+use Rattle.bully_table.specs.Balance.{count_of, total_weight, base_of, IsFair, IsBalanced}
 use Rattle.bully_table.specs.Planning.{owner_at, places_where, moves, moves_from, kept_from, IsFewest, IsMostKept, owners_before, quota, stays, room, rooms_below, taker, planned_owner, planned}
-use Rattle.bully_table.proofs.BalanceSteps.{falling-within}
+use Rattle.bully_table.proofs.BalanceSteps.{falling-within, falling-wider}
 use Rattle.bully_table.proofs.TotalLemmas.{total-sum_by, total-le, total-below-within, one}
 use Rattle.bully_table.proofs.PlaceCounts.{places-none, places-next, places-more, places-le, places-not, places-parted, places-count_all}
-use Rattle.bully_table.proofs.ShareLemmas.{quota-is, kept-most, near-balanced, counts-total}
+use Rattle.bully_table.proofs.PartLemmas.{some-weighs}
+use Rattle.bully_table.proofs.ShareLemmas.{quota-is, kept-most, counts-total}
 use Rattle.bully_table.proofs.StayLemmas.{Plannable, stays-member, stays-count_all, room-is, stays-total, rooms-total, rooms_below-is, IsIn, taker-of, taker-only, taker-member}
 
 -- how many of the first n partitions don't stay
@@ -128,13 +130,13 @@ planned-at setup before members p l = get_or-map-range_with_len (planned_owner s
 pub planned-balanced : (setup : Setup) (bound : ℕ) (before members : List ℕ) → Plannable setup bound before members → IsBalanced setup (table_of setup before members) members
 planned-balanced setup bound before members h = record {
   owned = All-from_get_or (Contains members) (table_of setup before members) 0 (λ p l. let within : p < setup.partitions = omega (arith, planned-covers setup before members) in rw (planned-at setup before members p within) (planned-member setup bound before members p h within));
-  even = λ a b x y. omega (arith, counted a x, counted b y, quota-near a, quota-near b);
+  fair = λ m x. rw (counted m x) (quota-near m);
 }
   where
     counted : (m : ℕ) → Contains members m → count_of m (table_of setup before members) ≡ quota setup before members m
     counted m x = count-map (planned_owner setup before members) m setup.partitions ∙ planned-quota setup bound before members m h x
 
-    quota-near : (m : ℕ) → (setup.partitions / length members ≤ quota setup before members m) × (quota setup before members m ≤ setup.partitions / length members + 1)
+    quota-near : (m : ℕ) → IsFair (base_of setup members m) (quota setup before members m)
     quota-near m = let is = quota-is setup before members m in (grind (arith, is), grind (arith, is))
 
 -- no more partitions move than those that don't stay
@@ -155,7 +157,7 @@ balanced-moves setup bound before members other h covers balanced =
     let kept = places-not (λ p. owner_at before p == owner_at other p) setup.partitions in
     let parted = places-parted (λ p. owner_at before p == owner_at other p) (owner_at other) bound members setup.partitions h.falling (λ p l e. All-get_or (Contains members) other p 0 (omega arith) balanced.owned) in
     let by_member = total-le kept_of (λ m. min (count_of m before) (count_of m other)) members (λ m x. kept_least m x) in
-    let most = kept-most setup bound before members (λ m. count_of m other) h.falling h.some (near-balanced setup bound members other h.falling h.some covers balanced) (counts-total bound members other h.falling balanced.owned ∙ covers) in
+    let most = kept-most setup bound before members (λ m. count_of m other) h.falling h.some h.weighs balanced.fair (counts-total bound members other h.falling balanced.owned ∙ covers) in
     let total_is = stays-total setup bound before members h in
     rw covers (omega arith)
   where
@@ -213,9 +215,13 @@ pub some-from : (highest : Option ℕ) (members : List ℕ) → highest ≡ high
 some-from highest [] e h = absurd (grind (arith, e, h))
 some-from highest (m ∷ ms) e h = omega arith
 
-pub some-length : (members : List ℕ) → members ≢ [] → 0 < length members
-some-length [] h = absurd (h refl)
-some-length (m ∷ ms) h = omega arith
+pub plannable-from : (setup : Setup) (before members : List ℕ) → setup.nodes ≤ NODES_MAX → IsFallingBelow (setup.nodes + 1) members → 0 < total_weight setup members → length before ≤ setup.partitions → Plannable setup (NODES_MAX + 1) before members
+plannable-from setup before members nodes falling weighs covers = record {
+  falling = falling-wider (setup.nodes + 1) (NODES_MAX + 1) members (omega arith) falling;
+  some = some-weighs setup members weighs;
+  weighs = weighs;
+  covers = covers;
+}
 
 -- one partition more
 pub planned-more : (f : ℕ → ℕ) (place owner : ℕ) (items next : List ℕ) → items ≡ map f (range_with_len 0 place) → owner ≡ f place → next ≡ items ++ owner ∷ [] → next ≡ map f (range_with_len 0 (place + 1))

@@ -1,41 +1,58 @@
 -- Quotas: how many there are in all, and that no balanced table can keep more than they do.
-use Rattle.std.proofs.Common.{◌≡◌, ℕ, ◌+◌, ◌-◌, ◌*◌, ◌/◌, ◌<◌, ◌≤◌, min, ◌⊎◌, inl, inr, Bool, true, false, cond, List, [], ◌∷◌, length, arith, refl, ◌∙◌, All, Contains}
+use Rattle.std.proofs.Common.{◌≡◌, ℕ, ◌+◌, ◌-◌, ◌<◌, ◌≤◌, min, Bool, true, false, cond, List, [], ◌∷◌, length, arith, refl, ◌∙◌, All, Contains}
 use Rattle.std.specs.Prelude.{◌&&◌, not, nat_lt, ◌==◌, count_by}
 use Rattle.std.proofs.lemmas.Bool.Decides.{nat_tests}
 use Rattle.std.proofs.lemmas.List.Elements.{All-head, All-tail}
 use Rattle.std.proofs.lemmas.List.Sums.{sum_by-cons}
 use Rattle.bully_base.specs.NodeSet.{IsFallingBelow}
 use Rattle.bully_base.specs.Setup.{Setup}
-use Rattle.bully_table.specs.Balance.{count_of, IsBalanced}
+use Rattle.bully_table.specs.Balance.{count_of, total_weight, base_of, IsFair}
 use Rattle.bully_table.specs.Planning.{rest_of, comes_first, quota}
-use Rattle.bully_table.proofs.TotalLemmas.{total, total-sum_by, total-add, total-same, total-le, total-lower, total-constant, total-one, lower, passing, one, first-ones}
+use Rattle.bully_table.proofs.TotalLemmas.{total, total-sum_by, total-add, total-same, total-le, total-constant, total-one, lower, passing, one, first-ones}
+use Rattle.bully_table.proofs.PartLemmas.{bases-fit, bases-left}
 
--- base and rest make up the partitions
-pub shares : (setup : Setup) (members : List ℕ) → 0 < length members → (length members * (setup.partitions / length members) + rest_of setup members ≡ setup.partitions) × (rest_of setup members < length members)
-shares setup members some = (omega arith, omega arith)
+-- bases and rest make up the partitions
+pub shares : (setup : Setup) (members : List ℕ) → 0 < length members → 0 < total_weight setup members → (total (base_of setup members) members + rest_of setup members ≡ setup.partitions) × (rest_of setup members < length members)
+shares setup members some weighs =
+    let sum = total-sum_by (base_of setup members) members in
+    let low = bases-fit setup members weighs in
+    let high = bases-left setup members weighs some in
+    (omega arith, omega arith)
 
-abbrev pub large : ℕ → List ℕ → ℕ → Bool
-large base before m = nat_lt base (count_of m before)
+-- of counts that each are the base or one more, as many are one more as the bases leave
+pub more-fixed : (base counts : ℕ → ℕ) (rest : ℕ) (members : List ℕ) → ((m : ℕ) → Contains members m → IsFair (base m) (counts m)) → total counts members ≡ total base members + rest →
+    passing (λ m. nat_lt (base m) (counts m)) members ≡ rest
+more-fixed base counts rest members fair sum =
+    let parted = total-same counts (λ m. base m + one (nat_lt (base m) (counts m))) members (λ m x. apart m (fair m x)) in
+    let split = total-add base (λ m. one (nat_lt (base m) (counts m))) members in
+    omega arith
+  where
+    apart : (m : ℕ) → IsFair (base m) (counts m) → counts m ≡ base m + one (nat_lt (base m) (counts m))
+    apart m h = grind (arith, nat_tests, h)
 
-abbrev pub rank : ℕ → List ℕ → List ℕ → ℕ → ℕ
+-- whether a member has more than its base
+abbrev pub large : (ℕ → ℕ) → List ℕ → ℕ → Bool
+large base before m = nat_lt (base m) (count_of m before)
+
+abbrev pub rank : (ℕ → ℕ) → List ℕ → List ℕ → ℕ → ℕ
 rank base before members m = count_by (λ k. comes_first (large base before) k m) members
 
-pub rank-large : (base : ℕ) (before members : List ℕ) (m : ℕ) → large base before m ≡ true → rank base before members m ≡ lower (large base before) m members
+pub rank-large : (base : ℕ → ℕ) (before members : List ℕ) (m : ℕ) → large base before m ≡ true → rank base before members m ≡ lower (large base before) m members
 rank-large base before members m e =
     total-sum_by (λ k. one (comes_first (large base before) k m)) members
     ∙ total-same _ _ members (λ k x. grind (arith, e))
 
-pub rank-small : (base : ℕ) (before members : List ℕ) (m : ℕ) → large base before m ≡ false → rank base before members m ≡ passing (large base before) members + lower (λ k. not (large base before k)) m members
+pub rank-small : (base : ℕ → ℕ) (before members : List ℕ) (m : ℕ) → large base before m ≡ false → rank base before members m ≡ passing (large base before) members + lower (λ k. not (large base before k)) m members
 rank-small base before members m e =
     total-sum_by (λ k. one (comes_first (large base before) k m)) members
     ∙ (total-same _ (λ k. one (large base before k) + one (not (large base before k) && nat_lt k m)) members (λ k x. grind (arith, e))
     ∙ total-add (λ k. one (large base before k)) (λ k. one (not (large base before k) && nat_lt k m)) members)
 
--- whether a member gets one more than the base
-abbrev pub extra : ℕ → ℕ → List ℕ → List ℕ → ℕ → Bool
+-- whether a member gets one more than its base
+abbrev pub extra : (ℕ → ℕ) → ℕ → List ℕ → List ℕ → ℕ → Bool
 extra base rest before members m = nat_lt (rank base before members m) rest
 
-pub extras-large : (base rest bound : ℕ) (before members : List ℕ) → IsFallingBelow bound members →
+pub extras-large : (base : ℕ → ℕ) (rest bound : ℕ) (before members : List ℕ) → IsFallingBelow bound members →
     total (λ m. one (large base before m && extra base rest before members m)) members ≡ min rest (passing (large base before) members)
 extras-large base rest bound before members falling =
     let first = first-ones (large base before) 0 rest bound members falling in
@@ -46,7 +63,7 @@ extras-large base rest bound before members falling =
     same m true e = grind (arith, e, rank-large base before members m e)
     same m false e = grind (arith, e)
 
-extras-small : (base rest bound : ℕ) (before members : List ℕ) → IsFallingBelow bound members →
+extras-small : (base : ℕ → ℕ) (rest bound : ℕ) (before members : List ℕ) → IsFallingBelow bound members →
     total (λ m. one (not (large base before m) && extra base rest before members m)) members ≡ min (rest - passing (large base before) members) (passing (λ k. not (large base before k)) members)
 extras-small base rest bound before members falling =
     total-same _ (λ m. one (not (large base before m) && nat_lt (passing (large base before) members + lower (λ k. not (large base before k)) m members) rest)) members (λ m x. same m (large base before m) refl)
@@ -60,7 +77,7 @@ passing-parts : (test : ℕ → Bool) (ms : List ℕ) → passing test ms + pass
 passing-parts test [] = refl
 passing-parts test (m ∷ ms) = grind (arith, passing-parts test ms)
 
-extras-all : (base rest bound : ℕ) (before members : List ℕ) → IsFallingBelow bound members → rest ≤ length members →
+extras-all : (base : ℕ → ℕ) (rest bound : ℕ) (before members : List ℕ) → IsFallingBelow bound members → rest ≤ length members →
     total (λ m. one (extra base rest before members m)) members ≡ rest
 extras-all base rest bound before members falling l =
     let first = extras-large base rest bound before members falling in
@@ -70,54 +87,45 @@ extras-all base rest bound before members falling l =
     let same : total (λ m. one (extra base rest before members m)) members ≡ total (λ m. one (large base before m && extra base rest before members m) + one (not (large base before m) && extra base rest before members m)) members = total-same _ _ members (λ m x. grind arith) in
     omega arith
 
-pub quota-is : (setup : Setup) (before members : List ℕ) (m : ℕ) → quota setup before members m ≡ (setup.partitions / length members) + one (extra ((setup.partitions / length members)) (rest_of setup members) before members m)
+pub quota-is : (setup : Setup) (before members : List ℕ) (m : ℕ) → quota setup before members m ≡ base_of setup members m + one (extra (base_of setup members) (rest_of setup members) before members m)
 unfolding quota
 quota-is setup before members m = grind arith
 
-pub quotas-total : (setup : Setup) (bound : ℕ) (before members : List ℕ) → IsFallingBelow bound members → 0 < length members → total (quota setup before members) members ≡ setup.partitions
-quotas-total setup bound before members falling some =
-    let share = shares setup members some in
+pub quotas-total : (setup : Setup) (bound : ℕ) (before members : List ℕ) → IsFallingBelow bound members → 0 < length members → 0 < total_weight setup members → total (quota setup before members) members ≡ setup.partitions
+quotas-total setup bound before members falling some weighs =
+    let share = shares setup members some weighs in
     let same = total-same (quota setup before members) _ members (λ m x. quota-is setup before members m) in
-    let split = total-add (λ m. (setup.partitions / length members)) (λ m. one (extra ((setup.partitions / length members)) (rest_of setup members) before members m)) members in
-    let bases = total-constant ((setup.partitions / length members)) members in
-    let extras = extras-all ((setup.partitions / length members)) (rest_of setup members) bound before members falling (omega arith) in
+    let split = total-add (base_of setup members) (λ m. one (extra (base_of setup members) (rest_of setup members) before members m)) members in
+    let extras = extras-all (base_of setup members) (rest_of setup members) bound before members falling (omega arith) in
     omega arith
 
 -- what a table of such counts can keep at most
-most-by : (base rest bound : ℕ) (before members : List ℕ) (counts shares_of : ℕ → ℕ) → IsFallingBelow bound members →
-    ((m : ℕ) → Contains members m → (base ≤ counts m) × (counts m ≤ base + 1)) → total counts members ≡ length members * base + rest →
-    ((m : ℕ) → shares_of m ≡ base + one (extra base rest before members m)) →
+most-by : (base : ℕ → ℕ) (rest bound : ℕ) (before members : List ℕ) (counts shares_of : ℕ → ℕ) → IsFallingBelow bound members →
+    ((m : ℕ) → Contains members m → IsFair (base m) (counts m)) → total counts members ≡ total base members + rest →
+    ((m : ℕ) → shares_of m ≡ base m + one (extra base rest before members m)) →
     total (λ m. min (count_of m before) (counts m)) members ≤ total (λ m. min (count_of m before) (shares_of m)) members
-most-by base rest bound before members counts shares_of falling near sum is =
-    let others = total-same (λ m. min (count_of m before) (counts m)) (λ m. min (count_of m before) base + cond (large base before m) (counts m - base) 0) members (λ m x. other m (near m x)) in
-    let others_split = total-add (λ m. min (count_of m before) base) (λ m. cond (large base before m) (counts m - base) 0) members in
-    let mine = total-same (λ m. min (count_of m before) (shares_of m)) (λ m. min (count_of m before) base + one (large base before m && extra base rest before members m)) members (λ m x. own m (is m)) in
-    let mine_split = total-add (λ m. min (count_of m before) base) (λ m. one (large base before m && extra base rest before members m)) members in
+most-by base rest bound before members counts shares_of falling fair sum is =
+    let others = total-same (λ m. min (count_of m before) (counts m)) (λ m. min (count_of m before) (base m) + one (large base before m && nat_lt (base m) (counts m))) members (λ m x. other m (fair m x)) in
+    let others_split = total-add (λ m. min (count_of m before) (base m)) (λ m. one (large base before m && nat_lt (base m) (counts m))) members in
+    let mine = total-same (λ m. min (count_of m before) (shares_of m)) (λ m. min (count_of m before) (base m) + one (large base before m && extra base rest before members m)) members (λ m x. own m (is m)) in
+    let mine_split = total-add (λ m. min (count_of m before) (base m)) (λ m. one (large base before m && extra base rest before members m)) members in
     let extras = extras-large base rest bound before members falling in
-    let by_large = total-le (λ m. cond (large base before m) (counts m - base) 0) (λ m. one (large base before m)) members (λ m x. above m (near m x)) in
-    let by_rest = total-le (λ m. cond (large base before m) (counts m - base) 0) (λ m. counts m - base) members (λ m x. within m) in
-    let counted = total-same counts (λ m. base + (counts m - base)) members (λ m x. omega (arith, near m x)) in
-    let counted_split = total-add (λ m. base) (λ m. counts m - base) members in
-    let bases = total-constant base members in
+    let by_large = total-le (λ m. one (large base before m && nat_lt (base m) (counts m))) (λ m. one (large base before m)) members (λ m x. grind arith) in
+    let by_rest = total-le (λ m. one (large base before m && nat_lt (base m) (counts m))) (λ m. one (nat_lt (base m) (counts m))) members (λ m x. grind arith) in
+    let more = more-fixed base counts rest members fair sum in
     omega arith
   where
-    other : (m : ℕ) → (base ≤ counts m) × (counts m ≤ base + 1) → min (count_of m before) (counts m) ≡ min (count_of m before) base + cond (large base before m) (counts m - base) 0
-    other m n = grind (arith, nat_tests, n)
+    other : (m : ℕ) → IsFair (base m) (counts m) → min (count_of m before) (counts m) ≡ min (count_of m before) (base m) + one (large base before m && nat_lt (base m) (counts m))
+    other m h = grind (arith, nat_tests, h)
 
-    own : (m : ℕ) → shares_of m ≡ base + one (extra base rest before members m) → min (count_of m before) (shares_of m) ≡ min (count_of m before) base + one (large base before m && extra base rest before members m)
+    own : (m : ℕ) → shares_of m ≡ base m + one (extra base rest before members m) → min (count_of m before) (shares_of m) ≡ min (count_of m before) (base m) + one (large base before m && extra base rest before members m)
     own m e = grind (arith, nat_tests, e)
 
-    above : (m : ℕ) → (base ≤ counts m) × (counts m ≤ base + 1) → cond (large base before m) (counts m - base) 0 ≤ one (large base before m)
-    above m n = grind (arith, n)
-
-    within : (m : ℕ) → cond (large base before m) (counts m - base) 0 ≤ counts m - base
-    within m = grind arith
-
-pub kept-most : (setup : Setup) (bound : ℕ) (before members : List ℕ) (counts : ℕ → ℕ) → IsFallingBelow bound members → 0 < length members →
-    ((m : ℕ) → Contains members m → ((setup.partitions / length members) ≤ counts m) × (counts m ≤ (setup.partitions / length members) + 1)) → total counts members ≡ setup.partitions →
+pub kept-most : (setup : Setup) (bound : ℕ) (before members : List ℕ) (counts : ℕ → ℕ) → IsFallingBelow bound members → 0 < length members → 0 < total_weight setup members →
+    ((m : ℕ) → Contains members m → IsFair (base_of setup members m) (counts m)) → total counts members ≡ setup.partitions →
     total (λ m. min (count_of m before) (counts m)) members ≤ total (λ m. min (count_of m before) (quota setup before members m)) members
-kept-most setup bound before members counts falling some near sum =
-    most-by ((setup.partitions / length members)) (rest_of setup members) bound before members counts (quota setup before members) falling near (omega (arith, shares setup members some)) (λ m. quota-is setup before members m)
+kept-most setup bound before members counts falling some weighs fair sum =
+    most-by (base_of setup members) (rest_of setup members) bound before members counts (quota setup before members) falling fair (omega (arith, shares setup members some weighs)) (λ m. quota-is setup before members m)
 
 -- each owner in a table is counted once among the members
 pub counts-total : (bound : ℕ) (members table : List ℕ) → IsFallingBelow bound members → All (Contains members) table → total (λ m. count_of m table) members ≡ length table
@@ -128,27 +136,3 @@ counts-total bound members (x ∷ xs) falling all =
     let split = total-add (λ m. cond (x == m) 1 0) (λ m. count_of m xs) members in
     let same = total-same (λ m. count_of m (x ∷ xs)) (λ m. cond (x == m) 1 0 + count_of m xs) members (λ m y. sum_by-cons (λ owner. cond (owner == m) 1 0) x xs) in
     omega arith
-
--- in a balanced table each member has the base, or one more
-near-base : (base rest : ℕ) (members : List ℕ) (counts : ℕ → ℕ) → rest < length members → total counts members ≡ length members * base + rest →
-    ((a b : ℕ) → Contains members a → Contains members b → counts a ≤ counts b + 1) → (m : ℕ) → Contains members m → (base ≤ counts m) × (counts m ≤ base + 1)
-near-base base rest members counts less sum even m x = (low (grind arith), high (grind arith))
-  where
-    low : (base ≤ counts m) ⊎ (counts m < base) → base ≤ counts m
-    low (inl l) = l
-    low (inr l) =
-        let fewer = total-lower counts (λ a. base) members m x l (λ a y. omega (arith, even a m y x)) in
-        absurd (omega (arith, total-constant base members))
-
-    high : (counts m ≤ base + 1) ⊎ (base + 1 < counts m) → counts m ≤ base + 1
-    high (inl l) = l
-    high (inr l) =
-        let more = total-le (λ a. base + 1) counts members (λ a y. omega (arith, even m a x y)) in
-        let sums = total-add (λ a. base) (λ a. 1) members in
-        absurd (omega (arith, total-constant base members, total-constant 1 members))
-
-pub near-balanced : (setup : Setup) (bound : ℕ) (members table : List ℕ) → IsFallingBelow bound members → 0 < length members → length table ≡ setup.partitions → IsBalanced setup table members →
-    (m : ℕ) → Contains members m → ((setup.partitions / length members) ≤ count_of m table) × (count_of m table ≤ (setup.partitions / length members) + 1)
-near-balanced setup bound members table falling some covers balanced =
-    let share = shares setup members some in
-    near-base ((setup.partitions / length members)) (rest_of setup members) members (λ m. count_of m table) share.1 (omega (arith, counts-total bound members table falling balanced.owned)) balanced.even

@@ -5,7 +5,7 @@ use Rattle.std.proofs.lemmas.Bool.Decides.{nat_tests}
 use Rattle.std.proofs.lemmas.Grind.{common_steps}
 use Rattle.bully_base.specs.NodeSet.{IsFallingBelow, below_node}
 use Rattle.bully_base.specs.Setup.{Setup}
-use Rattle.bully_table.specs.Balance.{count_of}
+use Rattle.bully_table.specs.Balance.{count_of, total_weight}
 use Rattle.bully_table.specs.Planning.{owner_at, places_where, quota, stays, room, rooms_below, taker, member_where}
 use Rattle.bully_table.proofs.BalanceLemmas.{any_decides, earlier, later}
 use Rattle.bully_table.proofs.BalanceSteps.{falling-within}
@@ -13,10 +13,11 @@ use Rattle.bully_table.proofs.TotalLemmas.{total, total-sum_by, total-add, total
 use Rattle.bully_table.proofs.PlaceCounts.{places-none, places-more, places-not, places-parted, count-more}
 use Rattle.bully_table.proofs.ShareLemmas.{quotas-total}
 
--- there are members, and the old table has no more partitions than the setup
+-- there are members, they weigh something, and the old table has no more partitions than the setup
 pub record Plannable (setup : Setup) (bound : ℕ) (before members : List ℕ) : Type 0 where
   pub falling : IsFallingBelow bound members
   pub some : 0 < length members
+  pub weighs : 0 < total_weight setup members
   pub covers : length before ≤ setup.partitions
 
 -- a partition that stays has a member as its owner
@@ -87,7 +88,7 @@ pub rooms-total : (setup : Setup) (bound : ℕ) (before members : List ℕ) → 
 rooms-total setup bound before members h =
     let staying = stays-total setup bound before members h in
     let others = places-not (stays setup before members) setup.partitions in
-    let quotas = quotas-total setup bound before members h.falling h.some in
+    let quotas = quotas-total setup bound before members h.falling h.some h.weighs in
     let split = total-add (room setup before members) (λ m. min (count_of m before) (quota setup before members m)) members in
     let same = total-same (quota setup before members) (λ m. room setup before members m + min (count_of m before) (quota setup before members m)) members (λ m x. omega (arith, room-is setup bound before members m h x)) in
     omega arith

@@ -8,9 +8,9 @@ use Rattle.std.proofs.lemmas.List.{length-append, length-replicate, get_or-repli
 use Rattle.bully_base.specs.declared.TheConstants.{NODES_MAX}
 use Rattle.bully_base.specs.NodeSet.{IsFallingBelow, below_node}
 use Rattle.bully_base.specs.Setup.{Setup, IsNodeNumber}
-use Rattle.bully_table.specs.Balance.{count_of}
+use Rattle.bully_table.specs.Balance.{count_of, base_of}
 use Rattle.bully_table.specs.Planning.{owner_at, quota, stays, room, taker, planned_owner}
-use Rattle.bully_table.specs.Takers.{share, spare, takers_from, takers_left}
+use Rattle.bully_table.specs.Takers.{share, base_share, spare, takers_from, takers_left}
 use Rattle.bully_table.proofs.BalanceLemmas.{any_decides}
 use Rattle.bully_table.proofs.BalanceSteps.{falling-within}
 use Rattle.bully_table.proofs.TotalLemmas.{total, total-sum_by, total-same, total-above, total-below-member, total-below-other}
@@ -106,6 +106,18 @@ share-outside setup before members m out = by_case (list_any (λ k. k == m) memb
 
 pub share-inside : (setup : Setup) (before members : List ℕ) (m : ℕ) → Contains members m → share setup before members m ≡ quota setup before members m
 share-inside setup before members m x =
+    let is_member = (any_decides m members).1 x in
+    rw is_member refl
+
+pub base-outside : (setup : Setup) (members : List ℕ) (m : ℕ) → ¬ Contains members m → base_share setup members m ≡ 0
+base-outside setup members m out = by_case (list_any (λ k. k == m) members) refl
+  where
+    by_case : (b : Bool) → list_any (λ k. k == m) members ≡ b → base_share setup members m ≡ 0
+    by_case true e = absurd (out ((any_decides m members).0 e))
+    by_case false e = rw e refl
+
+pub base-inside : (setup : Setup) (members : List ℕ) (m : ℕ) → Contains members m → base_share setup members m ≡ base_of setup members m
+base-inside setup members m x =
     let is_member = (any_decides m members).1 x in
     rw is_member refl
 

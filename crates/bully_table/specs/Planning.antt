@@ -1,9 +1,9 @@
 -- How a task's partitions are spread anew over a set of members, so that few of them move.
-use Rattle.std.specs.Prelude.{◌≡◌, ℕ, zero, suc, ◌+◌, ◌-◌, ◌/◌, ◌%◌, ◌≤◌, Bool, true, false, not, List, [], ◌∷◌, Option, Some, None, map, length, take, ◌&&◌, nat_lt, nat_le, ◌==◌, slice_index_or, count_by, if◌then◌else◌}
+use Rattle.std.specs.Prelude.{◌≡◌, ℕ, zero, suc, ◌+◌, ◌-◌, ◌≤◌, Bool, true, false, not, List, [], ◌∷◌, Option, Some, None, map, length, take, ◌&&◌, nat_lt, nat_le, ◌==◌, slice_index_or, count_by, if◌then◌else◌}
 use Rattle.std.specs.List.{list_any, range_with_len, sum_by}
 use Rattle.bully_base.specs.NodeSet.{below_node}
 use Rattle.bully_base.specs.Setup.{Setup}
-use Rattle.bully_table.specs.Balance.{count_of, IsBalanced}
+use Rattle.bully_table.specs.Balance.{count_of, base_of, IsBalanced}
 
 -- the owner at this place, and 0, which is no node, where the table has no such place
 abbrev pub owner_at : List ℕ → ℕ → ℕ
@@ -44,15 +44,11 @@ abbrev pub owners_before : Option (List ℕ) → List ℕ
 owners_before None = []
 owners_before (Some old) = old
 
--- what the member owns at least: the same for all
-abbrev pub base_of : Setup → List ℕ → ℕ → ℕ
-base_of setup members m = setup.partitions / length members
-
--- how many members own one more
+-- how many members own one more than their base: what the bases leave
 abbrev pub rest_of : Setup → List ℕ → ℕ
-rest_of setup members = setup.partitions % length members
+rest_of setup members = setup.partitions - sum_by (base_of setup members) members
 
--- whether the member has more than that in the old table
+-- whether the member has more than its base in the old table
 abbrev pub holds_more : Setup → List ℕ → List ℕ → ℕ → Bool
 holds_more setup before members m = nat_lt (base_of setup members m) (count_of m before)
 

@@ -1,8 +1,10 @@
-ghost use Rattle.std.specs.Prelude.{◌≡◌, ◌↔◌, ◌+◌, ◌-◌, ◌≤◌, ◌⊎◌, ℕ, All, Contains, IsTrue, slice_index_or};
-ghost use Rattle.bully_base.specs.Setup.{IsNodeNumber};
-ghost use Rattle.bully_table.specs.Balance.{count_of};
+ghost use Rattle.std.specs.Prelude.{◌≡◌, ◌↔◌, ◌+◌, ◌-◌, ◌<◌, ◌≤◌, ℕ, List, All, Contains, IsTrue, length, replicate, slice_index_or};
+ghost use Rattle.bully_base.specs.NodeSet.{IsFallingBelow};
+ghost use Rattle.bully_base.specs.Setup.{IsNodeNumber, weight_of};
+ghost use Rattle.bully_base.specs.declared.TheConstants.{NODES_MAX, PARTITIONS_MAX};
+ghost use Rattle.bully_table.specs.Balance.{count_of, total_weight, base_of, IsFair, is_fair};
 
-use bully_base::{NODES_MAX, Node, NodeSet};
+use bully_base::{NODES_MAX, Node, NodeSet, Setup};
 
 /// How many counts there are: one for each node number.
 pub const PLACES: usize = NODES_MAX as usize;
@@ -19,66 +21,75 @@ pub fn are_members(owners: &[Node], members: &NodeSet) -> bool
     true
 }
 
-/// Whether the counts of two members differ by one at most.
-pub fn are_even(owners: &[Node], members: &NodeSet) -> bool
-    ensures { IsTrue result ↔ ((a b : ℕ) → Contains members.now a → Contains members.now b → count_of a owners.now ≤ count_of b owners.now + 1) }
+/// Whether each member owns its base, or one more.
+pub fn are_fair(setup: &Setup, owners: &[Node], members: &NodeSet) -> bool
+    requires few { length owners.now ≤ PARTITIONS_MAX }
+    requires nodes { All (λ m. m ≤ setup.now.nodes) members.now }
+    ensures { IsTrue result ↔ ((m : ℕ) → Contains members.now m → IsFair (base_of setup.now members.now m) (count_of m owners.now)) }
 {
-    let Some(first) = members.highest() else {
+    // `highest` also shows the proof that the members fall.
+    if members.highest().is_none() {
         return true;
-    };
-    let counts = counts_of(owners);
-    let mut least = first;
-    let mut most = first;
-    for number in 1..=NODES_MAX {
+    }
+    let mut counts = [0; PLACES];
+    count_owners(owners, &mut counts);
+    let total = total_weight(setup, members);
+    for number in 1..setup.nodes() + 1 {
         let node = Node::new(number).unwrap();
-        if members.has(node) {
-            least = lower_of(&counts, node, least);
-            most = higher_of(&counts, node, most);
+        if members.has(node) && !is_fair(base_of(setup, node, total), count_at(&counts, node)) {
+            return false;
         }
     }
-    count_at(&counts, most) - count_at(&counts, least) <= 1
+    true
 }
 
-/// The count of each node: that of node 1 comes first.
-pub fn counts_of(owners: &[Node]) -> [usize; PLACES]
-    ensures { (node : ℕ) → IsNodeNumber node → slice_index_or result (node - 1) 0 ≡ count_of node owners.now }
+/// Counts the partitions of each node: that of node 1 comes first. All counts are 0 before.
+pub fn count_owners(owners: &[Node], counts: &mut [u16; PLACES])
+    requires few { length owners.now ≤ PARTITIONS_MAX }
+    requires none { counts.old ≡ replicate NODES_MAX 0 }
+    ensures { (node : ℕ) → IsNodeNumber node → slice_index_or counts.new (node - 1) 0 ≡ count_of node owners.now }
 {
-    let mut counts = [0; PLACES];
     for owner in owners {
         counts[usize::from(owner.number() - 1)] += 1;
     }
-    counts
 }
 
 /// The node's count.
-pub fn count_at(counts: &[usize; PLACES], node: Node) -> usize
+pub fn count_at(counts: &[u16; PLACES], node: Node) -> u16
     ensures { result ≡ slice_index_or counts.now (node - 1) 0 }
 {
     counts[usize::from(node.number() - 1)]
 }
 
-// The one of the two that has the lower count.
-fn lower_of(counts: &[usize; PLACES], node: Node, other: Node) -> Node
-    ensures one { (result ≡ node) ⊎ (result ≡ other) }
-    ensures node { slice_index_or counts.now (result - 1) 0 ≤ slice_index_or counts.now (node - 1) 0 }
-    ensures other { slice_index_or counts.now (result - 1) 0 ≤ slice_index_or counts.now (other - 1) 0 }
+/// What the members weigh together.
+pub fn total_weight(setup: &Setup, members: &NodeSet) -> u32
+    requires { IsFallingBelow (setup.now.nodes + 1) members.now }
+    ensures total { result ≡ total_weight setup.now members.now }
+    ensures each { (m : ℕ) → Contains members.now m → (0 < weight_of setup.now m) × (weight_of setup.now m ≤ result) }
 {
-    if count_at(counts, node) < count_at(counts, other) {
-        node
-    } else {
-        other
+    let mut total = 0;
+    for number in 1..setup.nodes() + 1 {
+        let node = Node::new(number).unwrap();
+        if members.has(node) {
+            total += u32::from(setup.weight(node));
+        }
     }
+    total
 }
 
-// The one of the two that has the higher count.
-fn higher_of(counts: &[usize; PLACES], node: Node, other: Node) -> Node
-    ensures one { (result ≡ node) ⊎ (result ≡ other) }
-    ensures node { slice_index_or counts.now (node - 1) 0 ≤ slice_index_or counts.now (result - 1) 0 }
-    ensures other { slice_index_or counts.now (other - 1) 0 ≤ slice_index_or counts.now (result - 1) 0 }
+/// What the node owns at least, where the members weigh so much together.
+pub fn base_of(setup: &Setup, node: Node, total: u32) -> u16
+    requires node { node ≤ setup.now.nodes }
+    requires total { weight_of setup.now node ≤ total }
+    ensures base { (members : List ℕ) → total ≡ total_weight setup.now members → result ≡ base_of setup.now members node }
+    ensures within { result ≤ setup.now.partitions }
 {
-    if count_at(counts, node) > count_at(counts, other) {
-        node
-    } else {
-        other
-    }
+    (u32::from(setup.partitions()) * u32::from(setup.weight(node)) / total) as u16
+}
+
+// Whether so many partitions are the base, or one more.
+fn is_fair(base: u16, count: u16) -> bool
+    ensures { result ≡ is_fair base count }
+{
+    base <= count && count - base <= 1
 }

@@ -17,7 +17,8 @@ mod takers;
 mod text;
 
 pub use numeral::read_number;
-pub use planning::{PlanFault, TablePlan, plan};
+pub use pieces::Pieces;
+pub use planning::{PlanFault, TablePlan, plan, plan_in};
 pub use room::TableRoom;
 pub use table::{Table, TableFault};
 pub use text::push_owners;

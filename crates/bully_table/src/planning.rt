@@ -1,18 +1,18 @@
-ghost use Rattle.std.specs.Prelude.{◌≡◌, ◌≢◌, ◌↔◌, ◌+◌, ◌-◌, ◌<◌, ◌≤◌, ℕ, List, [], Some, None, map, take, length, slice_index_or, IfOk, IfErr, if◌then◌else◌};
+ghost use Rattle.std.specs.Prelude.{◌≡◌, ◌≢◌, ◌↔◌, ◌+◌, ◌-◌, ◌<◌, ◌≤◌, ℕ, List, [], All, Some, None, map, take, length, slice_index_or, IfOk, IfErr, if◌then◌else◌};
 ghost use Rattle.std.specs.List.{range_with_len};
 ghost use Rattle.std.specs.Option.{IfSome, option_copied};
 ghost use Rattle.bully_base.specs.NodeSet.{IsFallingBelow};
-ghost use Rattle.bully_base.specs.declared.TheConstants.{NODES_MAX};
+ghost use Rattle.bully_base.specs.declared.TheConstants.{PARTITIONS_MAX};
 ghost use Rattle.bully_base.specs.Setup.{Setup as SetupState, IsNodeNumber};
-ghost use Rattle.bully_table.specs.Balance.{count_of};
+ghost use Rattle.bully_table.specs.Balance.{count_of, total_weight};
 ghost use Rattle.bully_table.specs.Planning.{IsFewest, IsMostKept, moves_from, planned, owners_before, planned_owner, owner_at, stays};
 ghost use Rattle.bully_table.specs.Takers.{share};
 
-use crate::balance::{PLACES, count_at, counts_of};
-use crate::quotas::quotas_of;
+use crate::balance::{PLACES, count_at, count_owners};
+use crate::quotas::write_quotas;
 use crate::table::Table;
 use crate::takers::Takers;
-use bully_base::{NODES_MAX, Node, NodeSet, OutOfMemory, Setup};
+use bully_base::{Node, NodeSet, OutOfMemory, Setup};
 use std::alloc::{AllocError, Global};
 
 /// A planned table, with the certificate that no balanced table keeps more partitions where they are.
@@ -44,20 +44,23 @@ impl From<AllocError> for PlanFault {
     }
 }
 
-/// Plans a table that is balanced over the members and has the fewest moves from the old table, if there is one. The old
-/// table has the setup's partitions. Refused, in this order, as `NoMember`, `OutOfMemory`. The rule: docs/ALGORITHM.md.
+/// Plans a table that is balanced over the members, which are nodes of the setup, and has the fewest moves from the old
+/// table, if there is one. The old table has the setup's partitions. Refused, in this order, as `NoMember`, `OutOfMemory`.
+/// The rule: docs/ALGORITHM.md.
 ///
-/// A member's quota is the number of partitions divided by that of the members, rounded down. What the division leaves
-/// goes to the members one by one: first to those that own more than this in the old table, in rising number, and then to
-/// the others. A partition stays where its owner is a member, until the quota of that member is full. The others, in
-/// rising order, fill the members up to their quotas, in rising number.
+/// A member's base is the number of partitions times its weight, divided by what the members weigh together, and rounded
+/// down. What the bases leave goes to the members one by one: first to those that own more than their base in the old
+/// table, in rising number, and then to the others. That makes each member's quota. A partition stays where its owner is a
+/// member, until the quota of that member is full. The others, in rising order, fill the members up to their quotas, in
+/// rising number.
 pub fn plan(
     alloc: Global,
     setup: Setup,
     members: &NodeSet,
     old: Option<&Table>,
 ) -> Result<TablePlan, PlanFault>
-    requires { IfSome (option_copied old) (λ t. length t ≡ setup.partitions) }
+    requires nodes { All (λ m. m ≤ setup.nodes) members.now }
+    requires old { IfSome (option_copied old) (λ t. length t ≡ setup.partitions) }
     ensures member { IfOk result (λ _. members.now ≢ []) }
     ensures no_member { IfErr result (λ fault. (fault ≡ PlanFault.NoMember) ↔ (members.now ≡ [])) }
     ensures planned { IfOk result (λ plan.
@@ -69,6 +72,30 @@ pub fn plan(
     ensures moves { IfOk result (λ plan.
         plan.moves ≡ moves_from setup (option_copied old.entry) plan.table) }
     ensures certificate { IfOk result (λ plan. plan.moves ≡ setup.partitions - plan.bound) }
+{
+    plan_in(alloc, &setup, members, old)
+}
+
+/// The same as [`plan`].
+pub fn plan_in(
+    alloc: Global,
+    setup: &Setup,
+    members: &NodeSet,
+    old: Option<&Table>,
+) -> Result<TablePlan, PlanFault>
+    requires nodes { All (λ m. m ≤ setup.now.nodes) members.now }
+    requires old { IfSome (option_copied old) (λ t. length t ≡ setup.now.partitions) }
+    ensures member { IfOk result (λ _. members.now ≢ []) }
+    ensures no_member { IfErr result (λ fault. (fault ≡ PlanFault.NoMember) ↔ (members.now ≡ [])) }
+    ensures planned { IfOk result (λ plan.
+        plan.table ≡ planned setup.now (option_copied old.entry) members.now) }
+    ensures fewest { IfOk result (λ plan.
+        IsFewest setup.now (option_copied old.entry) plan.table members.now) }
+    ensures bound { IfOk result (λ plan.
+        IsMostKept setup.now (option_copied old.entry) members.now plan.bound) }
+    ensures moves { IfOk result (λ plan.
+        plan.moves ≡ moves_from setup.now (option_copied old.entry) plan.table) }
+    ensures certificate { IfOk result (λ plan. plan.moves ≡ setup.now.partitions - plan.bound) }
 {
     // `highest` also shows the proof that the members fall.
     if members.highest().is_none() {
@@ -96,9 +123,9 @@ fn owners_before(old: Option<&Table>) -> &[Node]
 }
 
 // How many partitions move; all of them where there is no old table.
-fn moves_from(setup: Setup, old: Option<&Table>, table: &Table) -> u16
+fn moves_from(setup: &Setup, old: Option<&Table>, table: &Table) -> u16
     requires { IfSome (option_copied old) (λ t. length t ≡ length table.now) }
-    ensures { result ≡ moves_from setup (option_copied old.entry) table.now }
+    ensures { result ≡ moves_from setup.now (option_copied old.entry) table.now }
 {
     match old {
         Some(old) => table.moves(old),
@@ -109,19 +136,21 @@ fn moves_from(setup: Setup, old: Option<&Table>, table: &Table) -> u16
 // The owners of the planned table. Refused where an allocation fails.
 fn planned_owners(
     alloc: Global,
-    setup: Setup,
+    setup: &Setup,
     members: &NodeSet,
     before: &[Node],
 ) -> Result<Vec<Node>, OutOfMemory>
-    requires some { members.now ≢ [] }
-    requires falling { IsFallingBelow (NODES_MAX + 1) members.now }
-    requires covers { length before.now ≤ setup.partitions }
-    ensures { IfOk result (λ owners. owners.items ≡ map (planned_owner setup before.now members.now) (range_with_len 0 setup.partitions)) }
+    requires falling { IsFallingBelow (setup.now.nodes + 1) members.now }
+    requires weighs { 0 < total_weight setup.now members.now }
+    requires covers { length before.now ≤ setup.now.partitions }
+    ensures { IfOk result (λ owners. owners.items ≡ map (planned_owner setup.now before.now members.now) (range_with_len 0 setup.now.partitions)) }
 {
-    let counts = counts_of(before);
-    let quotas = quotas_of(setup, members, &counts);
-    let mut takers = Takers::of(&quotas, &counts);
     let partitions = usize::from(setup.partitions());
+    let mut counts = [0; PLACES];
+    count_owners(before, &mut counts);
+    let mut quotas = [0; PLACES];
+    write_quotas(setup, members, &counts, &mut quotas);
+    let mut takers = Takers::of(&quotas, &counts);
     let mut owners = Vec::with_capacity(alloc, partitions)?;
     let mut seen = [0; PLACES];
     for place in 0..partitions {
@@ -138,13 +167,14 @@ fn planned_owners(
 // this one too.
 fn staying_owner(
     before: &[Node],
-    quotas: &[usize; PLACES],
+    quotas: &[u16; PLACES],
     place: usize,
-    seen: &mut [usize; PLACES],
+    seen: &mut [u16; PLACES],
 ) -> Option<Node>
+    requires few { length before.now ≤ PARTITIONS_MAX }
     requires seen { (m : ℕ) → IsNodeNumber m → slice_index_or seen.old (m - 1) 0 ≡ count_of m (take place before.now) }
     ensures seen { (m : ℕ) → IsNodeNumber m → slice_index_or seen.new (m - 1) 0 ≡ count_of m (take (place + 1) before.now) }
-    ensures owner { (setup : SetupState) (members : List ℕ) → IsFallingBelow (NODES_MAX + 1) members → ((m : ℕ) → IsNodeNumber m → slice_index_or quotas.now (m - 1) 0 ≡ share setup before.now members m) → result ≡ (if stays setup before.now members place then Some (owner_at before.now place) else None) }
+    ensures owner { (setup : SetupState) (members : List ℕ) → IsFallingBelow (setup.nodes + 1) members → ((m : ℕ) → IsNodeNumber m → slice_index_or quotas.now (m - 1) 0 ≡ share setup before.now members m) → result ≡ (if stays setup before.now members place then Some (owner_at before.now place) else None) }
 {
     let owner = *before.get(place)?;
     let index = usize::from(owner.number() - 1);

@@ -1,5 +1,6 @@
-ghost use Rattle.std.specs.Prelude.{◌≡◌, false, map, length, min, IfOk};
+ghost use Rattle.std.specs.Prelude.{◌≡◌, ◌≤◌, false, map, length, min, IfOk};
 ghost use Rattle.std.specs.List.{list_any};
+ghost use Rattle.bully_base.specs.declared.TheConstants.{NODES_MAX};
 ghost use Rattle.bully_base.specs.Setup.{is_node};
 ghost use Rattle.bully_table.specs.TableText.{pieces_of, names_nobody, is_no_number, owner_of};
 
@@ -20,9 +21,9 @@ pub struct Found {
 }
 
 /// Goes through the text's pieces, and takes no memory.
-pub fn look_through(setup: Setup, text: &[u8]) -> Found
+pub fn look_through(setup: &Setup, text: &[u8]) -> Found
     ensures count { result.count ≡ min (length (pieces_of text.now)) 65535 }
-    ensures names_nobody { result.names_nobody ≡ list_any (names_nobody setup) (pieces_of text.now) }
+    ensures names_nobody { result.names_nobody ≡ list_any (names_nobody setup.now) (pieces_of text.now) }
     ensures has_no_number { result.has_no_number ≡ list_any is_no_number (pieces_of text.now) }
 {
     let mut found = Found {
@@ -46,8 +47,8 @@ pub fn look_through(setup: Setup, text: &[u8]) -> Found
 }
 
 /// The owners that the text names. Refused where an allocation fails.
-pub fn read_owners(alloc: Global, setup: Setup, text: &[u8]) -> Result<Vec<Node>, OutOfMemory>
-    requires owners { list_any (names_nobody setup) (pieces_of text.now) ≡ false }
+pub fn read_owners(alloc: Global, setup: &Setup, text: &[u8]) -> Result<Vec<Node>, OutOfMemory>
+    requires owners { list_any (names_nobody setup.now) (pieces_of text.now) ≡ false }
     requires numbers { list_any is_no_number (pieces_of text.now) ≡ false }
     ensures { IfOk result (λ owners. owners.items ≡ map owner_of (pieces_of text.now)) }
 {
@@ -61,8 +62,9 @@ pub fn read_owners(alloc: Global, setup: Setup, text: &[u8]) -> Result<Vec<Node>
 }
 
 // Whether the setup has a node of this number.
-fn is_node(setup: Setup, number: u16) -> bool
-    ensures { result ≡ is_node setup number }
+fn is_node(setup: &Setup, number: u16) -> bool
+    ensures node { result ≡ is_node setup.now number }
+    ensures within { setup.now.nodes ≤ NODES_MAX }
 {
-    0 < number && number <= setup.nodes()
+    number <= setup.nodes() && 0 < number
 }

@@ -27,7 +27,7 @@ impl TableRoom {
     pub fn new(alloc: Global, setup: Setup) -> Result<TableRoom, OutOfMemory>
         ensures { IfOk result (λ r. r ≡ record { table = None; size = setup.partitions }) }
     {
-        let table = Table::all_owned(alloc, setup)?;
+        let table = Table::all_owned(alloc, &setup)?;
         Ok(TableRoom {
             table,
             is_full: false,

@@ -1,13 +1,12 @@
-ghost use Rattle.std.specs.Prelude.{◌≡◌, ◌↔◌, ◌<◌, ◌≤◌, length, slice_get, bytes_eq, IsTrue, IfOk, IfErr, Ok, Some};
+ghost use Rattle.std.specs.Prelude.{◌≡◌, ◌↔◌, ◌<◌, ◌≤◌, length, slice_get, bytes_eq, All, IsTrue, IfOk, IfErr, Ok, Some};
 ghost use Rattle.std.specs.Cmp.{partial_equiv_from_equiv};
 ghost use Rattle.std.specs.Cmp.Lexicographic.{nat_list_eq_equiv};
-ghost use Rattle.bully_base.specs.Setup.{Setup as SetupState};
 ghost use Rattle.bully_base.specs.declared.TheConstants.{PARTITIONS_MAX};
 ghost use Rattle.bully_table.specs.Balance.{IsBalanced};
 ghost use Rattle.bully_table.specs.Planning.{moves};
 ghost use Rattle.bully_table.specs.TableText.{IsRefusedFor, table_of_text};
 
-use crate::balance::{are_even, are_members};
+use crate::balance::{are_fair, are_members};
 use crate::moving::count_moves;
 use crate::reading::{look_through, read_owners};
 use bully_base::{Node, NodeSet, OutOfMemory, Setup};
@@ -97,14 +96,14 @@ impl Table {
         ensures length { IfOk result (λ t. length t ≡ setup.partitions) }
         ensures err { IfErr result (IsRefusedFor setup text.now) }
     {
-        Table::read_bytes(alloc, setup, text.as_bytes())
+        Table::read_in(alloc, &setup, text.as_bytes())
     }
 
     /// Reads the owners from bytes, as [`Table::read`] does. Bytes that aren't UTF-8 spell no owners.
-    pub fn read_bytes(alloc: Global, setup: Setup, text: &[u8]) -> Result<Table, TableFault>
-        ensures ok { IfOk result (λ t. table_of_text setup text.now ≡ Ok t) }
-        ensures length { IfOk result (λ t. length t ≡ setup.partitions) }
-        ensures err { IfErr result (IsRefusedFor setup text.now) }
+    pub fn read_in(alloc: Global, setup: &Setup, text: &[u8]) -> Result<Table, TableFault>
+        ensures ok { IfOk result (λ t. table_of_text setup.now text.now ≡ Ok t) }
+        ensures length { IfOk result (λ t. length t ≡ setup.now.partitions) }
+        ensures err { IfErr result (IsRefusedFor setup.now text.now) }
     {
         let found = look_through(setup, text);
         if found.count != setup.partitions() {
@@ -121,8 +120,8 @@ impl Table {
     }
 
     // A table of the setup's partitions, each owned by node 1.
-    pub(crate) fn all_owned(alloc: Global, setup: Setup) -> Result<Table, OutOfMemory>
-        ensures { IfOk result (λ t. length t ≡ setup.partitions) }
+    pub(crate) fn all_owned(alloc: Global, setup: &Setup) -> Result<Table, OutOfMemory>
+        ensures { IfOk result (λ t. length t ≡ setup.now.partitions) }
     {
         let first = Node::new(1).unwrap();
         let owners = vec![in alloc; first; usize::from(setup.partitions())]?;
@@ -184,11 +183,22 @@ impl Table {
         count_moves(&old.owners, &self.owners)
     }
 
-    /// Whether the table is balanced over the members: each owner is one, and the counts of two members
-    /// differ by one at most. The rule: docs/ALGORITHM.md.
-    pub fn is_balanced(&self, members: &NodeSet) -> bool
-        ensures { (setup : SetupState) → (IsTrue result ↔ IsBalanced setup self.now members.now) }
+    /// Whether the table, which has the setup's partitions, is balanced over the members, which are nodes of the setup:
+    /// each owner is a member, and each member owns its base, or one more. The rule: docs/ALGORITHM.md.
+    pub fn is_balanced(&self, setup: Setup, members: &NodeSet) -> bool
+        requires length { length self.now ≡ setup.partitions }
+        requires nodes { All (λ m. m ≤ setup.nodes) members.now }
+        ensures { IsTrue result ↔ IsBalanced setup self.now members.now }
     {
-        are_members(&self.owners, members) && are_even(&self.owners, members)
+        self.is_balanced_in(&setup, members)
+    }
+
+    /// The same as [`Table::is_balanced`].
+    pub fn is_balanced_in(&self, setup: &Setup, members: &NodeSet) -> bool
+        requires length { length self.now ≡ setup.now.partitions }
+        requires nodes { All (λ m. m ≤ setup.now.nodes) members.now }
+        ensures { IsTrue result ↔ IsBalanced setup.now self.now members.now }
+    {
+        are_members(&self.owners, members) && are_fair(setup, &self.owners, members)
     }
 }

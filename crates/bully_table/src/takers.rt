@@ -10,12 +10,12 @@ use std::marker::Model;
 /// The nodes that are still to take a partition, in rising number: each as often as its count is below its quota.
 #[derive(Drop)]
 pub struct Takers<'a> {
-    quotas: &'a [usize; PLACES],
-    counts: &'a [usize; PLACES],
+    quotas: &'a [u16; PLACES],
+    counts: &'a [u16; PLACES],
     /// Who takes the next ones.
     node: Node,
     /// How many of them.
-    room: usize,
+    room: u16,
 }
 
 impl<'a> Model for Takers<'a> {
@@ -29,7 +29,7 @@ impl<'a> Model for Takers<'a> {
 
 impl<'a> Takers<'a> {
     /// All that take, where the nodes have these quotas and counts.
-    pub fn of(quotas: &'a [usize; PLACES], counts: &'a [usize; PLACES]) -> Self
+    pub fn of(quotas: &'a [u16; PLACES], counts: &'a [u16; PLACES]) -> Self
         ensures { result ≡ takers_from (spare quotas.now counts.now) NODES_MAX 1 }
     {
         let node = Node::new(1).unwrap();
@@ -56,7 +56,7 @@ impl<'a> Takers<'a> {
 }
 
 // How many partitions the node takes.
-fn room_of(quotas: &[usize; PLACES], counts: &[usize; PLACES], node: Node) -> usize
+fn room_of(quotas: &[u16; PLACES], counts: &[u16; PLACES], node: Node) -> u16
     ensures { result ≡ spare quotas.now counts.now node }
 {
     count_at(quotas, node).saturating_sub(count_at(counts, node))

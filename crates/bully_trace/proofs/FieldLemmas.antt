@@ -34,3 +34,15 @@ fields-four (f ∷ g ∷ []) a b c d h x y z w = absurd (omega arith)
 fields-four (f ∷ g ∷ k ∷ []) a b c d h x y z w = absurd (omega arith)
 fields-four (f ∷ g ∷ k ∷ l ∷ []) a b c d h x y z w = cc (x, y, z, w)
 fields-four (f ∷ g ∷ k ∷ l ∷ m ∷ rest) a b c d h x y z w = absurd (omega arith)
+
+pub fields-six : (fs : List (List ℕ)) (a b c d e f : List ℕ) → length fs ≡ 6 → field_at fs 0 ≡ Some a → field_at fs 1 ≡ Some b → field_at fs 2 ≡ Some c → field_at fs 3 ≡ Some d → field_at fs 4 ≡ Some e → field_at fs 5 ≡ Some f
+    → fs ≡ a ∷ b ∷ c ∷ d ∷ e ∷ f ∷ []
+unfolding field_at
+fields-six [] a b c d e f h x y z w u v = absurd (omega arith)
+fields-six (g ∷ []) a b c d e f h x y z w u v = absurd (omega arith)
+fields-six (g ∷ k ∷ []) a b c d e f h x y z w u v = absurd (omega arith)
+fields-six (g ∷ k ∷ l ∷ []) a b c d e f h x y z w u v = absurd (omega arith)
+fields-six (g ∷ k ∷ l ∷ m ∷ []) a b c d e f h x y z w u v = absurd (omega arith)
+fields-six (g ∷ k ∷ l ∷ m ∷ n ∷ []) a b c d e f h x y z w u v = absurd (omega arith)
+fields-six (g ∷ k ∷ l ∷ m ∷ n ∷ o ∷ []) a b c d e f h x y z w u v = cc (x, y, z, w, u, v)
+fields-six (g ∷ k ∷ l ∷ m ∷ n ∷ o ∷ p ∷ rest) a b c d e f h x y z w u v = absurd (omega arith)

@@ -15,9 +15,9 @@ use Rattle.bully_world.proofs.ApplyLemmas.{room_of}
 use Rattle.bully_agree.proofs.Law.{agreement_lem}
 use Rattle.bully_agree.specs.Agreement.{Agreement}
 use Rattle.bully_trace.specs.declared.trace.Row.{Row}
-use Rattle.bully_trace.specs.declared.trace.Trace.{Trace}
 use Rattle.bully_trace.specs.declared.verdict.Verdict.{Verdict}
 use Rattle.bully_trace.specs.Judging.{HasJudged, IsJudgedOn, JudgeState}
+use Rattle.bully_trace.specs.Trace.{Trace}
 use Rattle.bully_trace.specs.Verdict.{AgreesAfterEachRow, IsJudged, IsVerdict, IsLawfulCount, events_of, is_true}
 
 -- behind the last row

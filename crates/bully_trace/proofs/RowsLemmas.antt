@@ -7,7 +7,8 @@ use Rattle.bully_trace.specs.declared.TheConstants.{ROWS_MAX}
 use Rattle.bully_trace.specs.declared.trace.Row.{Row}
 use Rattle.bully_trace.specs.declared.trace.TraceCause.{TraceCause}
 use Rattle.bully_trace.specs.declared.trace.TraceFault.{TraceFault}
-use Rattle.bully_trace.specs.Rows.{Record, fault_at, read_as, row_of, rows_from}
+use Rattle.bully_trace.specs.Headers.{Record}
+use Rattle.bully_trace.specs.Rows.{fault_at, read_as, row_of, rows_from}
 
 pub good-first : (setup : Setup) (number : ℕ) (fields : Record) (rest : List Record) (row : Row) → number ≤ ROWS_MAX + 1 → row_of setup fields ≡ Some row
     → rows_from setup number (fields ∷ rest) ≡ read_as (λ xs. row ∷ xs) (rows_from setup (number + 1) rest)

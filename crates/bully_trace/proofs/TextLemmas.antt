@@ -1,7 +1,9 @@
 -- Texts that grow by a piece.
-use Rattle.std.proofs.Common.{◌≡◌, ℕ, zero, suc, ◌+◌, List, [], ◌∷◌, ◌++◌, take, slice_get, Some, append_assoc, add-one, ap, arith}
+use Rattle.std.proofs.Common.{◌≡◌, ◌∙◌, ℕ, zero, suc, ◌+◌, ◌-◌, ◌<◌, List, [], ◌∷◌, ◌++◌, take, length, slice_get, Some, append_assoc, add-one, ap, sym, arith}
 use Rattle.std.proofs.lemmas.Grind.{common_steps}
+use Rattle.std.proofs.lemmas.Option.{slice_get-get_or}
 use Rattle.bully_base.specs.Places.{at_node}
+use Rattle.bully_base.specs.Setup.{IsSetup, Setup, weight_of}
 use Rattle.bully_world.specs.State.{MemberState, empty_state, members_of}
 use Rattle.bully_world.specs.World.{Member}
 use Rattle.bully_world.proofs.MembersOf.{member-members_of}
@@ -30,3 +32,10 @@ pub node_lines-next : (ms : List MemberState) (start text new line : List ℕ) (
 node_lines-next ms start text new line n i e was now is =
     let same = ap (λ (m : Member). m.vector) (member-members_of ms i) in
     grind (arith, e, was, now, is, same, add-one, append_assoc)
+
+-- the weight of the node behind so many
+pub weight-there : (setup : Setup) (before node weight : ℕ) → IsSetup setup → before < setup.nodes → before + 1 ≡ node → weight ≡ weight_of setup node → slice_get setup.weights before ≡ Some weight
+weight-there setup before node weight within low next is =
+    let place : node - 1 ≡ before = omega (arith, next) in
+    let inside : before < length setup.weights = omega (arith, low, within.weights.0) in
+    slice_get-get_or setup.weights before 0 inside ∙ ap Some (sym (rw place at is))

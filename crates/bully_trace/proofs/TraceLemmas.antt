@@ -2,22 +2,20 @@
 use Rattle.std.proofs.Common.{◌≡◌, ◌∙◌, ◌+◌, ◌≤◌, ◌<◌, ◌++◌, arith, Bool, true, false, ℕ, List, [], ◌∷◌, Option, Some, None, Ok, Err, refl, sym, ap, append_assoc}
 use Rattle.std.specs.Prelude.{IfOk, IfSome, IsOk, Result, option_map}
 use Rattle.std.proofs.lemmas.List.{append-nil, length-append}
-use Rattle.bully_base.specs.Setup.{Setup}
 use Rattle.bully_trace.specs.declared.TheConstants.{ROWS_MAX}
+use Rattle.bully_trace.specs.declared.header.Header.{Header}
 use Rattle.bully_trace.specs.declared.trace.Row.{Row}
-use Rattle.bully_trace.specs.declared.trace.Trace.{Trace}
 use Rattle.bully_trace.specs.declared.trace.TraceCause.{TraceCause}
 use Rattle.bully_trace.specs.declared.trace.TraceFault.{TraceFault}
-use Rattle.bully_trace.specs.Rows.{IsBehind, IsTraceOf, Record, fault_at, header_of, is_of_form, read_as, records_of, row_of, rows_from, trace_of}
+use Rattle.bully_trace.specs.Headers.{Record, header_of}
+use Rattle.bully_trace.specs.Rows.{IsBehind, IsTraceOf, fault_at, is_of_form, no_memory, read_as, records_of, row_of, rows_from, trace_of}
 use Rattle.bully_trace.specs.RecordsLeft.{EndsReading, HasRead, HasTaken, IsOutside, IsUnread, ReadSoFar, RowsLeft, Takes, rows_left}
+use Rattle.bully_trace.specs.Trace.{headed}
 use Rattle.bully_trace.proofs.RowsLemmas.{bad-first, good-first, late-first, rows-behind}
 
-abbrev as_trace : Setup → List Row → Trace
-as_trace setup rows = record { setup = setup; rows = rows }
-
-header-first : (setup : Setup) (first : Record) (rest : List Record) → header_of first ≡ Some setup
-    → trace_of (first ∷ rest) ≡ read_as (as_trace setup) (rows_from setup 2 rest)
-header-first setup first rest e = rw (e, trace_of) refl
+header-first : (header : Header) (first : Record) (rest : List Record) → header_of first ≡ Some header
+    → trace_of (first ∷ rest) ≡ read_as (headed header) (rows_from header.setup 2 rest)
+header-first header first rest e = rw (e, trace_of) refl
 
 -- a read that found a record, and one that found none
 took : (rest : List Record) (after : Option (List Record)) (found : Bool) (fields : Record) → Takes (Some rest) after found fields → found ≡ true
@@ -31,19 +29,19 @@ ended (first ∷ more) after found fields takes is = cc (takes.0, is)
 
 -- what the trace comes to is said by the records that are left
 trace-left : (records : List Record) (rows : List Row) (left : RowsLeft) (t : HasTaken records rows left)
-    → trace_of records ≡ read_as (as_trace left.setup) (read_as (λ xs. rows ++ xs) (rows_from left.setup (left.number + 1) t.rest))
+    → trace_of records ≡ read_as (headed left.header) (read_as (λ xs. rows ++ xs) (rows_from left.header.setup (left.number + 1) t.rest))
 trace-left records rows left t =
-    ap trace_of t.all ∙ header-first left.setup t.header (t.taken ++ t.rest) t.told
-    ∙ ap (read_as (as_trace left.setup)) (rows-behind left.setup 2 (left.number + 1) t.taken t.rest rows (omega (arith, t.counted)) t.mean)
+    ap trace_of t.all ∙ header-first left.header t.first (t.taken ++ t.rest) t.told
+    ∙ ap (read_as (headed left.header)) (rows-behind left.header.setup 2 (left.number + 1) t.taken t.rest rows (omega (arith, t.counted)) t.mean)
 
 -- the end of the text
 pub read-end : (known : Option (List ℕ)) (rows : List Row) (left : RowsLeft) (after : Option (List Record)) (found : Bool) (fields : Record)
-    → HasRead known rows left → Takes left.records after found fields → found ≡ false → IsTraceOf known (as_trace left.setup rows)
+    → HasRead known rows left → Takes left.records after found fields → found ≡ false → IsTraceOf known (headed left.header rows)
 read-end None rows left after found fields read takes is = tt
 read-end (Some bytes) rows left after found fields read takes is =
     let t = read.text in
     let end = ended t.rest after found fields (rw t.behind at takes) is in
-    trace-left (records_of bytes) rows left t ∙ rw end (ap (λ xs. Ok (as_trace left.setup xs)) (append-nil rows))
+    trace-left (records_of bytes) rows left t ∙ rw end (ap (λ xs. Ok (headed left.header xs)) (append-nil rows))
 
 -- a fault of form at the row behind those that were read
 fault-ends : (known : Option (List ℕ)) (fault : TraceFault) → is_of_form fault.cause ≡ true → IfSome known (λ bytes. trace_of (records_of bytes) ≡ Err fault)
@@ -68,11 +66,11 @@ read-late known rows left after found fields read takes is late =
     by_text (Some bytes) read =
         let t = read.text in
         let (more, rest, after) = took t.rest after found fields (rw t.behind at takes) is in
-        trace-left (records_of bytes) rows left t ∙ rw rest (rw (late-first left.setup (left.number + 1) fields more late) refl)
+        trace-left (records_of bytes) rows left t ∙ rw rest (rw (late-first left.header.setup (left.number + 1) fields more late) refl)
 
 -- a row of no form
 pub read-bad : (known : Option (List ℕ)) (rows : List Row) (left : RowsLeft) (after : Option (List Record)) (found : Bool) (fields : Record)
-    → HasRead known rows left → Takes left.records after found fields → found ≡ true → left.number + 1 ≤ ROWS_MAX + 1 → row_of left.setup fields ≡ None
+    → HasRead known rows left → Takes left.records after found fields → found ≡ true → left.number + 1 ≤ ROWS_MAX + 1 → row_of left.header.setup fields ≡ None
     → EndsReading known (fault_at (left.number + 1) TraceCause.BadRow)
 read-bad known rows left after found fields read takes is low none =
     fault-ends known (fault_at (left.number + 1) TraceCause.BadRow) refl (by_text known read)
@@ -83,7 +81,7 @@ read-bad known rows left after found fields read takes is low none =
     by_text (Some bytes) read =
         let t = read.text in
         let (more, rest, after) = took t.rest after found fields (rw t.behind at takes) is in
-        trace-left (records_of bytes) rows left t ∙ rw rest (rw (bad-first left.setup (left.number + 1) fields more low none) refl)
+        trace-left (records_of bytes) rows left t ∙ rw rest (rw (bad-first left.header.setup (left.number + 1) fields more low none) refl)
 
 -- a fault from outside, which is at the row behind those that were read where the reader failed
 pub read-failed : (known : Option (List ℕ)) (rows : List Row) (left : RowsLeft) (fault : TraceFault)
@@ -99,13 +97,13 @@ read-failed known rows left fault read outside at_row = record {
     by_text None read row = tt
     by_text (Some bytes) read row =
         let t = read.text in
-        let ok : IsOk (trace_of (t.header ∷ t.taken)) = rw (header-first left.setup t.header t.taken t.told, t.mean) refl in
-        (t.header ∷ t.taken, t.rest, t.all, omega (arith, row, t.counted), ok)
+        let ok : IsOk (trace_of (t.first ∷ t.taken)) = rw (header-first left.header t.first t.taken t.told, t.mean) refl in
+        (t.first ∷ t.taken, t.rest, t.all, omega (arith, row, t.counted), ok)
 
 -- one more row
 pub read-more : (known : Option (List ℕ)) (rows : List Row) (left now : RowsLeft) (found : Bool) (fields : Record) (row : Row)
-    → HasRead known rows left → Takes left.records now.records found fields → found ≡ true → left.number + 1 ≤ ROWS_MAX + 1 → row_of left.setup fields ≡ Some row
-    → now.setup ≡ left.setup → now.number ≡ left.number + 1 → HasRead known (rows ++ (row ∷ [])) now
+    → HasRead known rows left → Takes left.records now.records found fields → found ≡ true → left.number + 1 ≤ ROWS_MAX + 1 → row_of left.header.setup fields ≡ Some row
+    → now.header ≡ left.header → now.number ≡ left.number + 1 → HasRead known (rows ++ (row ∷ [])) now
 read-more known rows left now found fields row read takes is low told same next = record {
   number = omega (arith, length-append rows (row ∷ []), read.number, next);
   within = omega (arith, low, next);
@@ -118,34 +116,34 @@ read-more known rows left now found fields row read takes is low told same next 
         let t = read.text in
         let (more, rest, after) = took t.rest now.records found fields (rw t.behind at takes) is in
         record {
-          header = t.header;
+          first = t.first;
           taken = t.taken ++ (fields ∷ []);
           rest = more;
-          all = t.all ∙ ap (λ rs. t.header ∷ (t.taken ++ rs)) rest ∙ ap (λ rs. t.header ∷ rs) (sym (append_assoc t.taken (fields ∷ []) more));
+          all = t.all ∙ ap (λ rs. t.first ∷ (t.taken ++ rs)) rest ∙ ap (λ rs. t.first ∷ rs) (sym (append_assoc t.taken (fields ∷ []) more));
           told = rw same t.told;
           counted = omega (arith, length-append t.taken (fields ∷ []), t.counted, next);
-          mean = rw same (rows-behind left.setup 2 (left.number + 1) t.taken (fields ∷ []) rows (omega (arith, t.counted)) t.mean
-              ∙ rw (good-first left.setup (left.number + 1) fields [] row low told) refl);
+          mean = rw same (rows-behind left.header.setup 2 (left.number + 1) t.taken (fields ∷ []) rows (omega (arith, t.counted)) t.mean
+              ∙ rw (good-first left.header.setup (left.number + 1) fields [] row low told) refl);
           behind = after;
         }
 
 -- the header
-pub header-read : (known : Option (List ℕ)) (reader now : ReadSoFar) (found : Bool) (setup : Setup)
+pub header-read : (known : Option (List ℕ)) (reader now : ReadSoFar) (found : Bool) (header : Header)
     → IsUnread known reader → Takes reader.records now.records found now.fields → found ≡ true → now.number ≡ reader.number + 1
-    → header_of now.fields ≡ Some setup → HasRead known [] (rows_left setup now)
-header-read known reader now found setup unread takes is next told = record {
+    → header_of now.fields ≡ Some header → HasRead known [] (rows_left header now)
+header-read known reader now found header unread takes is next told = record {
   number = omega (arith, unread.number, next);
   within = omega (arith, unread.number, next);
   text = by_text known unread.records;
 }
   where
     by_text : (known : Option (List ℕ)) → reader.records ≡ option_map records_of known
-        → IfSome known (λ bytes. HasTaken (records_of bytes) [] (rows_left setup now))
+        → IfSome known (λ bytes. HasTaken (records_of bytes) [] (rows_left header now))
     by_text None e = tt
     by_text (Some bytes) e =
         let (more, all, behind) = took (records_of bytes) now.records found now.fields (rw e at takes) is in
         record {
-          header = now.fields;
+          first = now.fields;
           taken = [];
           rest = more;
           all = all;
@@ -155,10 +153,10 @@ header-read known reader now found setup unread takes is next told = record {
           behind = behind;
         }
 
-pub header-means : (known : Option (List ℕ)) (reader now : ReadSoFar) (found : Bool) (made : Result Setup TraceFault)
+pub header-means : (known : Option (List ℕ)) (reader now : ReadSoFar) (found : Bool) (made : Result Header TraceFault)
     → IsUnread known reader → Takes reader.records now.records found now.fields → found ≡ true → now.number ≡ reader.number + 1
-    → IfOk made (λ setup. header_of now.fields ≡ Some setup) → IfOk made (λ setup. HasRead known [] (rows_left setup now))
-header-means known reader now found (Ok setup) unread takes is next told = header-read known reader now found setup unread takes is next told
+    → IfOk made (λ header. header_of now.fields ≡ Some header) → IfOk made (λ header. HasRead known [] (rows_left header now))
+header-means known reader now found (Ok header) unread takes is next told = header-read known reader now found header unread takes is next told
 header-means known reader now found (Err fault) unread takes is next told = tt
 
 -- a first row that is no header, and a text without rows
@@ -181,3 +179,12 @@ header-missing known left after found fields e takes is = fault-ends known (faul
         → IfSome known (λ bytes. trace_of (records_of bytes) ≡ Err (fault_at 1 TraceCause.BadHeader))
     by_text None e = tt
     by_text (Some bytes) e = ap trace_of (ended (records_of bytes) after found fields (rw e at takes) is)
+
+-- no memory
+pub memory-ends : (known : Option (List ℕ)) → EndsReading known no_memory
+memory-ends known = record {
+  first = λ form. absurd (cc form);
+  behind = λ cause. absurd (cc cause);
+  read = λ cause. absurd (cc cause);
+  memory = λ _. refl;
+}

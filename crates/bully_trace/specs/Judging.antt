@@ -1,13 +1,17 @@
 -- A judge of rows that come one by one.
-use Rattle.std.specs.Prelude.{◌≡◌, ℕ, ◌+◌, List, ◌++◌, length, Option, None, Some, MatchOption}
+use Rattle.std.specs.Prelude.{◌≡◌, ◌⊎◌, ℕ, ◌+◌, List, [], ◌++◌, length, Option, None, Some, MatchOption}
 use Rattle.bully_base.specs.Setup.{Setup}
 use Rattle.bully_world.specs.State.{WorldState, world_of}
 use Rattle.bully_world.specs.World.{World, first_world}
+use Rattle.bully_trace.specs.declared.header.Header.{Header}
+use Rattle.bully_trace.specs.declared.header.Version.{Version}
 use Rattle.bully_trace.specs.declared.trace.Row.{Row}
 use Rattle.bully_trace.specs.declared.verdict.Verdict.{Verdict}
 use Rattle.bully_trace.specs.declared.trace.TraceCause.{TraceCause}
-use Rattle.bully_trace.specs.RecordsLeft.{EndsReading, HasRead, IsUnread, ReadSoFar, RowsLeft, rows_left}
-use Rattle.bully_trace.specs.Rows.{IsTraceOf, fault_at}
+use Rattle.bully_trace.specs.declared.trace.TraceFault.{TraceFault}
+use Rattle.bully_trace.specs.Headers.{Record, header_of}
+use Rattle.bully_trace.specs.RecordsLeft.{EndsReading, HasRead, IsUnread, ReadSoFar, rows_left}
+use Rattle.bully_trace.specs.Rows.{IsTraceOf, fault_at, no_memory}
 use Rattle.bully_trace.specs.Verdict.{IsJudged}
 
 -- the world that the rows were taken to, and the first verdict that isn't lawful
@@ -28,19 +32,32 @@ pub record HasJudged (setup : Setup) (rows : List Row) (judge : JudgeState) : Ty
   pub judged : (more : List Row) (verdict : Verdict) (w : World) → IsJudgedOn judge (length rows + 2) more verdict w
       → IsJudged setup (first_world setup) 0 2 (rows ++ more) verdict w
 
--- the rows that were read of a text were judged
-abbrev pub AreJudged : Option (List ℕ) → RowsLeft → JudgeState → Type 0
-AreJudged known left judge = (rows : List Row) × HasRead known rows left × HasJudged left.setup rows judge
+-- the judge begins behind a header of these fields
+abbrev pub Begins : Record → JudgeState → Type 0
+Begins fields judge = (header : Header) × (header_of fields ≡ Some header) × HasJudged header.setup [] judge
+
+-- why it doesn't begin: the fields are no header, or there is no memory
+abbrev pub IsNoStart : Record → TraceFault → Type 0
+IsNoStart fields fault = ((header_of fields ≡ None) × (fault ≡ fault_at 1 TraceCause.BadHeader)) ⊎ (fault ≡ no_memory)
+
+-- a header of this version and this setup
+abbrev pub header_with : Version → Setup → Header
+header_with version setup = record { version = version; setup = setup }
+
+-- the rows that were read of a text, behind a header of either version, were judged
+abbrev pub AreJudged : Option (List ℕ) → ReadSoFar → JudgeState → Type 0
+AreJudged known reader judge =
+    (version : Version) × (rows : List Row) × HasRead known rows (rows_left (header_with version judge.world.setup) reader) × HasJudged judge.world.setup rows judge
 
 -- what was read of a text was judged: nothing of it yet, or the rows behind its header
 abbrev pub IsJudgedSoFar : Option (List ℕ) → ReadSoFar → Option JudgeState → Type 0
 IsJudgedSoFar known reader None = IsUnread known reader
-IsJudgedSoFar known reader (Some judge) = AreJudged known (rows_left judge.world.setup reader) judge
+IsJudgedSoFar known reader (Some judge) = AreJudged known reader judge
 
 -- all rows of a text were judged
 abbrev pub AreAllJudged : Option (List ℕ) → Setup → JudgeState → Type 0
 AreAllJudged known setup judge =
-    (rows : List Row) × IsTraceOf known (record { setup = setup; rows = rows }) × HasJudged setup rows judge
+    (version : Version) × (rows : List Row) × IsTraceOf known (record { version = version; setup = setup; rows = rows }) × HasJudged setup rows judge
 
 -- a text was read to its end: it has no header, or all its rows were judged
 abbrev pub IsJudgedToEnd : Option (List ℕ) → Option JudgeState → Type 0

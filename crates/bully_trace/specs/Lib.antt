@@ -1,4 +1,6 @@
 pub mod Words
+pub mod Headers
+pub mod Trace
 pub mod Rows
 pub mod RecordsLeft
 pub mod Verdict

@@ -3,12 +3,13 @@ use Rattle.std.specs.Prelude.{◌≡◌, ◌≢◌, ℕ, ◌+◌, ◌≤◌, Boo
 use Rattle.csv.specs.Reading.{Ready, default_config, has_failed, is_flexible, reader_config, reader_state, reader_trim, records_from, source_of}
 use Rattle.csv.specs.declared.reader.Reader.{Reader}
 use Rattle.csv.specs.declared.reader.Trim.TheVariants as trim
-use Rattle.bully_base.specs.Setup.{Setup}
 use Rattle.bully_trace.specs.declared.TheConstants.{ROWS_MAX}
+use Rattle.bully_trace.specs.declared.header.Header.{Header}
 use Rattle.bully_trace.specs.declared.trace.Row.{Row}
 use Rattle.bully_trace.specs.declared.trace.TraceCause.{TraceCause}
 use Rattle.bully_trace.specs.declared.trace.TraceFault.{TraceFault}
-use Rattle.bully_trace.specs.Rows.{IsFirstFault, IsReadAtItsRow, Record, header_of, is_of_form, records_of, rows_from}
+use Rattle.bully_trace.specs.Headers.{Record, header_of}
+use Rattle.bully_trace.specs.Rows.{IsFirstFault, IsReadAtItsRow, is_of_form, records_of, rows_from}
 
 -- the reader takes the records of a text as they stand, one a read
 abbrev pub IsPlain : {R : Type 0} → Reader R → Type 0
@@ -41,26 +42,26 @@ pub record IsUnread (known : Option (List ℕ)) (reader : ReadSoFar) : Type 0 wh
   pub number : reader.number ≡ 0
   pub records : reader.records ≡ option_map records_of known
 
--- what is still to be read behind the header of a trace: the setup that it tells, the number of the row that was read
--- last, and the records, where the reader's bytes are known
+-- what is still to be read behind the header of a trace: what it tells, the number of the row that was read last, and the
+-- records, where the reader's bytes are known
 pub record RowsLeft : Type 0 where
-  pub setup : Setup
+  pub header : Header
   pub number : ℕ
   pub records : Option (List Record)
 
--- the rows that a reader has left of a trace with this setup
-abbrev pub rows_left : Setup → ReadSoFar → RowsLeft
-rows_left setup reader = record { setup = setup; number = reader.number; records = reader.records }
+-- the rows that a reader has left of a trace with this header
+abbrev pub rows_left : Header → ReadSoFar → RowsLeft
+rows_left header reader = record { header = header; number = reader.number; records = reader.records }
 
--- of these records the header and then these rows were taken, without a fault, and the others are left
+-- of these records the first and then these rows were taken, without a fault, and the others are left
 pub record HasTaken (records : List Record) (rows : List Row) (left : RowsLeft) : Type 0 where
-  pub header : Record
+  pub first : Record
   pub taken : List Record
   pub rest : List Record
-  pub all : records ≡ header ∷ (taken ++ rest)
-  pub told : header_of header ≡ Some left.setup
+  pub all : records ≡ first ∷ (taken ++ rest)
+  pub told : header_of first ≡ Some left.header
   pub counted : length taken + 1 ≡ left.number
-  pub mean : rows_from left.setup 2 taken ≡ Ok rows
+  pub mean : rows_from left.header.setup 2 taken ≡ Ok rows
   pub behind : left.records ≡ Some rest
 
 -- these rows were read of a text

@@ -1,47 +1,18 @@
 -- The rows of a trace: what the records of its text mean, or the first faulty row.
-use Rattle.std.specs.Prelude.{◌≡◌, ◌⊎◌, ℕ, ◌+◌, ◌++◌, length, ⊤, IfSome, IsOk, IsTrue, Bool, true, false, List, [], ◌∷◌, Option, Some, None, Result, Ok, Err, ◌&&◌, nat_lt, nat_le, codes, option_map, option_and_then, if◌then◌else◌}
+use Rattle.std.specs.Prelude.{◌≡◌, ◌⊎◌, ℕ, ◌+◌, ◌++◌, length, ⊤, IfSome, IsOk, IsTrue, Bool, true, false, List, [], ◌∷◌, Option, Some, None, Result, Ok, Err, nat_lt, codes, option_map, option_and_then, if◌then◌else◌}
 use Rattle.std.specs.Result.{result_ok}
 use Rattle.std.specs.Str.{bytes_eq}
 use Rattle.csv.specs.Reading.{records, default_config, strip_bom}
-use Rattle.bully_base.specs.declared.TheConstants.{NODES_MAX, PARTITIONS_MAX, EVENTS_MAX}
 use Rattle.bully_base.specs.Setup.{Setup}
-use Rattle.bully_table.specs.Numeral.{number_of}
 use Rattle.bully_table.specs.TableText.{table_of_text}
 use Rattle.bully_world.specs.declared.event.Event.{Event}
 use Rattle.bully_trace.specs.declared.TheConstants.{ROWS_MAX}
 use Rattle.bully_trace.specs.declared.trace.Row.{Row}
-use Rattle.bully_trace.specs.declared.trace.Trace.{Trace}
 use Rattle.bully_trace.specs.declared.trace.TraceCause.{TraceCause}
 use Rattle.bully_trace.specs.declared.trace.TraceFault.{TraceFault}
+use Rattle.bully_trace.specs.Headers.{Record, header_of, node_in}
+use Rattle.bully_trace.specs.Trace.{Trace, headed}
 use Rattle.bully_trace.specs.Words.{event_named, plan_word, status_named}
-
--- a record: its fields, each a list of bytes
-abbrev pub Record : Type 0
-Record = List (List ℕ)
-
--- the number, where it is from 1 to the limit
-abbrev pub within : ℕ → ℕ → Option ℕ
-within limit n = if nat_lt 0 n && nat_le n limit then Some n else None
-
-abbrev pub node_in : List ℕ → Option ℕ
-node_in text = option_and_then (within NODES_MAX) (number_of text)
-
-abbrev pub partitions_in : List ℕ → Option ℕ
-partitions_in text = option_and_then (within PARTITIONS_MAX) (number_of text)
-
-abbrev pub setup_in : List ℕ → List ℕ → Option Setup
-setup_in nodes partitions =
-    option_and_then (λ n. option_map (λ p. record { nodes = n; partitions = p; events_max = EVENTS_MAX }) (partitions_in partitions)) (node_in nodes)
-
--- what the first record means
-abbrev pub header_of : Record → Option Setup
-header_of [] = None
-header_of (a ∷ []) = None
-header_of (a ∷ b ∷ []) = None
-header_of (a ∷ b ∷ c ∷ []) = None
-header_of (word ∷ version ∷ nodes ∷ partitions ∷ []) =
-    if bytes_eq word (codes "bully") && bytes_eq version (codes "1") then setup_in nodes partitions else None
-header_of (a ∷ b ∷ c ∷ d ∷ e ∷ rest) = None
 
 -- a node, or none
 abbrev pub coordinator_in : List ℕ → Option (Option ℕ)
@@ -89,7 +60,7 @@ trace_of [] = Err (fault_at 1 TraceCause.BadHeader)
 trace_of (first ∷ rest) =
     elim (header_of first) [
       | None ↦ Err (fault_at 1 TraceCause.BadHeader)
-      | Some setup ↦ read_as (λ rows. record { setup = setup; rows = rows }) (rows_from setup 2 rest)
+      | Some header ↦ read_as (headed header) (rows_from header.setup 2 rest)
     ]
 
 -- the records of a text, as `csv` gives them

@@ -6,10 +6,11 @@ use Rattle.bully_base.specs.Setup.{Setup}
 use Rattle.bully_table.specs.TableText.{owners_text}
 use Rattle.bully_world.specs.declared.event.Event.{Event}
 use Rattle.bully_world.specs.Cause.{node_of}
+use Rattle.bully_trace.specs.declared.header.Version.{Version}
 use Rattle.bully_trace.specs.declared.trace.Row.{Row}
-use Rattle.bully_trace.specs.declared.trace.Trace.{Trace}
+use Rattle.bully_trace.specs.Trace.{Trace}
 use Rattle.bully_trace.specs.VerdictText.{node_text}
-use Rattle.bully_trace.specs.Words.{event_word, plan_word, status_word}
+use Rattle.bully_trace.specs.Words.{event_word, keeps_word, plan_word, status_word}
 
 abbrev pub line_of : List (List ℕ) → List ℕ
 line_of fields = join_with_byte 44 fields ++ codes "\n"
@@ -27,8 +28,11 @@ abbrev pub rows_text : List Row → List ℕ
 rows_text [] = []
 rows_text (row ∷ rows) = line_of (row_fields row) ++ rows_text rows
 
-abbrev pub header_fields : Setup → List (List ℕ)
-header_fields setup = codes "bully" ∷ codes "1" ∷ decimal setup.nodes ∷ decimal setup.partitions ∷ []
+-- the weights of a header of version 2 are parted by spaces
+abbrev pub header_fields : Version → Setup → List (List ℕ)
+header_fields Version.One setup = codes "bully" ∷ codes "1" ∷ decimal setup.nodes ∷ decimal setup.partitions ∷ []
+header_fields Version.Two setup =
+    codes "bully" ∷ codes "2" ∷ decimal setup.nodes ∷ decimal setup.partitions ∷ owners_text 32 setup.weights ∷ keeps_word setup.keeps ∷ []
 
 abbrev pub trace_text : Trace → List ℕ
-trace_text trace = line_of (header_fields trace.setup) ++ rows_text trace.rows
+trace_text trace = line_of (header_fields trace.version trace.setup) ++ rows_text trace.rows

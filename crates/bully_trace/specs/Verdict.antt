@@ -14,8 +14,8 @@ use Rattle.bully_world.specs.World.{World, vector, first_world}
 use Rattle.bully_agree.specs.Agreement.{Agreement}
 use Rattle.bully_trace.specs.declared.trace.Claim.{Claim}
 use Rattle.bully_trace.specs.declared.trace.Row.{Row}
-use Rattle.bully_trace.specs.declared.trace.Trace.{Trace}
 use Rattle.bully_trace.specs.declared.verdict.Verdict.{Verdict}
+use Rattle.bully_trace.specs.Trace.{Trace}
 
 abbrev pub same_status : Status → Status → Bool
 same_status Down s = is_down s

@@ -5,10 +5,10 @@ use Rattle.bully_base.specs.Setup.{Setup}
 use Rattle.bully_table.specs.TableText.{owners_text}
 use Rattle.bully_handlers.specs.Vector.{Vector}
 use Rattle.bully_world.specs.World.{World, vector}
-use Rattle.bully_trace.specs.declared.trace.Trace.{Trace}
 use Rattle.bully_trace.specs.declared.trace.TraceCause.{TraceCause}
 use Rattle.bully_trace.specs.declared.verdict.Verdict.{Verdict}
 use Rattle.bully_trace.specs.Rows.{records_of, trace_of}
+use Rattle.bully_trace.specs.Trace.{Trace}
 use Rattle.bully_trace.specs.Verdict.{IsVerdict}
 use Rattle.bully_trace.specs.Words.{cause_word, status_word}
 

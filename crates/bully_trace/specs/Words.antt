@@ -1,5 +1,5 @@
 -- The words of a trace and of a verdict, each once: for reading and for writing.
-use Rattle.std.specs.Prelude.{ℕ, List, [], ◌∷◌, Option, Some, None, codes, if◌then◌else◌}
+use Rattle.std.specs.Prelude.{ℕ, Bool, true, false, List, [], ◌∷◌, Option, Some, None, codes, if◌then◌else◌}
 use Rattle.std.specs.Str.{bytes_eq}
 use Rattle.bully_base.specs.declared.node.Status.{Status}
 use Rattle.bully_base.specs.declared.node.Status.TheVariants.{Down, Election, Reorganization, Normal}
@@ -29,6 +29,11 @@ status_word Election = codes "election"
 status_word Reorganization = codes "reorganization"
 status_word Normal = codes "normal"
 
+-- whether tasks are kept over a crash, as a header says it
+abbrev pub keeps_word : Bool → List ℕ
+keeps_word true = codes "keep"
+keeps_word false = codes "clear"
+
 abbrev pub cause_word : Refused → List ℕ
 cause_word Full = codes "Full"
 cause_word BadNode = codes "BadNode"
@@ -56,3 +61,6 @@ event_named word i =
 
 abbrev pub status_named : List ℕ → Option Status
 status_named word = first_named status_word word (Down ∷ Election ∷ Reorganization ∷ Normal ∷ [])
+
+abbrev pub keeps_named : List ℕ → Option Bool
+keeps_named word = first_named keeps_word word (true ∷ false ∷ [])

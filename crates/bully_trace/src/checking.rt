@@ -1,10 +1,10 @@
-ghost use Rattle.std.specs.Prelude.{◌≡◌, ◌≢◌, ◌⊎◌, ◌++◌, ℕ, List, [], Option, None, MatchOption, IfOk, IfErr, OnOk};
+ghost use Rattle.std.specs.Prelude.{◌≡◌, ◌≢◌, ◌⊎◌, ◌++◌, ℕ, List, Option, None, MatchOption, IfOk, IfErr, OnOk};
 ghost use Rattle.std.specs.Io.KnownBytes.{Appends};
 ghost use Rattle.std.specs.String.{string_bytes};
 ghost use Rattle.bully_trace.specs.Rows.{HasNoFault, IsFirstFault, IsOfWriting, IsReadAtItsRow, OfTrace};
 ghost use Rattle.bully_base.specs.Setup.{Setup as SetupState};
 ghost use Rattle.bully_trace.specs.declared.trace.Row.{Row as RowState};
-ghost use Rattle.bully_trace.specs.Judging.{AreAllJudged, HasJudged, IsJudgedToEnd};
+ghost use Rattle.bully_trace.specs.Judging.{AreAllJudged, Begins, HasJudged, IsJudgedToEnd, IsNoStart};
 ghost use Rattle.bully_trace.specs.RecordsLeft.{EndsReading, IsUnread};
 ghost use Rattle.bully_trace.specs.Verdict.{IsJudged, IsLawfulCount, AgreesAfterEachRow};
 ghost use Rattle.bully_trace.specs.VerdictText.{IsJudgedAs, verdict_text, node_lines};
@@ -16,7 +16,7 @@ use crate::row_reader::{RowReader, no_header};
 use crate::text::{push_node_line, push_verdict_head};
 use crate::writing::not_written;
 use crate::{TraceCause, TraceFault, Verdict};
-use bully_base::{Node, OutOfMemory, Setup};
+use bully_base::{Node, OutOfMemory};
 use bully_world::World;
 use std::alloc::Global;
 use std::io::{Read, Write};
@@ -90,19 +90,25 @@ fn judge_each<R: Read + Drop>(
                 None => return Err(rows.bad_row()),
             }
         } else {
-            begin(alloc, rows.header()?, judge)?;
+            begin(alloc, rows, judge)?;
         }
     }
     Ok(())
 }
 
-// The judge begins, before any row.
-// (out of line, and by a reference: else room for a judge would be cleared at each row)
+// The judge begins behind the header, before any row.
+// (out of line, and by a reference: else room for a header and a judge would be cleared at each row)
 #[inline(never)]
-fn begin(alloc: Global, setup: Setup, judge: &mut Option<Judge>) -> Result<(), OutOfMemory>
-    ensures { OnOk result (MatchOption judge.new ⊥ (λ judge. HasJudged setup [] judge)) }
+fn begin<R: Read + Drop>(
+    alloc: Global,
+    rows: &RowReader<R>,
+    judge: &mut Option<Judge>,
+) -> Result<(), TraceFault>
+    ensures begun { OnOk result (MatchOption judge.new ⊥ (λ judge. Begins rows.now.fields judge)) }
+    ensures fault { IfErr result (IsNoStart rows.now.fields) }
 {
-    *judge = Some(Judge::new(alloc, setup)?);
+    let header = rows.header()?;
+    *judge = Some(Judge::new(alloc, header.setup)?);
     Ok(())
 }
 

@@ -8,6 +8,7 @@ ghost use Rattle.std.specs.Prelude.{◌≡◌};
 ghost use Rattle.bully_trace.specs.declared.TheConstants.{ROWS_MAX};
 
 mod checking;
+mod header;
 mod judging;
 mod reading;
 mod row;
@@ -19,6 +20,7 @@ mod words;
 mod writing;
 
 pub use checking::check;
+pub use header::Version;
 pub use reading::read_trace;
 pub use trace::{Claim, Row, Rows, Trace, TraceCause, TraceFault};
 pub use verdict::Verdict;

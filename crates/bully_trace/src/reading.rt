@@ -1,11 +1,13 @@
 ghost use Rattle.std.specs.Prelude.{◌≡◌, ◌≢◌, ◌≤◌, ℕ, List, [], Option, ◌+◌, length, IfErr, IfOk, OnOk};
+ghost use Rattle.bully_trace.specs.Headers.{IsVersionFor};
 ghost use Rattle.bully_trace.specs.Rows.{IsFirstFault, IsReadAtItsRow, IsTraceOf};
+ghost use Rattle.bully_trace.specs.Trace.{headed};
 ghost use Rattle.bully_trace.specs.declared.TheConstants.{ROWS_MAX};
 ghost use Rattle.bully_trace.specs.RecordsLeft.{EndsReading, HasRead, IsUnread, rows_left};
 
+use crate::header::Header;
 use crate::row_reader::{RowReader, no_header};
 use crate::trace::{Row, Rows, Trace, TraceCause, TraceFault};
-use bully_base::Setup;
 use std::alloc::Global;
 use std::io::Read;
 
@@ -30,20 +32,22 @@ fn read_all<R: Read + Drop>(alloc: Global, rows: &mut RowReader<R>) -> Result<Tr
     ensures read { (known : Option (List ℕ)) → IsUnread known rows.old → IfOk result (IsTraceOf known) }
     ensures fault { (known : Option (List ℕ)) → IsUnread known rows.old → IfErr result (EndsReading known) }
 {
-    let setup = read_setup(rows)?;
+    let header = take_header(rows)?;
     let mut read = Vec::new(alloc);
-    match read_rows(alloc, setup, rows, &mut read) {
+    match read_rows(alloc, &header, rows, &mut read) {
         Ok(()) => Ok(Trace {
-            setup,
+            version: header.version,
+            setup: header.setup,
             rows: Rows::from_vec(read),
         }),
         Err(fault) => Err(fault),
     }
 }
 
-// The setup of the header, which is the first row.
-fn read_setup<R: Read + Drop>(rows: &mut RowReader<R>) -> Result<Setup, TraceFault>
-    ensures read { (known : Option (List ℕ)) → IsUnread known rows.old → IfOk result (λ setup. HasRead known [] (rows_left setup rows.new)) }
+// Takes the header, which is the first row.
+fn take_header<R: Read + Drop>(rows: &mut RowReader<R>) -> Result<Header, TraceFault>
+    ensures read { (known : Option (List ℕ)) → IsUnread known rows.old → IfOk result (λ header. HasRead known [] (rows_left header rows.new)) }
+    ensures fits { IfOk result (λ header. IsVersionFor header.version header.setup) }
     ensures counted { OnOk result (rows.new.number ≡ rows.old.number + 1) }
     ensures fault { (known : Option (List ℕ)) → IsUnread known rows.old → IfErr result (EndsReading known) }
 {
@@ -53,21 +57,21 @@ fn read_setup<R: Read + Drop>(rows: &mut RowReader<R>) -> Result<Setup, TraceFau
     rows.header()
 }
 
-// Reads all rows that are left of a trace with this setup.
+// Reads all rows that are left of a trace with this header.
 fn read_rows<R: Read + Drop>(
     alloc: Global,
-    setup: Setup,
+    header: &Header,
     rows: &mut RowReader<R>,
     read: &mut Vec<Row>,
 ) -> Result<(), TraceFault>
     requires empty { read.old.items ≡ [] }
     requires begun { 1 ≤ rows.old.number }
-    ensures read { (known : Option (List ℕ)) → HasRead known [] (rows_left setup rows.old) → OnOk result (IsTraceOf known (record { setup = setup; rows = read.new.items })) }
+    ensures read { (known : Option (List ℕ)) → HasRead known [] (rows_left header.now rows.old) → OnOk result (IsTraceOf known (headed header.now read.new.items)) }
     ensures within { OnOk result (length read.new.items ≤ ROWS_MAX) }
-    ensures fault { (known : Option (List ℕ)) → HasRead known [] (rows_left setup rows.old) → IfErr result (EndsReading known) }
+    ensures fault { (known : Option (List ℕ)) → HasRead known [] (rows_left header.now rows.old) → IfErr result (EndsReading known) }
 {
     while rows.advance()? {
-        match rows.row(alloc, setup)? {
+        match rows.row(alloc, &header.setup)? {
             Some(row) => read.push(row)?,
             None => return Err(rows.bad_row()),
         }

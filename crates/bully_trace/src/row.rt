@@ -4,35 +4,24 @@ ghost use Rattle.csv.specs.Records.{fields_of, field_at};
 ghost use Rattle.bully_base.specs.Setup.{Setup as SetupState};
 ghost use Rattle.bully_table.specs.Numeral.{number_of};
 ghost use Rattle.bully_trace.specs.declared.trace.Row.{Row};
-ghost use Rattle.bully_trace.specs.Rows.{row_of, header_of, within, node_in, coordinator_in, claim_in};
+ghost use Rattle.bully_trace.specs.Headers.{node_in, within};
+ghost use Rattle.bully_trace.specs.Rows.{claim_in, coordinator_in, row_of};
 
 use crate::trace::{Claim, Row};
 use crate::words::{PLAN, event_named, is_word, status_named};
-use bully_base::{EVENTS_MAX, NODES_MAX, Node, OutOfMemory, PARTITIONS_MAX, Setup};
+use bully_base::{NODES_MAX, Node, OutOfMemory, Setup};
 use bully_table::{Table, TableFault, read_number};
 use bully_world::Event;
 use csv::ByteRecord;
 use std::alloc::{AllocError, Global};
 
-/// The setup that the first record of a trace tells; none where it is no header of version 1.
-pub fn read_header(row: &ByteRecord) -> Option<Setup>
-    ensures { result ≡ header_of (fields_of row.now) }
-{
-    if row.len() != 4 {
-        return None;
-    }
-    let word = field(row, 0);
-    let version = field(row, 1);
-    setup_in(word, version, field(row, 2), field(row, 3))
-}
-
 /// The row that its record tells; none where it has no form that the profile lists. Refused where an allocation fails.
 pub fn read_row(
     alloc: Global,
-    setup: Setup,
+    setup: &Setup,
     fields: &ByteRecord,
 ) -> Result<Option<Row>, OutOfMemory>
-    ensures { IfOk result (λ row. row ≡ row_of setup (fields_of fields.now)) }
+    ensures { IfOk result (λ row. row ≡ row_of setup.now (fields_of fields.now)) }
 {
     match fields.len() {
         2 => Ok(event_row(field(fields, 0), field(fields, 1))),
@@ -48,24 +37,12 @@ pub fn read_row(
     }
 }
 
-// The field at a place that the record has.
-fn field(row: &ByteRecord, place: usize) -> &[u8]
+/// The field at a place that the record has.
+pub fn field(row: &ByteRecord, place: usize) -> &[u8]
     requires { place < length (fields_of row.now) }
     ensures { field_at (fields_of row.now) place ≡ Some result.now }
 {
     row.get(place).unwrap()
-}
-
-// What the four fields of the first record mean.
-fn setup_in(word: &[u8], version: &[u8], nodes: &[u8], partitions: &[u8]) -> Option<Setup>
-    ensures { result ≡ header_of (word.now ∷ version.now ∷ nodes.now ∷ partitions.now ∷ []) }
-{
-    if !is_word(word, "bully") || !is_word(version, "1") {
-        return None;
-    }
-    let nodes = number_within(nodes, NODES_MAX)?;
-    let partitions = number_within(partitions, PARTITIONS_MAX)?;
-    Setup::new(nodes, partitions, EVENTS_MAX).ok()
 }
 
 // What two fields mean.
@@ -79,12 +56,12 @@ fn event_row(word: &[u8], node: &[u8]) -> Option<Row>
 // What three fields mean.
 fn plan_row(
     alloc: Global,
-    setup: Setup,
+    setup: &Setup,
     word: &[u8],
     node: &[u8],
     owners: &[u8],
 ) -> Result<Option<Row>, OutOfMemory>
-    ensures { IfOk result (λ row. row ≡ row_of setup (word.now ∷ node.now ∷ owners.now ∷ [])) }
+    ensures { IfOk result (λ row. row ≡ row_of setup.now (word.now ∷ node.now ∷ owners.now ∷ [])) }
 {
     if !is_word(word, PLAN) {
         return Ok(None);
@@ -92,7 +69,7 @@ fn plan_row(
     let Some(node) = read_node(node) else {
         return Ok(None);
     };
-    match Table::read_bytes(alloc, setup, owners) {
+    match Table::read_in(alloc, setup, owners) {
         Ok(table) => Ok(Some(Row::Event(Event::Plan(node, table)))),
         Err(TableFault::OutOfMemory) => Err(AllocError),
         Err(_) => Ok(None),
@@ -140,8 +117,8 @@ fn read_node(text: &[u8]) -> Option<Node>
     Node::new(number_within(text, NODES_MAX)?)
 }
 
-// The number, where it is from 1 to the limit.
-fn number_within(text: &[u8], limit: u16) -> Option<u16>
+/// The number, where it is from 1 to the limit.
+pub fn number_within(text: &[u8], limit: u16) -> Option<u16>
     requires { limit < 65535 }
     ensures { result ≡ option_and_then (within limit) (number_of text.now) }
 {

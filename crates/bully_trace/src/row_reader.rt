@@ -1,13 +1,15 @@
 ghost use Rattle.std.specs.Prelude.{◌≡◌, ◌+◌, ◌≤◌, ℕ, List, [], Option, None, Some, true, IfErr, IfOk};
 ghost use Rattle.csv.specs.Records.{fields_of};
-ghost use Rattle.bully_base.specs.Setup.{Setup as SetupState};
-ghost use Rattle.bully_trace.specs.Rows.{fault_at, header_of, row_of};
+ghost use Rattle.bully_trace.specs.Headers.{header_of};
+ghost use Rattle.bully_trace.specs.Rows.{fault_at, row_of};
 ghost use Rattle.bully_trace.specs.declared.TheConstants.{ROWS_MAX};
+ghost use Rattle.bully_trace.specs.declared.header.Header.{Header as HeaderState};
 ghost use Rattle.bully_trace.specs.declared.trace.Row.{Row};
 ghost use Rattle.bully_trace.specs.RecordsLeft.{EndsReading, HasRead, IsOutside, IsUnread, ReadsPlain, Takes, records_left, rows_left};
 
 use crate::ROWS_MAX;
-use crate::row::{read_header, read_row};
+use crate::header::{Header, read_header};
+use crate::row::read_row;
 use crate::trace::{Row, TraceCause, TraceFault};
 use bully_base::{OutOfMemory, Setup};
 use csv::{ByteRecord, ErrorKind, Reader, ReaderBuilder};
@@ -66,7 +68,7 @@ impl<R: Read + Drop> RowReader<R> {
         ensures takes { IfOk result (λ found. Takes self.old.records self.new.records found self.new.fields) }
         ensures counted { IfOk result (λ found. found ≡ true → (self.old.number ≤ ROWS_MAX) × (self.new.number ≡ self.old.number + 1)) }
         ensures first { (known : Option (List ℕ)) → IsUnread known self.old → IfErr result (EndsReading known) }
-        ensures fault { (known : Option (List ℕ)) (rows : List Row) (setup : SetupState) → HasRead known rows (rows_left setup self.old) → IfErr result (EndsReading known) }
+        ensures fault { (known : Option (List ℕ)) (rows : List Row) (header : HeaderState) → HasRead known rows (rows_left header self.old) → IfErr result (EndsReading known) }
     {
         let number = self.number + 1;
         if !next_record(&mut self.records, &mut self.fields, number)? {
@@ -79,9 +81,9 @@ impl<R: Read + Drop> RowReader<R> {
         Ok(true)
     }
 
-    /// The setup that the row read last tells as a header. Refused as `BadHeader` where it is none.
-    pub fn header(&self) -> Result<Setup, TraceFault>
-        ensures ok { IfOk result (λ setup. header_of self.now.fields ≡ Some setup) }
+    /// What the row read last tells as a header. Refused as `BadHeader` where it is none.
+    pub fn header(&self) -> Result<Header, TraceFault>
+        ensures ok { IfOk result (λ header. header_of self.now.fields ≡ Some header) }
         ensures fault { IfErr result (λ fault. (header_of self.now.fields ≡ None) × (fault ≡ fault_at 1 TraceCause.BadHeader)) }
     {
         read_header(&self.fields).ok_or(no_header())
@@ -89,8 +91,8 @@ impl<R: Read + Drop> RowReader<R> {
 
     /// What the row read last means in a trace of this setup; none where it has no form that the profile lists.
     /// Refused where an allocation fails.
-    pub fn row(&self, alloc: Global, setup: Setup) -> Result<Option<Row>, OutOfMemory>
-        ensures { IfOk result (λ row. row ≡ row_of setup self.now.fields) }
+    pub fn row(&self, alloc: Global, setup: &Setup) -> Result<Option<Row>, OutOfMemory>
+        ensures { IfOk result (λ row. row ≡ row_of setup.now self.now.fields) }
     {
         read_row(alloc, setup, &self.fields)
     }

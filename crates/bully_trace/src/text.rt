@@ -1,15 +1,16 @@
 ghost use Rattle.std.specs.Prelude.{◌≡◌, ◌∷◌, ◌++◌, [], OnOk, string_bytes};
 ghost use Rattle.std.specs.Fmt.{decimal};
 ghost use Rattle.std.specs.Option.{option_copied};
+ghost use Rattle.bully_table.specs.TableText.{owners_text};
 ghost use Rattle.bully_world.specs.declared.event.Event.{Event};
 ghost use Rattle.bully_trace.specs.TraceText.{line_of, event_fields, row_fields, header_fields};
 ghost use Rattle.bully_trace.specs.VerdictText.{node_text, task_text, node_line, verdict_head};
 
 use crate::words::{
     CHECK, CRASH, DROP, LOSE, MOVE, PLAN, RECOVER, RETURN, RUN, START, TIMEOUT, cause_word,
-    status_word,
+    keeps_word, status_word,
 };
-use crate::{Claim, Row, Verdict};
+use crate::{Claim, Row, Verdict, Version};
 use bully_base::{Node, OutOfMemory, Setup};
 use bully_handlers::Vector;
 use bully_table::{Table, push_owners};
@@ -67,13 +68,49 @@ pub fn push_verdict_head(text: &mut String, verdict: Verdict) -> Result<(), OutO
     }
 }
 
-/// Appends the header of a trace of this setup.
-pub fn push_header(text: &mut String, setup: Setup) -> Result<(), OutOfMemory>
-    ensures { OnOk result (string_bytes text.new ≡ string_bytes text.old ++ line_of (header_fields setup)) }
+/// Appends the header of a trace of this version and this setup.
+pub fn push_header(text: &mut String, version: Version, setup: &Setup) -> Result<(), OutOfMemory>
+    ensures { OnOk result (string_bytes text.new ≡ string_bytes text.old ++ line_of (header_fields version setup.now)) }
+{
+    match version {
+        Version::One => push_first_header(text, setup),
+        Version::Two => push_second_header(text, setup),
+    }
+}
+
+// Appends the header of version 1.
+fn push_first_header(text: &mut String, setup: &Setup) -> Result<(), OutOfMemory>
+    ensures { OnOk result (string_bytes text.new ≡ string_bytes text.old ++ line_of (header_fields Version.One setup.now)) }
 {
     let nodes = setup.nodes();
     let partitions = setup.partitions();
     writeln!(text, "bully,1,{nodes},{partitions}")
+}
+
+// Appends the header of version 2.
+fn push_second_header(text: &mut String, setup: &Setup) -> Result<(), OutOfMemory>
+    ensures { OnOk result (string_bytes text.new ≡ string_bytes text.old ++ line_of (header_fields Version.Two setup.now)) }
+{
+    let nodes = setup.nodes();
+    let partitions = setup.partitions();
+    let keeps = keeps_word(setup.keeps());
+    write!(text, "bully,2,{nodes},{partitions},")?;
+    push_weights(text, setup)?;
+    writeln!(text, ",{keeps}")
+}
+
+// Appends the weights, parted by spaces.
+fn push_weights(text: &mut String, setup: &Setup) -> Result<(), OutOfMemory>
+    ensures { OnOk result (string_bytes text.new ≡ string_bytes text.old ++ owners_text 32 setup.now.weights) }
+{
+    for before in 0..setup.nodes() {
+        if before > 0 {
+            text.push(' ')?;
+        }
+        let weight = setup.weight(Node::new(before + 1).unwrap());
+        write!(text, "{weight}")?;
+    }
+    Ok(())
 }
 
 /// Appends the line of a row.

@@ -1,3 +1,4 @@
+use crate::header::{Version, version_for};
 use bully_base::{Node, Setup, Status};
 use bully_world::Event;
 use std::alloc::{AllocError, AllocFailed};
@@ -65,17 +66,48 @@ impl Rows {
     }
 }
 
-/// A trace: the setup of its header, and its rows.
+/// A trace: its version, the setup that its header tells, and its rows. Version 1 goes only with a setup in which all nodes
+/// weigh 1 and no task is kept over a crash.
 #[derive(Drop, Debug)]
 pub struct Trace {
+    pub version: Version,
     pub setup: Setup,
     pub rows: Rows,
+}
+
+impl Model for Trace {
+    ghost use Rattle.bully_trace.specs.Headers.{IsVersionFor};
+    ghost use Rattle.bully_trace.specs.Trace.{Trace as TraceState};
+
+    ghost Value = { TraceState };
+
+    ghost view = { λ t. record { version = t.version; setup = t.setup; rows = t.rows } };
+
+    ghost invariant = { λ t. IsVersionFor t.version t.setup };
+}
+
+impl Trace {
+    ghost use Rattle.std.specs.Prelude.{◌≡◌};
+    ghost use Rattle.bully_trace.specs.Trace.{trace_for};
+
+    /// The trace of this setup with these rows, in the first version that can tell the setup.
+    #[tactic(auto, using(crate::proofs::HeaderLemmas::version_fits))]
+    pub fn new(setup: Setup, rows: Rows) -> Trace
+        ensures { result ≡ trace_for setup rows }
+    {
+        let version = version_for(&setup);
+        Trace {
+            version,
+            setup,
+            rows,
+        }
+    }
 }
 
 /// Why a trace isn't read or written. The first three are faults of its form.
 #[derive(Clone, Copy, PartialEq, Eq, Debug)]
 pub enum TraceCause {
-    /// The first row is no header of version 1.
+    /// The first row is no header of version 1 or 2.
     BadHeader,
     /// The row has no form that the profile lists.
     BadRow,

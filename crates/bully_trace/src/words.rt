@@ -1,7 +1,7 @@
 //! The words of a trace and of a verdict, each once: for reading and for writing.
 ghost use Rattle.std.specs.Prelude.{◌≡◌};
 ghost use Rattle.std.specs.Str.{bytes_eq};
-ghost use Rattle.bully_trace.specs.Words.{cause_word, event_named, status_named, status_word};
+ghost use Rattle.bully_trace.specs.Words.{cause_word, event_named, keeps_named, keeps_word, status_named, status_word};
 
 use bully_base::{Node, Status};
 use bully_world::{Event, Refused};
@@ -39,6 +39,13 @@ pub fn status_word(status: Status) -> &'static str
         Status::Reorganization => "reorganization",
         Status::Normal => "normal",
     }
+}
+
+/// Whether tasks are kept over a crash, as a header says it.
+pub fn keeps_word(keeps: bool) -> &'static str
+    ensures { result.now ≡ keeps_word keeps }
+{
+    if keeps { "keep" } else { "clear" }
 }
 
 /// The cause of a refusal as a verdict spells it.
@@ -103,6 +110,19 @@ pub fn status_named(word: &[u8]) -> Option<Status>
         Some(Status::Reorganization)
     } else if is_word(word, status_word(Status::Normal)) {
         Some(Status::Normal)
+    } else {
+        None
+    }
+}
+
+/// What this word says of the tasks: whether they are kept over a crash.
+pub fn keeps_named(word: &[u8]) -> Option<bool>
+    ensures { result ≡ keeps_named word.now }
+{
+    if is_word(word, keeps_word(true)) {
+        Some(true)
+    } else if is_word(word, keeps_word(false)) {
+        Some(false)
     } else {
         None
     }

@@ -11,7 +11,7 @@ use std::alloc::Global;
 use std::io;
 use std::io::Write;
 
-/// Writes the trace's text: its header and its rows, a line each. The text is made before it is written.
+/// Writes the trace's text: the header of its version and its rows, a line each. The text is made before it is written.
 /// Refused as `Write` where the writer fails, and then a prefix of the text may have been written; as
 /// `OutOfMemory` where an allocation fails, and then nothing was written. Each is at row 0.
 pub fn write_trace<W: Write>(alloc: Global, writer: &mut W, trace: &Trace) -> Result<(), TraceFault>
@@ -30,7 +30,7 @@ fn text_of(alloc: Global, trace: &Trace) -> Result<String, OutOfMemory>
     ensures { IfOk result (λ text. string_bytes text ≡ trace_text trace.now) }
 {
     let mut text = String::new(alloc);
-    push_header(&mut text, trace.setup)?;
+    push_header(&mut text, trace.version, &trace.setup)?;
     for row in trace.rows.as_slice() {
         push_row(&mut text, row)?;
     }

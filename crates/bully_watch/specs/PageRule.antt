@@ -41,7 +41,7 @@ applied_to p e =
 abbrev pub no_knowledge : Knowledge
 no_knowledge = record {
   is_named = false;
-  publisher = record { name = 0; setup = record { nodes = 0; partitions = 0; events_max = 0 } };
+  publisher = record { name = 0; setup = record { nodes = 0; partitions = 0; events_max = 0; keeps = false; weights = [] } };
   seen = [];
 }
 

@@ -1,9 +1,10 @@
 -- Recovery, crash, and the events by which an idle node begins a procedure keep what holds of a node.
-use Rattle.std.proofs.Common.{◌≡◌, ◌≢◌, ℕ, Option, Some, None, arith, refl, inl, inr}
+use Rattle.std.proofs.Common.{◌≡◌, ◌≢◌, ℕ, Bool, true, false, List, length, Option, Some, None, arith, refl, inl, inr}
+use Rattle.std.specs.Prelude.{if◌then◌else◌}
 use Rattle.bully_base.specs.declared.node.Status.TheVariants.{Down}
 use Rattle.bully_base.specs.Setup.{Setup, IsNode}
 use Rattle.bully_calls.specs.Pending.{Pending}
-use Rattle.bully_handlers.specs.Vector.{Vector, crashed, recovered}
+use Rattle.bully_handlers.specs.Vector.{crashed, recovered}
 use Rattle.bully_steps.specs.declared.point.Point.{Point}
 use Rattle.bully_steps.specs.declared.point.Point.TheVariants.{Idle}
 use Rattle.bully_steps.specs.NextPoint.{election, checked, timed_out}
@@ -22,8 +23,21 @@ empty_fits setup i = record {
   by_call = tt;
 }
 
-pub crash_fits : (setup : Setup) (i : ℕ) (v : Vector) → NodeInvariant setup i (record { vector = crashed setup v; point = Idle; pending = None })
-crash_fits setup i v = empty_fits setup i
+-- a task that is kept has the setup's partitions still
+kept_sized : (keeps : Bool) (task : Option (List ℕ)) (n : ℕ) → ((table : List ℕ) → task ≡ Some table → length table ≡ n) → (table : List ℕ) → (if keeps then task else None) ≡ Some table → length table ≡ n
+kept_sized true task n sized table e = sized table e
+kept_sized false task n sized table e = absurd (grind (arith, e))
+
+pub crash_fits : (setup : Setup) (i : ℕ) (m : Member) → NodeInvariant setup i m → NodeInvariant setup i (record { vector = crashed setup m.vector; point = Idle; pending = None })
+crash_fits setup i m fits = record {
+  a_node = inl refl;
+  down_idle = λ d. refl;
+  down_free = λ d. refl;
+  is_point = tt;
+  by_setup = record { up = tt; task = kept_sized setup.keeps m.vector.task setup.partitions fits.by_setup.task; coordinator = λ k e. absurd (grind (arith, e)) };
+  by_point = tt;
+  by_call = tt;
+}
 
 pub recover_fits : (setup : Setup) (i : ℕ) (m : Member) → NodeInvariant setup i m → IsNode setup i → m.vector.status ≡ Down → NodeInvariant setup i (record m { vector = recovered setup m.vector; point = election i })
 recover_fits setup i m fits node down = record {
@@ -31,7 +45,7 @@ recover_fits setup i m fits node down = record {
   down_idle = λ d. absurd (grind arith);
   down_free = λ d. fits.down_free down;
   is_point = (omega arith, omega (arith, node.1));
-  by_setup = record { up = tt; task = λ t e. absurd (grind arith); coordinator = λ k e. absurd (grind arith) };
+  by_setup = record { up = tt; task = kept_sized setup.keeps m.vector.task setup.partitions fits.by_setup.task; coordinator = λ k e. absurd (grind (arith, e)) };
   by_point = tt;
   by_call = rw (fits.down_free down) tt;
 }

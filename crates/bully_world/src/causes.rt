@@ -1,5 +1,5 @@
 ghost use Rattle.std.specs.Prelude.{◌≡◌, ◌≢◌, ◌+◌, ◌≤◌, ◌<◌, ◌==◌, ◌&&◌, ℕ, length, not, Some, None, IfSome, if◌then◌else◌};
-ghost use Rattle.bully_base.specs.NodeSet.{with_node};
+ghost use Rattle.bully_base.specs.NodeSet.{with_node, IsFallingBelow};
 ghost use Rattle.bully_table.specs.Balance.{is_balanced};
 ghost use Rattle.bully_calls.specs.Pending.{is_sent, is_failed};
 ghost use Rattle.bully_steps.specs.Point.{offered, IsPointOf};
@@ -25,9 +25,9 @@ pub fn place_of(node: Node) -> usize
 /// Why the event is refused with so many events applied, the first that holds; none where it isn't.
 // (inlined, as `World::cause` is)
 #[inline(always)]
-pub fn cause_of(setup: Setup, events: u32, members: &[Member], event: &Event) -> Option<Refused>
-    requires { WorldInvariant setup (members_of members.now) }
-    ensures { result ≡ cause setup (members_of members.now) events event.now }
+pub fn cause_of(setup: &Setup, events: u32, members: &[Member], event: &Event) -> Option<Refused>
+    requires { WorldInvariant setup.now (members_of members.now) }
+    ensures { result ≡ cause setup.now (members_of members.now) events event.now }
 {
     if events >= setup.events_max() {
         return Some(Refused::Full);
@@ -47,10 +47,11 @@ pub fn cause_of(setup: Setup, events: u32, members: &[Member], event: &Event) ->
 
 // The same of a node that is up, from the refusals behind IsUp on. `named` is the member of the event's node.
 #[inline(always)]
-fn later_cause(setup: Setup, members: &[Member], named: &Member, event: &Event) -> Option<Refused>
-    requires fits { WorldInvariant setup (members_of members.now) }
+fn later_cause(setup: &Setup, members: &[Member], named: &Member, event: &Event) -> Option<Refused>
+    requires fits { WorldInvariant setup.now (members_of members.now) }
+    requires node { node_of event.now ≤ setup.now.nodes }
     requires named { member (members_of members.now) (node_of event.now) ≡ member_of named.now }
-    ensures { (count : ℕ) → result ≡ first_of (refuses setup (members_of members.now) count event.now) later_refusals }
+    ensures { (count : ℕ) → result ≡ first_of (refuses setup.now (members_of members.now) count event.now) later_refusals }
 {
     match event {
         Event::Recover(_) | Event::Crash(_) => None,
@@ -128,13 +129,15 @@ fn step_cause(member: &Member, offered: bool) -> Option<Refused>
     refused_if(member.slot().call().is_some(), Refused::SlotBusy)
 }
 
-// Why a Plan with this table is refused.
+// Why a Plan with this table is refused. The node's up set has lower nodes alone.
 #[inline(always)]
-fn plan_cause(setup: Setup, member: &Member, node: Node, table: &Table) -> Option<Refused>
-    requires { IsPointOf setup node member.now.point }
-    ensures { result ≡ (if not (is_plan (offered setup member.now.vector.vector.coordinator member.now.point)) then Some Refused.NoStep
+fn plan_cause(setup: &Setup, member: &Member, node: Node, table: &Table) -> Option<Refused>
+    requires point { IsPointOf setup.now node member.now.point }
+    requires node { node ≤ setup.now.nodes }
+    requires up { IsFallingBelow node member.now.vector.vector.up }
+    ensures { result ≡ (if not (is_plan (offered setup.now member.now.vector.vector.coordinator member.now.point)) then Some Refused.NoStep
         else if is_pending (member_of member.now).pending then Some Refused.SlotBusy
-        else if not ((length table.now == setup.partitions) && is_balanced setup table.now (with_node node member.now.vector.vector.up)) then Some Refused.BadTable else None) }
+        else if not ((length table.now == setup.now.partitions) && is_balanced setup.now table.now (with_node node member.now.vector.vector.up)) then Some Refused.BadTable else None) }
 {
     let cause = step_cause(member, offers_plan(member.offer(setup, node)));
     if cause.is_some() {
@@ -143,16 +146,17 @@ fn plan_cause(setup: Setup, member: &Member, node: Node, table: &Table) -> Optio
     refused_if(!suits(setup, member, node, table), Refused::BadTable)
 }
 
-// The table has the setup's partitions, and is balanced over the node and its up set.
+// The table has the setup's partitions, and is balanced over the node and its up set, which has lower nodes alone.
 #[inline(always)]
-fn suits(setup: Setup, member: &Member, node: Node, table: &Table) -> bool
-    ensures { result ≡ (length table.now == setup.partitions) && is_balanced setup table.now (with_node node member.now.vector.vector.up) }
+fn suits(setup: &Setup, member: &Member, node: Node, table: &Table) -> bool
+    requires node { node ≤ setup.now.nodes }
+    requires up { IsFallingBelow node member.now.vector.vector.up }
+    ensures { result ≡ (length table.now == setup.now.partitions) && is_balanced setup.now table.now (with_node node member.now.vector.vector.up) }
 {
     let mut planned = *member.vector().up();
     planned.insert(node);
-    let is_balanced = table.is_balanced(&planned);
     let is_whole = table.len() == usize::from(setup.partitions());
-    is_whole && is_balanced
+    is_whole && table.is_balanced_in(setup, &planned)
 }
 
 // Whether the callee of the member's call is Down; no where there is no call.

@@ -1,5 +1,4 @@
 ghost use Rattle.std.specs.Prelude.{◌≡◌, ◌≢◌, ◌⊎◌, ◌↔◌, ◌+◌, ◌<◌, ◌≤◌, ◌^◌, ℕ, length, not, IfOk, IfSome, IsSome, IsTrue, None};
-ghost use Rattle.bully_base.specs.Setup.{Setup as SetupState};
 ghost use Rattle.std.specs.Option.{option_copied};
 ghost use Rattle.bully_base.specs.declared.TheConstants.{NODES_MAX};
 ghost use Rattle.bully_calls.specs.Pending.{is_sent, is_failed};
@@ -17,7 +16,7 @@ use crate::event::Event;
 use bully_base::{Node, OutOfMemory, Setup, Status};
 use bully_calls::{Answer, Call, CallKind, Outcome, Phase, Slot, Tag};
 use bully_handlers::Vector;
-use bully_steps::{Point, Want, begin_check, begin_recovery, begin_timeout};
+use bully_steps::{Point, Want, begin_check_in, election_of, timeout_of};
 use bully_table::Table;
 use std::alloc::Global;
 use std::marker::Model;
@@ -41,13 +40,13 @@ impl Model for Member {
 
 impl Member {
     /// A node before any event. Refused where an allocation fails.
-    pub fn new(alloc: Global, setup: Setup) -> Result<Member, OutOfMemory>
-        ensures { IfOk result (λ m. m ≡ empty_state setup.partitions) }
+    pub fn new(alloc: Global, setup: &Setup) -> Result<Member, OutOfMemory>
+        ensures { IfOk result (λ m. m ≡ empty_state setup.now.partitions) }
     {
         Ok(Member {
-            vector: Vector::new(alloc, setup)?,
+            vector: Vector::new(alloc, *setup)?,
             point: Point::Idle,
-            slot: Slot::new(alloc, setup)?,
+            slot: Slot::new(alloc, *setup)?,
             generation: 0,
         })
     }
@@ -100,27 +99,27 @@ impl Member {
     /// What the node's point offers.
     // (inlined, as `World::apply_allowed` is)
     #[inline(always)]
-    pub fn offer(&self, setup: Setup, node: Node) -> Want
-        requires { IsPointOf setup node self.now.point }
-        ensures { result ≡ offered setup self.now.vector.vector.coordinator self.now.point }
+    pub fn offer(&self, setup: &Setup, node: Node) -> Want
+        requires { IsPointOf setup.now node self.now.point }
+        ensures { result ≡ offered setup.now self.now.vector.vector.coordinator self.now.point }
     {
         self.point.offers(setup, node, self.vector.coordinator())
     }
 
-    /// The node recovers.
-    pub fn recover(&mut self, setup: Setup, node: Node)
-        ensures { self.new ≡ recovered_state setup node self.old }
+    /// The node recovers. Its task stays as it is where the setup keeps.
+    pub fn recover(&mut self, setup: &Setup, node: Node)
+        ensures { self.new ≡ recovered_state setup.now node self.old }
     {
-        self.vector.recover();
-        self.point = begin_recovery(setup, node, self.vector.status(), self.vector.coordinator());
+        self.vector.recover(setup.keeps());
+        self.point = election_of(node);
     }
 
-    /// The node crashes: its vector, point and slot are emptied.
-    pub fn crash(&mut self)
+    /// The node crashes: its vector, point and slot are emptied. Its task stays as it is where the setup keeps.
+    pub fn crash(&mut self, setup: &Setup)
         requires { self.old.generation + 1 < 2 ^ 32 }
-        ensures { (setup : SetupState) → self.new ≡ crashed_state setup self.old }
+        ensures { self.new ≡ crashed_state setup.now self.old }
     {
-        self.vector.crash();
+        self.vector.crash(setup.keeps());
         self.point = Point::Idle;
         self.discard();
         self.generation += 1;
@@ -190,10 +189,10 @@ impl Member {
     /// The node's call returns: an orphan's outcome is discarded, a live one's moves the point.
     // (inlined, as `World::apply_allowed` is)
     #[inline(always)]
-    pub fn take_back(&mut self, setup: Setup, node: Node) -> Answer
-        requires at { IsPointOf setup node self.old.point }
+    pub fn take_back(&mut self, setup: &Setup, node: Node) -> Answer
+        requires at { IsPointOf setup.now node self.old.point }
         requires came { IsSome (outcome_in self.old.slot) }
-        ensures after { self.new ≡ node_after_return setup node self.old self.old.slot.content }
+        ensures after { self.new ≡ node_after_return setup.now node self.old self.old.slot.content }
         ensures answer { result ≡ return_answer self.old.generation self.old.slot.content }
     {
         if self.slot.is_orphan(self.generation) {
@@ -223,11 +222,11 @@ impl Member {
     /// The node goes on by this outcome: its vector and its point change as the profile says.
     // (inlined, as `World::apply_allowed` is)
     #[inline(always)]
-    pub fn proceed(&mut self, setup: Setup, node: Node, outcome: Outcome)
-        requires { IsPointOf setup node self.old.point }
-        ensures { self.new ≡ proceeded_state setup node outcome self.old }
+    pub fn proceed(&mut self, setup: &Setup, node: Node, outcome: Outcome)
+        requires { IsPointOf setup.now node self.old.point }
+        ensures { self.new ≡ proceeded_state setup.now node outcome self.old }
     {
-        let next = self.point.next(setup, node, self.vector.up(), outcome);
+        let next = self.point.next_in(setup, node, self.vector.up(), outcome);
         match outcome {
             Outcome::Moved => self.move_vector(node),
             Outcome::Yes => self.join_halted(),
@@ -269,20 +268,20 @@ impl Member {
     /// An event of this node, other than a Run, that nothing refuses.
     // (inlined, as `World::apply_allowed` is)
     #[inline(always)]
-    pub fn apply(&mut self, setup: Setup, event: &Event) -> Answer
-        requires at { IsPointOf setup (node_of event.now) self.old.point }
+    pub fn apply(&mut self, setup: &Setup, event: &Event) -> Answer
+        requires at { IsPointOf setup.now (node_of event.now) self.old.point }
         requires room { self.old.generation + 1 < 2 ^ 32 }
-        requires may { MayApply setup event.now self.old }
-        ensures after { self.new ≡ node_after setup event.now self.old }
+        requires may { MayApply setup.now event.now self.old }
+        ensures after { self.new ≡ node_after setup.now event.now self.old }
         ensures answer { result ≡ node_answer event.now self.old }
     {
         let status = self.vector.status();
         let coordinator = self.vector.coordinator();
         match event {
             Event::Recover(node) => self.recover(setup, *node),
-            Event::Crash(_) => self.crash(),
-            Event::Check(node) => self.begin(begin_check(setup, *node, status, coordinator)),
-            Event::Timeout(node) => self.begin(begin_timeout(setup, *node, status, coordinator)),
+            Event::Crash(_) => self.crash(setup),
+            Event::Check(node) => self.begin(begin_check_in(setup, *node, status, coordinator)),
+            Event::Timeout(node) => self.begin(timeout_of(*node, status, coordinator)),
             Event::Start(node) => self.start_offered(setup, *node),
             Event::Run(_) => unreachable!(),
             Event::Lose(_) => self.lose(),
@@ -297,10 +296,10 @@ impl Member {
     // The node starts the call that its point offers.
     // (inlined, as `World::apply_allowed` is)
     #[inline(always)]
-    fn start_offered(&mut self, setup: Setup, node: Node)
-        requires at { IsPointOf setup node self.old.point }
-        requires may { MayApply setup (Event.Start node) self.old }
-        ensures { self.new ≡ started_state setup node self.old }
+    fn start_offered(&mut self, setup: &Setup, node: Node)
+        requires at { IsPointOf setup.now node self.old.point }
+        requires may { MayApply setup.now (Event.Start node) self.old }
+        ensures { self.new ≡ started_state setup.now node self.old }
     {
         match self.offer(setup, node) {
             Want::Start(call) => self.start(node, call),

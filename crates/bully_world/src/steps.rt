@@ -17,16 +17,16 @@ use bully_calls::{Answer, Phase, Waiting};
 // (inlined, as `World::apply_allowed` is)
 #[inline(always)]
 pub fn apply_event(
-    setup: Setup,
+    setup: &Setup,
     members: &mut [Member],
     waiting: &mut Waiting,
     event: &Event,
 ) -> Answer
-    requires can { CanApply setup members.old event.now }
+    requires can { CanApply setup.now members.old event.now }
     requires node { node_of event.now ≤ length members.old }
-    requires sent { IfSome (sent_in (kept_of (state_after setup members.old event.now) (node_of event.now))) (λ j. (0 < j) × (j ≤ length members.old)) }
+    requires sent { IfSome (sent_in (kept_of (state_after setup.now members.old event.now) (node_of event.now))) (λ j. (0 < j) × (j ≤ length members.old)) }
     requires waiting { IsWaiting members.old waiting.old }
-    ensures after { members.new ≡ state_after setup members.old event.now }
+    ensures after { members.new ≡ state_after setup.now members.old event.now }
     ensures answer { result ≡ answer_after members.old event.now }
     ensures waiting { IsWaiting members.new waiting.new }
 {
@@ -57,10 +57,10 @@ fn keep_waiting(waiting: &mut Waiting, caller: Node, before: Option<Node>, after
 
 // An event that nothing refuses is applied; its node's member stands at `here`.
 #[inline(always)]
-fn apply_to_members(setup: Setup, members: &mut [Member], here: usize, event: &Event) -> Answer
-    requires can { CanApply setup members.old event.now }
+fn apply_to_members(setup: &Setup, members: &mut [Member], here: usize, event: &Event) -> Answer
+    requires can { CanApply setup.now members.old event.now }
     requires here { here + 1 ≡ node_of event.now }
-    ensures after { members.new ≡ state_after setup members.old event.now }
+    ensures after { members.new ≡ state_after setup.now members.old event.now }
     ensures answer { result ≡ answer_after members.old event.now }
 {
     match event {

@@ -70,7 +70,7 @@ impl World {
         let member = self.member(node);
         let vector = member.vector();
         let generation = member.generation();
-        Procedure::at(
+        Procedure::at_in(
             self.setup(),
             node,
             generation,

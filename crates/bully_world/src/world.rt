@@ -43,17 +43,17 @@ impl World {
         Ok(World {
             setup,
             events: 0,
-            members: reserve(alloc, setup)?,
+            members: reserve(alloc, &setup)?,
             waiting: Waiting::new(alloc, setup)?,
         })
     }
 
     /// What the group was set up with.
-    pub fn setup(&self) -> Setup
-        ensures setup { result ≡ self.now.setup }
+    pub fn setup(&self) -> &Setup
+        ensures setup { result.now ≡ self.now.setup }
         ensures reached { IsReached self.now }
     {
-        self.setup
+        &self.setup
     }
 
     /// How many events were applied.
@@ -70,7 +70,7 @@ impl World {
     pub fn cause(&self, event: &Event) -> Option<Refused>
         ensures { result ≡ cause_in self.now event.now }
     {
-        cause_of(self.setup, self.events, self.members.as_slice(), event)
+        cause_of(&self.setup, self.events, self.members.as_slice(), event)
     }
 
     /// Applies the event and answers it. Refused with its cause, and then nothing changes.
@@ -107,7 +107,7 @@ impl World {
         ensures setup { self.new.setup ≡ self.old.setup }
     {
         let answer = apply_event(
-            self.setup,
+            &self.setup,
             self.members.as_mut_slice(),
             &mut self.waiting,
             event,
@@ -175,8 +175,8 @@ impl World {
 }
 
 // The members of a new group.
-fn reserve(alloc: Global, setup: Setup) -> Result<Vec<Member>, OutOfMemory>
-    ensures { IfOk result (λ members. members.items ≡ new_members setup) }
+fn reserve(alloc: Global, setup: &Setup) -> Result<Vec<Member>, OutOfMemory>
+    ensures { IfOk result (λ members. members.items ≡ new_members setup.now) }
 {
     let mut members = Vec::with_capacity(alloc, usize::from(setup.nodes()))?;
     for _ in 0..setup.nodes() {

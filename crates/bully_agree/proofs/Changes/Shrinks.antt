@@ -111,7 +111,7 @@ unmoved {f} {c} {s} = record {
   readies_on = λ k e. (e, refl);
 }
 
--- c forgets all
+-- c forgets all but its task
 pub forgets : {f : ℕ → NodeSummary} {c : ℕ} {s t : NodeSummary} → t.asked ≤ c + 1 → c ≤ t.passed → t.activity ≡ Rests → takes_part t.status ≡ false
     → t.halter ≡ None → t.announces ≡ None → t.readies ≡ None → Shrinks f c s t
 forgets {f} {c} {s} {t} asked passed rests apart unhalted silent unready = record {

@@ -19,7 +19,7 @@ pub fn view(alloc: Global, world: &World) -> Result<View, OutOfMemory>
 {
     let events = world.events();
     Ok(View {
-        setup: world.setup(),
+        setup: *world.setup(),
         events,
         nodes: shown_nodes(alloc, world)?,
     })

@@ -108,7 +108,7 @@ impl<L: Naming> Locked<L> {
         ensures unchanged { IfErr result (λ _. (self.new ≡ self.old) × (seat.new ≡ seat.old) × (state_of procedure.new ≡ state_of procedure.old)) }
         ensures pass { pass.new ≡ (if adds_entry result then pass.old + 1 else pass.old) }
     {
-        let idle = Procedure::idle(procedure.setup(), procedure.node(), 0);
+        let idle = Procedure::idle_in(procedure.setup(), procedure.node(), 0);
         match self.take_offered(kind, seat, mem::replace(procedure, idle), pass) {
             Turn::Went(after) => {
                 *procedure = after;

@@ -24,15 +24,15 @@ impl Model for Identity {
 
 impl Identity {
     /// The identity of a procedure of the node, which is at most the setup's last, in this of its generations.
-    pub(crate) fn new(setup: Setup, node: Node, generation: u32) -> Identity
-        requires { node ≤ setup.nodes }
-        ensures identity { result ≡ record { setup = setup; node = node; generation = generation } }
-        ensures setup { IsSetup setup }
-        ensures node { IsNode setup node }
+    pub(crate) fn new(setup: &Setup, node: Node, generation: u32) -> Identity
+        requires { node ≤ setup.now.nodes }
+        ensures identity { result ≡ record { setup = setup.now; node = node; generation = generation } }
+        ensures setup { IsSetup setup.now }
+        ensures node { IsNode setup.now node }
     {
         within_limits(setup, node);
         Identity {
-            setup,
+            setup: *setup,
             node,
             generation,
         }
@@ -40,8 +40,8 @@ impl Identity {
 }
 
 // What the types of the two say of them: a proof learns it of their readers alone.
-fn within_limits(setup: Setup, node: Node)
-    ensures setup { IsSetup setup }
+fn within_limits(setup: &Setup, node: Node)
+    ensures setup { IsSetup setup.now }
     ensures node { IsNodeNumber node }
 {
     let _ = (setup.nodes(), node.number());

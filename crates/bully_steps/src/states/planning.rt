@@ -6,7 +6,7 @@ ghost use Rattle.bully_table.specs.Planning.{planned as planned_table};
 
 use crate::states::Identity;
 use bully_base::NodeSet;
-use bully_table::{PlanFault, Table, TablePlan, plan};
+use bully_table::{PlanFault, Table, TablePlan, plan_in};
 use std::alloc::Global;
 use std::marker::Model;
 
@@ -66,7 +66,7 @@ impl Planning {
         let Planning { identity, up } = self;
         let mut members = up;
         members.insert(identity.node);
-        match plan(alloc, identity.setup, &members, old) {
+        match plan_in(alloc, &identity.setup, &members, old) {
             Ok(TablePlan { table, .. }) => Ok(Planned {
                 identity,
                 up,

@@ -1,9 +1,10 @@
-use Rattle.std.proofs.Common.{arith, rules}
+use Rattle.std.proofs.Common.{arith, refl, rules}
 use Rattle.toml.specs.View.{table_view}
 use Rattle.bully_base.specs.declared.TheConstants.{NODES_MAX, PARTITIONS_MAX, EVENTS_MAX}
 use Rattle.bully_config.specs.declared.fault.Key.{Key}
 use Rattle.bully_config.proofs.FaultLemmas.{number_within}
-use Rattle.bully_config.proofs.FactLemmas.{facts, setup_made}
+use Rattle.bully_config.proofs.FactLemmas.{facts, setup_made, weights_there}
+use Rattle.bully_config.proofs.WeightLemmas.{setup-told, weights-fit, weights-read, weights-short, weights-slice}
 use Rattle.bully_config.proofs.reading.setup_of.Goals as goal
 
 pub unwrap-nodes-requires : goal.unwrap-nodes-requires
@@ -25,9 +26,42 @@ overflow_cast-partitions c =
     let (low, high) = number_within Key.Partitions PARTITIONS_MAX c.unwrap-partitions.result (table_view c.args.document.now) (search rules) in
     omega (arith, high)
 
+pub slice_bounds-weights-end : goal.slice_bounds-weights-end
+slice_bounds-weights-end c =
+    let ms = table_view c.args.document.now in
+    let nodes = number_within Key.Nodes NODES_MAX c.unwrap-nodes.result ms (search rules) in
+    let are = weights_there c.unwrap-nodes.result ms c.requires (search rules) in
+    let few = weights-short c.unwrap-nodes.result NODES_MAX ms c.items_at.result.now nodes.1 are c.items_at.ensures in
+    weights-slice c.unwrap-nodes.result NODES_MAX c.items_at.result.now c.read_weights-all.result nodes.1 few c.read_weights-all.ensures
+
+pub slice_bounds-all-end : goal.slice_bounds-all-end
+slice_bounds-all-end c =
+    let (low, high) = number_within Key.Nodes NODES_MAX c.unwrap-nodes.result (table_view c.args.document.now) (search rules) in
+    omega (arith, high)
+
+pub read_weights-all-requires : goal.read_weights-all-requires
+read_weights-all-requires c =
+    let ms = table_view c.args.document.now in
+    let nodes = number_within Key.Nodes NODES_MAX c.unwrap-nodes.result ms (search rules) in
+    weights-short c.unwrap-nodes.result NODES_MAX ms c.items_at.result.now nodes.1 (weights_there c.unwrap-nodes.result ms c.requires (search rules)) c.items_at.ensures
+
 pub unwrap-requires : goal.unwrap-requires
 unwrap-requires c =
-    setup_made c.new.result c.unwrap-nodes.result c.unwrap-partitions.result c.unwrap-events_max.result c.new.ensures.bad_nodes c.new.ensures.bad_partitions c.new.ensures.bad_limit
-    (number_within Key.Nodes NODES_MAX c.unwrap-nodes.result (table_view c.args.document.now) (search rules))
-    (number_within Key.Partitions PARTITIONS_MAX c.unwrap-partitions.result (table_view c.args.document.now) (search rules))
-    (number_within Key.Events EVENTS_MAX c.unwrap-events_max.result (table_view c.args.document.now) (search rules))
+    let ms = table_view c.args.document.now in
+    let nodes = number_within Key.Nodes NODES_MAX c.unwrap-nodes.result ms (search rules) in
+    let are = weights_there c.unwrap-nodes.result ms c.requires (search rules) in
+    let weights = weights-read c.unwrap-nodes.result NODES_MAX ms c.items_at.result.now c.read_weights-all.result _ nodes.1 are c.items_at.ensures c.read_weights-all.ensures refl in
+    setup_made c.weighted.result c.unwrap-nodes.result c.unwrap-partitions.result c.unwrap-events_max.result _
+    c.weighted.ensures.bad_nodes c.weighted.ensures.bad_partitions c.weighted.ensures.bad_limit c.weighted.ensures.bad_weights nodes
+    (number_within Key.Partitions PARTITIONS_MAX c.unwrap-partitions.result ms (search rules))
+    (number_within Key.Events EVENTS_MAX c.unwrap-events_max.result ms (search rules))
+    (rw weights (weights-fit c.unwrap-nodes.result ms are))
+
+pub returns : goal.returns
+returns c =
+    let ms = table_view c.args.document.now in
+    let nodes = number_within Key.Nodes NODES_MAX c.unwrap-nodes.result ms (search rules) in
+    let are = weights_there c.unwrap-nodes.result ms c.requires (search rules) in
+    let weights = weights-read c.unwrap-nodes.result NODES_MAX ms c.items_at.result.now c.read_weights-all.result _ nodes.1 are c.items_at.ensures c.read_weights-all.ensures refl in
+    setup-told ms c.weighted.result c.unwrap.result c.unwrap-nodes.result c.unwrap-partitions.result c.unwrap-events_max.result c.keeps_at-keeps.result _
+    c.unwrap.ensures c.weighted.ensures.numbers (search rules) (search rules) (search rules) c.keeps_at-keeps.ensures weights

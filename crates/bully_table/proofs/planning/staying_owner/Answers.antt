@@ -1,7 +1,6 @@
 use Rattle.std.proofs.Common.{◌+◌, ◌≡◌, ◌≤◌, length, arith}
 use Rattle.std.proofs.lemmas.Bool.Decides.{nat_tests}
 use Rattle.std.proofs.lemmas.Grind.{common_steps}
-use Rattle.bully_base.specs.declared.TheConstants.{NODES_MAX}
 use Rattle.bully_table.specs.Planning.{owner_at}
 use Rattle.bully_table.proofs.StayLemmas.{stays-past}
 use Rattle.bully_table.proofs.TakerLemmas.{stays-share}
@@ -10,7 +9,7 @@ use Rattle.bully_table.proofs.planning.staying_owner.Goals as goal
 pub returns-in_err-owner-clause-owner : goal.returns-in_err-owner-clause-owner
 returns-in_err-owner-clause-owner c = λ setup members falling shares.
     let past : length c.args.before.now ≤ c.args.place = grind (arith, nat_tests) in
-    let test = stays-past setup (NODES_MAX + 1) c.args.before.now members c.args.place falling past in
+    let test = stays-past setup (setup.nodes + 1) c.args.before.now members c.args.place falling past in
     rw test c.from_residual.ensures
 
 pub returns-then-count-count_at-clause-owner : goal.returns-then-count-count_at-clause-owner

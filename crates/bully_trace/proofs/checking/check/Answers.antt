@@ -1,8 +1,8 @@
 -- What the rows were judged is the verdict on the trace that was read.
 use Rattle.std.specs.Io.KnownBytes.{Appends}
 use Rattle.bully_world.specs.State.{world_of}
-use Rattle.bully_trace.specs.declared.trace.Trace.{Trace}
 use Rattle.bully_trace.specs.declared.verdict.Verdict.{Verdict}
+use Rattle.bully_trace.specs.Trace.{Trace}
 use Rattle.bully_trace.specs.Verdict.{AgreesAfterEachRow, IsLawfulCount}
 use Rattle.bully_trace.proofs.CheckLemmas.{told-as, told-so}
 use Rattle.bully_trace.proofs.JudgeLemmas.{agrees_after, lawful_count}

@@ -1,33 +1,39 @@
-use Rattle.std.proofs.Common.{◌∙◌, sym, rules}
-use Rattle.bully_trace.proofs.CheckLemmas.{judged-bad, judged-row, judged-start}
+use Rattle.std.proofs.Common.{◌≡◌, ◌∙◌, Err, sym, arith, rules}
+use Rattle.bully_trace.proofs.CheckLemmas.{judged-bad, judged-row, judged-start, judged-unbegun}
 use Rattle.bully_trace.proofs.checking.judge_each.Goals as goal
 
 pub returns-in-None-clause-fault : goal.returns-in-None-clause-fault
 returns-in-None-clause-fault g c = λ known unread. rw c.bad_row.ensures (
-    judged-bad known c.loop-judge.rows c.advance.new.self c.loop-judge.judge c.in-Some.judge c.in_ok-advance.field-0 c.setup.result
+    judged-bad known c.loop-judge.rows c.advance.new.self c.loop-judge.judge c.in-Some.judge c.in_ok-advance.field-0 c.setup.result.now
     c.in_ok-advance.ensures.takes (search rules) c.in_ok-advance.ensures.counted c.in-Some.is (search rules) (sym c.in_ok-row.ensures ∙ c.in-None.is)
     (c.loop-judge.invariant known unread))
 
 pub loop-judge-preserved-in-Some-2 : goal.loop-judge-preserved-in-Some-2
 loop-judge-preserved-in-Some-2 g c = λ known unread.
-    judged-row known c.loop-judge.rows c.advance.new.self c.loop-judge.judge c.in-Some.judge c.take_row.new.self c.in_ok-advance.field-0 c.setup.result c.in-Some-2.row c.number.result
+    judged-row known c.loop-judge.rows c.advance.new.self c.loop-judge.judge c.in-Some.judge c.take_row.new.self c.in_ok-advance.field-0 c.setup.result.now c.in-Some-2.row c.number.result
     c.in_ok-advance.ensures.takes (search rules) c.in_ok-advance.ensures.counted c.in-Some.is (search rules) (sym c.in_ok-row.ensures ∙ c.in-Some-2.is)
     c.number.ensures c.take_row.ensures (c.loop-judge.invariant known unread)
 
 pub loop-judge-preserved-in-Some-2-2 : goal.loop-judge-preserved-in-Some-2-2
 loop-judge-preserved-in-Some-2-2 g c = λ known unread.
-    judged-row known c.loop-judge.rows c.advance.new.self c.loop-judge.judge c.in-Some.judge c.take_row.new.self c.in_ok-advance.field-0 c.setup.result c.in-Some-2.row c.number.result
+    judged-row known c.loop-judge.rows c.advance.new.self c.loop-judge.judge c.in-Some.judge c.take_row.new.self c.in_ok-advance.field-0 c.setup.result.now c.in-Some-2.row c.number.result
     c.in_ok-advance.ensures.takes (search rules) c.in_ok-advance.ensures.counted c.in-Some.is (search rules) (sym c.in_ok-row.ensures ∙ c.in-Some-2.is)
     c.number.ensures c.take_row.ensures (c.loop-judge.invariant known unread)
 
 pub loop-judge-preserved-in-Some-2-3 : goal.loop-judge-preserved-in-Some-2-3
 loop-judge-preserved-in-Some-2-3 g c = λ known unread.
-    judged-row known c.loop-judge.rows c.advance.new.self c.loop-judge.judge c.in-Some.judge c.take_row.new.self c.in_ok-advance.field-0 c.setup.result c.in-Some-2.row c.number.result
+    judged-row known c.loop-judge.rows c.advance.new.self c.loop-judge.judge c.in-Some.judge c.take_row.new.self c.in_ok-advance.field-0 c.setup.result.now c.in-Some-2.row c.number.result
     c.in_ok-advance.ensures.takes (search rules) c.in_ok-advance.ensures.counted c.in-Some.is (search rules) (sym c.in_ok-row.ensures ∙ c.in-Some-2.is)
     c.number.ensures c.take_row.ensures (c.loop-judge.invariant known unread)
 
 pub loop-judge-preserved : goal.loop-judge-preserved
 loop-judge-preserved g c = λ known unread.
-    judged-start known c.loop-judge.rows c.advance.new.self c.loop-judge.judge c.begin.new.judge c.in_ok-advance.field-0 c.in_ok-header.field-0
-    c.in_ok-advance.ensures.takes (search rules) c.in_ok-advance.ensures.counted (search rules) c.in_ok-header.ensures.ok c.in_ok-begin.ensures
+    judged-start known c.loop-judge.rows c.advance.new.self c.loop-judge.judge c.begin.new.judge c.in_ok-advance.field-0
+    c.in_ok-advance.ensures.takes (search rules) c.in_ok-advance.ensures.counted (search rules) c.in_ok-begin.ensures.begun
     (c.loop-judge.invariant known unread)
+
+pub returns-in_err-begin-clause-fault : goal.returns-in_err-begin-clause-fault
+returns-in_err-begin-clause-fault g c = λ known unread.
+    let fails : c.from_residual-in_err-begin.result ≡ Err c.in_err-begin.field-0.0 = grind (arith, c.from_residual-in_err-begin.ensures, c.in_err-begin.is) in
+    rw fails (judged-unbegun known c.loop-judge.rows c.advance.new.self c.loop-judge.judge c.in_ok-advance.field-0 c.in_err-begin.field-0.0
+    c.in_ok-advance.ensures.takes (search rules) (search rules) c.in_err-begin.ensures.fault (c.loop-judge.invariant known unread))

@@ -5,7 +5,7 @@ use Rattle.bully_trace.proofs.reading.read_rows.Given as goal
 
 abbrev pub invariant-loop-rows : goal.invariant-loop-rows
 invariant-loop-rows g l = record {
-  read : (known : Option (List ℕ)) → HasRead known [] (rows_left l.setup l.fn.rows) → HasRead known l.read.items (rows_left l.setup l.rows);
+  read : (known : Option (List ℕ)) → HasRead known [] (rows_left l.header l.fn.rows) → HasRead known l.read.items (rows_left l.header l.rows);
   within : length l.read.items ≤ ROWS_MAX;
   counted : length l.read.items + 1 ≤ l.rows.number;
 }

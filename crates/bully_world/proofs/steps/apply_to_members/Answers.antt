@@ -10,31 +10,31 @@ use Rattle.bully_world.proofs.steps.apply_to_members.Goals as goal
 
 pub apply-requires : goal.apply-requires
 apply-requires c =
-    let can = ((is_own c.args.setup c.args.event.now c.in_default.not-Run).can c.args.members.now).0 c.requires.can in
+    let can = ((is_own c.args.setup.now c.args.event.now c.in_default.not-Run).can c.args.members.now).0 c.requires.can in
     let there = place_of_node c.args.members.now (node_of c.args.event.now) c.args.here c.index-members-here.result can.0 c.requires.here in
-    let may = subst (CanApplyHere c.args.setup c.args.event.now) there can.1 in
+    let may = subst (CanApplyHere c.args.setup.now c.args.event.now) there can.1 in
     record { at = may.at; room = may.room; may = may.may }
 
 pub returns-in_default : goal.returns-in_default
 returns-in_default c =
-    let own = is_own c.args.setup c.args.event.now c.in_default.not-Run in
+    let own = is_own c.args.setup.now c.args.event.now c.in_default.not-Run in
     let can = (own.can c.args.members.now).0 c.requires.can in
     let there = place_of_node c.args.members.now (node_of c.args.event.now) c.args.here c.index-members-here.result can.0 c.requires.here in
     record {
       after =
           sym (put_node-place c.args.members.now c.args.here (node_of c.args.event.now) c.apply.new.self c.requires.here)
-          ∙ ap (put_node c.args.members.now (node_of c.args.event.now)) (c.apply.ensures.after ∙ ap (node_after c.args.setup c.args.event.now) (sym there))
+          ∙ ap (put_node c.args.members.now (node_of c.args.event.now)) (c.apply.ensures.after ∙ ap (node_after c.args.setup.now c.args.event.now) (sym there))
           ∙ sym (own.after c.args.members.now);
       answer = c.apply.ensures.answer ∙ ap (node_answer c.args.event.now) (sym there) ∙ sym (own.answer c.args.members.now);
     }
 
 pub run_call-requires-clause-can : goal.run_call-requires-clause-can
-run_call-requires-clause-can c = subst (CanApply c.args.setup c.args.members.now) c.in-Run.is c.requires.can
+run_call-requires-clause-can c = subst (CanApply c.args.setup.now c.args.members.now) c.in-Run.is c.requires.can
 
 pub run_call-requires-clause-here : goal.run_call-requires-clause-here
 run_call-requires-clause-here c = c.requires.here ∙ ap node_of c.in-Run.is
 
 pub bounds-members-here : goal.bounds-members-here
 bounds-members-here c =
-    let can = ((is_own c.args.setup c.args.event.now c.in_default.not-Run).can c.args.members.now).0 c.requires.can in
+    let can = ((is_own c.args.setup.now c.args.event.now c.in_default.not-Run).can c.args.members.now).0 c.requires.can in
     omega (arith, can.0, c.requires.here)

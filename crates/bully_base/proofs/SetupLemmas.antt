@@ -1,0 +1,100 @@
+-- Setups and their weights.
+use Rattle.std.proofs.Common.{◌≡◌, ℕ, zero, suc, ◌+◌, ◌-◌, ◌<◌, ◌≤◌, Bool, true, false, List, [], ◌∷◌, ◌++◌, length, replicate, take, drop, arith, sym, refl, ◌∙◌, ap, All, IsTrue, ◌↔◌, get_or}
+use Rattle.std.specs.Prelude.{◌==◌, ◌&&◌, bytes_eq, not}
+use Rattle.std.specs.Bool.{beq}
+use Rattle.std.specs.Cmp.{booleans_Decides}
+use Rattle.std.specs.List.{list_all}
+use Rattle.std.proofs.lemmas.Bool.{and_parts}
+use Rattle.std.proofs.lemmas.Bool.Decides.{nat_tests, Decides-eqb}
+use Rattle.std.proofs.lemmas.List.{take_at, take-replicate, drop-replicate, get_or-replicate, get_or-take, length-replicate}
+use Rattle.std.proofs.lemmas.List.Elements.{All-get_or, All-more, All-replicate}
+use Rattle.bully_base.specs.declared.TheConstants.{NODES_MAX}
+use Rattle.std.proofs.lemmas.Slice.Eq.{bytes_eq-Decides}
+use Rattle.bully_base.specs.Setup.{Setup, Limits, IsSetup, AreLimits, IsNode, IsWeight, AreWeights, limits_of, setup_of, weight_of, padded, even_setup, is_even}
+use Rattle.bully_base.specs.SetupEq.{same_limits, same_setup}
+
+-- weights that are written over zeros
+pub written-front : (n : ℕ) (weights all : List ℕ) → length weights ≡ n → all ≡ weights ++ drop n (replicate NODES_MAX 0) → take n all ≡ weights
+written-front n weights all size is = rw is (take_at weights (drop n (replicate NODES_MAX 0)) n size)
+
+pub written-padded : (n : ℕ) (weights all : List ℕ) → length weights ≡ n → all ≡ weights ++ drop n (replicate NODES_MAX 0) → all ≡ padded n (take n all)
+written-padded n weights all size is =
+    is ∙ (ap (λ (xs : List ℕ). weights ++ xs) (drop-replicate n NODES_MAX 0) ∙ ap (λ (xs : List ℕ). xs ++ replicate (NODES_MAX - n) 0) (sym (written-front n weights all size is)))
+
+pub setup-written : (limits : Limits) (keeps : Bool) (weights all : List ℕ) → AreLimits limits → AreWeights limits.nodes weights → all ≡ weights ++ drop limits.nodes (replicate NODES_MAX 0) →
+    IsSetup (setup_of limits keeps (take limits.nodes all)) × (all ≡ padded limits.nodes (take limits.nodes all))
+setup-written limits keeps weights all within h is = (
+  rw (written-front limits.nodes weights all h.0 is) (record { nodes = within.nodes; partitions = within.partitions; events = within.events; weights = h }),
+  written-padded limits.nodes weights all h.0 is,
+)
+
+-- the first of the most ones
+pub first-ones : (n : ℕ) (ones : List ℕ) → n ≤ NODES_MAX → ones ≡ take n (replicate NODES_MAX 1) → ones ≡ replicate n 1
+first-ones n ones l is = is ∙ take-replicate n NODES_MAX 1 l
+
+pub ones-within : (n : ℕ) (ones : List ℕ) → n ≤ NODES_MAX → ones ≡ take n (replicate NODES_MAX 1) → AreWeights n ones
+ones-within n ones l is = rw (first-ones n ones l is) (length-replicate n 1, All-replicate IsWeight n 1 (omega arith, omega arith))
+
+pub even-written : (limits : Limits) (nodes partitions events_max : ℕ) (ones : List ℕ) → limits ≡ record { nodes = nodes; partitions = partitions; events_max = events_max } → nodes ≤ NODES_MAX →
+    ones ≡ take nodes (replicate NODES_MAX 1) → setup_of limits false ones ≡ even_setup nodes partitions events_max
+even-written limits nodes partitions events_max ones is l e = rw (is, first-ones nodes ones l e) refl
+
+-- a node's weight, read off the places for all nodes
+pub weight-within : (setup : Setup) (i : ℕ) → AreWeights setup.nodes setup.weights → IsNode setup i → IsWeight (weight_of setup i)
+weight-within setup i h node = All-get_or IsWeight setup.weights (i - 1) 0 (omega arith) h.1
+
+pub weight-front : (setup : Setup) (all : List ℕ) (i : ℕ) → setup.weights ≡ take setup.nodes all → IsNode setup i → get_or all (i - 1) 0 ≡ weight_of setup i
+weight-front setup all i is node = rw is (sym (get_or-take setup.nodes all (i - 1) 0 (omega arith)))
+
+-- one that is no weight, and one weight more
+pub no-weight : (weights : List ℕ) (i x : ℕ) → i < length weights → x ≡ get_or weights i x → ¬ IsWeight x → IsTrue false ↔ All IsWeight weights
+no-weight weights i x l e out = (λ t. absurd (cc), λ all. absurd (out (rw e (All-get_or IsWeight weights i x l all))))
+
+pub weight-more : (weights : List ℕ) (i x : ℕ) → i < length weights → x ≡ get_or weights i x → IsWeight x → All IsWeight (take i weights) → All IsWeight (take (i + 1) weights)
+weight-more weights i x l e is all = All-more IsWeight weights i x l all (rw (← e) is)
+
+-- a setup of the same weights in which no task is kept
+all-ones : (n : ℕ) → list_all (λ w. w == 1) (replicate n 1) ≡ true
+all-ones zero = refl
+all-ones (suc n) = all-ones n
+
+ones-only : (weights : List ℕ) → list_all (λ w. w == 1) weights ≡ true → weights ≡ replicate (length weights) 1
+ones-only [] e = refl
+ones-only (w ∷ ws) e =
+    let one : w ≡ 1 = grind (arith, nat_tests, e) in
+    let more = ones-only ws (grind (arith, nat_tests, e)) in
+    rw one (ap (λ (xs : List ℕ). 1 ∷ xs) more)
+
+pub even-is_even : (nodes partitions events_max : ℕ) → is_even (even_setup nodes partitions events_max) ≡ true
+even-is_even nodes partitions events_max = all-ones nodes
+
+even-of : (nodes partitions events_max : ℕ) (keeps : Bool) (weights : List ℕ) → keeps ≡ false → weights ≡ replicate nodes 1 →
+    setup_of (record { nodes = nodes; partitions = partitions; events_max = events_max }) keeps weights ≡ even_setup nodes partitions events_max
+even-of nodes partitions events_max keeps weights k w = rw (k, w) refl
+
+pub is_even-even : (setup : Setup) → length setup.weights ≡ setup.nodes → is_even setup ≡ true → setup ≡ even_setup setup.nodes setup.partitions setup.events_max
+is_even-even setup size e =
+    let keeps : setup.keeps ≡ false = grind (arith, e) in
+    let ones : setup.weights ≡ replicate setup.nodes 1 = ones-only setup.weights (grind (arith, e)) ∙ ap (λ (n : ℕ). replicate n 1) size in
+    even-of setup.nodes setup.partitions setup.events_max setup.keeps setup.weights keeps ones
+
+pub even-weight : (nodes partitions events_max i : ℕ) → 0 < i → i ≤ nodes → weight_of (even_setup nodes partitions events_max) i ≡ 1
+even-weight nodes partitions events_max i low high = get_or-replicate nodes (i - 1) 1 0 (omega arith)
+
+-- the same numbers, flag and weights make the same setup
+setup-from : (a b : Setup) → a.nodes ≡ b.nodes → a.partitions ≡ b.partitions → a.events_max ≡ b.events_max → a.keeps ≡ b.keeps → a.weights ≡ b.weights → a ≡ b
+setup-from a b nodes partitions events keeps weights = grind (arith, nodes, partitions, events, keeps, weights)
+
+-- what compares equal is the same setup
+pub same_setup-is : (a b : Setup) → same_setup a b ≡ true → a ≡ b
+same_setup-is a b same =
+    let (first, weights) = and_parts (same_limits (limits_of a) (limits_of b) && beq a.keeps b.keeps) (bytes_eq a.weights b.weights) same in
+    let (limits, keeps) = and_parts (same_limits (limits_of a) (limits_of b)) (beq a.keeps b.keeps) first in
+    let (nodes, more) = and_parts (a.nodes == b.nodes) ((a.partitions == b.partitions) && (a.events_max == b.events_max)) limits in
+    let (partitions, events) = and_parts (a.partitions == b.partitions) (a.events_max == b.events_max) more in
+    setup-from a b ((Decides-eqb a.nodes b.nodes).0 nodes) ((Decides-eqb a.partitions b.partitions).0 partitions) ((Decides-eqb a.events_max b.events_max).0 events)
+    ((booleans_Decides a.keeps b.keeps).0 keeps) ((bytes_eq-Decides a.weights b.weights).0 weights)
+
+-- what doesn't compare unequal is the same setup
+pub same_setup-by_ne : (a b : Setup) (ne : Bool) → ne ≡ not (same_setup a b) → ne ≡ false → a ≡ b
+same_setup-by_ne a b ne is equal = same_setup-is a b (grind (arith, is, equal))

@@ -1,0 +1,140 @@
+-- The header of a trace.
+use Rattle.std.proofs.Common.{◌≡◌, ◌≢◌, ◌∙◌, ℕ, suc, ◌<◌, ◌≤◌, ◌++◌, ◌==◌, Bool, true, false, List, [], ◌∷◌, length, Option, Some, None, Result, Ok, Err, if◌then◌else◌, append_assoc, refl, sym, ap, subst, arith}
+use Rattle.std.specs.Prelude.{◌&&◌, ◌↔◌, IfOk, option_and_then, option_map, codes}
+use Rattle.std.specs.Result.{result_ok}
+use Rattle.std.specs.Str.{bytes_eq}
+use Rattle.std.proofs.lemmas.Grind.{common_steps}
+use Rattle.std.proofs.lemmas.List.Elements.{All-cons, All-nil}
+use Rattle.std.proofs.lemmas.Option.{same_Some}
+use Rattle.bully_base.specs.declared.TheConstants.{EVENTS_MAX, WEIGHT_MAX}
+use Rattle.bully_base.specs.declared.setup.SetupFault.{SetupFault}
+use Rattle.bully_base.specs.Setup.{AreWeights, IsEventsBound, IsNodeNumber, IsPartitionCount, IsWeight, Setup, even_setup, is_even}
+use Rattle.bully_base.proofs.SetupLemmas.{even-is_even}
+use Rattle.bully_table.specs.Numeral.{number_of}
+use Rattle.bully_table.specs.TableText.{pieces_of}
+use Rattle.bully_trace.specs.declared.header.Header.{Header}
+use Rattle.bully_trace.specs.declared.header.Version.{Version}
+use Rattle.bully_trace.specs.declared.trace.TraceFault.{TraceFault}
+use Rattle.bully_trace.specs.Headers.{IsVersionFor, Record, first_header, header_of, node_in, partitions_in, second_header, setup_in, version_for, weight_in, weighted_in, weights_from, weights_in, within}
+use Rattle.bully_trace.specs.Words.{keeps_named}
+
+-- ---- versions
+
+first_if : (even : Bool) → (if even then Version.One else Version.Two) ≡ Version.One → even ≡ true
+first_if true e = refl
+first_if false e = absurd (cc e)
+
+pub version_fits : (setup : Setup) → IsVersionFor (version_for setup) setup
+version_fits setup e = first_if (is_even setup) e
+
+numbers-even : (n p : Option ℕ) (setup : Setup) → option_and_then (λ i. option_map (λ k. even_setup i k EVENTS_MAX) p) n ≡ Some setup → is_even setup ≡ true
+numbers-even None p setup e = absurd (cc e)
+numbers-even (Some i) None setup e = absurd (cc e)
+numbers-even (Some i) (Some k) setup e = subst (λ s. is_even s ≡ true) (same_Some _ _ e) (even-is_even i k EVENTS_MAX)
+
+first-fits : (test : Bool) (o : Option Setup) (header : Header) → ((setup : Setup) → o ≡ Some setup → is_even setup ≡ true)
+    → (if test then option_map first_header o else None) ≡ Some header → IsVersionFor header.version header.setup
+first-fits true (Some s) header even e = subst (λ (h : Header). IsVersionFor h.version h.setup) (same_Some _ _ e) (λ _. even s refl)
+first-fits true None header even e = absurd (cc e)
+first-fits false o header even e = absurd (cc e)
+
+second-fits : (test : Bool) (o : Option Setup) (header : Header) → (if test then option_map second_header o else None) ≡ Some header → IsVersionFor header.version header.setup
+second-fits true (Some s) header e = subst (λ (h : Header). IsVersionFor h.version h.setup) (same_Some _ _ e) (λ one. absurd (cc one))
+second-fits true None header e = absurd (cc e)
+second-fits false o header e = absurd (cc e)
+
+-- what a header tells fits its version
+pub header-fits : (fields : Record) (header : Header) → header_of fields ≡ Some header → IsVersionFor header.version header.setup
+header-fits [] header e = absurd (cc e)
+header-fits (a ∷ []) header e = absurd (cc e)
+header-fits (a ∷ b ∷ []) header e = absurd (cc e)
+header-fits (a ∷ b ∷ c ∷ []) header e = absurd (cc e)
+header-fits (a ∷ b ∷ c ∷ d ∷ []) header e =
+    first-fits (bytes_eq a (codes "bully") && bytes_eq b (codes "1")) (setup_in c d) header (λ setup. numbers-even (node_in c) (partitions_in d) setup) e
+header-fits (a ∷ b ∷ c ∷ d ∷ x ∷ []) header e = absurd (cc e)
+header-fits (a ∷ b ∷ c ∷ d ∷ x ∷ y ∷ []) header e =
+    second-fits (bytes_eq a (codes "bully") && bytes_eq b (codes "2")) (weighted_in c d x y) header e
+header-fits (a ∷ b ∷ c ∷ d ∷ x ∷ y ∷ z ∷ rest) header e = absurd (cc e)
+
+pub made-fits : (fields : Record) (made : Result Header TraceFault) → IfOk made (λ header. header_of fields ≡ Some header) → IfOk made (λ header. IsVersionFor header.version header.setup)
+made-fits fields (Ok header) told = header-fits fields header told
+made-fits fields (Err fault) told = tt
+
+-- ---- records of another length
+
+pub no-header : (fields : Record) → length fields ≢ 4 → length fields ≢ 6 → None ≡ header_of fields
+no-header [] four six = refl
+no-header (a ∷ []) four six = refl
+no-header (a ∷ b ∷ []) four six = refl
+no-header (a ∷ b ∷ c ∷ []) four six = refl
+no-header (a ∷ b ∷ c ∷ d ∷ []) four six = absurd (four refl)
+no-header (a ∷ b ∷ c ∷ d ∷ x ∷ []) four six = refl
+no-header (a ∷ b ∷ c ∷ d ∷ x ∷ y ∷ []) four six = absurd (six refl)
+no-header (a ∷ b ∷ c ∷ d ∷ x ∷ y ∷ z ∷ rest) four six = refl
+
+-- ---- weights, piece by piece
+
+-- those that were read, and those that the other pieces are
+abbrev pub joined : List ℕ → Option (List ℕ) → Option (List ℕ)
+joined xs more = option_map (λ ys. xs ++ ys) more
+
+joined-push : (xs : List ℕ) (w : ℕ) (more : Option (List ℕ)) → joined xs (option_map (λ ys. w ∷ ys) more) ≡ joined (xs ++ w ∷ []) more
+joined-push xs w None = refl
+joined-push xs w (Some ys) = ap Some (sym (append_assoc xs (w ∷ []) ys))
+
+-- one weight more
+pub weights-more : (all left next : List (List ℕ)) (xs : List ℕ) (w : ℕ) → weights_from all ≡ joined xs (weights_from left)
+    → weights_from left ≡ option_map (λ more. w ∷ more) (weights_from next) → weights_from all ≡ joined (xs ++ w ∷ []) (weights_from next)
+weights-more all left next xs w so_far is = so_far ∙ ap (joined xs) is ∙ joined-push xs w (weights_from next)
+
+-- ---- what is read is within the limits
+
+one-within : (limit n w : ℕ) → within limit n ≡ Some w → (0 < w) × (w ≤ limit)
+one-within limit n w e = grind (arith, common_steps, e)
+
+pub told-within : (limit : ℕ) (o : Option ℕ) (w : ℕ) → option_and_then (within limit) o ≡ Some w → (0 < w) × (w ≤ limit)
+told-within limit None w e = absurd (cc e)
+told-within limit (Some n) w e = one-within limit n w e
+
+pub are-weights : (pieces : List (List ℕ)) (ws : List ℕ) → weights_from pieces ≡ Some ws → AreWeights (length pieces) ws
+are-weights [] ws e = subst (λ xs. AreWeights 0 xs) (same_Some _ _ e) (refl, All-nil IsWeight)
+are-weights (piece ∷ pieces) ws e = by_piece (weight_in piece) (weights_from pieces) refl refl e (are-weights pieces)
+  where
+    by_piece : (o : Option ℕ) (more : Option (List ℕ)) → weight_in piece ≡ o → weights_from pieces ≡ more
+        → option_and_then (λ w. option_map (λ ys. w ∷ ys) more) o ≡ Some ws → ((xs : List ℕ) → weights_from pieces ≡ Some xs → AreWeights (length pieces) xs)
+        → AreWeights (suc (length pieces)) ws
+    by_piece None more here rest e later = absurd (cc e)
+    by_piece (Some w) None here rest e later = absurd (cc e)
+    by_piece (Some w) (Some xs) here rest e later =
+        let (count, each) = later xs rest in
+        subst (λ ys. AreWeights (suc (length pieces)) ys) (same_Some _ _ e) (ap suc count, All-cons IsWeight w xs (told-within WEIGHT_MAX (number_of piece) w here) each)
+
+pub weights-within : (nodes : ℕ) (text : List ℕ) (ws : List ℕ) → weights_in nodes text ≡ Some ws → AreWeights nodes ws
+weights-within nodes text ws e = by_count (length (pieces_of text) == nodes) refl e
+  where
+    by_count : (test : Bool) → (length (pieces_of text) == nodes) ≡ test → (if test then weights_from (pieces_of text) else None) ≡ Some ws → AreWeights nodes ws
+    by_count true same e =
+        let count : length (pieces_of text) ≡ nodes = grind (arith, same) in
+        subst (λ n. AreWeights n ws) count (are-weights (pieces_of text) ws e)
+    by_count false same e = absurd (cc e)
+
+-- numbers and weights in their ranges make a setup
+pub weighted-made : (r : Result Setup SetupFault) (n p e : ℕ) (keeps : Bool) (ws : List ℕ)
+    → IfOk r (λ s. s ≡ record { nodes = n; partitions = p; events_max = e; keeps = keeps; weights = ws })
+    → (r ≡ Err SetupFault.BadNodes) ↔ ¬ IsNodeNumber n
+    → (r ≡ Err SetupFault.BadPartitions) ↔ (IsNodeNumber n × ¬ IsPartitionCount p)
+    → (r ≡ Err SetupFault.BadLimit) ↔ (IsNodeNumber n × IsPartitionCount p × ¬ IsEventsBound e)
+    → (r ≡ Err SetupFault.BadWeights) ↔ (IsNodeNumber n × IsPartitionCount p × IsEventsBound e × ¬ AreWeights n ws)
+    → IsNodeNumber n → IsPartitionCount p → IsEventsBound e → AreWeights n ws
+    → result_ok r ≡ Some (record { nodes = n; partitions = p; events_max = e; keeps = keeps; weights = ws })
+weighted-made (Ok s) n p e keeps ws is a b c d x y z w = ap Some is
+weighted-made (Err SetupFault.BadNodes) n p e keeps ws is a b c d x y z w = absurd (a.0 refl x)
+weighted-made (Err SetupFault.BadPartitions) n p e keeps ws is a b c d x y z w = absurd ((b.0 refl).1 y)
+weighted-made (Err SetupFault.BadLimit) n p e keeps ws is a b c d x y z w = absurd ((c.0 refl).2 z)
+weighted-made (Err SetupFault.BadWeights) n p e keeps ws is a b c d x y z w = absurd ((d.0 refl).3 w)
+
+-- what a header of version 2 tells of the setup, from its parts
+pub weighted-told : (nodes partitions weights keeps : List ℕ) (n p : ℕ) (ws : List ℕ) (k : Bool) (o : Option Setup)
+    → node_in nodes ≡ Some n → partitions_in partitions ≡ Some p → weights_in n weights ≡ Some ws → keeps_named keeps ≡ Some k
+    → o ≡ Some (record { nodes = n; partitions = p; events_max = EVENTS_MAX; keeps = k; weights = ws }) → o ≡ weighted_in nodes partitions weights keeps
+weighted-told nodes partitions weights keeps n p ws k o at_n at_p at_w at_k is = rw (at_n, at_p, at_w, at_k) is

@@ -1,0 +1,146 @@
+//! The header of a trace: its first row.
+ghost use Rattle.std.specs.Prelude.{◌≡◌, ◌⊎◌, ◌∷◌, ◌+◌, [], length, Some, None, false, IsTrue, MatchOption};
+ghost use Rattle.std.specs.Option.{option_map};
+ghost use Rattle.csv.specs.Records.{fields_of};
+ghost use Rattle.bully_trace.specs.Headers.{header_of, setup_in, version_for, weighted_in, weights_from, weights_in};
+
+use crate::row::{field, number_within};
+use crate::words::{is_word, keeps_named};
+use bully_base::{EVENTS_MAX, NODES_MAX, PARTITIONS_MAX, Setup, WEIGHT_MAX};
+use bully_table::Pieces;
+use csv::ByteRecord;
+
+/// The version of a trace: what its header tells. The rows behind the header are the same in both.
+#[derive(Clone, Copy, PartialEq, Eq, Debug)]
+pub enum Version {
+    /// How many nodes and partitions there are. All nodes weigh 1, and no task is kept over a crash.
+    One,
+    /// Beside that what each node weighs, and whether tasks are kept over a crash.
+    Two,
+}
+
+/// What the header of a trace tells.
+#[derive(Clone, Copy)]
+pub struct Header {
+    pub version: Version,
+    pub setup: Setup,
+}
+
+/// The version of a trace of this setup: the first that can tell it.
+pub fn version_for(setup: &Setup) -> Version
+    ensures { result ≡ version_for setup.now }
+{
+    if setup.is_even() {
+        Version::One
+    } else {
+        Version::Two
+    }
+}
+
+/// What the first record of a trace tells; none where it is no header of version 1 or 2.
+pub fn read_header(row: &ByteRecord) -> Option<Header>
+    ensures { result ≡ header_of (fields_of row.now) }
+{
+    match row.len() {
+        4 => {
+            let word = field(row, 0);
+            let version = field(row, 1);
+            first_header(word, version, field(row, 2), field(row, 3))
+        }
+        6 => {
+            let word = field(row, 0);
+            let version = field(row, 1);
+            let nodes = field(row, 2);
+            let partitions = field(row, 3);
+            second_header(
+                word,
+                version,
+                nodes,
+                partitions,
+                field(row, 4),
+                field(row, 5),
+            )
+        }
+        _ => None,
+    }
+}
+
+// What four fields mean: a header of version 1.
+fn first_header(word: &[u8], version: &[u8], nodes: &[u8], partitions: &[u8]) -> Option<Header>
+    ensures { result ≡ header_of (word.now ∷ version.now ∷ nodes.now ∷ partitions.now ∷ []) }
+{
+    if !is_word(word, "bully") || !is_word(version, "1") {
+        return None;
+    }
+    let setup = setup_in(nodes, partitions)?;
+    let version = Version::One;
+    Some(Header { version, setup })
+}
+
+// The setup of these numbers, in which all nodes weigh 1 and no task is kept.
+fn setup_in(nodes: &[u8], partitions: &[u8]) -> Option<Setup>
+    ensures { result ≡ setup_in nodes.now partitions.now }
+{
+    let nodes = number_within(nodes, NODES_MAX)?;
+    let partitions = number_within(partitions, PARTITIONS_MAX)?;
+    Setup::new(nodes, partitions, EVENTS_MAX).ok()
+}
+
+// What six fields mean: a header of version 2.
+fn second_header(
+    word: &[u8],
+    version: &[u8],
+    nodes: &[u8],
+    partitions: &[u8],
+    weights: &[u8],
+    keeps: &[u8],
+) -> Option<Header>
+    ensures { result ≡ header_of (word.now ∷ version.now ∷ nodes.now ∷ partitions.now ∷ weights.now ∷ keeps.now ∷ []) }
+{
+    if !is_word(word, "bully") || !is_word(version, "2") {
+        return None;
+    }
+    let setup = weighted_in(nodes, partitions, weights, keeps)?;
+    let version = Version::Two;
+    Some(Header { version, setup })
+}
+
+// The setup of these numbers and these weights, which keeps tasks or doesn't.
+fn weighted_in(nodes: &[u8], partitions: &[u8], weights: &[u8], keeps: &[u8]) -> Option<Setup>
+    ensures { result ≡ weighted_in nodes.now partitions.now weights.now keeps.now }
+{
+    let nodes = number_within(nodes, NODES_MAX)?;
+    let partitions = number_within(partitions, PARTITIONS_MAX)?;
+    let mut room = [0; NODES_MAX as usize];
+    let each = &mut room[..usize::from(nodes)];
+    if !read_weights(weights, each) {
+        return None;
+    }
+    let keeps = keeps_named(keeps)?;
+    Setup::weighted(nodes, partitions, EVENTS_MAX, each, keeps).ok()
+}
+
+// Reads the weights of a text, as many as there are places for them, and tells whether it is such a text.
+fn read_weights(text: &[u8], weights: &mut [u16]) -> bool
+    ensures read { IsTrue result → weights_in (length weights.old) text.now ≡ Some weights.new }
+    ensures other { result ≡ false → weights_in (length weights.old) text.now ≡ None }
+{
+    let mut pieces = Pieces::of(text);
+    for weight in weights.iter_mut() {
+        let Some(number) = next_weight(&mut pieces) else {
+            return false;
+        };
+        *weight = number;
+    }
+    pieces.next().is_none()
+}
+
+// Takes the next piece, and tells the weight that it is; none where it is no weight, or all pieces are taken.
+fn next_weight(pieces: &mut Pieces<'_>) -> Option<u16>
+    ensures { MatchOption result
+        ((pieces.old ≡ []) ⊎ (weights_from pieces.old ≡ None))
+        (λ weight. (length pieces.old ≡ length pieces.new + 1) × (weights_from pieces.old ≡ option_map (λ more. weight ∷ more) (weights_from pieces.new))) }
+{
+    let piece = pieces.next()?;
+    number_within(piece, WEIGHT_MAX)
+}
