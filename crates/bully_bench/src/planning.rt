@@ -35,7 +35,7 @@ impl Sums {
 pub fn plan_rounds(alloc: Global, rounds: u32) -> Option<Sums> {
     let mut random = Random(1982);
     let setup = Setup::new(NODES, PARTITIONS, 1).ok()?;
-    let tables = random_tables(alloc, setup, &mut random)?;
+    let tables = random_tables(alloc, &setup, &mut random)?;
     let mut sums = Sums {
         moves: 0,
         bounds: 0,
@@ -43,18 +43,19 @@ pub fn plan_rounds(alloc: Global, rounds: u32) -> Option<Sums> {
     };
     for round in 0..rounds {
         let old = tables.get(usize::try_from(round).ok()? % TABLES)?;
-        let made = plan_from(alloc, setup, old, random.next())?;
+        let made = plan_from(alloc, &setup, old, random.next())?;
         sums.add(made.moves, made.bound, &made.table);
     }
     Some(sums)
 }
 
 // A plan from the old table for the members of these bits. None for a table of another length, too.
-fn plan_from(alloc: Global, setup: Setup, old: &Table, bits: u64) -> Option<TablePlan> {
-    if old.len() != usize::from(setup.partitions()) {
+fn plan_from(alloc: Global, setup: &Setup, old: &Table, bits: u64) -> Option<TablePlan> {
+    let members = members_of(bits);
+    if old.len() != usize::from(setup.partitions()) || !setup.has_all(&members) {
         return None;
     }
-    plan(alloc, setup, &members_of(bits), Some(old)).ok()
+    plan(alloc, *setup, &members, Some(old)).ok()
 }
 
 // The nodes whose bits are set, node 1 by the lowest one, and the last node where none is.
@@ -70,7 +71,7 @@ fn members_of(bits: u64) -> NodeSet {
     members
 }
 
-fn random_tables(alloc: Global, setup: Setup, random: &mut Random) -> Option<Vec<Table>> {
+fn random_tables(alloc: Global, setup: &Setup, random: &mut Random) -> Option<Vec<Table>> {
     let mut tables = Vec::new(alloc);
     for _ in 0..TABLES {
         tables.push(random_table(alloc, setup, random)?).ok()?;
@@ -79,7 +80,7 @@ fn random_tables(alloc: Global, setup: Setup, random: &mut Random) -> Option<Vec
 }
 
 // A table with random owners.
-fn random_table(alloc: Global, setup: Setup, random: &mut Random) -> Option<Table> {
+fn random_table(alloc: Global, setup: &Setup, random: &mut Random) -> Option<Table> {
     let mut text = String::new(alloc);
     for place in 0..PARTITIONS {
         let owner = random.next() % u64::from(NODES) + 1;
@@ -88,5 +89,5 @@ fn random_table(alloc: Global, setup: Setup, random: &mut Random) -> Option<Tabl
         }
         write!(text, "{owner}").ok()?;
     }
-    Table::read(alloc, setup, text.as_str()).ok()
+    Table::read_in(alloc, setup, text.as_bytes()).ok()
 }

@@ -36,15 +36,15 @@ impl<L: Naming> Model for Player<L> {
 
 impl<L: Naming> Player<L> {
     /// The node's player before any turn. The node is at most the setup's last.
-    pub fn new(setup: Setup, node: Node, seat: Seat, pass: Pass<L>) -> Player<L>
-        requires setup { setup ≡ L.setup }
-        requires node { node ≤ setup.nodes }
+    pub fn new(setup: &Setup, node: Node, seat: Seat, pass: Pass<L>) -> Player<L>
+        requires setup { setup.now ≡ L.setup }
+        requires node { node ≤ setup.now.nodes }
     {
         Player {
             node,
             seat,
             pass,
-            procedure: Procedure::idle(setup, node, 0),
+            procedure: Procedure::idle_in(setup, node, 0),
         }
     }
 
@@ -110,7 +110,7 @@ fn prepare<L: Naming>(alloc: Global, locked: &Locked<L>, procedure: &mut Procedu
     if !matches!(procedure, Procedure::Planning(_)) {
         return;
     }
-    let idle = Procedure::idle(procedure.setup(), procedure.node(), 0);
+    let idle = Procedure::idle_in(procedure.setup(), procedure.node(), 0);
     let planning = mem::replace(procedure, idle);
     *procedure = prepared(alloc, locked, planning);
 }

@@ -1,7 +1,7 @@
 ghost use Rattle.std.specs.Prelude.{◌≡◌, ◌+◌, None};
 
 use crate::player::Player;
-use bully_base::{EVENTS_MAX, Node, Setup};
+use bully_base::{EVENTS_MAX, Limits, Node, Setup};
 use bully_calls::Answer;
 use bully_group::{Group, Naming, Pass, Seat, StepFault};
 use bully_watch::Entry;
@@ -45,7 +45,7 @@ fn turns_by<L: Naming, R: Wait>(
     let Ok((group, seats, passes)) = Group::<L>::open(alloc, setup, blank) else {
         return None;
     };
-    let team = Team::new(alloc, setup, seats, passes);
+    let team = Team::new(alloc, &setup, seats, passes);
     let played = played(rt, alloc, &group, team, count);
     let locked = group.close();
     let sums = sums_of(locked.history());
@@ -57,7 +57,7 @@ fn turns_by<L: Naming, R: Wait>(
 /// All that take turns in a group, one after the other: a player for each node in rising order, and the operator.
 #[derive(Drop)]
 pub struct Team<L: Naming> {
-    setup: Setup,
+    limits: Limits,
     players: Vec<Player<L>>,
     seat: Seat,
     pass: Pass<L>,
@@ -67,16 +67,16 @@ impl<L: Naming> Team<L> {
     /// All of a new group, with its seats and passes.
     pub fn new(
         alloc: Global,
-        setup: Setup,
+        setup: &Setup,
         seats: Vec<Seat>,
         passes: Vec<Pass<L>>,
     ) -> Option<Team<L>>
-        requires { setup ≡ L.setup }
+        requires { setup.now ≡ L.setup }
     {
         let (mut seats, mut passes) = (seats, passes);
         let players = players_of(alloc, setup, &mut seats, &mut passes)?;
         Some(Team {
-            setup,
+            limits: *setup.limits(),
             players,
             seat: seats.pop()?,
             pass: passes.pop()?,
@@ -85,7 +85,7 @@ impl<L: Naming> Team<L> {
 
     /// How many turns of nodes there are in so many rounds, from 0 to the largest number.
     pub fn turns_in(&self, rounds: u16) -> u32 {
-        u32::from(rounds).saturating_mul(u32::from(self.setup.nodes()))
+        u32::from(rounds).saturating_mul(u32::from(self.limits.nodes()))
     }
 
     /// The turn of this number, from 0 on. The operator comes before node 1.
@@ -96,10 +96,11 @@ impl<L: Naming> Team<L> {
         group: &Group<L>,
         turn: u32,
     ) -> Option<()> {
-        let nodes = u32::from(self.setup.nodes());
+        let nodes = u32::from(self.limits.nodes());
         let round = (turn / nodes).saturating_add(1);
         if turn % nodes == 0 {
-            operate(rt, group, self.setup, round, &mut self.seat, &mut self.pass)?;
+            let last = self.limits.nodes();
+            operate(rt, group, last, round, &mut self.seat, &mut self.pass)?;
         }
         let place = usize::try_from(turn % nodes).ok()?;
         self.players.get_mut(place)?.turn(rt, alloc, group, round)
@@ -129,11 +130,11 @@ fn played<L: Naming, R: Wait>(
 /// A player for each node in rising order, with its seat and its pass. The operator's are left.
 pub fn players_of<L: Naming>(
     alloc: Global,
-    setup: Setup,
+    setup: &Setup,
     seats: &mut Vec<Seat>,
     passes: &mut Vec<Pass<L>>,
 ) -> Option<Vec<Player<L>>>
-    requires { setup ≡ L.setup }
+    requires { setup.now ≡ L.setup }
 {
     let mut players = Vec::new(alloc);
     for before in 0..setup.nodes() {
@@ -150,14 +151,14 @@ pub fn players_of<L: Naming>(
 fn operate<L: Naming, R: Wait>(
     rt: &R,
     group: &Group<L>,
-    setup: Setup,
+    nodes: u16,
     round: u32,
     seat: &mut Seat,
     pass: &mut Pass<L>,
 ) -> Option<()> {
-    let last = Node::new(setup.nodes())?;
+    let last = Node::new(nodes)?;
     if round == 1 {
-        for before in 0..setup.nodes() {
+        for before in 0..nodes {
             step(
                 rt,
                 group,

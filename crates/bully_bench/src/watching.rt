@@ -100,15 +100,15 @@ fn watched_by<L: Naming + Send + Sync, R: Threads + Wait + Sync>(
         Ok((group, seats, passes)) => {
             let watched = match task {
                 Watching::Quiet(looks) => {
-                    let team = Team::new(alloc, setup, seats, passes);
+                    let team = Team::new(alloc, &setup, seats, passes);
                     look_quietly(rt, alloc, &group, team, observers, looks)
                 }
                 Watching::Publishing(looks) => {
-                    let team = Team::new(alloc, setup, seats, passes);
+                    let team = Team::new(alloc, &setup, seats, passes);
                     look_beside(rt, alloc, &group, team, observers, looks)
                 }
                 Watching::Threads(turns) => {
-                    let jobs = jobs_of(alloc, setup, seats, passes);
+                    let jobs = jobs_of(alloc, &setup, seats, passes);
                     in_threads(rt, alloc, &group, jobs, observers, turns)
                 }
             };
@@ -263,11 +263,11 @@ enum Job<L: Naming> {
 // A job for the operator, and one for each node.
 fn jobs_of<L: Naming>(
     alloc: Global,
-    setup: Setup,
+    setup: &Setup,
     seats: Vec<Seat>,
     passes: Vec<Pass<L>>,
 ) -> Option<Vec<Job<L>>>
-    requires { setup ≡ L.setup }
+    requires { setup.now ≡ L.setup }
 {
     let (mut seats, mut passes) = (seats, passes);
     let players = players_of(alloc, setup, &mut seats, &mut passes)?;

@@ -1,8 +1,8 @@
 -- The scripts, and what a checked trace of each prints of its nodes in the end.
-use Rattle.std.specs.Prelude.{ℕ, List, [], ◌∷◌, ◌++◌, Option, Some, None}
+use Rattle.std.specs.Prelude.{ℕ, Bool, List, [], ◌∷◌, ◌++◌, Option, Some, None}
 use Rattle.bully_base.specs.declared.node.Status.{Status}
 use Rattle.bully_base.specs.declared.node.Status.TheVariants.{Down, Election, Reorganization, Normal}
-use Rattle.bully_base.specs.Setup.{Setup}
+use Rattle.bully_base.specs.Setup.{Setup, even_setup}
 use Rattle.bully_calls.specs.declared.call.Call.{Call}
 use Rattle.bully_calls.specs.declared.call.CallKind.{CallKind}
 use Rattle.bully_calls.specs.declared.call.CallKind.TheVariants.{AreYouUp, Halt, NewCoordinator, Ready}
@@ -14,7 +14,11 @@ use Rattle.bully_cases.specs.Claims.{Shown}
 
 -- the setup of a trace with so many nodes and partitions
 abbrev pub trace_setup : ℕ → ℕ → Setup
-trace_setup nodes partitions = record { nodes = nodes; partitions = partitions; events_max = 1000000 }
+trace_setup nodes partitions = even_setup nodes partitions 1000000
+
+-- that of a trace whose header has the weights and says whether tasks are kept
+abbrev pub weighted_setup : ℕ → ℕ → List ℕ → Bool → Setup
+weighted_setup nodes partitions weights keeps = record (trace_setup nodes partitions) { weights = weights; keeps = keeps }
 
 abbrev pub row : Status → Option ℕ → Option ℕ → Option (List ℕ) → Shown
 row status coordinator halter task = record { status = status; coordinator = coordinator; halter = halter; task = task }
@@ -40,6 +44,24 @@ alone = Recover 1 ∷ Move 1 ∷ Move 1 ∷ Move 1 ∷ Plan 1 (1 ∷ 1 ∷ []) �
 abbrev pub alone_shown : List Shown
 alone_shown = normal 1 (1 ∷ 1 ∷ []) ∷ []
 
+-- then it crashes, and comes back
+abbrev pub alone_crashed : List Event
+alone_crashed = alone ++ (Crash 1 ∷ [])
+
+abbrev pub alone_back : List Event
+alone_back = alone ++ (Crash 1 ∷ Recover 1 ∷ [])
+
+-- where tasks are kept
+abbrev pub kept_shown : List Shown
+kept_shown = row Down None None (Some (1 ∷ 1 ∷ [])) ∷ []
+
+abbrev pub kept_back_shown : List Shown
+kept_back_shown = row Election None None (Some (1 ∷ 1 ∷ [])) ∷ []
+
+-- where they aren't
+abbrev pub cleared_back_shown : List Shown
+cleared_back_shown = row Election None None None ∷ []
+
 -- node 3 elects itself, 1 and 2 are down
 abbrev pub others_down : List Event
 others_down =
@@ -55,16 +77,29 @@ others_down_points =
     (1, Asking 4) ∷ (2, Halting 2) ∷ (5, Halting 1) ∷ (8, Halting 0)
     ∷ (9, Announcing []) ∷ (10, Planning) ∷ (11, Readying []) ∷ (12, Idle) ∷ []
 
--- node 3 halts, announces itself to and readies nodes 2 and 1
-abbrev pub all_up : List Event
-all_up =
+-- node 3 halts, announces itself to and readies nodes 2 and 1; it plans this table
+abbrev pub all_up_with : List ℕ → List Event
+all_up_with table =
     Recover 1 ∷ Recover 2 ∷ Recover 3 ∷ Move 3 ∷ whole_call 3 ++ whole_call 3
     ++ (Move 3 ∷ whole_call 3) ++ whole_call 3
-    ++ (Move 3 ∷ Plan 3 (1 ∷ 2 ∷ 3 ∷ []) ∷ whole_call 3) ++ whole_call 3
+    ++ (Move 3 ∷ Plan 3 table ∷ whole_call 3) ++ whole_call 3
     ++ (Move 3 ∷ [])
+
+abbrev pub all_up : List Event
+all_up = all_up_with (1 ∷ 2 ∷ 3 ∷ [])
 
 abbrev pub all_normal : List Shown
 all_normal = normal 3 (1 ∷ 2 ∷ 3 ∷ []) ∷ normal 3 (1 ∷ 2 ∷ 3 ∷ []) ∷ normal 3 (1 ∷ 2 ∷ 3 ∷ []) ∷ []
+
+-- a table by the weights 1, 2 and 1, and one by equal weights
+abbrev pub by_weight : List ℕ
+by_weight = 1 ∷ 1 ∷ 2 ∷ 2 ∷ 2 ∷ 2 ∷ 3 ∷ []
+
+abbrev pub by_number : List ℕ
+by_number = 1 ∷ 1 ∷ 2 ∷ 2 ∷ 3 ∷ 3 ∷ 3 ∷ []
+
+abbrev pub by_weight_shown : List Shown
+by_weight_shown = normal 3 by_weight ∷ normal 3 by_weight ∷ normal 3 by_weight ∷ []
 
 abbrev pub call_to : ℕ → CallKind → Option Call
 call_to i kind = Some (record { callee = i; kind = kind })

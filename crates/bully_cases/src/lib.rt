@@ -4,13 +4,13 @@
 //! It may be used to judge a change of a definition, and no crate stands on it.
 #![tactic(auto)]
 
-ghost use Rattle.std.specs.Prelude.{◌≡◌, List, [], ◌∷◌};
+ghost use Rattle.std.specs.Prelude.{◌≡◌, List, [], ◌∷◌, true, false};
 ghost use Rattle.bully_base.specs.Setup.{Setup};
 ghost use Rattle.bully_base.specs.declared.node.Status.{Status};
 ghost use Rattle.bully_calls.specs.declared.call.Answer.{Answer};
 ghost use Rattle.bully_calls.specs.declared.call.Phase.{Phase};
 ghost use Rattle.bully_cases.specs.Claims.{EndsAs, IsRefusedAt, IsAnsweredAt, After, Goes, Saw, shown_at, call_at, phase_at};
-ghost use Rattle.bully_cases.specs.Scripts.{trace_setup, down, alone, alone_shown, others_down, node_3_alone, others_down_points, all_up, all_normal, all_up_calls, coordinator_crashed, coordinator_crashed_shown, coordinator_crashed_points, recovered_twice, reply_lost, reply_lost_unbalanced, orphan_halt, orphan_halt_shown, orphan_halt_late, orphan_halt_points, orphan_ready, orphan_ready_points, orphan_ready_returned, orphan_ready_shown, orphan_ready_dropped, orphan_ready_dropped_calls, orphan_ready_dropped_shown, dropped_live, dropped_nothing, dropped_down, late_failure, late_failure_points, announced_too_late, announced_too_late_shown, announced_too_late_node};
+ghost use Rattle.bully_cases.specs.Scripts.{trace_setup, weighted_setup, down, alone, alone_shown, alone_crashed, alone_back, kept_shown, kept_back_shown, cleared_back_shown, others_down, node_3_alone, others_down_points, all_up, all_up_with, all_normal, all_up_calls, by_weight, by_number, by_weight_shown, coordinator_crashed, coordinator_crashed_shown, coordinator_crashed_points, recovered_twice, reply_lost, reply_lost_unbalanced, orphan_halt, orphan_halt_shown, orphan_halt_late, orphan_halt_points, orphan_ready, orphan_ready_points, orphan_ready_returned, orphan_ready_shown, orphan_ready_dropped, orphan_ready_dropped_calls, orphan_ready_dropped_shown, dropped_live, dropped_nothing, dropped_down, late_failure, late_failure_points, announced_too_late, announced_too_late_shown, announced_too_late_node};
 ghost use Rattle.bully_world.specs.Lawful.{IsLawful};
 ghost use Rattle.bully_world.specs.World.{World, point};
 ghost use Rattle.bully_world.specs.declared.event.Event.{Event};
@@ -23,10 +23,17 @@ pub fn worked_scripts()
     ensures one_world { (setup : Setup) (events : List Event) (answers others : List Answer) (w v : World) → IsLawful setup events answers w → IsLawful setup events others v → (v ≡ w) × (others ≡ answers) }
     ensures header_alone { EndsAs (trace_setup 2 1) [] 0 (down ∷ down ∷ []) }
     ensures alone_ends { EndsAs (trace_setup 1 2) alone 6 alone_shown }
+    ensures kept_ends { EndsAs (weighted_setup 1 2 (1 ∷ []) true) alone_crashed 7 kept_shown }
+    ensures kept_back_ends { EndsAs (weighted_setup 1 2 (1 ∷ []) true) alone_back 8 kept_back_shown }
+    ensures cleared_ends { EndsAs (trace_setup 1 2) alone_crashed 7 (down ∷ []) }
+    ensures cleared_back_ends { EndsAs (trace_setup 1 2) alone_back 8 cleared_back_shown }
     ensures others_down_ends { EndsAs (trace_setup 3 3) others_down 12 node_3_alone }
     ensures others_down_goes { Goes (trace_setup 3 3) others_down (λ w. point w 3) others_down_points }
     ensures all_up_ends { EndsAs (trace_setup 3 3) all_up 26 all_normal }
     ensures all_up_goes { Goes (trace_setup 3 3) all_up (λ w. call_at w 3) all_up_calls }
+    ensures by_weight_ends { EndsAs (weighted_setup 3 7 (1 ∷ 2 ∷ 1 ∷ []) false) (all_up_with by_weight) 26 by_weight_shown }
+    ensures by_weight_refused { IsRefusedAt (weighted_setup 3 7 (1 ∷ 2 ∷ 1 ∷ []) false) (all_up_with by_number) 18 Refused.BadTable }
+    ensures by_number_refused { IsRefusedAt (trace_setup 3 7) (all_up_with by_weight) 18 Refused.BadTable }
     ensures all_up_saw { After (trace_setup 3 3) all_up 26 (λ w. Saw (trace_setup 3 3) w 2 Status.Normal (Some 3)) }
     ensures all_up_differs { After (trace_setup 3 3) all_up 26 (λ w. ¬ Saw (trace_setup 3 3) w 2 Status.Normal (Some 2)) }
     ensures coordinator_crashed_ends { EndsAs (trace_setup 3 3) coordinator_crashed 34 coordinator_crashed_shown }

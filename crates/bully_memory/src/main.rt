@@ -26,13 +26,16 @@ use std::process::ExitCode;
 use std::sync::Wait;
 use std::thread::Threads;
 
-/// The calls, from the lowest crate's on. `Walk::apply` takes no memory: it is tried with all events of an election.
-const CALLS: &str = "Table::read
-Table::read_bytes
+/// The calls, from the lowest crate's on; `/2` stands behind one that is tried with a trace of version 2, too.
+/// `Setup::weighted` and `Walk::apply` take no memory: the latter is tried with all events of an election.
+const CALLS: &str = "Setup::weighted
+Table::read
+Table::read_in
 Table::copy
 TableRoom::new
 push_owners
 plan
+plan_in
 Slot::new
 Waiting::new
 Vector::new
@@ -60,8 +63,11 @@ Locked::finish
 Group::open
 Group::open_watched
 read_trace
+read_trace/2
 write_trace
+write_trace/2
 check
+check/2
 Config::read
 play
 write_history
@@ -117,13 +123,15 @@ enum Kind {
 }
 
 // Each call that isn't one on a group that nobody watches.
-const KINDS: [(&str, Kind); 30] = [
+const KINDS: [(&str, Kind); 35] = [
+    ("Setup::weighted", Kind::Table),
     ("Table::read", Kind::Table),
-    ("Table::read_bytes", Kind::Table),
+    ("Table::read_in", Kind::Table),
     ("Table::copy", Kind::Table),
     ("TableRoom::new", Kind::Table),
     ("push_owners", Kind::Table),
     ("plan", Kind::Table),
+    ("plan_in", Kind::Table),
     ("Slot::new", Kind::New),
     ("Waiting::new", Kind::New),
     ("Vector::new", Kind::New),
@@ -142,8 +150,11 @@ const KINDS: [(&str, Kind); 30] = [
     ("Locked::publish", Kind::Watched),
     ("Group::open_watched", Kind::Watched),
     ("read_trace", Kind::Text),
+    ("read_trace/2", Kind::Text),
     ("write_trace", Kind::Text),
+    ("write_trace/2", Kind::Text),
     ("check", Kind::Text),
+    ("check/2", Kind::Text),
     ("Config::read", Kind::Text),
     ("play", Kind::Text),
     ("action_of", Kind::Text),

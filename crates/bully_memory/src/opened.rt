@@ -157,7 +157,7 @@ fn turned<L: Naming>(
     pass: &mut Pass<L>,
     procedure: Procedure,
 ) -> (Procedure, Result<(), Option<StepFault>>) {
-    if procedure.setup() != locked.setup() {
+    if *procedure.setup() != *locked.setup() {
         return (procedure, Err(None));
     }
     match locked.turn(seat, procedure, pass) {
@@ -174,7 +174,7 @@ fn turned_in_place<L: Naming>(
     pass: &mut Pass<L>,
     procedure: &mut Procedure,
 ) -> Result<(), Option<StepFault>> {
-    if procedure.setup() != locked.setup() {
+    if *procedure.setup() != *locked.setup() {
         return Err(None);
     }
     match locked.serve_or_turn(seat, procedure, pass) {

@@ -1,9 +1,11 @@
+ghost use Rattle.std.specs.Prelude.{◌≡◌, ◌≤◌, All, length};
+
 use crate::trying::{Outcome, Trial};
 use bully_agree::Walk;
 use bully_base::{EVENTS_MAX, Node, NodeSet, OutOfMemory, Setup};
 use bully_calls::{Slot, Waiting};
 use bully_handlers::Vector;
-use bully_table::{Table, TableRoom, plan, push_owners};
+use bully_table::{Table, TableRoom, plan, plan_in, push_owners};
 use bully_world::World;
 use std::alloc::Global;
 
@@ -15,17 +17,29 @@ pub fn setup() -> Option<Setup> {
 /// A table of the group.
 const OWNERS: &str = "1 2 2 3";
 
-/// A call that makes a table, or a text of it.
+/// A call that makes a setup, a table, or a text of a table.
 pub fn table_call<R: Print>(trial: &Trial<R>, name: &str) -> Option<Outcome> {
     let setup = setup()?;
     match name {
+        "Setup::weighted" => weighted_call(trial),
         "Table::read" => read_call(trial, setup),
-        "Table::read_bytes" => read_bytes_call(trial, setup),
-        "Table::copy" => copy_call(trial, &table(trial, setup)?),
+        "Table::read_in" => read_in_call(trial, &setup),
         "TableRoom::new" => room_call(trial, setup),
-        "push_owners" => push_call(trial, &table(trial, setup)?),
-        "plan" => plan_call(trial, setup, &table(trial, setup)?),
-        _ => None,
+        _ => call_on(trial, name, &setup, &table(trial, setup)?),
+    }
+}
+
+// A call that is given a table.
+fn call_on<R: Print>(
+    trial: &Trial<R>,
+    name: &str,
+    setup: &Setup,
+    table: &Table,
+) -> Option<Outcome> {
+    match name {
+        "Table::copy" => copy_call(trial, table),
+        "push_owners" => push_call(trial, table),
+        _ => planning_call(trial, name, setup, table),
     }
 }
 
@@ -52,9 +66,16 @@ fn read_call<R: Print>(trial: &Trial<R>, setup: Setup) -> Option<Outcome> {
     trial.outcome(&answer, "OutOfMemory")
 }
 
-fn read_bytes_call<R: Print>(trial: &Trial<R>, setup: Setup) -> Option<Outcome> {
+// It takes no memory.
+fn weighted_call<R: Print>(trial: &Trial<R>) -> Option<Outcome> {
     trial.begin();
-    let answer = Table::read_bytes(trial.alloc, setup, OWNERS.as_bytes());
+    let answer = Setup::weighted(3, 4, EVENTS_MAX, &[1, 2, 1], true);
+    trial.outcome(&answer, "")
+}
+
+fn read_in_call<R: Print>(trial: &Trial<R>, setup: &Setup) -> Option<Outcome> {
+    trial.begin();
+    let answer = Table::read_in(trial.alloc, setup, OWNERS.as_bytes());
     trial.outcome(&answer, "OutOfMemory")
 }
 
@@ -84,15 +105,50 @@ fn owners_of(alloc: Global, table: &Table) -> Result<String, OutOfMemory> {
 }
 
 // A plan for two members, from a table that has three.
-fn plan_call<R: Print>(trial: &Trial<R>, setup: Setup, old: &Table) -> Option<Outcome> {
-    if old.len() != usize::from(setup.partitions()) {
-        return None;
-    }
+fn planning_call<R: Print>(
+    trial: &Trial<R>,
+    name: &str,
+    setup: &Setup,
+    old: &Table,
+) -> Option<Outcome> {
     let mut members = NodeSet::new();
     members.insert(Node::new(1)?);
     members.insert(Node::new(3)?);
+    if old.len() != usize::from(setup.partitions()) || !setup.has_all(&members) {
+        return None;
+    }
+    match name {
+        "plan" => plan_call(trial, *setup, &members, old),
+        "plan_in" => plan_in_call(trial, setup, &members, old),
+        _ => None,
+    }
+}
+
+fn plan_call<R: Print>(
+    trial: &Trial<R>,
+    setup: Setup,
+    members: &NodeSet,
+    old: &Table,
+) -> Option<Outcome>
+    requires covers { length old.now ≡ setup.partitions }
+    requires members { All (λ m. m ≤ setup.nodes) members.now }
+{
     trial.begin();
-    let answer = plan(trial.alloc, setup, &members, Some(old));
+    let answer = plan(trial.alloc, setup, members, Some(old));
+    trial.outcome(&answer, "OutOfMemory")
+}
+
+fn plan_in_call<R: Print>(
+    trial: &Trial<R>,
+    setup: &Setup,
+    members: &NodeSet,
+    old: &Table,
+) -> Option<Outcome>
+    requires covers { length old.now ≡ setup.now.partitions }
+    requires members { All (λ m. m ≤ setup.now.nodes) members.now }
+{
+    trial.begin();
+    let answer = plan_in(trial.alloc, setup, members, Some(old));
     trial.outcome(&answer, "OutOfMemory")
 }
 

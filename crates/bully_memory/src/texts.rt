@@ -7,12 +7,14 @@ use bully_words::{Action, action_of};
 use clap::error::ErrorKind;
 use std::alloc::Global;
 
-/// A configuration of two nodes, in which both recover, and the higher one crashes.
+/// A configuration of two nodes that keep their tasks, in which both recover, and the higher one crashes.
 pub const CONFIG: &str = "nodes = 2
 partitions = 3
 events = 100
 turns = 30
 names = [\"a\", \"b\"]
+weights = [2, 1]
+keep = true
 [[fault]]
 at = 1
 node = \"a\"
@@ -25,6 +27,20 @@ kind = \"recover\"
 at = 12
 node = \"b\"
 kind = \"crash\"
+";
+
+// A trace of version 2: node 2 leads itself alone, and its task is kept over a crash.
+const KEPT: &str = "bully,2,2,3,2 1,keep
+recover,2
+move,2
+start,2
+lose,2
+return,2
+move,2
+move,2
+plan,2,2 2 2
+move,2
+crash,2
 ";
 
 /// What a writer gets has room here.
@@ -41,34 +57,44 @@ pub fn output(alloc: Global) -> Option<Vec<u8>> {
 /// A call that reads or writes a text.
 pub fn text_call<R: Print>(trial: &Trial<R>, name: &str) -> Option<Outcome> {
     match name {
-        "read_trace" => read_call(trial),
-        "write_trace" => write_call(trial),
-        "check" => check_call(trial),
         "Config::read" => config_call(trial),
         "action_of" => words_call(trial),
         "play" => play_call(trial),
+        _ => trace_call(trial, name),
+    }
+}
+
+// One that reads or writes a trace.
+fn trace_call<R: Print>(trial: &Trial<R>, name: &str) -> Option<Outcome> {
+    match name {
+        "read_trace" => read_call(trial, ELECTION),
+        "read_trace/2" => read_call(trial, KEPT),
+        "write_trace" => write_call(trial, ELECTION),
+        "write_trace/2" => write_call(trial, KEPT),
+        "check" => check_call(trial, ELECTION),
+        "check/2" => check_call(trial, KEPT),
         _ => None,
     }
 }
 
-fn read_call<R: Print>(trial: &Trial<R>) -> Option<Outcome> {
+fn read_call<R: Print>(trial: &Trial<R>, text: &str) -> Option<Outcome> {
     trial.begin();
-    let answer = read_trace(trial.alloc, ELECTION.as_bytes());
+    let answer = read_trace(trial.alloc, text.as_bytes());
     trial.outcome(&answer, OF_TRACE)
 }
 
-fn write_call<R: Print>(trial: &Trial<R>) -> Option<Outcome> {
-    let trace = read_trace(trial.alloc, ELECTION.as_bytes()).ok()?;
+fn write_call<R: Print>(trial: &Trial<R>, text: &str) -> Option<Outcome> {
+    let trace = read_trace(trial.alloc, text.as_bytes()).ok()?;
     let mut output = output(trial.alloc)?;
     trial.begin();
     let answer = write_trace(trial.alloc, &mut output, &trace);
     trial.written(&answer, OF_TRACE, output.as_slice())
 }
 
-fn check_call<R: Print>(trial: &Trial<R>) -> Option<Outcome> {
+fn check_call<R: Print>(trial: &Trial<R>, text: &str) -> Option<Outcome> {
     let mut output = output(trial.alloc)?;
     trial.begin();
-    let answer = check(trial.alloc, ELECTION.as_bytes(), &mut output);
+    let answer = check(trial.alloc, text.as_bytes(), &mut output);
     trial.written(&answer, OF_TRACE, output.as_slice())
 }
 

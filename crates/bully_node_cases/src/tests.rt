@@ -8,7 +8,7 @@ mod threads;
 
 use bully_nodes::{PlayFault, play};
 use bully_trace::check;
-use configurations::{Group, ONE_NODE, TWO_NODES};
+use configurations::{Group, ONE_NODE, ONE_NODE_KEPT, ONE_NODE_WEIGHED, TWO_NODES, TWO_NODES_KEPT};
 use std::alloc::Global;
 use std::io;
 use std::io::{ErrorKind, Write};
@@ -19,8 +19,25 @@ const ONE_NODE_PLAYED: &str =
     "bully,1,1,2\nrecover,1\nmove,1\nmove,1\nmove,1\nplan,1,1 1\nmove,1\n";
 
 /// A group, what is played of it, and what the checker writes of that.
-const SMALL_GROUPS: [(Group, &str, &str); 2] = [
+const SMALL_GROUPS: [(Group, &str, &str); 5] = [
     (ONE_NODE, ONE_NODE_PLAYED, "lawful 6\n1 normal 1 1 1,1\n"),
+    (
+        ONE_NODE_WEIGHED,
+        ONE_NODE_PLAYED,
+        "lawful 6\n1 normal 1 1 1,1\n",
+    ),
+    (
+        ONE_NODE_KEPT,
+        "bully,2,1,2,1,keep\nrecover,1\nmove,1\nmove,1\nmove,1\nplan,1,1 1\nmove,1\n",
+        "lawful 6\n1 normal 1 1 1,1\n",
+    ),
+    (
+        TWO_NODES_KEPT,
+        "bully,2,2,2,1 1,keep\nrecover,2\nmove,2\nstart,2\nlose,2\nreturn,2\nmove,2\nmove,2\nplan,2,2 2\nmove,2\n\
+        crash,2\nrecover,2\nrecover,1\nstart,1\nrun,1\nreturn,1\nmove,2\nstart,2\nrun,2\nreturn,2\ncheck,1\n\
+        move,2\nstart,2\nrun,2\nreturn,2\nmove,2\nplan,2,2 1\nstart,2\nrun,2\nreturn,2\nmove,2\n",
+        "lawful 30\n1 normal 2 2 2,1\n2 normal 2 2 2,1\n",
+    ),
     (
         TWO_NODES,
         "bully,1,2,2\nrecover,2\nmove,2\nstart,2\nlose,2\nreturn,2\nmove,2\nmove,2\nplan,2,2 2\nmove,2\n",

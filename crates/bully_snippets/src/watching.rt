@@ -36,7 +36,7 @@ fn watched<L: Naming, R: Wait>(
 {
     match Group::<L>::open_watched(alloc, setup, publisher, blank) {
         Ok((group, seats, passes)) => {
-            let seen = seen(rt, setup, &group, seats, passes, observers);
+            let seen = seen(rt, &setup, &group, seats, passes, observers);
             group.close().end(rt); // no path lets a group or a publisher go
             seen
         }
@@ -50,7 +50,7 @@ fn watched<L: Naming, R: Wait>(
 // Takes a step under the lock and publishes it; then the observer looks, without a lock.
 fn seen<L: Naming, R: Wait>(
     rt: &R,
-    setup: Setup,
+    setup: &Setup,
     group: &Group<L>,
     seats: Vec<Seat>,
     passes: Vec<Pass<L>>,

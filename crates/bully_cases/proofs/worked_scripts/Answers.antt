@@ -12,6 +12,18 @@ returns-clause-header_alone c = scripts.header_alone
 pub returns-clause-alone_ends : goal.returns-clause-alone_ends
 returns-clause-alone_ends c = scripts.alone_ends
 
+pub returns-clause-kept_ends : goal.returns-clause-kept_ends
+returns-clause-kept_ends c = scripts.kept_ends
+
+pub returns-clause-kept_back_ends : goal.returns-clause-kept_back_ends
+returns-clause-kept_back_ends c = scripts.kept_back_ends
+
+pub returns-clause-cleared_ends : goal.returns-clause-cleared_ends
+returns-clause-cleared_ends c = scripts.cleared_ends
+
+pub returns-clause-cleared_back_ends : goal.returns-clause-cleared_back_ends
+returns-clause-cleared_back_ends c = scripts.cleared_back_ends
+
 pub returns-clause-others_down_ends : goal.returns-clause-others_down_ends
 returns-clause-others_down_ends c = scripts.others_down_ends
 
@@ -23,6 +35,15 @@ returns-clause-all_up_ends c = scripts.all_up_ends
 
 pub returns-clause-all_up_goes : goal.returns-clause-all_up_goes
 returns-clause-all_up_goes c = scripts.all_up_goes
+
+pub returns-clause-by_weight_ends : goal.returns-clause-by_weight_ends
+returns-clause-by_weight_ends c = scripts.by_weight_ends
+
+pub returns-clause-by_weight_refused : goal.returns-clause-by_weight_refused
+returns-clause-by_weight_refused c = scripts.by_weight_refused
+
+pub returns-clause-by_number_refused : goal.returns-clause-by_number_refused
+returns-clause-by_number_refused c = scripts.by_number_refused
 
 pub returns-clause-all_up_saw : goal.returns-clause-all_up_saw
 returns-clause-all_up_saw c = scripts.all_up_saw

@@ -56,7 +56,8 @@ fn line_at<'a>(changes: &'a str, index: usize, line: &'a str) -> &'a str {
     line
 }
 
-// What is read of a configuration, as a text: its numbers, each node's name, and each fault's turn, node and kind.
+// What is read of a configuration, as a text: its numbers and what is kept, each node's name and weight, and each fault's
+// turn, node and kind.
 fn read_again(alloc: Global, text: &str) -> Option<String> {
     let config = Config::read(alloc, text).ok()?;
     let mut told = String::new(alloc);
@@ -68,8 +69,13 @@ fn read_again(alloc: Global, text: &str) -> Option<String> {
 
 fn add_config(text: &mut String, config: &Config) -> Option<()> {
     let (nodes, partitions) = (config.setup().nodes(), config.setup().partitions());
-    let (events, turns, period) = (config.setup().events_max(), config.turns(), config.period());
-    writeln!(text, "{nodes} {partitions} {events} {turns} {period}").ok()?;
+    let (events, keeps) = (config.setup().events_max(), config.setup().keeps());
+    let (turns, period) = (config.turns(), config.period());
+    writeln!(
+        text,
+        "{nodes} {partitions} {events} {turns} {period} {keeps}"
+    )
+    .ok()?;
     for number in 1..=nodes {
         add_name(text, config, Node::new(number)?)?;
     }
@@ -80,14 +86,15 @@ fn add_config(text: &mut String, config: &Config) -> Option<()> {
     Some(())
 }
 
-// The node's name, and the number of the node that has it.
+// The node's name, the number of the node that has it, and what the node weighs.
 fn add_name(text: &mut String, config: &Config, node: Node) -> Option<()> {
     if config.setup().nodes() < node.number() {
         return None;
     }
     let name = config.name(node);
     let number = config.node(name)?.number();
-    writeln!(text, "{number} {name}").ok()
+    let weight = config.setup().weight(node);
+    writeln!(text, "{number} {name} {weight}").ok()
 }
 
 // Whether this is read of the text.
@@ -100,13 +107,19 @@ fn reads(alloc: Global, text: &str, expected: &str) -> bool {
 
 #[test]
 fn reads_one_node(rt: HostRuntime) {
-    assert!(rt; reads(rt.alloc(), ALONE, "1 2 100 6 16\n1 a\n1 1 Recover\n"));
+    assert!(rt;
+        reads(
+            rt.alloc(),
+            ALONE,
+            "1 2 100 6 16 false\n1 a 1\n1 1 Recover\n"
+        )
+    );
 }
 
 #[test]
 fn reads_three_nodes(rt: HostRuntime) -> Result<(), Fail> {
     let text = changed(rt.alloc(), "")?;
-    let expected = "3 4 100 9 16\n1 a\n2 b\n3 c\n1 1 Recover\n9 3 Crash\n";
+    let expected = "3 4 100 9 16 false\n1 a 1\n2 b 1\n3 c 1\n1 1 Recover\n9 3 Crash\n";
     assert!(rt; reads(rt.alloc(), text.as_str(), expected));
     Ok(())
 }
@@ -114,7 +127,18 @@ fn reads_three_nodes(rt: HostRuntime) -> Result<(), Fail> {
 #[test]
 fn reads_the_period(rt: HostRuntime) -> Result<(), Fail> {
     let text = changed(rt.alloc(), "3 turns = 9\nperiod = 5")?;
-    let expected = "3 4 100 9 5\n1 a\n2 b\n3 c\n1 1 Recover\n9 3 Crash\n";
+    let expected = "3 4 100 9 5 false\n1 a 1\n2 b 1\n3 c 1\n1 1 Recover\n9 3 Crash\n";
+    assert!(rt; reads(rt.alloc(), text.as_str(), expected));
+    Ok(())
+}
+
+#[test]
+fn reads_weights_and_what_is_kept(rt: HostRuntime) -> Result<(), Fail> {
+    let text = changed(
+        rt.alloc(),
+        "3 turns = 9\nweights = [1, 1000, 2]\nkeep = true",
+    )?;
+    let expected = "3 4 100 9 16 true\n1 a 1\n2 b 1000\n3 c 2\n1 1 Recover\n9 3 Crash\n";
     assert!(rt; reads(rt.alloc(), text.as_str(), expected));
     Ok(())
 }

@@ -24,6 +24,11 @@ fn largest(rt: &impl Abort) -> Setup {
     setup(rt, NODES, PARTITIONS, 1_000)
 }
 
+// The same, with the largest weights.
+fn heaviest(rt: &impl Abort) -> Setup {
+    Setup::weighted(NODES, PARTITIONS, 1_000, &[1_000; 64], true).expect(rt, "a setup")
+}
+
 // The text of the table in which each node in turn owns four partitions: 1 1 1 1 2 2 2 2, and so on to 64.
 fn fours(alloc: Global) -> Result<String, OutOfMemory> {
     let mut text = String::from_str(alloc, "1")?;
@@ -153,6 +158,7 @@ fn plans(rt: HostRuntime) -> Result<(), Fail> {
     let group = largest(&rt);
     let table = table_of_fours(rt.alloc(), group)?;
     let members = everybody(&rt);
+    assert!(rt; group.has_all(&members));
     assert_planned(
         &rt,
         plan(rt.alloc(), group, &members, None),
@@ -161,6 +167,17 @@ fn plans(rt: HostRuntime) -> Result<(), Fail> {
     );
     let kept = plan(rt.alloc(), group, &members, Some(&table));
     assert_planned(&rt, kept, &table, (0, 256));
+    Ok(())
+}
+
+#[test]
+fn plans_by_the_largest_weights(rt: HostRuntime) -> Result<(), Fail> {
+    let group = heaviest(&rt);
+    let table = table_of_fours(rt.alloc(), group)?;
+    let members = everybody(&rt);
+    assert!(rt; group.has_all(&members) && table.is_balanced(group, &members));
+    let found = plan(rt.alloc(), group, &members, None);
+    assert_planned(&rt, found, &table, (256, 0));
     Ok(())
 }
 

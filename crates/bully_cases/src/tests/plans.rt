@@ -1,21 +1,54 @@
 //! Plans that were worked out by hand, and each small plan beside a slow search.
 
-ghost use Rattle.std.specs.Prelude.{◌≡◌, length};
+ghost use Rattle.std.specs.Prelude.{◌≡◌, ◌≤◌, All, length};
 
 use bully_base::{Node, NodeSet, Setup};
 use bully_table::{PlanFault, Table, TablePlan, plan, push_owners};
 use std::alloc::Global;
 use std::test::Fail;
 
-// A group of 1 to 3 nodes and 1 to 5 partitions, and which of its nodes are members.
+// A group of 1 to 3 nodes and 1 to 7 partitions, what its nodes weigh, and which of them are members.
 #[derive(Clone, Copy)]
 struct Case {
     nodes: u16,
     partitions: u16,
+    weights: [u16; 3],
     members: [bool; 3],
 }
 
 impl Case {
+    fn setup(self) -> Result<Setup, Fail> {
+        match self.weights.get(..usize::from(self.nodes)) {
+            Some(weights) => Ok(Setup::weighted(self.nodes, self.partitions, 1, weights, false)?),
+            None => Ok(Setup::new(self.nodes, self.partitions, 1)?),
+        }
+    }
+
+    // What the node weighs where it is a member, and else nothing.
+    fn weight(self, node: u16) -> u32 {
+        let weight = match node {
+            1 => self.weights[0],
+            2 => self.weights[1],
+            3 => self.weights[2],
+            _ => 0,
+        };
+        if self.is_member(node) {
+            u32::from(weight)
+        } else {
+            0
+        }
+    }
+
+    // The node's part of the partitions by weight, rounded down.
+    fn base(self, node: u16) -> u32 {
+        let mut total: u32 = 0;
+        for member in 1..=3 {
+            total = total.saturating_add(self.weight(member));
+        }
+        let parts = u32::from(self.partitions).saturating_mul(self.weight(node));
+        parts.checked_div(total).unwrap_or(0)
+    }
+
     fn is_member(self, node: u16) -> bool {
         match node {
             1 => self.members[0],
@@ -56,8 +89,8 @@ impl Case {
     }
 
     // How many partitions the node owns in the list.
-    fn owned(self, list: u32, node: u16) -> u16 {
-        let mut count: u16 = 0;
+    fn owned(self, list: u32, node: u16) -> u32 {
+        let mut count: u32 = 0;
         for place in 0..self.partitions {
             if self.owner(list, place) == node {
                 count = count.saturating_add(1);
@@ -66,22 +99,24 @@ impl Case {
         count
     }
 
-    // Whether the list is balanced: its owners are members, and the counts of two members differ by one at most.
+    // Whether the node may own so many: a member its base or one more, and any other nothing.
+    fn may_own(self, node: u16, count: u32) -> bool {
+        if self.is_member(node) {
+            let base = self.base(node);
+            count == base || count == base.saturating_add(1)
+        } else {
+            count == 0
+        }
+    }
+
+    // Whether the list is balanced: each node owns as many as it may.
     fn is_fair(self, list: u32) -> bool {
-        let mut least = u16::MAX;
-        let mut most = 0;
         for node in 1..=self.nodes {
-            let count = self.owned(list, node);
-            if !self.is_member(node) {
-                if count > 0 {
-                    return false;
-                }
-            } else {
-                least = least.min(count);
-                most = most.max(count);
+            if !self.may_own(node, self.owned(list, node)) {
+                return false;
             }
         }
-        most <= least.saturating_add(1)
+        true
     }
 
     // At how many places the two lists have the same owner.
@@ -136,38 +171,103 @@ fn add_plan(text: &mut String, found: &Result<TablePlan, PlanFault>) -> Option<(
 
 // The same as a text, from an old table, if there is one.
 fn planned(alloc: Global, case: Case, old: &str) -> Result<String, Fail> {
-    let setup = Setup::new(case.nodes, case.partitions, 1)?;
+    let setup = case.setup()?;
     let members = case.member_set();
     let mut text = String::new(alloc);
+    if !setup.has_all(&members) {
+        return Ok(text);
+    }
     let found = if old.is_empty() {
         plan(alloc, setup, &members, None)
     } else {
-        plan(
-            alloc,
-            setup,
-            &members,
-            Some(&Table::read(alloc, setup, old)?),
-        )
+        let old = Table::read(alloc, setup, old)?;
+        plan(alloc, setup, &members, Some(&old))
     };
     let _ = add_plan(&mut text, &found);
     Ok(text)
 }
 
-/// The number of partitions of a group of three, its members, the old table, and the plan.
-const BY_HAND: [(u16, [bool; 3], &str, &str); 5] = [
-    (5, [true, true, false], "1 2 2 2 3", "1 2 2 2 1, 1 4"),
-    (3, [true, true, true], "3 3 3", "3 1 2, 2 1"),
-    (2, [true, true, true], "", "1 2, 2 0"),
-    (2, [false, false, false], "", "NoMember"),
-    (3, [false, false, false], "3 3 3", "NoMember"),
+/// The number of partitions of a group of three, the weights, the members, the old table, and the plan.
+const BY_HAND: [(u16, [u16; 3], [bool; 3], &str, &str); 17] = [
+    (
+        5,
+        [1; 3],
+        [true, true, false],
+        "1 2 2 2 3",
+        "1 2 2 2 1, 1 4",
+    ),
+    (3, [1; 3], [true; 3], "3 3 3", "3 1 2, 2 1"),
+    (2, [1; 3], [true; 3], "", "1 2, 2 0"),
+    (2, [1; 3], [false; 3], "", "NoMember"),
+    (3, [1; 3], [false; 3], "3 3 3", "NoMember"),
+    // bases 1, 3, 1, and two left over
+    (7, [1, 2, 1], [true; 3], "", "1 1 2 2 2 2 3, 7 0"),
+    (
+        7,
+        [1, 2, 1],
+        [true; 3],
+        "3 3 3 2 2 2 2",
+        "3 3 1 2 2 2 2, 1 6",
+    ),
+    (
+        7,
+        [1, 2, 1],
+        [true; 3],
+        "1 1 2 2 3 3 3",
+        "1 1 2 2 3 3 2, 1 6",
+    ),
+    (7, [1, 2, 1], [false; 3], "", "NoMember"),
+    // equal weights are as weights of 1
+    (
+        5,
+        [9; 3],
+        [true, true, false],
+        "1 2 2 2 3",
+        "1 2 2 2 1, 1 4",
+    ),
+    // who is no member has no part: bases 2 and 4, and one left over
+    (
+        7,
+        [1, 2, 1000],
+        [true, true, false],
+        "",
+        "1 1 1 2 2 2 2, 7 0",
+    ),
+    (
+        7,
+        [1, 2, 1000],
+        [true, true, false],
+        "3 2 2 2 2 2 3",
+        "1 2 2 2 2 2 1, 2 5",
+    ),
+    // bases 0, 6, 0, and one left over
+    (7, [1, 1000, 1], [true; 3], "", "1 2 2 2 2 2 2, 7 0"),
+    (
+        7,
+        [1, 1000, 1],
+        [true; 3],
+        "3 3 2 2 2 2 2",
+        "3 2 2 2 2 2 2, 1 6",
+    ),
+    (
+        4,
+        [1, 2, 1000],
+        [false, false, true],
+        "1 2 3 3",
+        "3 3 3 3, 2 2",
+    ),
+    // bases 0, 0, 1, and two left over
+    (3, [1, 1, 2], [true; 3], "", "1 2 3, 3 0"),
+    (3, [1, 1, 2], [true; 3], "3 3 1", "3 3 1, 0 3"),
 ];
 
 #[test]
 fn plans_worked_by_hand(rt: HostRuntime) -> Result<(), Fail> {
-    for (partitions, members, old, expected) in BY_HAND.iter() {
+    for (partitions, weights, members, old, expected) in BY_HAND.iter() {
         let case = Case {
             nodes: 3,
             partitions: *partitions,
+            weights: *weights,
             members: *members,
         };
         let text = planned(rt.alloc(), case, *old)?;
@@ -178,11 +278,12 @@ fn plans_worked_by_hand(rt: HostRuntime) -> Result<(), Fail> {
 
 // Whether the plan from the old table is as good as the best, which keeps so many.
 fn is_best(alloc: Global, setup: Setup, members: &NodeSet, old: &Table, most: u16) -> bool
-    requires { length old.now ≡ setup.partitions }
+    requires covers { length old.now ≡ setup.partitions }
+    requires members { All (λ m. m ≤ setup.nodes) members.now }
 {
     match plan(alloc, setup, members, Some(old)) {
         Ok(found) => {
-            found.table.is_balanced(members)
+            found.table.is_balanced(setup, members)
                 && found.bound == most
                 && found.moves.saturating_add(most) == setup.partitions()
                 && old.len() == found.table.len()
@@ -197,11 +298,13 @@ fn is_best_from(alloc: Global, setup: Setup, case: Case, list: u32) -> Result<bo
     let text = case.text(alloc, list)?;
     let old = Table::read(alloc, setup, text.as_str())?;
     let members = case.member_set();
-    Ok(is_best(alloc, setup, &members, &old, case.most_kept(list)))
+    let most = case.most_kept(list);
+    Ok(setup.has_all(&members) && is_best(alloc, setup, &members, &old, most))
 }
 
 // The plan from each old table is as good as what the search finds.
-fn are_all_best(alloc: Global, setup: Setup, case: Case) -> Result<bool, Fail> {
+fn are_all_best(alloc: Global, case: Case) -> Result<bool, Fail> {
+    let setup = case.setup()?;
     for list in 0..case.lists() {
         if !is_best_from(alloc, setup, case, list)? {
             return Ok(false);
@@ -211,29 +314,40 @@ fn are_all_best(alloc: Global, setup: Setup, case: Case) -> Result<bool, Fail> {
 }
 
 // For each set of members among the nodes that isn't empty, the plans are as good as what the search finds.
-fn are_best_for_all(alloc: Global, nodes: u16, partitions: u16) -> Result<bool, Fail> {
-    let setup = Setup::new(nodes, partitions, 1)?;
+fn are_best_for_all(
+    alloc: Global,
+    nodes: u16,
+    partitions: u16,
+    weights: [u16; 3],
+) -> Result<bool, Fail> {
     for marks in 1..8 {
         let case = Case {
             nodes,
             partitions,
+            weights,
             members: [marks % 2 == 1, marks / 2 % 2 == 1, marks / 4 == 1],
         };
         let highest = case.member_set().highest();
-        if highest.is_some_and(|node| node.number() <= nodes)
-            && !are_all_best(alloc, setup, case)?
-        {
+        if highest.is_some_and(|node| node.number() <= nodes) && !are_all_best(alloc, case)? {
             return Ok(false);
         }
     }
     Ok(true)
 }
 
+/// What the three nodes weigh.
+const WEIGHTS: [[u16; 3]; 5] = [[1, 1, 1], [1, 2, 1], [3, 1, 2], [1, 1000, 1], [2, 3, 3]];
+
 #[test]
 fn plans_beside_a_search(rt: HostRuntime) -> Result<(), Fail> {
-    for nodes in 1..=3 {
-        for partitions in 1..=5 {
-            assert!(rt; are_best_for_all(rt.alloc(), nodes, partitions)?);
+    for weights in WEIGHTS.iter() {
+        for nodes in 1..=3 {
+            for partitions in 1..=5 {
+                assert!(rt;
+                    are_best_for_all(rt.alloc(), nodes, partitions, *weights)?,
+                    "{weights:?}, {nodes}, {partitions}"
+                );
+            }
         }
     }
     Ok(())

@@ -32,3 +32,15 @@ fn prepares_with_the_fewest_moves(rt: HostRuntime) -> Result<(), Fail> {
     assert!(rt; prepares(alloc, planning_node(setup), &old, &expected));
     Ok(())
 }
+
+// Node 2 weighs four times as much as node 1, so the two take one partition and four.
+#[test]
+fn prepares_by_weight(rt: HostRuntime) -> Result<(), Fail> {
+    let alloc = rt.alloc();
+    let setup = Setup::weighted(3, 5, 1, &[1, 4, 1], false)?;
+    let old = Table::read(alloc, setup, "1 2 2 2 3")?;
+    let expected = Table::read(alloc, setup, "1 2 2 2 2")?;
+    assert_eq!(rt; old.len(), 5);
+    assert!(rt; prepares(alloc, planning_node(setup), &old, &expected));
+    Ok(())
+}

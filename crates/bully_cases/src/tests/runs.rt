@@ -1,7 +1,7 @@
 //! Runs of lists of events, and the views that they give.
 
-use super::scripts::{ALL_UP, ALONE, ORPHAN_HALT, ORPHAN_READY};
-use super::{node, setup};
+use super::scripts::{ALL_UP, ALONE, KEPT, ORPHAN_HALT, ORPHAN_READY};
+use super::{bounded, node, setup};
 use bully_agree::{RunFault, View, Walk, WholeFault, run, run_whole, view};
 use bully_base::{Node, Setup};
 use bully_table::push_owners;
@@ -130,8 +130,7 @@ fn short_lists(rt: HostRuntime) {
 // What a run of the script gives with this bound on events.
 fn run_with(alloc: Global, text: &str, events_max: u32) -> Result<Result<View, RunFault>, Fail> {
     let (group, events) = script(alloc, text)?;
-    let setup = Setup::new(group.nodes(), group.partitions(), events_max)?;
-    match run(alloc, setup, events.as_slice()) {
+    match run(alloc, bounded(&group, events_max), events.as_slice()) {
         Ok((_, view)) => Ok(Ok(view)),
         Err(fault) => Ok(Err(fault)),
     }
@@ -156,14 +155,19 @@ fn stopped_runs(rt: HostRuntime) -> Result<(), Fail> {
     Ok(())
 }
 
+/// A script, how many events it has, and what is shown behind them.
+const TO_THE_BOUND: [(&str, u32, &str); 2] = [
+    (ALONE, 6, "6 events\n1 Normal Some(1) 1 1\n"),
+    (KEPT, 7, "7 events\n1 Down None 1 1\n"),
+];
+
 #[test]
-fn run_to_the_bound(rt: HostRuntime) -> Result<(), Fail> {
-    match run_with(rt.alloc(), ALONE, 6)? {
-        Ok(view) => {
-            let expected = "6 events\n1 Normal Some(1) 1 1\n";
-            assert!(rt; shows(rt.alloc(), &view, expected));
+fn runs_to_the_bound(rt: HostRuntime) -> Result<(), Fail> {
+    for (text, events_max, expected) in TO_THE_BOUND.iter() {
+        match run_with(rt.alloc(), *text, *events_max)? {
+            Ok(view) => assert!(rt; shows(rt.alloc(), &view, *expected), "{expected}"),
+            Err(_) => assert!(rt; false),
         }
-        Err(_) => assert!(rt; false),
     }
     Ok(())
 }
@@ -173,7 +177,7 @@ fn view_of_a_new_world(rt: HostRuntime) -> Result<(), Fail> {
     let two = setup(&rt, 2, 2, 9);
     let world = World::new(rt.alloc(), two)?;
     let view = view(rt.alloc(), &world)?;
-    assert_eq!(rt; view.setup(), two);
+    assert!(rt; *view.setup() == two);
     assert!(rt;
         shows(
             rt.alloc(),

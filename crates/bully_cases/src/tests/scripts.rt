@@ -4,6 +4,10 @@
 pub const ALONE: &str = "\
 bully,1,1,2\nrecover,1\nmove,1\nmove,1\nmove,1\nplan,1,1 1\nmove,1\n";
 
+/// The same in a group that keeps tasks, and then the node crashes.
+pub const KEPT: &str = "\
+bully,2,1,2,1,keep\nrecover,1\nmove,1\nmove,1\nmove,1\nplan,1,1 1\nmove,1\ncrash,1\n";
+
 /// Node 3 elects itself while 1 and 2 are down.
 pub const OTHERS_DOWN: &str = "\
 bully,1,3,3\nrecover,3\nmove,3\nstart,3\nlose,3\nreturn,3\nstart,3\nlose,3\nreturn,3\n\
@@ -14,6 +18,12 @@ pub const ALL_UP: &str = "\
 bully,1,3,3\nrecover,1\nrecover,2\nrecover,3\nmove,3\nstart,3\nrun,3\nreturn,3\nstart,3\n\
 run,3\nreturn,3\nmove,3\nstart,3\nrun,3\nreturn,3\nstart,3\nrun,3\nreturn,3\nmove,3\n\
 plan,3,1 2 3\nstart,3\nrun,3\nreturn,3\nstart,3\nrun,3\nreturn,3\nmove,3\n";
+
+/// The same, in a group whose node 2 weighs twice as much as the others.
+pub const WEIGHTED: &str = "\
+bully,2,3,7,1 2 1,clear\nrecover,1\nrecover,2\nrecover,3\nmove,3\nstart,3\nrun,3\nreturn,3\nstart,3\n\
+run,3\nreturn,3\nmove,3\nstart,3\nrun,3\nreturn,3\nstart,3\nrun,3\nreturn,3\nmove,3\n\
+plan,3,1 1 2 2 2 2 3\nstart,3\nrun,3\nreturn,3\nstart,3\nrun,3\nreturn,3\nmove,3\n";
 
 /// A callee crashes after the Halt ran there.
 pub const REPLY_LOST: &str = "\

@@ -1,10 +1,11 @@
 //! What the checker writes of traces, and why it judges none.
 
 use super::scripts::{
-    ALL_UP, ALONE, ANNOUNCED_TOO_LATE, LATE_FAILURE, ORPHAN_HALT, ORPHAN_READY, OTHERS_DOWN,
-    REPLY_LOST,
+    ALL_UP, ALONE, ANNOUNCED_TOO_LATE, KEPT, LATE_FAILURE, ORPHAN_HALT, ORPHAN_READY, OTHERS_DOWN,
+    REPLY_LOST, WEIGHTED,
 };
-use bully_trace::{TraceFault, check, read_trace, write_trace};
+use super::weight_of;
+use bully_trace::{TraceFault, Version, check, read_trace, write_trace};
 use std::alloc::Global;
 use std::test::Fail;
 
@@ -12,7 +13,7 @@ use std::test::Fail;
 const ALL: usize = 99;
 
 /// A script, how many of its rows are taken, the rows behind them, and what the checker writes.
-const SCRIPTS: [(&str, usize, &str, &str); 17] = [
+const SCRIPTS: [(&str, usize, &str, &str); 22] = [
     (ALONE, ALL, "", "lawful 6\n1 normal 1 1 1,1\n"),
     (
         OTHERS_DOWN,
@@ -85,10 +86,25 @@ const SCRIPTS: [(&str, usize, &str, &str); 17] = [
         "crash,3\ntimeout,1\nstart,1\nlose,1\nreturn,1\nstart,1\nrun,1\nreturn,1\n",
         "lawful 34\n1 normal 3 3 1,2,3\n2 normal 3 3 1,2,3\n3 down - - -\n",
     ),
+    (KEPT, ALL, "", "lawful 7\n1 down - - 1,1\n"),
+    (KEPT, ALL, "recover,1\n", "lawful 8\n1 election - - 1,1\n"),
+    (ALONE, ALL, "crash,1\n", "lawful 7\n1 down - - -\n"),
+    (
+        WEIGHTED,
+        ALL,
+        "",
+        "lawful 26\n1 normal 3 3 1,1,2,2,2,2,3\n2 normal 3 3 1,1,2,2,2,2,3\n3 normal 3 3 1,1,2,2,2,2,3\n",
+    ),
+    (
+        WEIGHTED,
+        19,
+        "plan,3,1 1 2 2 3 3 3\n",
+        "refused 20 BadTable\n",
+    ),
 ];
 
 /// A trace, and what the checker writes.
-const TRACES: [(&str, &str); 33] = [
+const TRACES: [(&str, &str); 48] = [
     ("bully,1,2,1\n", "lawful 0\n1 down - - -\n2 down - - -\n"),
     ("bully,1,1,1\nrecover,1\nrecover,1\n", "refused 3 IsUp\n"),
     // headers
@@ -101,6 +117,22 @@ const TRACES: [(&str, &str); 33] = [
     ("Bully,1,1,1\n", "fault 1 BadHeader"),
     ("bully,1,1,1,1\n", "fault 1 BadHeader"),
     ("bully,1,01,1\n", "fault 1 BadHeader"),
+    // headers of version 2
+    ("bully,2,1,1,1,clear\n", "lawful 0\n1 down - - -\n"),
+    ("bully,2,1,1,1000,keep\n", "lawful 0\n1 down - - -\n"),
+    ("bully,2,2,2,1 0,keep\n", "fault 1 BadHeader"),
+    ("bully,2,2,2,1,keep\n", "fault 1 BadHeader"),
+    ("bully,2,1,1,1,yes\n", "fault 1 BadHeader"),
+    ("bully,2,1,1,1001,keep\n", "fault 1 BadHeader"),
+    ("bully,2,1,1,01,keep\n", "fault 1 BadHeader"),
+    ("bully,2,2,2,1  1,keep\n", "fault 1 BadHeader"),
+    ("bully,2,1,1,1 1,keep\n", "fault 1 BadHeader"),
+    ("bully,2,1,1,,keep\n", "fault 1 BadHeader"),
+    ("bully,2,1,1,1,keep,\n", "fault 1 BadHeader"),
+    ("bully,2,1,1,1\n", "fault 1 BadHeader"),
+    ("bully,1,1,1,1,clear\n", "fault 1 BadHeader"),
+    ("bully,2,0,1,,keep\n", "fault 1 BadHeader"),
+    ("bully,2,1,257,1,keep\n", "fault 1 BadHeader"),
     // rows
     ("bully,1,2,2\nrecover,01\n", "fault 2 BadRow"),
     ("bully,1,2,2\nrecover,0\n", "fault 2 BadRow"),
@@ -219,11 +251,49 @@ fn is_written_again(alloc: Global, text: &str) -> Result<bool, Fail> {
     Ok(written.is_ok() && output.as_slice() == text.as_bytes())
 }
 
+/// Traces as they are written.
+const AGAIN: [&str; 8] = [
+    ALONE,
+    ALL_UP,
+    ORPHAN_HALT,
+    ANNOUNCED_TOO_LATE,
+    KEPT,
+    WEIGHTED,
+    "bully,1,2,1\ndrop,1\n",
+    "bully,2,2,1,1 1,clear\nsaw,1,down,-\n",
+];
+
 #[test]
 fn read_and_written_again(rt: HostRuntime) -> Result<(), Fail> {
-    let dropped = "bully,1,2,1\ndrop,1\n";
-    for text in [ALONE, ALL_UP, ORPHAN_HALT, ANNOUNCED_TOO_LATE, dropped].iter() {
+    for text in AGAIN.iter() {
         assert!(rt; is_written_again(rt.alloc(), *text)?, "{text}");
+    }
+    Ok(())
+}
+
+// The version of a trace, what node 1 weighs, and whether tasks are kept.
+fn header_of(alloc: Global, text: &str) -> Result<(Version, Option<u16>, bool), Fail> {
+    let trace = read_trace(alloc, text.as_bytes())?;
+    Ok((
+        trace.version,
+        weight_of(&trace.setup, 1),
+        trace.setup.keeps(),
+    ))
+}
+
+/// A trace, its version, the weight of node 1, and whether tasks are kept.
+const VERSIONS: [(&str, Version, u16, bool); 4] = [
+    (ALONE, Version::One, 1, false),
+    (KEPT, Version::Two, 1, true),
+    ("bully,2,2,1,1000 1,clear\n", Version::Two, 1000, false),
+    ("bully,2,1,1,1,clear\n", Version::Two, 1, false),
+];
+
+#[test]
+fn versions_and_setups(rt: HostRuntime) -> Result<(), Fail> {
+    for (text, version, weight, keeps) in VERSIONS.iter() {
+        let header = header_of(rt.alloc(), *text)?;
+        assert!(rt; header == (*version, Some(*weight), *keeps), "{text}");
     }
     Ok(())
 }

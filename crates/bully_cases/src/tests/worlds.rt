@@ -1,7 +1,8 @@
 //! A world at its bound on events, and who waits for whom.
 
+use super::bounded;
 use super::scripts::ALONE;
-use bully_base::{Node, Setup};
+use bully_base::Node;
 use bully_trace::{Row, Trace, read_trace};
 use bully_world::{Event, World};
 use std::alloc::Global;
@@ -110,8 +111,7 @@ fn told(
     last: u16,
 ) -> Result<String, Fail> {
     let trace = read_trace(alloc, trace.as_bytes())?;
-    let setup = Setup::new(trace.setup.nodes(), trace.setup.partitions(), events_max)?;
-    let mut world = World::new(alloc, setup)?;
+    let mut world = World::new(alloc, bounded(&trace.setup, events_max))?;
     let mut text = String::new(alloc);
     // (where a line isn't written, the text is another one)
     let _ = add_events(&mut text, &mut world, &trace, callee);

@@ -64,7 +64,7 @@ pub struct Case {
 }
 
 // The event of a deed.
-fn event_of(alloc: Global, setup: Setup, deed: Deed, number: u16) -> Option<Event> {
+fn event_of(alloc: Global, setup: &Setup, deed: Deed, number: u16) -> Option<Event> {
     let node = Node::new(number)?;
     Some(match deed {
         Deed::Recover => Event::Recover(node),
@@ -77,7 +77,7 @@ fn event_of(alloc: Global, setup: Setup, deed: Deed, number: u16) -> Option<Even
         Deed::Return => Event::Return(node),
         Deed::Drop => Event::Drop(node),
         Deed::Move => Event::Move(node),
-        Deed::Plan(owners) => Event::Plan(node, Table::read(alloc, setup, owners).ok()?),
+        Deed::Plan(owners) => Event::Plan(node, Table::read(alloc, *setup, owners).ok()?),
     })
 }
 
@@ -168,7 +168,12 @@ fn ends_as(alloc: Global, closed: &Closed, case: &Case) -> bool {
         && status_of(closed.view(), case.node) == Some(case.status)
 }
 
-fn is_entry(alloc: Global, setup: Setup, entry: &Entry, wanted: &(u16, Deed, u16, Answer)) -> bool {
+fn is_entry(
+    alloc: Global,
+    setup: &Setup,
+    entry: &Entry,
+    wanted: &(u16, Deed, u16, Answer),
+) -> bool {
     match event_of(alloc, setup, wanted.1, wanted.2) {
         Some(event) => {
             entry.actor == wanted.0 && entry.answer == wanted.3 && entry.event.is_same(&event)
@@ -225,7 +230,7 @@ fn answer<L: Naming, R: Wait>(
     rt: &R,
     alloc: Global,
     opened: &mut Opened<L>,
-    setup: Setup,
+    setup: &Setup,
     node: Node,
     asked: Ask,
     text: &mut String,

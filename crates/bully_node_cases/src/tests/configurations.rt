@@ -5,7 +5,8 @@ use bully_config::Config;
 use std::alloc::Global;
 use std::test::Fail;
 
-/// A group whose nodes are named by their numbers, and its faults: each one's turn, node and kind.
+/// A group whose nodes are named by their numbers, lines that tell more of it, and its faults: each one's turn, node and
+/// kind.
 #[derive(Clone, Copy)]
 pub struct Group {
     pub nodes: u16,
@@ -13,6 +14,7 @@ pub struct Group {
     pub events: u32,
     pub turns: u32,
     pub period: u32,
+    pub more: &'static str,
     pub faults: &'static [(u32, u16, &'static str)],
 }
 
@@ -23,7 +25,20 @@ pub const ONE_NODE: Group = Group {
     events: 100,
     turns: 6,
     period: 16,
+    more: "",
     faults: &[(1, 1, "recover")],
+};
+
+/// The same, whose task is kept over a crash.
+pub const ONE_NODE_KEPT: Group = Group {
+    more: "keep = true\n",
+    ..ONE_NODE
+};
+
+/// The same as the first, where it is told that the node weighs 1.
+pub const ONE_NODE_WEIGHED: Group = Group {
+    more: "weights = [1]\n",
+    ..ONE_NODE
 };
 
 /// Two nodes, and the higher one recovers.
@@ -33,7 +48,21 @@ pub const TWO_NODES: Group = Group {
     events: 100,
     turns: 9,
     period: 16,
+    more: "",
     faults: &[(1, 2, "recover")],
+};
+
+/// The same, but tasks are kept; then the higher one crashes, and both recover.
+pub const TWO_NODES_KEPT: Group = Group {
+    turns: 23,
+    more: "keep = true\n",
+    faults: &[
+        (1, 2, "recover"),
+        (10, 2, "crash"),
+        (11, 2, "recover"),
+        (11, 1, "recover"),
+    ],
+    ..TWO_NODES
 };
 
 impl Group {
@@ -55,6 +84,7 @@ impl Group {
             "nodes = {nodes}\npartitions = {partitions}\nevents = {events}\nturns = {turns}\nperiod = {period}\n"
         )?;
         add_names(text, nodes)?;
+        text.push_str(self.more)?;
         for (at, node, kind) in self.faults {
             add_fault(text, *at, *node, *kind)?;
         }

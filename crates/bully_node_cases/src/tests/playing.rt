@@ -18,6 +18,7 @@ const FIVE_NODES: Group = Group {
     events: 100_000,
     turns: 2_000,
     period: 16,
+    more: "",
     faults: &[],
 };
 
@@ -237,6 +238,7 @@ const NODE_64: Group = Group {
     events: 1_000,
     turns: 195,
     period: 16,
+    more: "",
     faults: &[(1, 64, "recover")],
 };
 

@@ -23,6 +23,7 @@ const THREE_NODES: Group = Group {
     events: 1_000,
     turns: 96,
     period: 12,
+    more: "",
     faults: &[
         (1, 3, "recover"),
         (14, 2, "recover"),
@@ -30,6 +31,12 @@ const THREE_NODES: Group = Group {
         (50, 3, "crash"),
         (71, 3, "recover"),
     ],
+};
+
+/// The same with weights, and with tasks that are kept.
+const THREE_WEIGHED: Group = Group {
+    more: "weights = [1, 3, 2]\nkeep = true\n",
+    ..THREE_NODES
 };
 
 /// In each turn the operator goes first, and then the nodes in rising order.
@@ -72,17 +79,27 @@ fn runs<R: Threads + Wait + Sync>(
     Ok(written.is_ok() && text.as_slice() == expected)
 }
 
-#[test]
-fn threads_in_rounds_do_what_play_does(rt: HostRuntime) -> Result<(), Fail> {
-    let config = THREE_NODES.config(rt.alloc())?;
-    let mut played = Vec::new(rt.alloc());
-    assert!(rt; play(rt.alloc(), &config, &mut played).is_ok());
+// Whether the threads of the group, taken in rounds, write what is played of it.
+fn run_as_played<R: Threads + Wait + Sync>(
+    rt: &R,
+    alloc: Global,
+    group: Group,
+) -> Result<bool, Fail> {
+    let config = group.config(alloc)?;
+    let mut played = Vec::new(alloc);
+    let done = play(alloc, &config, &mut played);
     let gate = InRounds {
         over: AtomicU64::new(ACTORS),
         missed: AtomicBool::new(false),
     };
-    let run = runs(&rt, rt.alloc(), &config, &gate, played.as_slice());
-    assert_eq!(rt; run, Ok(true));
-    assert!(rt; !gate.missed.load(Ordering::SeqCst));
+    let run = runs(rt, alloc, &config, &gate, played.as_slice());
+    Ok(done.is_ok() && run == Ok(true) && !gate.missed.load(Ordering::SeqCst))
+}
+
+#[test]
+fn threads_in_rounds_do_what_play_does(rt: HostRuntime) -> Result<(), Fail> {
+    for group in [THREE_NODES, THREE_WEIGHED].iter() {
+        assert!(rt; run_as_played(&rt, rt.alloc(), *group)?);
+    }
     Ok(())
 }

@@ -19,6 +19,7 @@ const BOTH_DOWN: Group = Group {
     events: 100,
     turns: 2,
     period: 16,
+    more: "",
     faults: &[],
 };
 
@@ -29,6 +30,7 @@ const ALL_RECOVER: Group = Group {
     events: 100_000,
     turns: 2_000,
     period: 16,
+    more: "",
     faults: &[(1, 1, "recover"), (1, 2, "recover"), (1, 3, "recover")],
 };
 
@@ -39,6 +41,7 @@ const FULL: Group = Group {
     events: 1,
     turns: 50,
     period: 16,
+    more: "",
     faults: &[(1, 1, "recover")],
 };
 
