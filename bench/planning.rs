@@ -1,13 +1,13 @@
-//! Tables by the rule of quotas, for any number of partitions. Nodes are numbers from 1 on.
+//! Tables by the rule of quotas, for any setup. Nodes are numbers from 1 on.
 
-use crate::world::{bit, NODES_MAX};
+use crate::world::{bit, Setup, NODES_MAX};
 
 /// The owners of a balanced table over these members, with the fewest moves from the old one.
-pub fn plan(partitions: usize, members: u64, old: Option<&[u8]>) -> Box<[u8]> {
-    let members: Vec<u8> = (1..=NODES_MAX as u8).filter(|&node| members & bit(node) != 0).collect();
+pub fn plan(setup: &Setup, members: u64, old: Option<&[u8]>) -> Box<[u8]> {
     let old = old.unwrap_or(&[]);
-    let mut room = quotas(partitions, &members, old);
-    let mut owners = vec![0; partitions].into_boxed_slice();
+    let mut room = quotas(setup, members, old);
+    let members: Vec<u8> = (1..=setup.nodes).filter(|&node| members & bit(node) != 0).collect();
+    let mut owners = vec![0; setup.partitions].into_boxed_slice();
     for (new, &owner) in owners.iter_mut().zip(old) {
         if room[owner as usize] > 0 {
             room[owner as usize] -= 1;
@@ -25,20 +25,21 @@ pub fn plan(partitions: usize, members: u64, old: Option<&[u8]>) -> Box<[u8]> {
     owners
 }
 
-/// How many partitions each member owns. The rest goes to those that hold more than the quota, and then to the lowest.
-fn quotas(partitions: usize, members: &[u8], old: &[u8]) -> [usize; NODES_MAX as usize + 1] {
-    let base = partitions / members.len();
-    let mut rest = partitions % members.len();
+/// How many partitions each member owns. The rest goes to those that hold more than their base, and then to the lowest.
+fn quotas(setup: &Setup, members: u64, old: &[u8]) -> [usize; NODES_MAX as usize + 1] {
+    let bases = setup.bases(members);
+    let mut rest = setup.partitions - bases.iter().sum::<usize>();
     let mut held = [0; NODES_MAX as usize + 1];
     for &owner in old {
         held[owner as usize] += 1;
     }
-    let mut quotas = [0; NODES_MAX as usize + 1];
+    let mut quotas = bases;
     for large in [true, false] {
-        for &member in members {
-            if (held[member as usize] > base) == large {
+        for node in (1..=setup.nodes).filter(|&node| members & bit(node) != 0) {
+            let node = node as usize;
+            if (held[node] > bases[node]) == large {
                 let more = usize::from(rest > 0);
-                quotas[member as usize] = base + more;
+                quotas[node] += more;
                 rest -= more;
             }
         }

@@ -106,11 +106,11 @@ impl Locked {
 
     /// The operator's step, or an idle node's own; one that can't be is passed over.
     fn step(&mut self, seat: &mut Seat, action: Action, number: u8) {
-        let nodes = self.world.setup.nodes;
+        let Setup { nodes, keeps, .. } = self.world.setup;
         let node = self.world.node_mut(number);
         match action {
-            Action::Recover if node.is_down() => node.recover(number),
-            Action::Crash if !node.is_down() => node.crash(),
+            Action::Recover if node.is_down() => node.recover(number, keeps),
+            Action::Crash if !node.is_down() => node.crash(keeps),
             Action::Check if !node.is_down() && node.point == Point::Idle => node.check(number, nodes),
             Action::Timeout if !node.is_down() && node.point == Point::Idle => node.time_out(number),
             _ => return,
@@ -179,23 +179,22 @@ impl Locked {
 
     /// What the node's point offers.
     fn go(&mut self, seat: &mut Seat) {
-        let Setup { nodes, partitions } = self.world.setup;
         let me = seat.actor;
-        let node = self.world.node_mut(me);
-        match node.offer(nodes) {
+        match self.world.node(me).offer(self.world.setup.nodes) {
             Offer::Nothing => {}
             Offer::Call(callee, kind) => {
-                node.open(callee, kind);
+                self.world.node_mut(me).open(callee, kind);
                 self.record(seat, Action::Start, me, Answer::Done, None);
             }
             Offer::Move => {
-                node.advance(me);
+                self.world.node_mut(me).advance(me);
                 self.record(seat, Action::Move, me, Answer::Done, None);
             }
             Offer::Plan => {
+                let node = self.world.node(me);
                 let old = node.has_task.then_some(node.task.as_slice());
-                let owners = plan(partitions, node.up | bit(me), old);
-                node.adopt(&owners);
+                let owners = plan(&self.world.setup, node.up | bit(me), old);
+                self.world.node_mut(me).adopt(&owners);
                 self.record(seat, Action::Plan, me, Answer::Done, Some(owners));
             }
         }
@@ -250,10 +249,7 @@ fn operate(group: &Mutex<Locked>, nodes: u8, round: u32, seat: &mut Seat) {
 impl Group {
     /// A new group with four partitions for each node.
     pub fn new(nodes: u8) -> Group {
-        let setup = Setup {
-            nodes,
-            partitions: 4 * nodes as usize,
-        };
+        let setup = Setup::even(nodes, 4 * nodes as usize);
         let locked = Mutex::new(Locked {
             world: World::new(setup),
             history: Vec::new(),

@@ -73,7 +73,7 @@ fn check_rows<R: BufRead>(setup: Setup, lines: &mut Lines<R>) -> Result<Verdict,
         if number > ROWS_MAX + 1 {
             return Err(Fault::Form(number, "TooManyRows"));
         }
-        let row = read_row(line, setup, &mut owners).ok_or(Fault::Form(number, "BadRow"))?;
+        let row = read_row(line, &setup, &mut owners).ok_or(Fault::Form(number, "BadRow"))?;
         if verdict.is_none() {
             verdict = judge(&mut world, &row, &owners, number);
         }

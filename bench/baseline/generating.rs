@@ -2,6 +2,7 @@
 
 use crate::checking::{or_dash, status_word};
 use crate::random::Random;
+use crate::rows::header;
 use crate::world::{action_word, bit, Action, CallKind, Node, Offer, Phase, Point, Setup, World};
 use std::fmt;
 use std::io::{self, Write};
@@ -40,8 +41,8 @@ struct Generator<W> {
     tally: Tally,
 }
 
-/// Writes a header and so many rows, and tells what is in them.
-pub fn generate<W: Write>(setup: Setup, rows: u32, seed: u64, output: W) -> io::Result<Tally> {
+/// Writes a header of this version and so many rows, and tells what is in them.
+pub fn generate<W: Write>(setup: Setup, version: u8, rows: u32, seed: u64, output: W) -> io::Result<Tally> {
     let mut generator = Generator {
         world: World::new(setup),
         random: Random(seed | 1 << 63),
@@ -49,7 +50,7 @@ pub fn generate<W: Write>(setup: Setup, rows: u32, seed: u64, output: W) -> io::
         output,
         tally: Tally::default(),
     };
-    writeln!(generator.output, "bully,1,{},{}", setup.nodes, setup.partitions)?;
+    writeln!(generator.output, "{}", header(&setup, version))?;
     for _ in 0..rows {
         generator.write_row()?;
     }
@@ -181,15 +182,21 @@ impl<W: Write> Generator<W> {
         }
     }
 
-    /// A balanced table over the node and its up set: the members in turn, from any of them on.
+    /// A balanced table over the node and its up set: the members in turn, from any of them on, until each has its quota.
+    /// One more than their bases have the first ones.
     fn plan_owners(&mut self, number: u8) {
+        let setup = &self.world.setup;
         let set = self.world.node(number).up | bit(number);
-        let members: Vec<u8> = (1..=self.world.setup.nodes)
-            .filter(|&node| set & bit(node) != 0)
-            .collect();
+        let mut members: Vec<u8> = (1..=setup.nodes).filter(|&node| set & bit(node) != 0).collect();
         let first = self.random.below(members.len() as u32) as usize;
-        for (place, owner) in self.owners.iter_mut().enumerate() {
-            *owner = members[(first + place) % members.len()];
+        members.rotate_left(first);
+        let mut room = setup.bases(set);
+        let rest = setup.partitions - room.iter().sum::<usize>();
+        members[..rest].iter().for_each(|&node| room[node as usize] += 1);
+        let mut takers = members.iter().cycle();
+        for owner in &mut self.owners {
+            *owner = *takers.find(|&&node| room[node as usize] > 0).expect("a member with room");
+            room[*owner as usize] -= 1;
         }
     }
 

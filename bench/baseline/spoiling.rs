@@ -2,7 +2,8 @@
 
 use crate::generating::generate;
 use crate::random::Random;
-use crate::world::Setup;
+use crate::rows::header;
+use crate::world::{Setup, WEIGHT_MAX};
 use std::io::{self, Write};
 
 const WORDS: [&str; 15] = [
@@ -10,8 +11,11 @@ const WORDS: [&str; 15] = [
     "plan", "saw", "halt",
 ];
 const STATUSES: [&str; 5] = ["down", "election", "reorganization", "normal", "up"];
+/// What is put into a header.
+const ODD_PARTS: [&[u8]; 8] = [b"", b"0", b"01", b"2", b"1000", b"1001", b"keep", b"clear"];
 /// The bytes of traces, and some that are near to them.
-const ALPHABET: &[u8] = b"bully,1recovsatdmpn-0 23\n\n\r\"";
+const ALPHABET: &[u8] = b"bully,1recovsatdmpnk-0 23\n\n\r\"";
+const HEADERS: [&[u8]; 2] = [b"bully,1,2,2\n", b"bully,2,2,2,2 1,keep\n"];
 
 /// One trace; each such call draws another one.
 pub fn spoiled_trace(random: &mut Random) -> io::Result<Vec<u8>> {
@@ -45,19 +49,36 @@ fn changed_rows(random: &mut Random) -> io::Result<Vec<u8>> {
         .split_inclusive(|&byte| byte == b'\n')
         .map(<[u8]>::to_vec)
         .collect();
-    match random.below(6) {
+    match random.below(7) {
         0 | 1 => swap_rows(random, &mut lines),
         2 => cut_rows(random, &mut lines),
         3 => dress(random, &mut lines),
+        4 => change_header(random, &mut lines[0]),
         _ => change_number(random, &mut lines),
     }
     Ok(lines.concat())
 }
 
-fn any_setup(random: &mut Random) -> Setup {
-    Setup {
-        nodes: 1 + random.below(5) as u8,
-        partitions: 1 + random.below(7) as usize,
+/// A setup, and the version of a trace that has it.
+fn any_setup(random: &mut Random) -> (Setup, u8) {
+    let nodes = 1 + random.below(5) as u8;
+    let mut setup = Setup::even(nodes, 1 + random.below(7) as usize);
+    if random.once_in(2) {
+        return (setup, 1);
+    }
+    for weight in &mut setup.weights[..nodes as usize] {
+        *weight = any_weight(random);
+    }
+    setup.keeps = random.once_in(2);
+    (setup, 2)
+}
+
+/// Mostly a small one.
+fn any_weight(random: &mut Random) -> u16 {
+    if random.once_in(10) {
+        WEIGHT_MAX
+    } else {
+        1 + random.below(4) as u16
     }
 }
 
@@ -77,15 +98,13 @@ fn number(random: &mut Random, limit: u32) -> String {
 }
 
 fn random_rows(random: &mut Random) -> io::Result<Vec<u8>> {
-    let setup = any_setup(random);
+    let (setup, version) = any_setup(random);
     let (nodes, partitions) = (setup.nodes as u32, setup.partitions as u32);
-    let told = if random.once_in(20) {
-        number(random, 64)
-    } else {
-        nodes.to_string()
-    };
-    let mut text = Vec::new();
-    writeln!(text, "bully,1,{told},{partitions}")?;
+    let mut text = header(&setup, version).into_bytes();
+    text.push(b'\n');
+    if random.once_in(20) {
+        change_header(random, &mut text);
+    }
     for _ in 0..random.below(16) {
         let word = WORDS[random.below(WORDS.len() as u32) as usize];
         write!(text, "{word},{}", number(random, nodes))?;
@@ -118,7 +137,7 @@ fn write_claim(random: &mut Random, text: &mut Vec<u8>, nodes: u32) -> io::Resul
 fn random_bytes(random: &mut Random) -> Vec<u8> {
     let mut text = Vec::new();
     if random.once_in(2) {
-        text.extend_from_slice(b"bully,1,2,2\n");
+        text.extend_from_slice(HEADERS[random.below(2) as usize]);
     }
     let of_any_kind = random.once_in(2);
     for _ in 0..random.below(100) {
@@ -135,7 +154,8 @@ fn random_bytes(random: &mut Random) -> Vec<u8> {
 fn lawful_trace(random: &mut Random, most: u32) -> io::Result<Vec<u8>> {
     let mut text = Vec::new();
     let rows = 1 + random.below(most);
-    generate(any_setup(random), rows, random.next(), &mut text)?;
+    let (setup, version) = any_setup(random);
+    generate(setup, version, rows, random.next(), &mut text)?;
     Ok(text)
 }
 
@@ -164,6 +184,34 @@ fn cut_rows(random: &mut Random, lines: &mut Vec<Vec<u8>>) {
     };
     let last = (first + count).min(lines.len());
     lines.drain(first..last);
+}
+
+/// A field of the header becomes another one, is left out or stands there twice; or a weight does so; or the version is
+/// another one.
+fn change_header(random: &mut Random, line: &mut Vec<u8>) {
+    line.pop();
+    let mut fields: Vec<Vec<u8>> = line.split(|&byte| byte == b',').map(<[u8]>::to_vec).collect();
+    match random.below(3) {
+        0 => fields[1] = vec![b'0' + random.below(5) as u8],
+        1 if fields.len() > 4 => fields[4] = changed_parts(random, &fields[4], b' '),
+        _ => fields = vec![changed_parts(random, line, b',')],
+    }
+    *line = fields.join(&b',');
+    line.push(b'\n');
+}
+
+/// The text with one of its parts changed, of which there is this byte between each two.
+fn changed_parts(random: &mut Random, text: &[u8], between: u8) -> Vec<u8> {
+    let mut parts: Vec<&[u8]> = text.split(|&byte| byte == between).collect();
+    let place = random.below(parts.len() as u32) as usize;
+    match random.below(3) {
+        0 => {
+            parts.remove(place);
+        }
+        1 => parts.insert(place, parts[place]),
+        _ => parts[place] = ODD_PARTS[random.below(ODD_PARTS.len() as u32) as usize],
+    }
+    parts.join(&between)
 }
 
 /// A digit of a row becomes another one: half of the time in an owner of a plan or in a claim, if there is one.

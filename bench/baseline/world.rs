@@ -2,11 +2,15 @@
 
 pub const NODES_MAX: u16 = 64;
 pub const PARTITIONS_MAX: u16 = 256;
+pub const WEIGHT_MAX: u16 = 1_000;
 
+/// The weights are those of all nodes, that of node 1 first. With `keeps` a node keeps its task over a crash.
 #[derive(Clone, Copy)]
 pub struct Setup {
     pub nodes: u8,
     pub partitions: usize,
+    pub keeps: bool,
+    pub weights: [u16; NODES_MAX as usize],
 }
 
 #[derive(Clone, Copy, PartialEq, Eq)]
@@ -144,6 +148,34 @@ pub fn highest(set: u64) -> u8 {
     64 - set.leading_zeros() as u8
 }
 
+impl Setup {
+    /// All nodes weigh the same, and none keeps its task.
+    pub fn even(nodes: u8, partitions: usize) -> Setup {
+        Setup {
+            nodes,
+            partitions,
+            keeps: false,
+            weights: [1; NODES_MAX as usize],
+        }
+    }
+
+    pub fn weight(&self, node: u8) -> usize {
+        self.weights[node as usize - 1] as usize
+    }
+
+    /// How many partitions each member owns at least, by node: its part of them all by weight, rounded down. Who is no
+    /// member has 0.
+    pub fn bases(&self, members: u64) -> [usize; NODES_MAX as usize + 1] {
+        let is_member = |node: &u8| members & bit(*node) != 0;
+        let total: usize = (1..=self.nodes).filter(is_member).map(|node| self.weight(node)).sum();
+        let mut bases = [0; NODES_MAX as usize + 1];
+        for node in (1..=self.nodes).filter(is_member) {
+            bases[node as usize] = self.partitions * self.weight(node) / total;
+        }
+        bases
+    }
+}
+
 impl Node {
     fn new(partitions: usize) -> Node {
         let slot = Slot {
@@ -175,21 +207,21 @@ impl Node {
         self.slot.phase != Phase::Empty && self.slot.generation != self.generation
     }
 
-    fn empty_vector(&mut self, status: Status) {
+    fn empty_vector(&mut self, status: Status, keeps: bool) {
         self.status = status;
         self.coordinator = None;
         self.halter = None;
         self.up = 0;
-        self.has_task = false;
+        self.has_task &= keeps;
     }
 
-    pub fn recover(&mut self, me: u8) {
-        self.empty_vector(Status::Election);
+    pub fn recover(&mut self, me: u8, keeps: bool) {
+        self.empty_vector(Status::Election, keeps);
         self.point = Point::Asking(me + 1);
     }
 
-    pub fn crash(&mut self) {
-        self.empty_vector(Status::Down);
+    pub fn crash(&mut self, keeps: bool) {
+        self.empty_vector(Status::Down, keeps);
         self.point = Point::Idle;
         self.slot.phase = Phase::Empty;
         self.generation += 1;
@@ -340,14 +372,14 @@ impl Node {
         self.point = Point::Announcing(self.up);
     }
 
-    fn plan(&mut self, me: u8, owners: &[u8]) -> Result<(), Refusal> {
+    fn plan(&mut self, me: u8, setup: &Setup, owners: &[u8]) -> Result<(), Refusal> {
         if self.point != Point::Planning {
             return Err(Refusal::NoStep);
         }
         if self.slot.phase != Phase::Empty {
             return Err(Refusal::SlotBusy);
         }
-        if !is_balanced(owners, self.up | bit(me)) {
+        if !is_balanced(setup, owners, self.up | bit(me)) {
             return Err(Refusal::BadTable);
         }
         self.adopt(owners);
@@ -407,21 +439,19 @@ fn next_checked(me: u8, nodes: u8, callee: u8) -> Point {
     }
 }
 
-/// Whether each owner is a member and the counts of any two members differ by at most one.
-fn is_balanced(owners: &[u8], members: u64) -> bool {
-    let mut counts = [0u16; NODES_MAX as usize + 1];
+/// Whether each owner is a member and each member has its base or one more.
+fn is_balanced(setup: &Setup, owners: &[u8], members: u64) -> bool {
+    let mut counts = [0; NODES_MAX as usize + 1];
     for &owner in owners {
         counts[owner as usize] += 1;
     }
-    let size = members.count_ones() as usize;
-    let least = owners.len() / size;
-    let most = (owners.len() + size - 1) / size;
-    (1..=NODES_MAX as u8).all(|node| {
-        let count = counts[node as usize] as usize;
+    let bases = setup.bases(members);
+    (1..=setup.nodes).all(|node| {
+        let (count, base) = (counts[node as usize], bases[node as usize]);
         if members & bit(node) == 0 {
             count == 0
         } else {
-            least <= count && count <= most
+            base <= count && count <= base + 1
         }
     })
 }
@@ -445,16 +475,16 @@ impl World {
 
     /// Applies an event, or tells the first refusal and changes nothing. The owners are those of a Plan.
     pub fn apply(&mut self, action: Action, me: u8, owners: &[u8]) -> Result<(), Refusal> {
-        let nodes = self.setup.nodes;
+        let Setup { nodes, keeps, .. } = self.setup;
         if me > nodes {
             return Err(Refusal::BadNode);
         }
-        let node = self.node_mut(me);
+        let node = &mut self.nodes[me as usize - 1];
         match (action, node.is_down()) {
-            (Action::Recover, true) => node.recover(me),
+            (Action::Recover, true) => node.recover(me, keeps),
             (Action::Recover, false) => return Err(Refusal::IsUp),
             (_, true) => return Err(Refusal::IsDown),
-            (Action::Crash, _) => node.crash(),
+            (Action::Crash, _) => node.crash(keeps),
             (Action::Check | Action::Timeout, _) if node.point != Point::Idle => return Err(Refusal::Busy),
             (Action::Check, _) => node.check(me, nodes),
             (Action::Timeout, _) => node.time_out(me),
@@ -464,7 +494,7 @@ impl World {
             (Action::Return, _) => node.take_back(me, nodes)?,
             (Action::Drop, _) => node.drop_call()?,
             (Action::Move, _) => node.move_on(me, nodes)?,
-            (Action::Plan, _) => node.plan(me, owners)?,
+            (Action::Plan, _) => node.plan(me, &self.setup, owners)?,
         }
         self.events += 1;
         Ok(())

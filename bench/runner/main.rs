@@ -3,12 +3,13 @@
 //!     runner run CONFIG > TRACE
 //!     runner play CONFIG > TRACE
 //!
-//! Of the configuration it reads the numbers of nodes, of partitions and of turns; all nodes recover in the first turn, and
-//! a node checks at each sixteenth. `run` has a thread for the operator and one for each node. They share the world and its
-//! history under one lock. In a turn a node plans first, where it has to; then it serves the lowest call that waits for it;
-//! if there is none it begins a check or a timeout, or takes the step that its procedure offers. For each of these it takes
-//! the lock anew, and after a turn without an event it gives its processor away, as `bully run` does. `play` takes the same
-//! turns in rounds, without a lock. In the end the history is written as a trace.
+//! Of the configuration it reads the numbers of nodes, of partitions and of turns; all nodes weigh the same and recover in
+//! the first turn, no task is kept over a crash, and a node checks at each sixteenth. `run` has a thread for the operator
+//! and one for each node. They share the world and its history under one lock. In a turn a node plans first, where it has
+//! to; then it serves the lowest call that waits for it; if there is none it begins a check or a timeout, or takes the step
+//! that its procedure offers. For each of these it takes the lock anew, and after a turn without an event it gives its
+//! processor away, as `bully run` does. `play` takes the same turns in rounds, without a lock. In the end the history is
+//! written as a trace.
 
 // The other calls of it are the checker's.
 #[allow(dead_code)]
@@ -158,16 +159,16 @@ fn awaits(node: &Node) -> bool {
 }
 
 /// The table that the node plans, from its own task.
-fn planned(setup: Setup, group: &mut impl Hold, procedure: &Procedure) -> Vec<u8> {
+fn planned(setup: &Setup, group: &mut impl Hold, procedure: &Procedure) -> Vec<u8> {
     let old = group.hold(|group| {
         let node = group.world.node(procedure.me);
         node.has_task.then(|| node.task.clone())
     });
-    plan(setup.partitions, procedure.up | bit(procedure.me), old.as_deref()).into_vec()
+    plan(setup, procedure.up | bit(procedure.me), old.as_deref()).into_vec()
 }
 
 /// One turn of a node; whether there was an event.
-fn take_turn(setup: Setup, group: &mut impl Hold, turn: u32, procedure: &mut Procedure) -> bool {
+fn take_turn(setup: &Setup, group: &mut impl Hold, turn: u32, procedure: &mut Procedure) -> bool {
     let me = procedure.me;
     if procedure.point == Point::Planning && procedure.table.is_none() {
         procedure.table = Some(planned(setup, group, procedure));
@@ -183,14 +184,14 @@ fn take_turn(setup: Setup, group: &mut impl Hold, turn: u32, procedure: &mut Pro
 }
 
 /// The first turn of the operator.
-fn recover_all(setup: Setup, group: &mut impl Hold) {
+fn recover_all(setup: &Setup, group: &mut impl Hold) {
     for node in 1..=setup.nodes {
         group.hold(|group| group.step(Action::Recover, node, &[]));
     }
 }
 
-fn run_node(setup: Setup, mut group: &Mutex<Group>, turns: u32, me: u8) {
-    let mut procedure = Procedure::of(me, World::new(setup).node(me));
+fn run_node(setup: &Setup, mut group: &Mutex<Group>, turns: u32, me: u8) {
+    let mut procedure = Procedure::of(me, World::new(*setup).node(me));
     for turn in 1..=turns {
         if !take_turn(setup, &mut group, turn, &mut procedure) {
             thread::yield_now();
@@ -198,21 +199,21 @@ fn run_node(setup: Setup, mut group: &Mutex<Group>, turns: u32, me: u8) {
     }
 }
 
-fn run_operator(setup: Setup, mut group: &Mutex<Group>, turns: u32) {
+fn run_operator(setup: &Setup, mut group: &Mutex<Group>, turns: u32) {
     recover_all(setup, &mut group);
     for _ in 1..turns {
         thread::yield_now();
     }
 }
 
-fn opening(setup: Setup) -> Group {
+fn opening(setup: &Setup) -> Group {
     Group {
-        world: World::new(setup),
+        world: World::new(*setup),
         history: Vec::new(),
     }
 }
 
-fn run(setup: Setup, turns: u32) -> Group {
+fn run(setup: &Setup, turns: u32) -> Group {
     let group = Mutex::new(opening(setup));
     thread::scope(|scope| {
         scope.spawn(|| run_operator(setup, &group, turns));
@@ -224,9 +225,9 @@ fn run(setup: Setup, turns: u32) -> Group {
     group.into_inner().unwrap()
 }
 
-fn play(setup: Setup, turns: u32) -> Group {
+fn play(setup: &Setup, turns: u32) -> Group {
     let mut group = opening(setup);
-    let idle = |me| Procedure::of(me, World::new(setup).node(me));
+    let idle = |me| Procedure::of(me, World::new(*setup).node(me));
     let mut procedures: Vec<Procedure> = (1..=setup.nodes).map(idle).collect();
     recover_all(setup, &mut group);
     for turn in 1..=turns {
@@ -237,7 +238,7 @@ fn play(setup: Setup, turns: u32) -> Group {
     group
 }
 
-fn write(setup: Setup, history: &[Entry]) -> io::Result<()> {
+fn write(setup: &Setup, history: &[Entry]) -> io::Result<()> {
     let mut output = BufWriter::new(stdout().lock());
     writeln!(output, "bully,1,{},{}", setup.nodes, setup.partitions)?;
     for entry in history {
@@ -263,10 +264,8 @@ fn asked() -> Option<(Setup, u32, bool)> {
         return None;
     };
     let config = fs::read_to_string(path).ok()?;
-    let setup = Setup {
-        nodes: number_at("nodes", &config)? as u8,
-        partitions: number_at("partitions", &config)? as usize,
-    };
+    let (nodes, partitions) = (number_at("nodes", &config)?, number_at("partitions", &config)?);
+    let setup = Setup::even(nodes as u8, partitions as usize);
     Some((setup, number_at("turns", &config)?, command == "run"))
 }
 
@@ -275,8 +274,8 @@ fn main() -> ExitCode {
         eprintln!("usage: runner run|play CONFIG");
         return ExitCode::from(2);
     };
-    let group = if in_threads { run(setup, turns) } else { play(setup, turns) };
-    match write(setup, &group.history) {
+    let group = if in_threads { run(&setup, turns) } else { play(&setup, turns) };
+    match write(&setup, &group.history) {
         Ok(()) => ExitCode::SUCCESS,
         Err(_) => ExitCode::FAILURE,
     }
