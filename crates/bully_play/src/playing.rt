@@ -50,10 +50,9 @@ impl From<TraceFault> for PlayFault {
 }
 
 /// Plays the configuration on one thread, and writes the trace of what happened, in version 1 where that can tell the
-/// setup, and else in version 2. In each of the configuration's
-/// turns the operator comes first, and then the nodes in rising order. Refused as `OutOfMemory` where an
-/// allocation fails, and then nothing was written; as `Write` where the writer fails, and then a prefix of the
-/// trace may have been written. The rule: docs/ALGORITHM.md.
+/// setup, and else in version 2. In each of the configuration's turns the operator comes first, and then the nodes in
+/// rising order. Refused as `OutOfMemory` where an allocation fails, and then nothing was written; as `Write` where the
+/// writer fails, and then a prefix of the trace may have been written. The rule: docs/ALGORITHM.md.
 pub fn play<W: Write>(alloc: Global, config: &Config, writer: &mut W) -> Result<(), PlayFault>
     ensures played { OnOk result ((events : List Event) × IsPlay config.now events × IsScheduled config.now events × Appends (W.contents writer.old) (W.contents writer.new) (trace_text (trace_with config.now.setup events))) }
     ensures memory { result ≡ Err PlayFault.OutOfMemory → writer.new ≡ writer.old }

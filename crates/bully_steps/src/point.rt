@@ -154,7 +154,7 @@ pub fn begin_recovery(
     election_of(node)
 }
 
-// An election of the node begins here.
+/// [`begin_recovery`] at a node of any setup: it reads none.
 pub fn election_of(node: Node) -> Point
     ensures { result ≡ election node }
 {

@@ -76,7 +76,7 @@ pub fn plan(
     plan_in(alloc, &setup, members, old)
 }
 
-/// The same as [`plan`].
+/// [`plan`], with the setup by reference.
 pub fn plan_in(
     alloc: Global,
     setup: &Setup,

@@ -193,7 +193,7 @@ impl Table {
         self.is_balanced_in(&setup, members)
     }
 
-    /// The same as [`Table::is_balanced`].
+    /// [`Table::is_balanced`], with the setup by reference.
     pub fn is_balanced_in(&self, setup: &Setup, members: &NodeSet) -> bool
         requires length { length self.now ≡ setup.now.partitions }
         requires nodes { All (λ m. m ≤ setup.now.nodes) members.now }
