@@ -43,40 +43,13 @@ even-written limits nodes partitions events_max ones is l e = rw (is, first-ones
 pub weight-within : (setup : Setup) (i : ℕ) → AreWeights setup.nodes setup.weights → IsNode setup i → IsWeight (weight_of setup i)
 weight-within setup i h node = All-get_or IsWeight setup.weights (i - 1) 0 (omega arith) h.1
 
-pub weight-front : (setup : Setup) (all : List ℕ) (i : ℕ) → setup.weights ≡ take setup.nodes all → IsNode setup i → get_or all (i - 1) 0 ≡ weight_of setup i
-weight-front setup all i is node = rw is (sym (get_or-take setup.nodes all (i - 1) 0 (omega arith)))
-
--- one that is no weight, and one weight more
-pub no-weight : (weights : List ℕ) (i x : ℕ) → i < length weights → x ≡ get_or weights i x → ¬ IsWeight x → IsTrue false ↔ All IsWeight weights
-no-weight weights i x l e out = (λ t. absurd (cc), λ all. absurd (out (rw e (All-get_or IsWeight weights i x l all))))
-
-pub weight-more : (weights : List ℕ) (i x : ℕ) → i < length weights → x ≡ get_or weights i x → IsWeight x → All IsWeight (take i weights) → All IsWeight (take (i + 1) weights)
-weight-more weights i x l e is all = All-more IsWeight weights i x l all (rw (← e) is)
-
 -- a setup of the same weights in which no task is kept
 all-ones : (n : ℕ) → list_all (λ w. w == 1) (replicate n 1) ≡ true
 all-ones zero = refl
 all-ones (suc n) = all-ones n
 
-ones-only : (weights : List ℕ) → list_all (λ w. w == 1) weights ≡ true → weights ≡ replicate (length weights) 1
-ones-only [] e = refl
-ones-only (w ∷ ws) e =
-    let one : w ≡ 1 = grind (arith, nat_tests, e) in
-    let more = ones-only ws (grind (arith, nat_tests, e)) in
-    rw one (ap (λ (xs : List ℕ). 1 ∷ xs) more)
-
 pub even-is_even : (nodes partitions events_max : ℕ) → is_even (even_setup nodes partitions events_max) ≡ true
 even-is_even nodes partitions events_max = all-ones nodes
-
-even-of : (nodes partitions events_max : ℕ) (keeps : Bool) (weights : List ℕ) → keeps ≡ false → weights ≡ replicate nodes 1 →
-    setup_of (record { nodes = nodes; partitions = partitions; events_max = events_max }) keeps weights ≡ even_setup nodes partitions events_max
-even-of nodes partitions events_max keeps weights k w = rw (k, w) refl
-
-pub is_even-even : (setup : Setup) → length setup.weights ≡ setup.nodes → is_even setup ≡ true → setup ≡ even_setup setup.nodes setup.partitions setup.events_max
-is_even-even setup size e =
-    let keeps : setup.keeps ≡ false = grind (arith, e) in
-    let ones : setup.weights ≡ replicate setup.nodes 1 = ones-only setup.weights (grind (arith, e)) ∙ ap (λ (n : ℕ). replicate n 1) size in
-    even-of setup.nodes setup.partitions setup.events_max setup.keeps setup.weights keeps ones
 
 pub even-weight : (nodes partitions events_max i : ℕ) → 0 < i → i ≤ nodes → weight_of (even_setup nodes partitions events_max) i ≡ 1
 even-weight nodes partitions events_max i low high = get_or-replicate nodes (i - 1) 1 0 (omega arith)

@@ -3,7 +3,7 @@ use Rattle.std.proofs.Common.{◌≡◌, ℕ, zero, suc, ◌+◌, ◌<◌, ◌�
 use Rattle.std.specs.Prelude.{◌||◌, ◌==◌, nat_le, slice_index_or, All, Contains}
 use Rattle.std.specs.List.{list_all, list_any}
 use Rattle.std.specs.Bool.{Decides}
-use Rattle.std.proofs.lemmas.Bool.Decides.{nat_tests, Decides-eqb, Decides-by_and, Decides-and, Decides-at}
+use Rattle.std.proofs.lemmas.Bool.Decides.{nat_tests, Decides-eqb, Decides-by_and, Decides-and}
 use Rattle.std.proofs.lemmas.List.Elements.{All-nil, All-cons, All-contains}
 use Rattle.bully_base.specs.Setup.{Setup}
 use Rattle.bully_table.specs.Balance.{count_of, base_of, IsFair, is_fair, IsBalanced, is_balanced}
@@ -69,7 +69,3 @@ is_balanced_decides setup t m =
   where
     to : (is_balanced setup t m ≡ true → All (Contains m) t × AreFair setup t m) → is_balanced setup t m ≡ true → IsBalanced setup t m
     to both e = record { owned = (both e).0; fair = λ a x. All-contains (λ b. IsFair (base_of setup m b) (count_of b t)) m a (both e).1 x }
-
--- what the code tests of one member
-pub fair-test : (base count : ℕ) (b : Bool) → b ≡ is_fair base count → Decides b (IsFair base count)
-fair-test base count b e = Decides-at b (is_fair base count) e (fair_decides base count)

@@ -1,11 +1,10 @@
 -- What is known of owners one by one.
-use Rattle.std.proofs.Common.{◌≡◌, ℕ, ◌+◌, ◌<◌, ◌≤◌, ◌⊎◌, inl, inr, Bool, true, false, List, [], ◌∷◌, zero, suc, length, take, get_or, arith, sym, refl, ◌∙◌, All, Contains, IsTrue, ◌↔◌}
+use Rattle.std.proofs.Common.{◌≡◌, ℕ, ◌+◌, ◌<◌, ◌≤◌, Bool, true, false, List, [], ◌∷◌, zero, suc, length, take, get_or, arith, sym, refl, ◌∙◌, All, Contains, IsTrue, ◌↔◌}
 use Rattle.bully_base.specs.NodeSet.{IsFallingBelow}
 use Rattle.bully_base.specs.Setup.{Setup}
 use Rattle.bully_table.specs.Balance.{count_of, base_of, IsFair, IsBalanced}
-use Rattle.bully_table.proofs.BalanceLemmas.{All-from_contains}
 use Rattle.std.proofs.lemmas.Grind.{common_steps}
-use Rattle.std.proofs.lemmas.List.Elements.{All-get_or, All-more, All-same, All-head, All-contains}
+use Rattle.std.proofs.lemmas.List.Elements.{All-get_or, All-more, All-same, All-head}
 
 -- an owner that is no member
 pub not-all : (members owners : List ℕ) (i x : ℕ) (b : Bool) → i < length owners → x ≡ get_or owners i x → (Contains members x → IsTrue b) → b ≡ false → IsTrue false ↔ All (Contains members) owners
@@ -42,24 +41,9 @@ pub falling-wider : (bound wider : ℕ) (members : List ℕ) → bound ≤ wider
 falling-wider bound wider [] l f = tt
 falling-wider bound wider (m ∷ ms) l f = (f.0, omega (arith, f.1), f.2)
 
-pub nodes-falling : (bound nodes : ℕ) (members : List ℕ) → IsFallingBelow bound members → bound ≤ nodes + 1 → All (λ m. m ≤ nodes) members
-nodes-falling bound nodes members f l = All-from_contains (λ m. m ≤ nodes) members (λ m x. omega (arith, falling-within bound members m f x))
-
 -- what holds of the members below a number: of none, of one number more, and of all
 pub below-first : (P : ℕ → Type 0) (bound : ℕ) (members : List ℕ) → IsFallingBelow bound members → (m : ℕ) → Contains members m → m < 1 → P m
 below-first P bound members falling m x l = absurd (omega (arith, falling-within bound members m falling x))
-
-pub below-next : (P : ℕ → Type 0) (members : List ℕ) (n node : ℕ) → ((m : ℕ) → Contains members m → m < n → P m) → n ≡ node → (Contains members node → P node) →
-    (m : ℕ) → Contains members m → m < n + 1 → P m
-below-next P members n node was same here m x l = by_case (grind arith)
-  where
-    by_case : (m ≡ node) ⊎ (m < n) → P m
-    by_case (inl e) = rw e (here (rw (← e) x))
-    by_case (inr low) = was m x low
-
-pub below-last : (P : ℕ → Type 0) (members : List ℕ) (n nodes : ℕ) → ((m : ℕ) → Contains members m → m < n → P m) → nodes < n → All (λ m. m ≤ nodes) members →
-    (m : ℕ) → Contains members m → P m
-below-last P members n nodes was past all m x = was m x (omega (arith, All-contains (λ k. k ≤ nodes) members m all x))
 
 -- the two tests, put together; the owners are read off the table twice
 pub balanced-then : (setup : Setup) (table once twice members : List ℕ) (held fair : Bool) → once ≡ table → twice ≡ table →

@@ -1,14 +1,15 @@
 -- Where all nodes weigh 1: each member has as many partitions as any other, or one more or less, and a plan is that of
--- equal quotas. First what equal quotas are, then the laws.
-use Rattle.std.proofs.Common.{◌≡◌, ℕ, ◌+◌, ◌-◌, ◌*◌, ◌/◌, ◌%◌, ◌<◌, ◌≤◌, ◌⊎◌, inl, inr, Bool, true, false, List, [], ◌∷◌, length, take, map, arith, sym, refl, ◌∙◌, ap, All, Contains, Option, ◌↔◌}
-use Rattle.std.specs.Prelude.{◌&&◌, not, nat_lt, nat_le, ◌==◌, count_by, sum_by, if◌then◌else◌}
+-- equal quotas.
+use Rattle.std.proofs.Common.{◌≡◌, ℕ, ◌+◌, ◌-◌, ◌*◌, ◌/◌, ◌%◌, ◌<◌, ◌≤◌, ◌⊎◌, inl, inr, Bool, true, false, List, [], ◌∷◌, length, take, map, arith, sym, refl, ◌∙◌, ap, Contains}
+use Rattle.std.specs.Prelude.{◌&&◌, not, nat_lt, ◌==◌, count_by}
 use Rattle.std.specs.List.{list_any, range_with_len}
 use Rattle.std.proofs.Math.Nat.{mul-one, mod-eq-sub-mul-div}
 use Rattle.bully_base.specs.NodeSet.{IsFallingBelow, below_node}
 use Rattle.bully_base.specs.Setup.{weight_of, even_setup}
 use Rattle.bully_base.proofs.SetupLemmas.{even-weight}
-use Rattle.bully_table.specs.Balance.{count_of, total_weight, base_of, IsBalanced}
-use Rattle.bully_table.specs.Planning.{owner_at, places_where, owners_before, rest_of, holds_more, comes_first, quota, stays, room, rooms_below, member_where, taker, planned_owner, planned}
+use Rattle.bully_table.specs.Balance.{count_of, total_weight, base_of}
+use Rattle.bully_table.specs.Planning.{owner_at, places_where, owners_before, rest_of, holds_more, comes_first, quota, stays, room, rooms_below, member_where, taker, planned_owner}
+use Rattle.bully_table.specs.EqualShares.{equal_base, equal_rest, holds_equal, equal_quota, equal_stays, equal_room, equal_rooms_below, equal_taker, equal_owner, BalanceIsEven, QuotaIsEqual, PlannedIsEqual}
 use Rattle.bully_table.proofs.BalanceLemmas.{any_decides, later}
 use Rattle.bully_table.proofs.BalanceSteps.{falling-within}
 use Rattle.bully_table.proofs.TotalLemmas.{total, total-sum_by, total-add, total-same, total-le, total-lower, total-constant, total-below-same, one}
@@ -16,52 +17,6 @@ use Rattle.bully_table.proofs.PartLemmas.{weights-are, base-is}
 use Rattle.bully_table.proofs.PlaceCounts.{places-same}
 use Rattle.bully_table.proofs.ShareLemmas.{counts-total}
 use Rattle.bully_table.proofs.PlanSteps.{count-total}
-
--- equal quotas: what each member owns at least, and how many own one more
-abbrev pub equal_base : ℕ → List ℕ → ℕ
-equal_base partitions members = partitions / length members
-
-abbrev pub equal_rest : ℕ → List ℕ → ℕ
-equal_rest partitions members = partitions % length members
-
--- whether the member has more than that in the old table
-abbrev pub holds_equal : ℕ → List ℕ → List ℕ → ℕ → Bool
-holds_equal partitions before members m = nat_lt (equal_base partitions members) (count_of m before)
-
-unfoldable pub equal_quota : ℕ → List ℕ → List ℕ → ℕ → ℕ
-equal_quota partitions before members m =
-    if nat_lt (count_by (λ k. comes_first (holds_equal partitions before members) k m) members) (equal_rest partitions members) then equal_base partitions members + 1
-    else equal_base partitions members
-
--- every owner is a member, and the counts of two members differ by one at most
-pub record IsEven (table members : List ℕ) : Type 0 where
-  pub owned : All (Contains members) table
-  pub even : (a b : ℕ) → Contains members a → Contains members b → count_of a table ≤ count_of b table + 1
-
--- the plan of equal quotas
-unfoldable pub equal_stays : ℕ → List ℕ → List ℕ → ℕ → Bool
-equal_stays partitions before members p =
-    list_any (λ m. m == owner_at before p) members
-    && nat_lt (count_of (owner_at before p) (take p before)) (equal_quota partitions before members (owner_at before p))
-
-unfoldable pub equal_room : ℕ → List ℕ → List ℕ → ℕ → ℕ
-equal_room partitions before members m =
-    equal_quota partitions before members m - places_where (λ p. equal_stays partitions before members p && (owner_at before p == m)) partitions
-
-unfoldable pub equal_rooms_below : ℕ → List ℕ → List ℕ → ℕ → ℕ
-equal_rooms_below partitions before members m = sum_by (equal_room partitions before members) (below_node m members)
-
-unfoldable pub equal_taker : ℕ → List ℕ → List ℕ → ℕ → ℕ
-equal_taker partitions before members j =
-    member_where (λ m. nat_le (equal_rooms_below partitions before members m) j && nat_lt j (equal_rooms_below partitions before members m + equal_room partitions before members m)) members
-
-unfoldable pub equal_owner : ℕ → List ℕ → List ℕ → ℕ → ℕ
-equal_owner partitions before members p =
-    if equal_stays partitions before members p then owner_at before p
-    else equal_taker partitions before members (places_where (λ k. not (equal_stays partitions before members k)) p)
-
-abbrev pub equal_planned : ℕ → Option (List ℕ) → List ℕ → List ℕ
-equal_planned partitions old members = map (equal_owner partitions (owners_before old) members) (range_with_len 0 partitions)
 
 -- the members, which are nodes, weigh as much as there are
 weighs-one : (n p e : ℕ) (members : List ℕ) (m : ℕ) → IsFallingBelow (n + 1) members → Contains members m → weight_of (even_setup n p e) m ≡ 1
@@ -95,7 +50,7 @@ rank-same f g members m x same =
     ∙ (total-same (λ k. one (comes_first f k m)) (λ k. one (comes_first g k m)) members (λ k y. ap one (first-same f g k m (same k y) (same m x)))
     ∙ sym (count-total (λ k. comes_first g k m) members))
 
-pub even-quota : (n p e : ℕ) (before members : List ℕ) (m : ℕ) → IsFallingBelow (n + 1) members → Contains members m → quota (even_setup n p e) before members m ≡ equal_quota p before members m
+pub even-quota : QuotaIsEqual
 unfolding quota equal_quota
 even-quota n p e before members m falling x =
     let ranks = rank-same (holds_more (even_setup n p e) before members) (holds_equal p before members) members m x (λ k y. ap (λ (b : ℕ). nat_lt b (count_of k before)) (even-base n p e members k falling y)) in
@@ -123,7 +78,7 @@ even-fair base rest members counts less sum even m x = (low (grind arith), high 
 parted : (p k : ℕ) → 0 < k → (p ≡ k * (p / k) + p % k) × (p % k < k)
 parted p k pos = (omega arith, omega arith)
 
-pub even-balanced : (n p e : ℕ) (table members : List ℕ) → IsFallingBelow (n + 1) members → length table ≡ p → IsBalanced (even_setup n p e) table members ↔ IsEven table members
+pub even-balanced : BalanceIsEven
 even-balanced n p e table members falling covers = (
   λ b. record {
     owned = b.owned;
@@ -182,6 +137,6 @@ map-same : (f g : ℕ → ℕ) (xs : List ℕ) → ((x : ℕ) → f x ≡ g x) �
 map-same f g [] same = refl
 map-same f g (x ∷ xs) same = rw (same x, map-same f g xs same) refl
 
-pub even-planned : (n p e : ℕ) (old : Option (List ℕ)) (members : List ℕ) → IsFallingBelow (n + 1) members → planned (even_setup n p e) old members ≡ equal_planned p old members
+pub even-planned : PlannedIsEqual
 even-planned n p e old members falling =
     map-same (planned_owner (even_setup n p e) (owners_before old) members) (equal_owner p (owners_before old) members) (range_with_len 0 p) (λ place. even-owner n p e (owners_before old) members place falling)

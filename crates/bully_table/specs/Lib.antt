@@ -1,5 +1,6 @@
 pub mod Balance
 pub mod Planning
+pub mod EqualShares
 pub mod Numeral
 pub mod TableText
 pub mod Room

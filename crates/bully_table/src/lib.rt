@@ -4,6 +4,8 @@
 //! the definition's balance, and on a plan being balanced with the fewest moves.
 #![tactic(auto)]
 
+ghost use Rattle.bully_table.specs.EqualShares.{BalanceIsEven, PlannedIsEqual, QuotaIsEqual};
+
 mod balance;
 mod moving;
 mod numeral;
@@ -22,3 +24,12 @@ pub use planning::{PlanFault, TablePlan, plan, plan_in};
 pub use room::TableRoom;
 pub use table::{Table, TableFault};
 pub use text::push_owners;
+
+/// The laws of equal weights. Where all nodes weigh 1 and no task is kept, a table is balanced exactly where its owners are
+/// members and the counts of any two members differ by one at most; and quotas and planned tables are those by the number
+/// of members.
+pub fn equal_weights()
+    ensures balanced { BalanceIsEven }
+    ensures quota { QuotaIsEqual }
+    ensures planned { PlannedIsEqual }
+{}
