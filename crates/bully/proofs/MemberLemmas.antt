@@ -8,6 +8,7 @@ use Rattle.std.proofs.lemmas.List.{drop_more}
 use Rattle.std.proofs.lemmas.List.Elements.{All-cons, All-nil, All-tail}
 use Rattle.std.proofs.lemmas.Option.{same_Some}
 use Rattle.bully_base.specs.NodeSet.{with_node}
+use Rattle.bully_base.proofs.NodeSetLemmas.{with_node-all}
 use Rattle.bully_base.specs.Setup.{Setup}
 use Rattle.bully_config.specs.Configuration.{Configuration, IsConfiguration, node_named}
 use Rattle.bully_config.proofs.FaultLemmas.{position_within}
@@ -66,16 +67,6 @@ onto-nobody names all rest word members is named =
     ap (λ l. named_onto names l members) is ∙ ap (option_and_then (λ k. named_onto names rest (with_node k members))) named
 
 -- ---- all of them are nodes of the configuration
-
--- what holds of a node and of each member holds of each member of the set with the node
-with_node-all : (P : ℕ → Type 0) (k : ℕ) (ms : List ℕ) → P k → All P ms → All P (with_node k ms)
-with_node-all P k [] here all = All-cons P k [] here all
-with_node-all P k (m ∷ ms) here all = by_test (nat_lt m k) (m == k) (with_node-all P k ms here (All-tail P m ms all))
-  where
-    by_test : (a b : Bool) → All P (with_node k ms) → All P (if a then k ∷ m ∷ ms else (if b then m ∷ ms else m ∷ with_node k ms))
-    by_test true b more = All-cons P k (m ∷ ms) here all
-    by_test false true more = all
-    by_test false false more = All-cons P m (with_node k ms) (all 0 m (omega arith)) more
 
 pub named-within : (names words : List (List ℕ)) (members : List ℕ) → members_named names words ≡ Some members → All (λ m. m ≤ length names) members
 named-within names [] members e = subst (λ ms. All (λ m. m ≤ length names) ms) (same_Some _ _ e) (All-nil (λ m. m ≤ length names))

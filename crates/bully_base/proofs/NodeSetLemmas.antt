@@ -4,7 +4,7 @@ use Rattle.std.specs.Prelude.{◌-◌, ◌^◌, Contains, All, Option, IfSome, �
 use Rattle.std.specs.Bool.{Decides}
 use Rattle.std.proofs.Math.Nat.{pow-le-pow_right, pow-suc}
 use Rattle.std.proofs.lemmas.Bool.Decides.{nat_tests, Decides-eqb, Decides-ltb}
-use Rattle.std.proofs.lemmas.List.Elements.{All-nil, All-cons, All-weaker, All-contains}
+use Rattle.std.proofs.lemmas.List.Elements.{All-nil, All-cons, All-tail, All-weaker, All-contains}
 use Rattle.std.proofs.lemmas.Nat.{pow_pos}
 use Rattle.std.proofs.lemmas.Slice.Eq.{bytes_eq-Decides}
 use Rattle.bully_base.specs.NodeSet.{with_node, without_node, below_node, highest_of, lowest_of, word_of, IsFallingBelow}
@@ -144,6 +144,16 @@ without_node-falling (m ∷ ms) k bound h = by_test (m == k) (without_node-falli
 pub falling-below : (ms : List ℕ) (bound : ℕ) → IsFallingBelow bound ms → All (λ j. j < bound) ms
 falling-below [] bound h = All-nil (λ j. j < bound)
 falling-below (m ∷ ms) bound h = All-cons (λ j. j < bound) m ms h.1 (All-weaker (λ j. j < m) (λ j. j < bound) (λ j l. omega arith) ms (falling-below ms m h.2))
+
+-- what holds of a node and of each member holds of each member of the set with the node
+pub with_node-all : (P : ℕ → Type 0) (k : ℕ) (ms : List ℕ) → P k → All P ms → All P (with_node k ms)
+with_node-all P k [] here all = All-cons P k [] here all
+with_node-all P k (m ∷ ms) here all = by_test (nat_lt m k) (m == k) (with_node-all P k ms here (All-tail P m ms all))
+  where
+    by_test : (a b : Bool) → All P (with_node k ms) → All P (if a then k ∷ m ∷ ms else (if b then m ∷ ms else m ∷ with_node k ms))
+    by_test true b more = All-cons P k (m ∷ ms) here all
+    by_test false true more = all
+    by_test false false more = All-cons P m (with_node k ms) (all 0 m (omega arith)) more
 
 -- the head of the list is the largest member
 pub highest-largest : (ms : List ℕ) (bound : ℕ) → IsFallingBelow bound ms → IfSome (highest_of ms) (λ m. (Contains ms m) × All (λ j. j ≤ m) ms)

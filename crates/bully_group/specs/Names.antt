@@ -1,6 +1,5 @@
 -- What names no group.
-use Rattle.std.specs.Prelude.{[], false}
-use Rattle.bully_base.specs.Setup.{Setup}
+use Rattle.bully_base.specs.Setup.{Setup, even_setup}
 
 abbrev pub no_setup : Setup
-no_setup = record { nodes = 0; partitions = 0; events_max = 0; keeps = false; weights = [] }
+no_setup = even_setup 0 0 0

@@ -3,7 +3,7 @@ use Rattle.std.specs.Prelude.{◌≡◌, ◌+◌, ℕ, List, [], ◌++◌, lengt
 use mathlib.Core.Option.{some}
 use mathlib.Core.List.{IsPrefix}
 use lib.ListN.{get_elem?}
-use Rattle.bully_base.specs.Setup.{Setup}
+use Rattle.bully_base.specs.Setup.{Setup, even_setup}
 use Rattle.bully_world.specs.Cause.{cause}
 use Rattle.bully_world.specs.declared.event.Refused.{Refused}
 use Rattle.bully_world.specs.State.{WorldState, world_of}
@@ -41,7 +41,7 @@ applied_to p e =
 abbrev pub no_knowledge : Knowledge
 no_knowledge = record {
   is_named = false;
-  publisher = record { name = 0; setup = record { nodes = 0; partitions = 0; events_max = 0; keeps = false; weights = [] } };
+  publisher = record { name = 0; setup = even_setup 0 0 0 };
   seen = [];
 }
 
