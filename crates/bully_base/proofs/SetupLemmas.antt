@@ -1,13 +1,13 @@
 -- Setups and their weights.
-use Rattle.std.proofs.Common.{◌≡◌, ℕ, zero, suc, ◌+◌, ◌-◌, ◌<◌, ◌≤◌, Bool, true, false, List, [], ◌∷◌, ◌++◌, length, replicate, take, drop, arith, sym, refl, ◌∙◌, ap, All, IsTrue, ◌↔◌, get_or}
+use Rattle.std.proofs.Common.{◌≡◌, ℕ, zero, suc, ◌-◌, ◌<◌, ◌≤◌, Bool, true, false, List, ◌++◌, length, replicate, take, drop, arith, sym, refl, ◌∙◌, ap}
 use Rattle.std.specs.Prelude.{◌==◌, ◌&&◌, bytes_eq, not}
 use Rattle.std.specs.Bool.{beq}
 use Rattle.std.specs.Cmp.{booleans_Decides}
 use Rattle.std.specs.List.{list_all}
 use Rattle.std.proofs.lemmas.Bool.{and_parts}
-use Rattle.std.proofs.lemmas.Bool.Decides.{nat_tests, Decides-eqb}
-use Rattle.std.proofs.lemmas.List.{take_at, take-replicate, drop-replicate, get_or-replicate, get_or-take, length-replicate}
-use Rattle.std.proofs.lemmas.List.Elements.{All-get_or, All-more, All-replicate}
+use Rattle.std.proofs.lemmas.Bool.Decides.{Decides-eqb}
+use Rattle.std.proofs.lemmas.List.{take_at, take-replicate, drop-replicate, get_or-replicate, length-replicate}
+use Rattle.std.proofs.lemmas.List.Elements.{All-get_or, All-replicate}
 use Rattle.bully_base.specs.declared.TheConstants.{NODES_MAX}
 use Rattle.std.proofs.lemmas.Slice.Eq.{bytes_eq-Decides}
 use Rattle.bully_base.specs.Setup.{Setup, Limits, IsSetup, AreLimits, IsNode, IsWeight, AreWeights, limits_of, setup_of, weight_of, padded, even_setup, is_even}
@@ -39,11 +39,11 @@ pub even-written : (limits : Limits) (nodes partitions events_max : ℕ) (ones :
     ones ≡ take nodes (replicate NODES_MAX 1) → setup_of limits false ones ≡ even_setup nodes partitions events_max
 even-written limits nodes partitions events_max ones is l e = rw (is, first-ones nodes ones l e) refl
 
--- a node's weight, read off the places for all nodes
+-- a node's weight is within its limits
 pub weight-within : (setup : Setup) (i : ℕ) → AreWeights setup.nodes setup.weights → IsNode setup i → IsWeight (weight_of setup i)
 weight-within setup i h node = All-get_or IsWeight setup.weights (i - 1) 0 (omega arith) h.1
 
--- a setup of the same weights in which no task is kept
+-- in a setup of numbers alone all nodes weigh 1
 all-ones : (n : ℕ) → list_all (λ w. w == 1) (replicate n 1) ≡ true
 all-ones zero = refl
 all-ones (suc n) = all-ones n

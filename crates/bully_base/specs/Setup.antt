@@ -68,7 +68,7 @@ weight_of setup i = slice_index_or setup.weights (i - 1) 0
 abbrev pub padded : ℕ → List ℕ → List ℕ
 padded nodes weights = weights ++ replicate (NODES_MAX - nodes) 0
 
--- the setup of these numbers, in which all nodes weigh the same and no task is kept
+-- the setup of these numbers, in which all nodes weigh 1 and no task is kept
 abbrev pub even_setup : ℕ → ℕ → ℕ → Setup
 even_setup nodes partitions events_max = record { nodes = nodes; partitions = partitions; events_max = events_max; keeps = false; weights = replicate nodes 1 }
 
