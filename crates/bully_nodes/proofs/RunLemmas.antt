@@ -1,5 +1,5 @@
 -- What a thread's turns keep, and what the seats of all threads make of the history.
-use Rattle.std.proofs.Common.{OnOk, ◌≡◌, ◌∙◌, ℕ, zero, suc, ◌+◌, ◌≤◌, ◌==◌, inl, inr, Bool, true, false, List, [], ◌∷◌, Option, Some, None, Result, Ok, Err, IfOk, IfSome, All, get_or, map, drop, length, length-append, if◌then◌else◌, arith, refl, sym, ap, subst}
+use Rattle.std.proofs.Common.{OnOk, ◌≡◌, ◌∙◌, ℕ, zero, suc, ◌+◌, ◌≤◌, ◌==◌, inl, inr, Bool, true, false, List, [], ◌∷◌, Option, Some, None, Result, Ok, Err, IfOk, IfErr, IfSome, All, get_or, map, drop, length, length-append, if◌then◌else◌, arith, refl, sym, ap, subst}
 use Rattle.std.specs.Prelude.{slice_get}
 use Rattle.std.specs.Bool.{MatchBool}
 use Rattle.std.proofs.lemmas.List.Elements.{All-push, All-nil, All-cons}
@@ -10,11 +10,13 @@ use Rattle.bully_base.specs.declared.TheConstants.{EVENTS_MAX}
 use Rattle.bully_base.specs.Setup.{IsSetup}
 use Rattle.bully_config.specs.Configuration.{Configuration}
 use Rattle.bully_config.specs.declared.config.Fault.{Fault}
-use Rattle.bully_group.specs.declared.locked.turn.Turn.{Turn}
+use Rattle.bully_group.specs.declared.locked.node_turn.NodeTurn.{NodeTurn}
+use Rattle.bully_group.specs.declared.locked.step.StepFault.{StepFault}
 use Rattle.bully_group.specs.Finish.{EachInOneLog}
 use Rattle.bully_group.specs.Locked.{LockedState, IsLocked}
 use Rattle.bully_group.specs.Seat.{SeatState, AreNewSeats}
-use Rattle.bully_group.specs.Turns.{IfWent, IfWaiting, IfResynced, IfFault, is_went, handed_back, Goes, Waits, Resyncs, Fails}
+use Rattle.bully_group.specs.NodeTurns.{TurnsBy, adds_entry}
+use Rattle.bully_group.specs.Turns.{IsTurnFault}
 use Rattle.bully_play.specs.Play.{IsDue, IsPlay, event_of_fault}
 use Rattle.bully_nodes.specs.Run.{Held, Logs, AppliesAt, PreparesAt, ServesAt, ProceedsAt, HasDueLog, IsKept, IsRoleOf, procedure_of, IsActorsTurn, ActorsTurns}
 use Rattle.bully_nodes.specs.declared.jobs.Role.{Role}
@@ -39,22 +41,18 @@ use Rattle.bully_world.specs.Turn.{event_of}
 abbrev held : SeatState → ℕ → Held
 held seat counted = record { seat = seat; counted = counted }
 
--- what the calls of a locked group do to a seat and a pass
-turned : (IsState : LockedState → Type 0) (answer : Turn) (s s' : LockedState) (seat seat' : SeatState) (h h' : ProcedureState) (n n' : ℕ) → IsState s → IfWent answer (Goes s seat h s' seat') → IfWaiting answer (Waits s seat h) → IfResynced answer (Resyncs s seat h) → IfFault answer (Fails s seat h) → (is_went answer ≡ false → (s' ≡ s) × (seat' ≡ seat)) → n' ≡ (if is_went answer then n + 1 else n) → h' ≡ handed_back answer
-    → ProceedsAt IsState (held seat n) h (held seat' n') h'
-turned IsState (Turn.Went p) s s' seat seat' h h' n n' is goes waits resyncs fails same counted back =
-    inl (goes.1, record { from = s; is_state = is; to = s'; records = goes.4; counted = counted }, back ∙ goes.5, goes.2)
-turned IsState (Turn.Waiting p) s s' seat seat' h h' n n' is goes waits resyncs fails same counted back =
-    inr (rw ((same refl).1, counted) refl, s, is, inl (rw back waits))
-turned IsState (Turn.Resynced p) s s' seat seat' h h' n n' is goes waits resyncs fails same counted back =
-    inr (rw ((same refl).1, counted) refl, s, is, inr (inl (rw back resyncs)))
-turned IsState (Turn.Fault p f) s s' seat seat' h h' n n' is goes waits resyncs fails same counted back =
-    inr (rw ((same refl).1, counted) refl, s, is, inr (inr (f, rw back fails)))
-
-pub turned_ok : {E : Type 0} (IsState : LockedState → Type 0) (result : Result Procedure E) (answer : Turn) (s s' : LockedState) (seat seat' : SeatState) (h : ProcedureState) (n n' : ℕ) → IsState s → IfWent answer (Goes s seat h s' seat') → IfWaiting answer (Waits s seat h) → IfResynced answer (Resyncs s seat h) → IfFault answer (Fails s seat h) → (is_went answer ≡ false → (s' ≡ s) × (seat' ≡ seat)) → n' ≡ (if is_went answer then n + 1 else n)
-    → IfOk result (λ p. state_of p ≡ handed_back answer) → IfOk result (λ p. ProceedsAt IsState (held seat n) h (held seat' n') (state_of p))
-turned_ok IsState (Ok p) answer s s' seat seat' h n n' is goes waits resyncs fails same counted back = turned IsState answer s s' seat seat' h (state_of p) n n' is goes waits resyncs fails same counted back
-turned_ok IsState (Err e) answer s s' seat seat' h n n' is goes waits resyncs fails same counted back = tt
+-- what a turn of a locked group does to a seat and a pass
+pub turned : (IsState : LockedState → Type 0) (answer : Result NodeTurn StepFault) (s s' : LockedState) (seat seat' : SeatState) (h h' : ProcedureState) (n n' : ℕ) → IsState s → IfOk answer (TurnsBy s seat h s' seat' h') → IfErr answer (IsTurnFault s seat h) → IfErr answer (λ _. (s' ≡ s) × (seat' ≡ seat) × (h' ≡ h))
+    → n' ≡ (if adds_entry answer then n + 1 else n) → ProceedsAt IsState (held seat n) h (held seat' n') h'
+turned IsState (Ok NodeTurn.Served) s s' seat seat' h h' n n' is turns fails same counted = absurd turns
+turned IsState (Ok NodeTurn.Went) s s' seat seat' h h' n n' is goes fails same counted =
+    inl (goes.1, record { from = s; is_state = is; to = s'; records = goes.4; counted = counted }, goes.5, goes.2)
+turned IsState (Ok NodeTurn.Waiting) s s' seat seat' h h' n n' is waits fails same counted =
+    inr (rw (waits.2, counted) refl, s, is, inl waits.0)
+turned IsState (Ok NodeTurn.Resynced) s s' seat seat' h h' n n' is resyncs fails same counted =
+    inr (rw (resyncs.2, counted) refl, s, is, inr (inl resyncs.0))
+turned IsState (Err fault) s s' seat seat' h h' n n' is turns fails same counted =
+    inr (rw (same.1, counted) refl, s, is, inr (inr (fault, (fails, same.2))))
 
 -- a serve is that of any node
 pub served_ok : {E : Type 0} (IsState : LockedState → Type 0) (result : Result Bool E) (before after : Held) (node : ℕ) → IfOk result (λ served. (i : ℕ) → ServesAt IsState before i served after) → IfOk result (λ served. ServesAt IsState before node served after)

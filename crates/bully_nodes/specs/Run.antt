@@ -16,7 +16,8 @@ use Rattle.bully_nodes.specs.declared.running.NodesFault.{NodesFault}
 use Rattle.bully_nodes.specs.declared.running.NodesFault.TheVariants.{Spawn, Finish, OutOfMemory}
 use Rattle.bully_play.specs.Play.{IsDue}
 use Rattle.bully_play.specs.Schedule.{AreLeft}
-use Rattle.bully_play.specs.Turns.{prepared_from, idle_at, IsTurnOn, OperatesOn}
+use Rattle.bully_play.specs.Turns.{idle_at, IsTurnOn, OperatesOn}
+use Rattle.bully_steps.specs.Prepared.{prepared_from}
 use Rattle.bully_steps.specs.Procedure.{state_of}
 use Rattle.bully_steps.specs.ProcedureState.{ProcedureState}
 use Rattle.bully_watch.specs.declared.entry.Entry.{Entry}

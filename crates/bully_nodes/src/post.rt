@@ -1,16 +1,15 @@
 ghost use Rattle.std.specs.Prelude.{◌≡◌, ℕ, true, IfOk, OnOk};
 ghost use Rattle.bully_agree.specs.View.{shown as shown_at};
 ghost use Rattle.bully_group.specs.Locked.{IsLocked};
-ghost use Rattle.bully_group.specs.Turns.{handed_back};
 ghost use Rattle.bully_nodes.specs.Run.{AppliesAt, ServesAt, ProceedsAt, IsReady};
-ghost use Rattle.bully_play.specs.Turns.{prepared_from};
+ghost use Rattle.bully_steps.specs.Prepared.{prepared_from};
 ghost use Rattle.bully_steps.specs.Procedure.{state_of};
 ghost use Rattle.bully_steps.specs.ProcedureState.{HasSameNode};
 
 use bully_agree::View;
 use bully_base::{Node, OutOfMemory};
-use bully_group::{Group, Locked, Naming, Pass, Seat, StepFault, Turn, ViewFault};
-use bully_play::{Stage, prepared_from};
+use bully_group::{Group, Locked, Naming, Pass, Seat, StepFault, ViewFault};
+use bully_play::Stage;
 use bully_steps::Procedure;
 use bully_world::Event;
 use std::alloc::{AllocError, Global};
@@ -49,17 +48,17 @@ impl<'a, L: Naming, R: Wait> Stage for Post<'a, L, R> {
     }
 
     // The lock is held for the view alone.
-    fn prepare(&mut self, procedure: Procedure) -> Result<Procedure, OutOfMemory> {
-        if is_ready(&procedure) {
-            return Ok(procedure);
+    fn prepare(&mut self, procedure: &mut Procedure) -> Result<(), OutOfMemory> {
+        if is_ready(procedure) {
+            return Ok(());
         }
         let guard = self.group.locked.lock(self.rt);
         let answer = guard.view(&self.seat);
         MutexGuard::unlock(guard);
         match answer {
-            Ok(shown) => prepared_by(self.alloc, &shown, procedure),
+            Ok(shown) => prepare_by(self.alloc, &shown, procedure),
             Err(ViewFault::OutOfMemory) => Err(AllocError),
-            Err(ViewFault::Foreign { .. }) => Ok(procedure),
+            Err(ViewFault::Foreign { .. }) => Ok(()),
         }
     }
 
@@ -70,7 +69,7 @@ impl<'a, L: Naming, R: Wait> Stage for Post<'a, L, R> {
         answer
     }
 
-    fn proceed(&mut self, procedure: Procedure) -> Result<Procedure, OutOfMemory> {
+    fn proceed(&mut self, procedure: &mut Procedure) -> Result<(), OutOfMemory> {
         let mut guard = self.group.locked.lock(self.rt);
         let answer = proceed_at(&mut guard, &mut self.seat, procedure, &mut self.pass);
         MutexGuard::unlock(guard);
@@ -115,15 +114,18 @@ fn serve_at<L: Naming>(
 fn proceed_at<L: Naming>(
     locked: &mut Locked<L>,
     seat: &mut Seat,
-    procedure: Procedure,
+    procedure: &mut Procedure,
     pass: &mut Pass<L>,
-) -> Result<Procedure, OutOfMemory>
-    requires { (state_of procedure).setup ≡ L.setup }
-    ensures proceeds { IfOk result (λ p. ProceedsAt (IsLocked L.setup L.publisher L.parts) (record { seat = seat.old; counted = pass.old }) (state_of procedure) (record { seat = seat.new; counted = pass.new }) (state_of p)) }
-    ensures same_node { IfOk result (λ p. HasSameNode (state_of procedure) (state_of p)) }
+) -> Result<(), OutOfMemory>
+    requires { (state_of procedure.old).setup ≡ L.setup }
+    ensures proceeds { OnOk result (ProceedsAt (IsLocked L.setup L.publisher L.parts) (record { seat = seat.old; counted = pass.old }) (state_of procedure.old) (record { seat = seat.new; counted = pass.new }) (state_of procedure.new)) }
+    ensures same_node { HasSameNode (state_of procedure.old) (state_of procedure.new) }
 {
     let _ = locked.history();
-    handed_back(locked.turn(seat, procedure, pass))
+    match locked.turn_in_place(seat, procedure, pass) {
+        Err(StepFault::OutOfMemory) => Err(AllocError),
+        _ => Ok(()),
+    }
 }
 
 // Whether the procedure isn't at Planning, or has its table.
@@ -133,26 +135,13 @@ fn is_ready(procedure: &Procedure) -> bool
     !matches!(procedure, Procedure::Planning(_))
 }
 
-// The procedure, prepared from the task that is shown of its node.
-fn prepared_by(alloc: Global, shown: &View, procedure: Procedure) -> Result<Procedure, OutOfMemory>
-    requires { (state_of procedure).setup ≡ shown.now.setup }
-    ensures prepared { IfOk result (λ p. state_of p ≡ prepared_from (shown_at shown.now (state_of procedure).node).task (state_of procedure)) }
-    ensures same_node { IfOk result (λ p. HasSameNode (state_of procedure) (state_of p)) }
+// Prepares the procedure from the task that is shown of its node.
+fn prepare_by(alloc: Global, shown: &View, procedure: &mut Procedure) -> Result<(), OutOfMemory>
+    requires { (state_of procedure.old).setup ≡ shown.now.setup }
+    ensures prepared { OnOk result (state_of procedure.new ≡ prepared_from (shown_at shown.now (state_of procedure.old).node).task (state_of procedure.old)) }
+    ensures same_node { HasSameNode (state_of procedure.old) (state_of procedure.new) }
 {
     // Shows the proof that a lawful list leads to the world that is viewed.
     let _ = shown.events();
-    prepared_from(alloc, shown.task(procedure.node()), procedure)
-}
-
-// The procedure that a turn hands back.
-fn handed_back(turn: Turn) -> Result<Procedure, OutOfMemory>
-    ensures { IfOk result (λ p. state_of p ≡ handed_back turn) }
-{
-    match turn {
-        Turn::Went(procedure) => Ok(procedure),
-        Turn::Waiting(procedure) => Ok(procedure),
-        Turn::Resynced(procedure) => Ok(procedure),
-        Turn::Fault(_, StepFault::OutOfMemory) => Err(AllocError),
-        Turn::Fault(procedure, _) => Ok(procedure),
-    }
+    procedure.prepare(alloc, shown.task(procedure.node()))
 }

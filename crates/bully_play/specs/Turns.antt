@@ -2,32 +2,22 @@
 use Rattle.std.specs.Prelude.{◌≡◌, ◌≢◌, ◌<◌, ◌⊎◌, ◌+◌, ◌++◌, ℕ, zero, suc, Bool, true, false, List, [], ◌∷◌, map, Option, Some, None, unwrap_or, ◌==◌}
 use Rattle.std.specs.Bool.{MatchBool}
 use Rattle.bully_base.specs.declared.node.Status.TheVariants.{Down}
-use Rattle.bully_base.specs.NodeSet.{with_node}
 use Rattle.bully_base.specs.Setup.{Setup}
 use Rattle.bully_config.specs.Configuration.{Configuration}
 use Rattle.bully_config.specs.declared.config.Fault.{Fault}
 use Rattle.bully_play.specs.Play.{event_of_fault}
 use Rattle.bully_play.specs.Recording.{RecordingState, Applies, Steps}
 use Rattle.bully_steps.specs.declared.driver.Choice.{Choice}
-use Rattle.bully_steps.specs.declared.point.Point.{Point}
-use Rattle.bully_steps.specs.declared.point.Point.TheVariants.{Idle, Planning}
+use Rattle.bully_steps.specs.declared.point.Point.TheVariants.{Idle}
 use Rattle.bully_steps.specs.Driver.{chosen_every}
+use Rattle.bully_steps.specs.Prepared.{prepared_from}
 use Rattle.bully_steps.specs.ProcedureState.{ProcedureState, procedure_state}
-use Rattle.bully_table.specs.Planning.{planned}
 use Rattle.bully_trace.specs.declared.trace.Row.{Row}
 use Rattle.bully_world.specs.declared.event.Event.{Event}
 use Rattle.bully_world.specs.declared.turn.Next.{Next}
 use Rattle.bully_world.specs.State.{WorldState, state_at, world_of, first_state}
 use Rattle.bully_world.specs.Turn.{procedure_in, turn}
 use Rattle.bully_world.specs.World.{pending, is_sent_to}
-
--- at Planning without a table one is planned from the old one, over the node and its up set
-abbrev pub prepared_at : Point → Option (List ℕ) → Option (List ℕ) → ProcedureState → ProcedureState
-prepared_at Planning None old h = record h { table = Some (planned h.setup old (with_node h.node (unwrap_or h.up []))) }
-prepared_at _ _ old h = h
-
-abbrev pub prepared_from : Option (List ℕ) → ProcedureState → ProcedureState
-prepared_from old h = prepared_at h.point h.table old h
 
 -- from the task that the procedure's node has
 abbrev pub prepared : WorldState → ProcedureState → ProcedureState

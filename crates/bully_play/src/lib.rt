@@ -17,4 +17,4 @@ pub use playing::{PlayFault, play};
 pub use schedule::Schedule;
 pub use stage::Stage;
 pub use trace::trace_with;
-pub use turns::{prepared_from, take_node_turn, take_operator_turn};
+pub use turns::{take_node_turn, take_operator_turn};

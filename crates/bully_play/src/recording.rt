@@ -11,7 +11,6 @@ ghost use Rattle.bully_world.specs.declared.turn.Next.{Next};
 
 use crate::stage::Stage;
 use crate::trace::trace_with;
-use crate::turns::prepared_from;
 use bully_base::{Node, OutOfMemory, Setup, Status};
 use bully_steps::Procedure;
 use bully_trace::{Row, Trace};
@@ -45,20 +44,17 @@ impl Recording {
         })
     }
 
-    // Takes a step that the turn rule offers, and records its event: the procedure as the step leaves it. Where
-    // the world refuses the step, nothing changes. Refused where an allocation fails.
-    fn take(&mut self, kind: StepKind, procedure: Procedure) -> Result<Procedure, OutOfMemory>
-        requires setup { (state_of procedure).setup ≡ self.old.world.setup }
-        requires offered { turn self.old.world (state_of procedure) ≡ Next.Take kind }
-        ensures steps { IfOk result (λ p. Steps kind self.old (state_of procedure) self.new (state_of p)) }
-        ensures same_node { IfOk result (λ p. HasSameNode (state_of procedure) (state_of p)) }
+    // Takes a step that the turn rule offers, and records its event; the procedure goes on by it. Where the world
+    // refuses the step, nothing changes. Refused where an allocation fails.
+    fn take(&mut self, kind: StepKind, procedure: &mut Procedure) -> Result<(), OutOfMemory>
+        requires setup { (state_of procedure.old).setup ≡ self.old.world.setup }
+        requires offered { turn self.old.world (state_of procedure.old) ≡ Next.Take kind }
+        ensures steps { OnOk result (Steps kind self.old (state_of procedure.old) self.new (state_of procedure.new)) }
+        ensures same_node { HasSameNode (state_of procedure.old) (state_of procedure.new) }
     {
         match self.world.take(kind, procedure) {
-            Ok(step) => {
-                self.record(step.event)?;
-                Ok(step.procedure)
-            }
-            Err((procedure, _)) => Ok(procedure),
+            Ok(step) => self.record(step.event),
+            Err(_) => Ok(()),
         }
     }
 
@@ -102,9 +98,9 @@ impl Stage for Recording {
         }
     }
 
-    fn prepare(&mut self, procedure: Procedure) -> Result<Procedure, OutOfMemory> {
+    fn prepare(&mut self, procedure: &mut Procedure) -> Result<(), OutOfMemory> {
         let task = self.world.vector(procedure.node()).task();
-        prepared_from(*self.rows.allocator(), task, procedure)
+        procedure.prepare(*self.rows.allocator(), task)
     }
 
     // A Down node serves nobody. Of several calls the lowest caller's runs.
@@ -119,10 +115,13 @@ impl Stage for Recording {
         Ok(true)
     }
 
-    fn proceed(&mut self, procedure: Procedure) -> Result<Procedure, OutOfMemory> {
-        match self.world.next(&procedure) {
-            Next::Resync => Ok(self.world.procedure(procedure.node())),
-            Next::Rest => Ok(procedure),
+    fn proceed(&mut self, procedure: &mut Procedure) -> Result<(), OutOfMemory> {
+        match self.world.next(procedure) {
+            Next::Resync => {
+                *procedure = self.world.procedure(procedure.node());
+                Ok(())
+            }
+            Next::Rest => Ok(()),
             Next::Take(kind) => self.take(kind, procedure),
         }
     }

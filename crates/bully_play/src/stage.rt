@@ -34,11 +34,11 @@ pub trait Stage {
         ensures applies { OnOk result (applies event self.old self.new) }
         ensures setup { OnOk result (setup self.new ≡ setup self.old) };
 
-    /// The procedure, with a table where it is Planning, planned from its node's task.
-    fn prepare(&mut self, procedure: Procedure) -> Result<Procedure, OutOfMemory>
-        requires { (state_of procedure).setup ≡ setup self.old }
-        ensures prepares { IfOk result (λ p. prepares self.old (state_of procedure) (state_of p)) }
-        ensures same_node { IfOk result (λ p. HasSameNode (state_of procedure) (state_of p)) }
+    /// Gives the procedure a table where it is Planning, planned from its node's task.
+    fn prepare(&mut self, procedure: &mut Procedure) -> Result<(), OutOfMemory>
+        requires { (state_of procedure.old).setup ≡ setup self.old }
+        ensures prepares { OnOk result (prepares self.old (state_of procedure.old) (state_of procedure.new)) }
+        ensures same_node { HasSameNode (state_of procedure.old) (state_of procedure.new) }
         ensures same { self.new ≡ self.old };
 
     /// Runs the call that waits for the node, and tells whether its turn ends with that.
@@ -47,10 +47,10 @@ pub trait Stage {
         ensures serves { IfOk result (λ served. serves self.old node served self.new) }
         ensures setup { OnOk result (setup self.new ≡ setup self.old) };
 
-    /// Takes the procedure's step by the turn rule: the procedure as that leaves it.
-    fn proceed(&mut self, procedure: Procedure) -> Result<Procedure, OutOfMemory>
-        requires { (state_of procedure).setup ≡ setup self.old }
-        ensures proceeds { IfOk result (λ p. proceeds self.old (state_of procedure) self.new (state_of p)) }
-        ensures same_node { IfOk result (λ p. HasSameNode (state_of procedure) (state_of p)) }
+    /// Takes the procedure's step by the turn rule, and the procedure goes on by it.
+    fn proceed(&mut self, procedure: &mut Procedure) -> Result<(), OutOfMemory>
+        requires { (state_of procedure.old).setup ≡ setup self.old }
+        ensures proceeds { OnOk result (proceeds self.old (state_of procedure.old) self.new (state_of procedure.new)) }
+        ensures same_node { HasSameNode (state_of procedure.old) (state_of procedure.new) }
         ensures setup { OnOk result (setup self.new ≡ setup self.old) };
 }

@@ -1,9 +1,8 @@
-ghost use Rattle.std.specs.Prelude.{◌≡◌, ◌+◌, ◌<◌, List, length, IfOk, OnOk};
+ghost use Rattle.std.specs.Prelude.{◌≡◌, ◌+◌, ◌<◌, List, OnOk};
 ghost use Rattle.bully_config.specs.declared.config.Fault.{Fault as AnyFault};
 ghost use Rattle.bully_play.specs.Schedule.{AreLeft};
-ghost use Rattle.std.specs.Option.{IfSome, option_copied};
 ghost use Rattle.bully_play.specs.Play.{event_of_fault};
-ghost use Rattle.bully_play.specs.Turns.{prepared_from, GoesOn, IsTurnOn, OperatesOn};
+ghost use Rattle.bully_play.specs.Turns.{GoesOn, IsTurnOn, OperatesOn};
 ghost use Rattle.bully_steps.specs.Driver.{chosen_every};
 ghost use Rattle.bully_steps.specs.Procedure.{state_of};
 ghost use Rattle.bully_steps.specs.ProcedureState.{HasSameNode};
@@ -13,10 +12,7 @@ use crate::stage::Stage;
 use bully_base::OutOfMemory;
 use bully_config::{Fault, FaultKind};
 use bully_steps::{Choice, Driver, Procedure};
-use bully_table::Table;
 use bully_world::Event;
-use std::alloc::{AllocError, Global};
-use std::mem;
 
 /// The operator's turn: the faults of this turn, in the order of the document. One that is refused is passed over.
 pub fn take_operator_turn<S: Stage>(
@@ -62,14 +58,11 @@ pub fn take_node_turn<S: Stage>(
     ensures setup { OnOk result (S.setup stage.new ≡ S.setup stage.old) }
 {
     let node = place.node();
-    let idle = Procedure::idle_in(place.setup(), node, 0);
-    let procedure = stage.prepare(mem::replace(place, idle))?;
-    *place = if stage.serve(node)? {
-        procedure
-    } else {
-        follow_choice(stage, period, turn, procedure)?
-    };
-    Ok(())
+    stage.prepare(place)?;
+    if stage.serve(node)? {
+        return Ok(());
+    }
+    follow_choice(stage, period, turn, place)
 }
 
 // The node begins a check or has a timeout, where it chooses so, and holds its procedure as it is; else the
@@ -78,38 +71,18 @@ fn follow_choice<S: Stage>(
     stage: &mut S,
     period: u32,
     turn: u32,
-    procedure: Procedure,
-) -> Result<Procedure, OutOfMemory>
-    requires setup { (state_of procedure).setup ≡ S.setup stage.old }
+    procedure: &mut Procedure,
+) -> Result<(), OutOfMemory>
+    requires setup { (state_of procedure.old).setup ≡ S.setup stage.old }
     requires period { 0 < period }
-    ensures goes_on { IfOk result (λ p. GoesOn S.applies S.proceeds (chosen_every period turn (state_of procedure).point) stage.old (state_of procedure) stage.new (state_of p)) }
-    ensures same_node { IfOk result (λ p. HasSameNode (state_of procedure) (state_of p)) }
+    ensures goes_on { OnOk result (GoesOn S.applies S.proceeds (chosen_every period turn (state_of procedure.old).point) stage.old (state_of procedure.old) stage.new (state_of procedure.new)) }
+    ensures same_node { HasSameNode (state_of procedure.old) (state_of procedure.new) }
     ensures setup { OnOk result (S.setup stage.new ≡ S.setup stage.old) }
 {
     let node = procedure.node();
-    match Driver::choose_every(period, turn, &procedure) {
-        Choice::Check => stage.apply(Event::Check(node))?,
-        Choice::Timeout => stage.apply(Event::Timeout(node))?,
-        Choice::Proceed => return stage.proceed(procedure),
-    }
-    Ok(procedure)
-}
-
-/// The procedure, with a table where it is Planning: planned from the old one.
-pub fn prepared_from(
-    alloc: Global,
-    old: Option<&Table>,
-    procedure: Procedure,
-) -> Result<Procedure, OutOfMemory>
-    requires { IfSome (option_copied old) (λ t. length t ≡ (state_of procedure).setup.partitions) }
-    ensures prepared { IfOk result (λ p. state_of p ≡ prepared_from (option_copied old.entry) (state_of procedure)) }
-    ensures same_node { IfOk result (λ p. HasSameNode (state_of procedure) (state_of p)) }
-{
-    match procedure {
-        Procedure::Planning(planning) => match planning.prepare(alloc, old) {
-            Ok(planned) => Ok(Procedure::Planned(planned)),
-            Err(_) => Err(AllocError),
-        },
-        other => Ok(other),
+    match Driver::choose_every(period, turn, procedure) {
+        Choice::Check => stage.apply(Event::Check(node)),
+        Choice::Timeout => stage.apply(Event::Timeout(node)),
+        Choice::Proceed => stage.proceed(procedure),
     }
 }

@@ -3,4 +3,5 @@ pub mod NextPoint
 pub mod ProcedureState
 pub mod States
 pub mod Procedure
+pub mod Prepared
 pub mod Driver

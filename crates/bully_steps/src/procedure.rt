@@ -232,13 +232,103 @@ impl Procedure {
         ensures state { state_of result ≡ resumed (state_of self) outcome }
         ensures point { next_of (state_of self) outcome ≡ Some (state_of result).point }
     {
-        let (setup, node, generation) = (self.setup(), self.node(), self.generation());
+        let mut procedure = self;
+        procedure.advance(outcome);
+        procedure
+    }
+
+    /// [`Procedure::resume`], where the procedure lies.
+    pub fn advance(&mut self, outcome: Outcome)
+        requires { CanResume (state_of self.old) outcome }
+        ensures state { state_of self.new ≡ resumed (state_of self.old) outcome }
+        ensures point { next_of (state_of self.old) outcome ≡ Some (state_of self.new).point }
+    {
         let up = self.up().unwrap_or(NodeSet::new());
-        let next = self.point().next_in(setup, node, &up, outcome).unwrap();
+        let next = self
+            .point()
+            .next_in(self.setup(), self.node(), &up, outcome)
+            .unwrap();
         let next_up = self.up_after(outcome);
-        let coordinator = self.coordinator();
-        let awaits = is_started(outcome);
-        Procedure::at_in(setup, node, generation, next, &next_up, coordinator, awaits)
+        self.go_to(next, &next_up, is_started(outcome));
+    }
+
+    // Goes to the point, with this up set.
+    fn go_to(&mut self, point: Point, up: &NodeSet, awaits: bool)
+        requires up { IsFallingBelow (state_of self.old).node up.now }
+        requires point { IsPointOf (state_of self.old).setup (state_of self.old).node point }
+        requires inquiry { SuitsInquiry (state_of self.old).setup (state_of self.old).node (state_of self.old).coordinator point }
+        requires call { awaits ≡ true → IsCall (offered (state_of self.old).setup (state_of self.old).coordinator point) }
+        ensures { state_of self.new ≡ procedure_state (state_of self.old).setup (state_of self.old).node (state_of self.old).generation point up.now (state_of self.old).coordinator awaits }
+    {
+        if !self.stay(&point, up, awaits) {
+            self.change_to(point, up, awaits);
+        }
+    }
+
+    // Goes to the point, where it is one of the same state, and tells whether it is. Whose procedure it is stays where it
+    // lies.
+    fn stay(&mut self, point: &Point, up: &NodeSet, awaits: bool) -> bool
+        requires up { IsFallingBelow (state_of self.old).node up.now }
+        requires point { IsPointOf (state_of self.old).setup (state_of self.old).node point.now }
+        requires inquiry { SuitsInquiry (state_of self.old).setup (state_of self.old).node (state_of self.old).coordinator point.now }
+        requires call { awaits ≡ true → IsCall (offered (state_of self.old).setup (state_of self.old).coordinator point.now) }
+        ensures stays { result ≡ true → state_of self.new ≡ procedure_state (state_of self.old).setup (state_of self.old).node (state_of self.old).generation point.now up.now (state_of self.old).coordinator awaits }
+        ensures same { result ≡ false → state_of self.new ≡ state_of self.old }
+    {
+        match (self, point) {
+            (Procedure::Asking(asking), Point::Asking(next)) => {
+                asking.next = *next;
+                asking.awaits = awaits;
+                true
+            }
+            (Procedure::Halting(halting), Point::Halting(next)) => {
+                halting.next = *next;
+                halting.up = *up;
+                halting.awaits = awaits;
+                true
+            }
+            (Procedure::Announcing(announcing), Point::Announcing(rest)) => {
+                announcing.rest = *rest;
+                announcing.up = *up;
+                announcing.awaits = awaits;
+                true
+            }
+            (Procedure::Readying(readying), Point::Readying(rest)) => {
+                readying.rest = *rest;
+                readying.awaits = awaits;
+                true
+            }
+            (Procedure::Checking(checking), Point::Checking(callee)) => {
+                checking.callee = *callee;
+                checking.awaits = awaits;
+                true
+            }
+            (Procedure::Inquiring(inquiring), Point::Inquiring) => {
+                inquiring.awaits = awaits;
+                true
+            }
+            _ => false,
+        }
+    }
+
+    // Goes to the point, in whichever state.
+    #[inline(never)]
+    fn change_to(&mut self, point: Point, up: &NodeSet, awaits: bool)
+        requires up { IsFallingBelow (state_of self.old).node up.now }
+        requires point { IsPointOf (state_of self.old).setup (state_of self.old).node point }
+        requires inquiry { SuitsInquiry (state_of self.old).setup (state_of self.old).node (state_of self.old).coordinator point }
+        requires call { awaits ≡ true → IsCall (offered (state_of self.old).setup (state_of self.old).coordinator point) }
+        ensures { state_of self.new ≡ procedure_state (state_of self.old).setup (state_of self.old).node (state_of self.old).generation point up.now (state_of self.old).coordinator awaits }
+    {
+        *self = Procedure::at_in(
+            self.setup(),
+            self.node(),
+            self.generation(),
+            point,
+            up,
+            self.coordinator(),
+            awaits,
+        );
     }
 
     // The up set that goes with the point to which the outcome leads: a node that answered its halt joins it.

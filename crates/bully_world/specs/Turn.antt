@@ -1,6 +1,6 @@
 -- The procedure that a world shows of a node, whether the one that the node holds is in step with the world, and
 -- what the turn rule has it do.
-use Rattle.std.specs.Prelude.{◌≡◌, ℕ, ◌==◌, ◌&&◌, Bool, true, false, not, List, [], Option, Some, None, bytes_eq, unwrap_or, if◌then◌else◌}
+use Rattle.std.specs.Prelude.{ℕ, ◌==◌, ◌&&◌, Bool, true, false, not, List, [], Option, Some, None, bytes_eq, unwrap_or, if◌then◌else◌}
 use Rattle.std.specs.Option.{option_map_or, option_eq}
 use Rattle.bully_base.specs.Setup.{Setup}
 use Rattle.bully_calls.specs.declared.call.Answer.{Answer}
@@ -10,10 +10,8 @@ use Rattle.bully_calls.specs.Pending.{Pending}
 use Rattle.bully_steps.specs.declared.point.Point.{Point}
 use Rattle.bully_steps.specs.declared.point.Point.TheVariants.{Idle, Asking, Halting, Announcing, Planning, Readying, Checking, Inquiring}
 use Rattle.bully_steps.specs.declared.point.Want.{Want}
-use Rattle.bully_steps.specs.Procedure.{state_of}
 use Rattle.bully_steps.specs.ProcedureState.{ProcedureState, procedure_state, want_of, resumed}
 use Rattle.bully_world.specs.declared.event.Event.{Event}
-use Rattle.bully_world.specs.declared.take.TakenStep.{TakenStep}
 use Rattle.bully_world.specs.declared.turn.Next.{Next}
 use Rattle.bully_world.specs.declared.turn.Next.TheVariants.{Resync, Rest, Take}
 use Rattle.bully_world.specs.declared.turn.StepKind.{StepKind}
@@ -121,13 +119,6 @@ outcome_after Plan answer = Some Outcome.Planned
 -- the procedure after its step with this answer
 abbrev pub procedure_after : StepKind → Answer → ProcedureState → ProcedureState
 procedure_after kind answer h = option_map_or (resumed h) (outcome_after kind answer) h
-
--- the step that was taken leaves the procedure as its answer has it go on
-abbrev pub GoesOnBy : StepKind → ProcedureState → TakenStep → Type 0
-GoesOnBy kind h taken = state_of taken.procedure ≡ procedure_after kind taken.answer h
-
-abbrev pub EndsInStep : WorldState → TakenStep → Type 0
-EndsInStep w taken = is_in_step w (state_of taken.procedure) ≡ true
 
 -- The same in two parts: what the step's event takes from the procedure, and how it goes on afterwards.
 

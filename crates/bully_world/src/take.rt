@@ -3,7 +3,7 @@ ghost use Rattle.std.specs.Option.{option_map_or};
 ghost use Rattle.bully_steps.specs.ProcedureState.{IsProcedureState, HasSameNode, CanResume, resumed};
 ghost use Rattle.bully_steps.specs.Procedure.{state_of};
 ghost use Rattle.bully_world.specs.State.{StepsTo, KeepsGenerations, IsFull};
-ghost use Rattle.bully_world.specs.Turn.{turn, has_table, event_of, procedure_left, outcome_left, GoesOnBy, EndsInStep};
+ghost use Rattle.bully_world.specs.Turn.{turn, has_table, event_of, is_in_step, procedure_after, procedure_left, outcome_left};
 ghost use Rattle.bully_world.specs.declared.turn.Next.{Next};
 
 use crate::World;
@@ -19,65 +19,55 @@ pub struct TakenStep {
     pub event: Event,
     /// What it was answered.
     pub answer: Answer,
-    /// The procedure, as it goes on.
-    pub procedure: Procedure,
 }
 
 impl World {
     /// Takes the step that the turn rule offers the procedure, whose setup is the world's: applies its event, and
-    /// resumes the procedure by the outcome. After a loss, and after an orphan's return or drop, it is the same.
-    /// Takes no memory: a plan's event has the procedure's table. Refused as Full where as many events as the setup
-    /// bounds were applied; then the world is unchanged, and the procedure is handed back.
+    /// the procedure goes on by the outcome, where it lies. After a loss, and after an orphan's return or drop, it is
+    /// the same. Takes no memory: a plan's event has the procedure's table. Refused as Full where as many events as the
+    /// setup bounds were applied; then world and procedure are unchanged.
     pub fn take(
         &mut self,
         kind: StepKind,
-        procedure: Procedure,
-    ) -> Result<TakenStep, (Procedure, Refused)>
-        requires setup { (state_of procedure).setup ≡ self.old.setup }
-        requires offered { turn self.old (state_of procedure) ≡ Next.Take kind }
+        procedure: &mut Procedure,
+    ) -> Result<TakenStep, Refused>
+        requires setup { (state_of procedure.old).setup ≡ self.old.setup }
+        requires offered { turn self.old (state_of procedure.old) ≡ Next.Take kind }
         ensures step { IfOk result (λ taken. StepsTo self.old taken.event self.new taken.answer) }
         ensures counted { OnOk result (self.new.events ≡ self.old.events + 1) }
         ensures generations { OnOk result (KeepsGenerations self.old self.new) }
         ensures setup { self.new.setup ≡ self.old.setup }
-        ensures event { IfOk result (λ taken. taken.event ≡ event_of kind (state_of procedure)) }
-        ensures procedure { IfOk result (GoesOnBy kind (state_of procedure)) }
-        ensures in_step { IfOk result (EndsInStep self.new) }
-        ensures same_node { IfOk result (λ taken. HasSameNode (state_of procedure) (state_of taken.procedure)) }
+        ensures event { IfOk result (λ taken. taken.event ≡ event_of kind (state_of procedure.old)) }
+        ensures procedure { IfOk result (λ taken. state_of procedure.new ≡ procedure_after kind taken.answer (state_of procedure.old)) }
+        ensures in_step { OnOk result (is_in_step self.new (state_of procedure.new) ≡ true) }
+        ensures same_node { HasSameNode (state_of procedure.old) (state_of procedure.new) }
         ensures room { OnOk result (self.old.events < self.old.setup.events_max) }
-        ensures refused { IfErr result (λ why. (why.1 ≡ Refused.Full) × IsFull self.old) }
-        ensures handed_back { IfErr result (λ why. why.0 ≡ procedure) }
-        ensures unchanged { IfErr result (λ _. self.new ≡ self.old) }
+        ensures refused { IfErr result (λ why. (why ≡ Refused.Full) × IsFull self.old) }
+        ensures unchanged { IfErr result (λ _. (self.new ≡ self.old) × (procedure.new ≡ procedure.old)) }
     {
         if self.events() >= self.setup().events_max() {
-            return Err((procedure, Refused::Full));
+            return Err(Refused::Full);
         }
-        let (event, left) = event_by(kind, procedure);
+        let event = take_event(kind, procedure);
         let answer = self.apply_allowed(&event);
-        Ok(TakenStep {
-            event,
-            answer,
-            procedure: go_on(left, kind, answer),
-        })
+        go_on(procedure, kind, answer);
+        Ok(TakenStep { event, answer })
     }
 }
 
-// The event of the procedure's step, and the procedure without what the event takes from it: a plan takes the table,
-// and the procedure goes on then.
-fn event_by(kind: StepKind, procedure: Procedure) -> (Event, Procedure)
-    requires { kind ≡ StepKind.Plan → has_table (state_of procedure) ≡ true }
-    ensures event { result.0 ≡ event_of kind (state_of procedure) }
-    ensures left { state_of result.1 ≡ procedure_left kind (state_of procedure) }
-    ensures state { IsProcedureState (state_of procedure) }
+// The event of the procedure's step. A plan takes the table from the procedure, which goes on then.
+fn take_event(kind: StepKind, procedure: &mut Procedure) -> Event
+    requires { kind ≡ StepKind.Plan → has_table (state_of procedure.old) ≡ true }
+    ensures event { result ≡ event_of kind (state_of procedure.old) }
+    ensures left { state_of procedure.new ≡ procedure_left kind (state_of procedure.old) }
+    ensures state { IsProcedureState (state_of procedure.old) }
 {
     let node = procedure.node();
-    let (table, left) = match kind {
-        StepKind::Plan => {
-            let (table, left) = procedure.take_plan();
-            (Some(table), left)
-        }
-        _ => (None, procedure),
+    let table = match kind {
+        StepKind::Plan => Some(procedure.take_plan()),
+        _ => None,
     };
-    (kind.event(node, table), left)
+    kind.event(node, table)
 }
 
 // By what a procedure goes on after its step with this answer, if by anything. A plan's went on with its event.
@@ -97,13 +87,12 @@ fn outcome_by(kind: StepKind, answer: Answer) -> Option<Outcome>
     }
 }
 
-// The procedure after its step with this answer.
-fn go_on(procedure: Procedure, kind: StepKind, answer: Answer) -> Procedure
-    requires { IfSome (outcome_left kind answer) (CanResume (state_of procedure)) }
-    ensures { state_of result ≡ option_map_or (resumed (state_of procedure)) (outcome_left kind answer) (state_of procedure) }
+// The procedure goes on after its step with this answer.
+fn go_on(procedure: &mut Procedure, kind: StepKind, answer: Answer)
+    requires { IfSome (outcome_left kind answer) (CanResume (state_of procedure.old)) }
+    ensures { state_of procedure.new ≡ option_map_or (resumed (state_of procedure.old)) (outcome_left kind answer) (state_of procedure.old) }
 {
-    match outcome_by(kind, answer) {
-        Some(outcome) => procedure.resume(outcome),
-        None => procedure,
+    if let Some(outcome) = outcome_by(kind, answer) {
+        procedure.advance(outcome);
     }
 }

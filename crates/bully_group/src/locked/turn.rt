@@ -1,13 +1,14 @@
-ghost use Rattle.std.specs.Prelude.{◌≡◌, ◌+◌, ◌⊎◌, IfOk, true, false, if◌then◌else◌};
-ghost use Rattle.bully_group.specs.Seat.{IsKnown};
-ghost use Rattle.bully_group.specs.Turns.{handed_back, IfWent, IfWaiting, IfResynced, IfFault, is_went, is_fault, MayTurn, Goes, Waits, Resyncs, Fails, EndsInStep};
+ghost use Rattle.std.specs.Prelude.{◌≡◌, ◌+◌, IfOk, IfErr, OnOk, is_ok, true, false, if◌then◌else◌};
+ghost use Rattle.bully_group.specs.NodeTurns.{LeavesInStep, TurnsBy, adds_entry};
+ghost use Rattle.bully_group.specs.Turns.{handed_back, IfWent, IfWaiting, IfResynced, IfFault, is_went, MayTurn, Goes, Waits, Resyncs, Fails, IsTurnFault, EndsInStep};
 ghost use Rattle.bully_steps.specs.Procedure.{state_of};
 ghost use Rattle.bully_steps.specs.ProcedureState.{HasSameNode};
-ghost use Rattle.bully_world.specs.Turn.{turn, has_table, event_of, procedure_in};
+ghost use Rattle.bully_world.specs.Turn.{turn, has_table, is_in_step, event_of};
 ghost use Rattle.bully_world.specs.declared.turn.Next.{Next};
 ghost use Rattle.bully_world.specs.declared.turn.StepKind.{StepKind};
 
 use super::Locked;
+use super::node_turn::NodeTurn;
 use super::step::{StepFault, foreign_index, record_entry, reserve_entry};
 use crate::naming::Naming;
 use crate::pass::Pass;
@@ -35,7 +36,6 @@ impl<L: Naming> Locked<L> {
     /// group's. A step that is taken adds an entry as `step` does. Refused, in this order, as `Foreign`, `NotYours`
     /// where the seat isn't that of the procedure's node, then, where the rule has a step, `Refused` as Full, and
     /// `OutOfMemory`; then nothing changes. The rule: docs/ALGORITHM.md.
-    #[tactic(auto, using(crate::proofs::WorldLemmas::rest_in_step))]
     pub fn turn(&mut self, seat: &mut Seat, procedure: Procedure, pass: &mut Pass<L>) -> Turn
         requires setup { (state_of procedure).setup ≡ L.setup }
         ensures went { IfWent result (Goes self.old seat.old (state_of procedure) self.new seat.new) }
@@ -47,57 +47,101 @@ impl<L: Naming> Locked<L> {
         ensures unchanged { is_went result ≡ false → (self.new ≡ self.old) × (seat.new ≡ seat.old) }
         ensures pass { pass.new ≡ (if is_went result then pass.old + 1 else pass.old) }
     {
+        let mut procedure = procedure;
+        match self.turn_in_place(seat, &mut procedure, pass) {
+            Ok(NodeTurn::Went) => Turn::Went(procedure),
+            Ok(NodeTurn::Waiting) => Turn::Waiting(procedure),
+            Ok(NodeTurn::Resynced) => Turn::Resynced(procedure),
+            Ok(NodeTurn::Served) => unreachable!(),
+            Err(fault) => Turn::Fault(procedure, fault),
+        }
+    }
+
+    /// [`Locked::turn`], with the procedure where it lies. After a fault it is as it was.
+    pub fn turn_in_place(
+        &mut self,
+        seat: &mut Seat,
+        procedure: &mut Procedure,
+        pass: &mut Pass<L>,
+    ) -> Result<NodeTurn, StepFault>
+        requires setup { (state_of procedure.old).setup ≡ L.setup }
+        ensures turn { IfOk result (TurnsBy self.old seat.old (state_of procedure.old) self.new seat.new (state_of procedure.new)) }
+        ensures fault { IfErr result (IsTurnFault self.old seat.old (state_of procedure.old)) }
+        ensures in_step { IfOk result (LeavesInStep self.new (state_of procedure.new)) }
+        ensures same_node { HasSameNode (state_of procedure.old) (state_of procedure.new) }
+        ensures unchanged { IfErr result (λ _. (self.new ≡ self.old) × (seat.new ≡ seat.old) × (state_of procedure.new ≡ state_of procedure.old)) }
+        ensures pass { pass.new ≡ (if adds_entry result then pass.old + 1 else pass.old) }
+    {
         if let Some(index) = foreign_index(&self.history, seat) {
-            return Turn::Fault(procedure, StepFault::Foreign { index });
+            return Err(StepFault::Foreign { index });
         }
-        let node = procedure.node();
-        if seat.actor != node.number() {
-            return Turn::Fault(procedure, StepFault::NotYours);
+        if seat.actor != procedure.node().number() {
+            return Err(StepFault::NotYours);
         }
-        match self.world.next(&procedure) {
-            Next::Resync => Turn::Resynced(self.world.procedure(node)),
-            Next::Rest => Turn::Waiting(procedure),
-            Next::Take(kind) => self.take_offered(kind, seat, procedure, pass),
+        self.turn_known(seat, procedure, pass)
+    }
+
+    // The turn of the procedure of the seat's node, where the seat is known.
+    #[tactic(auto, using(crate::proofs::WorldLemmas::rest_in_step))]
+    pub(crate) fn turn_known(
+        &mut self,
+        seat: &mut Seat,
+        procedure: &mut Procedure,
+        pass: &mut Pass<L>,
+    ) -> Result<NodeTurn, StepFault>
+        requires setup { (state_of procedure.old).setup ≡ L.setup }
+        requires may { MayTurn self.old seat.old (state_of procedure.old) }
+        ensures turn { IfOk result (TurnsBy self.old seat.old (state_of procedure.old) self.new seat.new (state_of procedure.new)) }
+        ensures fault { IfErr result (IsTurnFault self.old seat.old (state_of procedure.old)) }
+        ensures in_step { IfOk result (LeavesInStep self.new (state_of procedure.new)) }
+        ensures same_node { HasSameNode (state_of procedure.old) (state_of procedure.new) }
+        ensures unchanged { IfErr result (λ _. (self.new ≡ self.old) × (seat.new ≡ seat.old) × (state_of procedure.new ≡ state_of procedure.old)) }
+        ensures pass { pass.new ≡ (if adds_entry result then pass.old + 1 else pass.old) }
+    {
+        match self.world.next(procedure) {
+            Next::Resync => {
+                *procedure = self.world.procedure(procedure.node());
+                Ok(NodeTurn::Resynced)
+            }
+            Next::Rest => Ok(NodeTurn::Waiting),
+            Next::Take(kind) => {
+                self.take_offered(kind, seat, procedure, pass)?;
+                Ok(NodeTurn::Went)
+            }
         }
     }
 
     // Takes the step that the turn rule offers the procedure of the seat's node. Everything is reserved before anything
     // changes.
-    pub(crate) fn take_offered(
+    fn take_offered(
         &mut self,
         kind: StepKind,
         seat: &mut Seat,
-        procedure: Procedure,
+        procedure: &mut Procedure,
         pass: &mut Pass<L>,
-    ) -> Turn
-        requires setup { (state_of procedure).setup ≡ self.old.world.setup }
-        requires may { MayTurn self.old seat.old (state_of procedure) }
-        requires offered { turn self.old.world (state_of procedure) ≡ Next.Take kind }
-        ensures went { IfWent result (Goes self.old seat.old (state_of procedure) self.new seat.new) }
-        ensures one { (is_went result ≡ true) ⊎ (is_fault result ≡ true) }
-        ensures fault { IfFault result (Fails self.old seat.old (state_of procedure)) }
-        ensures in_step { EndsInStep self.new result }
-        ensures same_node { HasSameNode (state_of procedure) (handed_back result) }
-        ensures unchanged { is_went result ≡ false → (self.new ≡ self.old) × (seat.new ≡ seat.old) }
-        ensures pass { pass.new ≡ (if is_went result then pass.old + 1 else pass.old) }
+    ) -> Result<(), StepFault>
+        requires setup { (state_of procedure.old).setup ≡ self.old.world.setup }
+        requires may { MayTurn self.old seat.old (state_of procedure.old) }
+        requires offered { turn self.old.world (state_of procedure.old) ≡ Next.Take kind }
+        ensures went { OnOk result (Goes self.old seat.old (state_of procedure.old) self.new seat.new (state_of procedure.new)) }
+        ensures fault { IfErr result (IsTurnFault self.old seat.old (state_of procedure.old)) }
+        ensures in_step { OnOk result (is_in_step self.new.world (state_of procedure.new) ≡ true) }
+        ensures same_node { HasSameNode (state_of procedure.old) (state_of procedure.new) }
+        ensures unchanged { IfErr result (λ _. (self.new ≡ self.old) × (seat.new ≡ seat.old) × (state_of procedure.new ≡ state_of procedure.old)) }
+        ensures pass { pass.new ≡ (if is_ok result then pass.old + 1 else pass.old) }
     {
         if self.world.events() >= self.world.setup().events_max() {
-            return Turn::Fault(procedure, StepFault::Refused(Refused::Full));
+            return Err(StepFault::Refused(Refused::Full));
         }
-        let Ok(logged) = event_of(kind, &procedure) else {
-            return Turn::Fault(procedure, StepFault::OutOfMemory);
+        let Ok(logged) = event_of(kind, procedure) else {
+            return Err(StepFault::OutOfMemory);
         };
         if reserve_entry(&mut self.history, &mut seat.log).is_err() {
-            return Turn::Fault(procedure, StepFault::OutOfMemory);
+            return Err(StepFault::OutOfMemory);
         }
-        let Ok(taken) = self.world.take(kind, procedure) else {
+        let Ok(TakenStep { event, answer }) = self.world.take(kind, procedure) else {
             unreachable!()
         };
-        let TakenStep {
-            event,
-            answer,
-            procedure,
-        } = taken;
         pass.count(&mut self.book);
         let entry = Entry {
             actor: seat.actor,
@@ -105,7 +149,7 @@ impl<L: Naming> Locked<L> {
             answer,
         };
         record_entry(&mut self.history, &mut seat.log, entry, logged);
-        Turn::Went(procedure)
+        Ok(())
     }
 }
 

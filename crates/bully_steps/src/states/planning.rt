@@ -1,6 +1,7 @@
 ghost use Rattle.std.specs.Prelude.{◌≡◌, length, IfOk, IfErr, IfSome, Some};
 ghost use Rattle.std.specs.Option.{option_copied};
 ghost use Rattle.bully_base.specs.NodeSet.{with_node};
+ghost use Rattle.bully_steps.specs.ProcedureState.{IsPlannedOver};
 ghost use Rattle.bully_steps.specs.States.{planning, planned};
 ghost use Rattle.bully_table.specs.Planning.{planned as planned_table};
 
@@ -63,16 +64,32 @@ impl Planning {
         ensures same { IfErr result (λ back. back.0 ≡ self) }
         ensures fault { IfErr result (λ back. back.1 ≡ PlanFault.OutOfMemory) }
     {
-        let Planning { identity, up } = self;
-        let mut members = up;
-        members.insert(identity.node);
-        match plan_in(alloc, &identity.setup, &members, old) {
-            Ok(TablePlan { table, .. }) => Ok(Planned {
-                identity,
-                up,
+        match self.planned_table(alloc, old) {
+            Ok(table) => Ok(Planned {
+                identity: self.identity,
+                up: self.up,
                 table,
             }),
-            Err(fault) => Err((Planning { identity, up }, fault)),
+            Err(fault) => Err((self, fault)),
+        }
+    }
+
+    /// The table that [`Planning::prepare`] plans, and its refusal.
+    pub(crate) fn planned_table(
+        &self,
+        alloc: Global,
+        old: Option<&Table>,
+    ) -> Result<Table, PlanFault>
+        requires { IfSome (option_copied old) (λ t. length t ≡ self.now.identity.setup.partitions) }
+        ensures planned { IfOk result (λ table. table ≡ planned_table self.now.identity.setup (option_copied old.entry) (with_node self.now.identity.node self.now.up)) }
+        ensures balanced { IfOk result (IsPlannedOver self.now.identity.setup self.now.identity.node self.now.up) }
+        ensures fault { IfErr result (λ fault. fault ≡ PlanFault.OutOfMemory) }
+    {
+        let mut members = self.up;
+        members.insert(self.identity.node);
+        match plan_in(alloc, &self.identity.setup, &members, old) {
+            Ok(TablePlan { table, .. }) => Ok(table),
+            Err(fault) => Err(fault),
         }
     }
 }

@@ -11,7 +11,7 @@ returns-clause-turn g c =
     let s = c.args.self.now in
     let seat = c.args.seat.now in
     let none : IsServe s seat c.serve_node.new.self c.serve_node.new.seat false = subst (λ (b : Bool). IsServe s seat c.serve_node.new.self c.serve_node.new.seat b) c.if-branch.false c.in_ok-serve_node.ensures.served in
-    turn_alone s c.serve_node.new.self seat c.serve_node.new.seat (state_of c.args.procedure.now) none.2 none.3 none.1 c.turn_in_place.new.self c.turn_in_place.new.seat (state_of c.turn_in_place.new.procedure) c.turn_in_place.result c.turn_in_place.ensures.turn
+    turn_alone s c.serve_node.new.self seat c.serve_node.new.seat (state_of c.args.procedure.now) none.2 none.3 none.1 c.turn_known.new.self c.turn_known.new.seat (state_of c.turn_known.new.procedure) c.turn_known.result c.turn_known.ensures.turn
 
 pub returns-clause-fault : goal.returns-clause-fault
 returns-clause-fault g c =
@@ -19,4 +19,4 @@ returns-clause-fault g c =
     let seat = c.args.seat.now in
     let none : IsServe s seat c.serve_node.new.self c.serve_node.new.seat false = subst (λ (b : Bool). IsServe s seat c.serve_node.new.self c.serve_node.new.seat b) c.if-branch.false c.in_ok-serve_node.ensures.served in
     let may : MayTurn s seat (state_of c.args.procedure.now) = search rules in
-    fault_alone s c.serve_node.new.self seat c.serve_node.new.seat (state_of c.args.procedure.now) none.2 none.3 none.1 c.turn_in_place.result may c.turn_in_place.ensures.fault
+    fault_alone s c.serve_node.new.self seat c.serve_node.new.seat (state_of c.args.procedure.now) none.2 none.3 none.1 c.turn_known.result may c.turn_known.ensures.fault
