@@ -1,6 +1,7 @@
 -- Setups and their weights.
-use Rattle.std.proofs.Common.{◌≡◌, ℕ, zero, suc, ◌-◌, ◌<◌, ◌≤◌, Bool, true, false, List, ◌++◌, length, replicate, take, drop, arith, sym, refl, ◌∙◌, ap}
-use Rattle.std.specs.Prelude.{◌==◌, ◌&&◌, bytes_eq, not}
+use Rattle.std.proofs.Common.{◌≡◌, Result, Ok, Err, ℕ, zero, suc, ◌-◌, ◌<◌, ◌≤◌, Bool, true, false, List, ◌++◌, length, replicate, take, drop, arith, sym, refl, ◌∙◌, ap}
+use Rattle.std.specs.Prelude.{◌==◌, ◌&&◌, ◌↔◌, bytes_eq, not}
+use Rattle.std.specs.Result.{IsOk}
 use Rattle.std.specs.Bool.{beq}
 use Rattle.std.specs.Cmp.{booleans_Decides}
 use Rattle.std.specs.List.{list_all}
@@ -10,7 +11,8 @@ use Rattle.std.proofs.lemmas.List.{take_at, take-replicate, drop-replicate, get_
 use Rattle.std.proofs.lemmas.List.Elements.{All-get_or, All-replicate}
 use Rattle.bully_base.specs.declared.TheConstants.{NODES_MAX}
 use Rattle.std.proofs.lemmas.Slice.Eq.{bytes_eq-Decides}
-use Rattle.bully_base.specs.Setup.{Setup, Limits, IsSetup, AreLimits, IsNode, IsWeight, AreWeights, limits_of, setup_of, weight_of, padded, even_setup, is_even}
+use Rattle.bully_base.specs.declared.setup.SetupFault.{SetupFault}
+use Rattle.bully_base.specs.Setup.{Setup, Limits, IsSetup, AreLimits, IsNode, IsNodeNumber, IsPartitionCount, IsEventsBound, IsWeight, AreWeights, limits_of, setup_of, weight_of, padded, even_setup, is_even}
 use Rattle.bully_base.specs.SetupEq.{same_limits, same_setup}
 
 -- weights that are written over zeros
@@ -42,6 +44,18 @@ even-written limits nodes partitions events_max ones is l e = rw (is, first-ones
 -- a node's weight is within its limits
 pub weight-within : (setup : Setup) (i : ℕ) → AreWeights setup.nodes setup.weights → IsNode setup i → IsWeight (weight_of setup i)
 weight-within setup i h node = All-get_or IsWeight setup.weights (i - 1) 0 (omega arith) h.1
+
+-- numbers and weights within their limits make a setup
+pub weighted-made : (r : Result Setup SetupFault) (n p e : ℕ) (ws : List ℕ) → (r ≡ Err SetupFault.BadNodes) ↔ ¬ IsNodeNumber n
+    → (r ≡ Err SetupFault.BadPartitions) ↔ (IsNodeNumber n × ¬ IsPartitionCount p)
+    → (r ≡ Err SetupFault.BadLimit) ↔ (IsNodeNumber n × IsPartitionCount p × ¬ IsEventsBound e)
+    → (r ≡ Err SetupFault.BadWeights) ↔ (IsNodeNumber n × IsPartitionCount p × IsEventsBound e × ¬ AreWeights n ws)
+    → IsNodeNumber n → IsPartitionCount p → IsEventsBound e → AreWeights n ws → IsOk r
+weighted-made (Ok s) n p e ws a b c d x y z w = refl
+weighted-made (Err SetupFault.BadNodes) n p e ws a b c d x y z w = absurd (a.0 refl x)
+weighted-made (Err SetupFault.BadPartitions) n p e ws a b c d x y z w = absurd ((b.0 refl).1 y)
+weighted-made (Err SetupFault.BadLimit) n p e ws a b c d x y z w = absurd ((c.0 refl).2 z)
+weighted-made (Err SetupFault.BadWeights) n p e ws a b c d x y z w = absurd ((d.0 refl).3 w)
 
 -- in a setup of numbers alone all nodes weigh 1
 all-ones : (n : ℕ) → list_all (λ w. w == 1) (replicate n 1) ≡ true

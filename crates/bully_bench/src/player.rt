@@ -1,16 +1,13 @@
-ghost use Rattle.std.specs.Prelude.{◌≡◌, ◌≤◌, length};
-ghost use Rattle.std.specs.Option.{IfSome, option_copied};
+ghost use Rattle.std.specs.Prelude.{◌≡◌, ◌≤◌};
 ghost use Rattle.bully_steps.specs.Procedure.{state_of};
 
 use crate::turns::publish;
 use bully_base::{Node, Setup};
 use bully_group::{Group, Locked, Naming, Pass, Seat, StepFault};
 use bully_steps::{Choice, Driver, Procedure};
-use bully_table::Table;
 use bully_world::Event;
 use std::alloc::Global;
 use std::marker::Model;
-use std::mem;
 use std::sync::{MutexGuard, Wait};
 
 /// A node that takes its turns: its seat, its pass and the procedure that it holds, whose setup is the group's.
@@ -102,39 +99,12 @@ impl<L: Naming> Player<L> {
     }
 }
 
-// The procedure gets a table where it is Planning, memory aside.
+// The procedure gets a table where it is Planning, memory aside: planned from its node's own task.
 fn prepare<L: Naming>(alloc: Global, locked: &Locked<L>, procedure: &mut Procedure)
     requires { (state_of procedure.old).setup ≡ L.setup }
     ensures { (state_of procedure.new).setup ≡ (state_of procedure.old).setup }
 {
-    if !matches!(procedure, Procedure::Planning(_)) {
-        return;
-    }
-    let idle = Procedure::idle_in(procedure.setup(), procedure.node(), 0);
-    let planning = mem::replace(procedure, idle);
-    *procedure = prepared(alloc, locked, planning);
-}
-
-// The procedure, with a table where it is Planning, memory aside: planned from its node's own task.
-fn prepared<L: Naming>(alloc: Global, locked: &Locked<L>, procedure: Procedure) -> Procedure
-    requires { (state_of procedure).setup ≡ L.setup }
-    ensures { (state_of result).setup ≡ (state_of procedure).setup }
-{
     let _setup = locked.setup();
     let task = locked.world().vector(procedure.node()).task();
-    prepared_from(alloc, task, procedure)
-}
-
-// The procedure, with a table where it is Planning, memory aside: planned from the old one.
-fn prepared_from(alloc: Global, old: Option<&Table>, procedure: Procedure) -> Procedure
-    requires { IfSome (option_copied old) (λ t. length t ≡ (state_of procedure).setup.partitions) }
-    ensures { (state_of result).setup ≡ (state_of procedure).setup }
-{
-    match procedure {
-        Procedure::Planning(planning) => match planning.prepare(alloc, old) {
-            Ok(planned) => Procedure::Planned(planned),
-            Err((planning, _)) => Procedure::Planning(planning),
-        },
-        other => other,
-    }
+    let _ = procedure.prepare(alloc, task);
 }

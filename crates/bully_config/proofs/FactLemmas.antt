@@ -20,7 +20,7 @@ use Rattle.std.specs.Result.{IsOk}
 use Rattle.std.proofs.lemmas.List.{length-map}
 use Rattle.toml.specs.declared.value.Value.{Value}
 use Rattle.toml.specs.View.{view}
-use Rattle.bully_base.specs.Setup.{Setup, AreWeights, IsNodeNumber, IsPartitionCount, IsEventsBound}
+use Rattle.bully_base.specs.Setup.{Setup, AreWeights}
 use Rattle.bully_base.specs.declared.setup.SetupFault.{SetupFault}
 use Rattle.bully_config.specs.Document.{text_of}
 use Rattle.std.proofs.lemmas.Bool.{false≢true}
@@ -132,18 +132,6 @@ names_short nodes ms vs told names =
     let same : length (names_of (map view vs)) ≡ nodes = grind (arith, common_steps, names) in
     let long : length (names_of (map view vs)) ≡ length vs = length-map (map view vs) text_of ∙ length-map vs view in
     omega (arith, high, same, long)
-
--- numbers and weights in their ranges make a setup
-pub setup_made : (r : Result Setup SetupFault) (n p e : ℕ) (ws : List ℕ) → (r ≡ Err SetupFault.BadNodes) ↔ ¬ IsNodeNumber n
-    → (r ≡ Err SetupFault.BadPartitions) ↔ (IsNodeNumber n × ¬ IsPartitionCount p)
-    → (r ≡ Err SetupFault.BadLimit) ↔ (IsNodeNumber n × IsPartitionCount p × ¬ IsEventsBound e)
-    → (r ≡ Err SetupFault.BadWeights) ↔ (IsNodeNumber n × IsPartitionCount p × IsEventsBound e × ¬ AreWeights n ws)
-    → IsNodeNumber n → IsPartitionCount p → IsEventsBound e → AreWeights n ws → IsOk r
-setup_made (Ok s) n p e ws a b c d x y z w = refl
-setup_made (Err SetupFault.BadNodes) n p e ws a b c d x y z w = absurd (a.0 refl x)
-setup_made (Err SetupFault.BadPartitions) n p e ws a b c d x y z w = absurd ((b.0 refl).1 y)
-setup_made (Err SetupFault.BadLimit) n p e ws a b c d x y z w = absurd ((c.0 refl).2 z)
-setup_made (Err SetupFault.BadWeights) n p e ws a b c d x y z w = absurd ((d.0 refl).3 w)
 
 -- the parts that were read are the values
 pub same_parts : (ms : Members) (s : Setup) (t p : ℕ) (names : List (List ℕ)) (faults : List Fault) (vs items : List Data)

@@ -118,7 +118,7 @@ impl Stage for Recording {
     fn proceed(&mut self, procedure: &mut Procedure) -> Result<(), OutOfMemory> {
         match self.world.next(procedure) {
             Next::Resync => {
-                *procedure = self.world.procedure(procedure.node());
+                self.world.resync(procedure);
                 Ok(())
             }
             Next::Rest => Ok(()),

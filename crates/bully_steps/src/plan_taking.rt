@@ -20,6 +20,19 @@ impl Procedure {
         ensures prepared { OnOk result (state_of self.new ≡ prepared_from (option_copied old.entry) (state_of self.old)) }
         ensures unchanged { IfErr result (λ _. self.new ≡ self.old) }
     {
+        if !matches!(self, Procedure::Planning(_)) {
+            return Ok(());
+        }
+        self.prepare_planning(alloc, old)
+    }
+
+    // The same, out of line: where the procedure isn't Planning, nothing of it lies on the stack.
+    #[inline(never)]
+    fn prepare_planning(&mut self, alloc: Global, old: Option<&Table>) -> Result<(), OutOfMemory>
+        requires { IfSome (option_copied old) (λ t. length t ≡ (state_of self.old).setup.partitions) }
+        ensures prepared { OnOk result (state_of self.new ≡ prepared_from (option_copied old.entry) (state_of self.old)) }
+        ensures unchanged { IfErr result (λ _. self.new ≡ self.old) }
+    {
         let Procedure::Planning(planning) = self else {
             return Ok(());
         };

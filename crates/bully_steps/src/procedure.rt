@@ -38,6 +38,7 @@ impl Procedure {
     }
 
     /// [`Procedure::idle`], with the setup by reference.
+    #[inline(never)]
     pub fn idle_in(setup: &Setup, node: Node, generation: u32) -> Procedure
         requires { node ≤ setup.now.nodes }
         ensures { state_of result ≡ procedure_state setup.now node generation Point.Idle [] None false }
@@ -86,43 +87,21 @@ impl Procedure {
         requires call { awaits ≡ true → IsCall (offered setup.now coordinator point) }
         ensures { state_of result ≡ procedure_state setup.now node generation point up.now coordinator awaits }
     {
-        let up = *up;
-        let identity = Identity::new(setup, node, generation);
         match point {
-            Point::Idle => Procedure::Idle(Idle { identity }),
-            Point::Asking(next) => Procedure::Asking(Asking {
-                identity,
-                next,
-                awaits,
-            }),
-            Point::Halting(next) => Procedure::Halting(Halting {
-                identity,
-                next,
-                up,
-                awaits,
-            }),
-            Point::Announcing(rest) => Procedure::Announcing(Announcing {
-                identity,
-                rest,
-                up,
-                awaits,
-            }),
-            Point::Planning => Procedure::Planning(Planning { identity, up }),
-            Point::Readying(rest) => Procedure::Readying(Readying {
-                identity,
-                rest,
-                awaits,
-            }),
-            Point::Checking(callee) => Procedure::Checking(Checking {
-                identity,
-                callee,
-                awaits,
-            }),
-            Point::Inquiring => Procedure::Inquiring(Inquiring {
-                identity,
-                coordinator: coordinator.unwrap(),
-                awaits,
-            }),
+            Point::Idle => Procedure::idle_in(setup, node, generation),
+            Point::Asking(next) => Asking::procedure(setup, node, generation, next, awaits),
+            Point::Halting(next) => Halting::procedure(setup, node, generation, next, up, awaits),
+            Point::Announcing(rest) => {
+                Announcing::procedure(setup, node, generation, rest, up, awaits)
+            }
+            Point::Planning => Planning::procedure(setup, node, generation, up),
+            Point::Readying(rest) => Readying::procedure(setup, node, generation, rest, awaits),
+            Point::Checking(callee) => {
+                Checking::procedure(setup, node, generation, callee, awaits)
+            }
+            Point::Inquiring => {
+                Inquiring::procedure(setup, node, generation, coordinator.unwrap(), awaits)
+            }
         }
     }
 

@@ -1,14 +1,14 @@
 -- The header of a trace.
 use Rattle.std.proofs.Common.{◌≡◌, ◌≢◌, ◌∙◌, ℕ, suc, ◌<◌, ◌≤◌, ◌++◌, ◌==◌, Bool, true, false, List, [], ◌∷◌, length, Option, Some, None, Result, Ok, Err, if◌then◌else◌, append_assoc, refl, sym, ap, subst, arith}
-use Rattle.std.specs.Prelude.{◌&&◌, ◌↔◌, IfOk, option_and_then, option_map, codes}
-use Rattle.std.specs.Result.{result_ok}
+use Rattle.std.specs.Prelude.{◌&&◌, IfOk, option_and_then, option_map, codes}
+use Rattle.std.specs.Result.{IsOk, result_ok}
 use Rattle.std.specs.Str.{bytes_eq}
 use Rattle.std.proofs.lemmas.Grind.{common_steps}
 use Rattle.std.proofs.lemmas.List.Elements.{All-cons, All-nil}
 use Rattle.std.proofs.lemmas.Option.{same_Some}
 use Rattle.bully_base.specs.declared.TheConstants.{EVENTS_MAX, WEIGHT_MAX}
 use Rattle.bully_base.specs.declared.setup.SetupFault.{SetupFault}
-use Rattle.bully_base.specs.Setup.{AreWeights, IsEventsBound, IsNodeNumber, IsPartitionCount, IsWeight, Setup, even_setup, is_even}
+use Rattle.bully_base.specs.Setup.{AreWeights, IsWeight, Setup, even_setup, is_even}
 use Rattle.bully_base.proofs.SetupLemmas.{even-is_even}
 use Rattle.bully_table.specs.Numeral.{number_of}
 use Rattle.bully_table.specs.TableText.{pieces_of}
@@ -118,20 +118,10 @@ weights-within nodes text ws e = by_count (length (pieces_of text) == nodes) ref
         subst (λ n. AreWeights n ws) count (are-weights (pieces_of text) ws e)
     by_count false same e = absurd (cc e)
 
--- numbers and weights in their ranges make a setup
-pub weighted-made : (r : Result Setup SetupFault) (n p e : ℕ) (keeps : Bool) (ws : List ℕ)
-    → IfOk r (λ s. s ≡ record { nodes = n; partitions = p; events_max = e; keeps = keeps; weights = ws })
-    → (r ≡ Err SetupFault.BadNodes) ↔ ¬ IsNodeNumber n
-    → (r ≡ Err SetupFault.BadPartitions) ↔ (IsNodeNumber n × ¬ IsPartitionCount p)
-    → (r ≡ Err SetupFault.BadLimit) ↔ (IsNodeNumber n × IsPartitionCount p × ¬ IsEventsBound e)
-    → (r ≡ Err SetupFault.BadWeights) ↔ (IsNodeNumber n × IsPartitionCount p × IsEventsBound e × ¬ AreWeights n ws)
-    → IsNodeNumber n → IsPartitionCount p → IsEventsBound e → AreWeights n ws
-    → result_ok r ≡ Some (record { nodes = n; partitions = p; events_max = e; keeps = keeps; weights = ws })
-weighted-made (Ok s) n p e keeps ws is a b c d x y z w = ap Some is
-weighted-made (Err SetupFault.BadNodes) n p e keeps ws is a b c d x y z w = absurd (a.0 refl x)
-weighted-made (Err SetupFault.BadPartitions) n p e keeps ws is a b c d x y z w = absurd ((b.0 refl).1 y)
-weighted-made (Err SetupFault.BadLimit) n p e keeps ws is a b c d x y z w = absurd ((c.0 refl).2 z)
-weighted-made (Err SetupFault.BadWeights) n p e keeps ws is a b c d x y z w = absurd ((d.0 refl).3 w)
+-- a value that is there is told
+pub made-told : (r : Result Setup SetupFault) (s : Setup) → IsOk r → IfOk r (λ made. made ≡ s) → result_ok r ≡ Some s
+made-told (Ok made) s is same = ap Some same
+made-told (Err fault) s is same = absurd (cc is)
 
 -- what a header of version 2 tells of the setup, from its parts
 pub weighted-told : (nodes partitions weights keeps : List ℕ) (n p : ℕ) (ws : List ℕ) (k : Bool) (o : Option Setup)

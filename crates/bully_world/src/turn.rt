@@ -1,6 +1,6 @@
 ghost use Rattle.std.specs.Prelude.{◌≡◌, ◌≤◌, true, IsSome, bytes_eq};
 ghost use Rattle.bully_calls.specs.Slot.{pending_in};
-ghost use Rattle.bully_steps.specs.ProcedureState.{IsProcedureState, want_of, up_at, coordinator_at};
+ghost use Rattle.bully_steps.specs.ProcedureState.{HasSameNode, IsProcedureState, want_of, up_at, coordinator_at};
 ghost use Rattle.bully_steps.specs.Procedure.{state_of};
 ghost use Rattle.bully_world.specs.Cause.{is_live_in};
 ghost use Rattle.bully_world.specs.Turn.{event_at, procedure_by, procedure_in, is_in_step, agree, same_point, same_set, same_node, turn, turn_of_call, turn_of_want, has_table};
@@ -79,6 +79,17 @@ impl World {
             vector.coordinator(),
             holds_live_call(member.slot(), generation),
         )
+    }
+
+    /// Gives the procedure, whose setup is the world's, up for the one that the world shows of its node.
+    #[inline(never)]
+    pub fn resync(&self, procedure: &mut Procedure)
+        requires { (state_of procedure.old).setup ≡ self.now.setup }
+        ensures state { state_of procedure.new ≡ procedure_in self.now (state_of procedure.old).node }
+        ensures in_step { is_in_step self.now (state_of procedure.new) ≡ true }
+        ensures same_node { HasSameNode (state_of procedure.old) (state_of procedure.new) }
+    {
+        *procedure = self.procedure(procedure.node());
     }
 
     /// What the turn rule says of the procedure, whose setup is the world's. Resync where it isn't in step. Where

@@ -100,7 +100,7 @@ impl<L: Naming> Locked<L> {
     {
         match self.world.next(procedure) {
             Next::Resync => {
-                *procedure = self.world.procedure(procedure.node());
+                self.world.resync(procedure);
                 Ok(NodeTurn::Resynced)
             }
             Next::Rest => Ok(NodeTurn::Waiting),

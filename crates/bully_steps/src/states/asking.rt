@@ -1,4 +1,12 @@
+ghost use Rattle.std.specs.Prelude.{◌≡◌, ◌≤◌, [], true, None};
+ghost use Rattle.bully_steps.specs.declared.point.Point.{Point};
+ghost use Rattle.bully_steps.specs.Point.{offered, IsPointOf};
+ghost use Rattle.bully_steps.specs.Procedure.{state_of};
+ghost use Rattle.bully_steps.specs.ProcedureState.{IsCall, procedure_state};
+
+use crate::Procedure;
 use crate::states::Identity;
+use bully_base::{Node, Setup};
 use std::marker::Model;
 
 /// An election has begun, as in the 1982 paper: the node asks each higher node in rising order whether it is up.
@@ -19,4 +27,27 @@ impl Model for Asking {
     ghost view = { λ s. record { identity = s.identity; next = s.next; awaits = s.awaits } };
 
     ghost invariant = { λ s. IsProcedureState (asking (record { identity = s.identity; next = s.next; awaits = s.awaits })) };
+}
+
+impl Asking {
+    /// The procedure of the node that asks this one next.
+    #[inline(never)]
+    pub(crate) fn procedure(
+        setup: &Setup,
+        node: Node,
+        generation: u32,
+        next: u16,
+        awaits: bool,
+    ) -> Procedure
+        requires node { node ≤ setup.now.nodes }
+        requires point { IsPointOf setup.now node (Point.Asking next) }
+        requires call { awaits ≡ true → IsCall (offered setup.now None (Point.Asking next)) }
+        ensures { state_of result ≡ procedure_state setup.now node generation (Point.Asking next) [] None awaits }
+    {
+        Procedure::Asking(Asking {
+            identity: Identity::new(setup, node, generation),
+            next,
+            awaits,
+        })
+    }
 }

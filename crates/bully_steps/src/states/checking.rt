@@ -1,5 +1,12 @@
+ghost use Rattle.std.specs.Prelude.{◌≡◌, ◌≤◌, [], true, None};
+ghost use Rattle.bully_steps.specs.declared.point.Point.{Point};
+ghost use Rattle.bully_steps.specs.Point.{offered, IsPointOf};
+ghost use Rattle.bully_steps.specs.Procedure.{state_of};
+ghost use Rattle.bully_steps.specs.ProcedureState.{IsCall, procedure_state};
+
+use crate::Procedure;
 use crate::states::Identity;
-use bully_base::Node;
+use bully_base::{Node, Setup};
 use std::marker::Model;
 
 /// The coordinator asks each other node in rising order whether it is normal, as in the 1982 paper's check.
@@ -20,4 +27,27 @@ impl Model for Checking {
     ghost view = { λ s. record { identity = s.identity; callee = s.callee; awaits = s.awaits } };
 
     ghost invariant = { λ s. IsProcedureState (checking (record { identity = s.identity; callee = s.callee; awaits = s.awaits })) };
+}
+
+impl Checking {
+    /// The procedure of the node that asks this one next.
+    #[inline(never)]
+    pub(crate) fn procedure(
+        setup: &Setup,
+        node: Node,
+        generation: u32,
+        callee: Node,
+        awaits: bool,
+    ) -> Procedure
+        requires node { node ≤ setup.now.nodes }
+        requires point { IsPointOf setup.now node (Point.Checking callee) }
+        requires call { awaits ≡ true → IsCall (offered setup.now None (Point.Checking callee)) }
+        ensures { state_of result ≡ procedure_state setup.now node generation (Point.Checking callee) [] None awaits }
+    {
+        Procedure::Checking(Checking {
+            identity: Identity::new(setup, node, generation),
+            callee,
+            awaits,
+        })
+    }
 }

@@ -1,11 +1,15 @@
-ghost use Rattle.std.specs.Prelude.{◌≡◌, ◌<◌};
-ghost use Rattle.bully_base.specs.NodeSet.{with_node};
+ghost use Rattle.std.specs.Prelude.{◌≡◌, ◌≤◌, ◌<◌, true, None};
+ghost use Rattle.bully_base.specs.NodeSet.{with_node, IsFallingBelow};
 ghost use Rattle.bully_calls.specs.declared.call.Outcome.TheVariants.{Yes};
-ghost use Rattle.bully_steps.specs.ProcedureState.{CanResume};
+ghost use Rattle.bully_steps.specs.declared.point.Point.{Point};
+ghost use Rattle.bully_steps.specs.Point.{offered, IsPointOf};
+ghost use Rattle.bully_steps.specs.Procedure.{state_of};
+ghost use Rattle.bully_steps.specs.ProcedureState.{CanResume, IsCall, procedure_state};
 ghost use Rattle.bully_steps.specs.States.{halting};
 
+use crate::Procedure;
 use crate::states::Identity;
-use bully_base::{Node, NodeSet};
+use bully_base::{Node, NodeSet, Setup};
 use std::marker::Model;
 
 /// No higher node is up, so the node halts each lower one in falling order, as in the 1982 paper. `next` is the
@@ -30,6 +34,30 @@ impl Model for Halting {
 }
 
 impl Halting {
+    /// The procedure of the node that halts this one next.
+    #[inline(never)]
+    pub(crate) fn procedure(
+        setup: &Setup,
+        node: Node,
+        generation: u32,
+        next: u16,
+        up: &NodeSet,
+        awaits: bool,
+    ) -> Procedure
+        requires node { node ≤ setup.now.nodes }
+        requires up { IsFallingBelow node up.now }
+        requires point { IsPointOf setup.now node (Point.Halting next) }
+        requires call { awaits ≡ true → IsCall (offered setup.now None (Point.Halting next)) }
+        ensures { state_of result ≡ procedure_state setup.now node generation (Point.Halting next) up.now None awaits }
+    {
+        Procedure::Halting(Halting {
+            identity: Identity::new(setup, node, generation),
+            next,
+            up: *up,
+            awaits,
+        })
+    }
+
     /// Those that answered, with the node whose answer has come now.
     pub(crate) fn joined(&self) -> NodeSet
         requires { CanResume (halting self.now) Yes }

@@ -1,12 +1,15 @@
-ghost use Rattle.std.specs.Prelude.{◌≡◌, length, IfOk, IfErr, IfSome, Some};
+ghost use Rattle.std.specs.Prelude.{◌≡◌, ◌≤◌, length, false, IfOk, IfErr, IfSome, Some, None};
 ghost use Rattle.std.specs.Option.{option_copied};
-ghost use Rattle.bully_base.specs.NodeSet.{with_node};
-ghost use Rattle.bully_steps.specs.ProcedureState.{IsPlannedOver};
+ghost use Rattle.bully_base.specs.NodeSet.{with_node, IsFallingBelow};
+ghost use Rattle.bully_steps.specs.declared.point.Point.{Point};
+ghost use Rattle.bully_steps.specs.Procedure.{state_of};
+ghost use Rattle.bully_steps.specs.ProcedureState.{IsPlannedOver, procedure_state};
 ghost use Rattle.bully_steps.specs.States.{planning, planned};
 ghost use Rattle.bully_table.specs.Planning.{planned as planned_table};
 
+use crate::Procedure;
 use crate::states::Identity;
-use bully_base::NodeSet;
+use bully_base::{Node, NodeSet, Setup};
 use bully_table::{PlanFault, Table, TablePlan, plan_in};
 use std::alloc::Global;
 use std::marker::Model;
@@ -51,6 +54,19 @@ impl Model for Planned {
 }
 
 impl Planning {
+    /// The procedure of the node that plans for itself and these.
+    #[inline(never)]
+    pub(crate) fn procedure(setup: &Setup, node: Node, generation: u32, up: &NodeSet) -> Procedure
+        requires node { node ≤ setup.now.nodes }
+        requires up { IsFallingBelow node up.now }
+        ensures { state_of result ≡ procedure_state setup.now node generation Point.Planning up.now None false }
+    {
+        Procedure::Planning(Planning {
+            identity: Identity::new(setup, node, generation),
+            up: *up,
+        })
+    }
+
     /// Plans the table over the node and those that are up, with the fewest moves from the old table, which has
     /// the setup's partitions. Refused as `OutOfMemory`, and then the planning is handed back as it was;
     /// `NoMember` never comes, since the node is a member. The rule: docs/ALGORITHM.md.

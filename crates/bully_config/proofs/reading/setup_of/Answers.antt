@@ -1,9 +1,10 @@
 use Rattle.std.proofs.Common.{arith, refl, rules}
 use Rattle.toml.specs.View.{table_view}
+use Rattle.bully_base.proofs.SetupLemmas.{weighted-made}
 use Rattle.bully_base.specs.declared.TheConstants.{NODES_MAX, PARTITIONS_MAX, EVENTS_MAX}
 use Rattle.bully_config.specs.declared.fault.Key.{Key}
 use Rattle.bully_config.proofs.FaultLemmas.{number_within}
-use Rattle.bully_config.proofs.FactLemmas.{facts, setup_made, weights_there}
+use Rattle.bully_config.proofs.FactLemmas.{facts, weights_there}
 use Rattle.bully_config.proofs.WeightLemmas.{setup-told, weights-fit, weights-read, weights-short, weights-slice}
 use Rattle.bully_config.proofs.reading.setup_of.Goals as goal
 
@@ -51,7 +52,7 @@ unwrap-requires c =
     let nodes = number_within Key.Nodes NODES_MAX c.unwrap-nodes.result ms (search rules) in
     let are = weights_there c.unwrap-nodes.result ms c.requires (search rules) in
     let weights = weights-read c.unwrap-nodes.result NODES_MAX ms c.items_at.result.now c.read_weights-all.result _ nodes.1 are c.items_at.ensures c.read_weights-all.ensures refl in
-    setup_made c.weighted.result c.unwrap-nodes.result c.unwrap-partitions.result c.unwrap-events_max.result _
+    weighted-made c.weighted.result c.unwrap-nodes.result c.unwrap-partitions.result c.unwrap-events_max.result _
     c.weighted.ensures.bad_nodes c.weighted.ensures.bad_partitions c.weighted.ensures.bad_limit c.weighted.ensures.bad_weights nodes
     (number_within Key.Partitions PARTITIONS_MAX c.unwrap-partitions.result ms (search rules))
     (number_within Key.Events EVENTS_MAX c.unwrap-events_max.result ms (search rules))
