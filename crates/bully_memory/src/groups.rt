@@ -22,6 +22,7 @@ pub enum Asked {
     Step,
     Serve,
     Turn,
+    TurnInPlace,
     NodeTurn,
     View,
     Finish,
@@ -37,6 +38,7 @@ pub fn group_call<R: Print + Wait>(trial: &Trial<R>, name: &str) -> Option<Outco
         "Locked::step" => Asked::Step,
         "Locked::serve" => Asked::Serve,
         "Locked::turn" => Asked::Turn,
+        "Locked::turn_in_place" => Asked::TurnInPlace,
         "Locked::serve_or_turn" => Asked::NodeTurn,
         "Locked::view" => Asked::View,
         "Locked::finish" => Asked::Finish,
@@ -222,7 +224,8 @@ fn change<L: Naming>(
     match asked {
         Asked::Serve => opened.serve(SECOND),
         Asked::Turn => opened.turn(THIRD, held),
-        Asked::NodeTurn => opened.node_turn(THIRD, held),
+        Asked::TurnInPlace => opened.turn_in_place(THIRD, held, false),
+        Asked::NodeTurn => opened.turn_in_place(THIRD, held, true),
         _ => opened.step(THIRD, event),
     }
 }

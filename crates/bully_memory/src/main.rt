@@ -40,6 +40,7 @@ Slot::new
 Waiting::new
 Vector::new
 Planning::prepare
+Procedure::prepare
 World::new
 Event::copy
 run
@@ -56,6 +57,7 @@ Locked::open
 Locked::step
 Locked::serve
 Locked::turn
+Locked::turn_in_place
 Locked::serve_or_turn
 Locked::view
 Locked::publish

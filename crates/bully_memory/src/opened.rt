@@ -120,18 +120,20 @@ impl<L: Naming> Opened<L> {
         told
     }
 
-    /// The whole turn of the seat at this place with the procedure, where it lies. No fault where no entry is added.
-    pub fn node_turn(
+    /// The turn of the seat at this place with the procedure, where it lies, alone or as the whole turn. No fault where
+    /// no entry is added.
+    pub fn turn_in_place(
         &mut self,
         place: usize,
         held: &mut Option<Procedure>,
+        is_whole: bool,
     ) -> Result<(), Option<StepFault>> {
         let (Some(seat), Some(pass)) = (self.seats.get_mut(place), self.passes.get_mut(place))
         else {
             return Err(None);
         };
         match held {
-            Some(procedure) => turned_in_place(&mut self.locked, seat, pass, procedure),
+            Some(procedure) => turned_in_place(&mut self.locked, seat, pass, procedure, is_whole),
             None => Err(None),
         }
     }
@@ -167,17 +169,23 @@ fn turned<L: Naming>(
     }
 }
 
-// The same of a whole turn, in which the procedure stays where it lies.
+// The same where the procedure stays where it lies, alone or as the whole turn.
 fn turned_in_place<L: Naming>(
     locked: &mut Locked<L>,
     seat: &mut Seat,
     pass: &mut Pass<L>,
     procedure: &mut Procedure,
+    is_whole: bool,
 ) -> Result<(), Option<StepFault>> {
     if *procedure.setup() != *locked.setup() {
         return Err(None);
     }
-    match locked.serve_or_turn(seat, procedure, pass) {
+    let turn = if is_whole {
+        locked.serve_or_turn(seat, procedure, pass)
+    } else {
+        locked.turn_in_place(seat, procedure, pass)
+    };
+    match turn {
         Ok(NodeTurn::Served | NodeTurn::Went) => Ok(()),
         Ok(NodeTurn::Waiting | NodeTurn::Resynced) => Err(None),
         Err(fault) => Err(Some(fault)),

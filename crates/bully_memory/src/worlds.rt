@@ -1,5 +1,5 @@
 use crate::tables::setup;
-use crate::trying::{Outcome, Trial, ended, text_of};
+use crate::trying::{Outcome, Trial, ended, is_same, text_of};
 use bully_agree::{Walk, run, run_whole, view};
 use bully_base::Node;
 use bully_calls::Answer;
@@ -68,6 +68,7 @@ fn planning_call<R: Print>(trial: &Trial<R>, name: &str, events: &[Event]) -> Op
         "Event::copy" => event_copy_call(trial, events.get(BEFORE_PLAN)?),
         "Entry::copy" => entry_copy_call(trial, events.get(BEFORE_PLAN)?),
         "Planning::prepare" => prepare_call(trial, events.get(..BEFORE_PLAN)?),
+        "Procedure::prepare" => prepare_in_place_call(trial, events.get(..BEFORE_PLAN)?),
         _ => None,
     }
 }
@@ -158,6 +159,27 @@ pub fn planning_in(world: &World) -> Option<Planning> {
         return None;
     }
     planning_of(world.procedure(node))
+}
+
+// A preparation where the procedure lies, which stays as it was where it is refused.
+fn prepare_in_place_call<R: Print>(trial: &Trial<R>, events: &[Event]) -> Option<Outcome> {
+    let world = world(trial.alloc, events)?;
+    prepare_in_place(trial, Procedure::Planning(planning_in(&world)?))
+}
+
+fn prepare_in_place<R: Print>(trial: &Trial<R>, planning: Procedure) -> Option<Outcome> {
+    let mut procedure = planning;
+    let before = text_of(trial.alloc, &procedure);
+    trial.begin();
+    let was_refused = procedure.prepare(trial.alloc, None).is_err();
+    trial.end();
+    if was_refused {
+        if !is_same(&before, &text_of(trial.alloc, &procedure)) {
+            return None;
+        }
+        procedure.prepare(trial.alloc, None).ok()?;
+    }
+    ended(was_refused, text_of(trial.alloc, &procedure))
 }
 
 fn planning_of(procedure: Procedure) -> Option<Planning> {
