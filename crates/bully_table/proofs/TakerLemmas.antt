@@ -194,8 +194,8 @@ pub taking-stays : (setup : Setup) (before members takers left : List ℕ) (plac
 taking-stays setup before members takers left place e is =
     is ∙ ap (λ (k : ℕ). drop k takers) (leaving-same setup before members place (leaving setup before members place) (leaving setup before members place) e refl refl)
 
--- what stays, by the share of its owner
-pub stays-share : (setup : Setup) (before members : List ℕ) (p m : ℕ) → owner_at before p ≡ m → stays setup before members p ≡ nat_lt (count_of m (take p before)) (share setup before members m)
+-- what stays, by the share of its owner, and by what is left of it
+stays-share : (setup : Setup) (before members : List ℕ) (p m : ℕ) → owner_at before p ≡ m → stays setup before members p ≡ nat_lt (count_of m (take p before)) (share setup before members m)
 unfolding stays
 stays-share setup before members p m owned = rw owned (by_case (list_any (λ k. k == m) members) refl)
   where
@@ -203,3 +203,6 @@ stays-share setup before members p m owned = rw owned (by_case (list_any (λ k. 
         (list_any (λ k. k == m) members && nat_lt (count_of m (take p before)) (quota setup before members m)) ≡ nat_lt (count_of m (take p before)) (share setup before members m)
     by_case true e = rw e refl
     by_case false e = grind (arith, nat_tests, e)
+
+pub stays-left : (setup : Setup) (before members : List ℕ) (p m left : ℕ) → owner_at before p ≡ m → left ≡ share setup before members m - count_of m (take p before) → stays setup before members p ≡ nat_lt 0 left
+stays-left setup before members p m left owned is = stays-share setup before members p m owned ∙ grind (arith, nat_tests, is)

@@ -9,6 +9,22 @@ use bully_base::{NODES_MAX, Node, NodeSet, Setup};
 /// How many counts there are: one for each node number.
 pub const PLACES: usize = NODES_MAX as usize;
 
+/// The node whose count stands at this place.
+pub fn node_at(place: usize) -> Node
+    requires { place < NODES_MAX }
+    ensures { result ≡ place + 1 }
+{
+    Node::new(place as u16 + 1).unwrap()
+}
+
+/// Where the node's count stands.
+pub fn place_of(node: Node) -> usize
+    ensures place { result ≡ node - 1 }
+    ensures within { IsNodeNumber node }
+{
+    usize::from(node.number()) - 1
+}
+
 /// Whether each owner is a member.
 pub fn are_members(owners: &[Node], members: &NodeSet) -> bool
     ensures { IsTrue result ↔ All (Contains members.now) owners.now }
@@ -34,9 +50,9 @@ pub fn are_fair(setup: &Setup, owners: &[Node], members: &NodeSet) -> bool
     let mut counts = [0; PLACES];
     count_owners(owners, &mut counts);
     let total = total_weight(setup, members);
-    for number in 1..setup.nodes() + 1 {
-        let node = Node::new(number).unwrap();
-        if members.has(node) && !is_fair(base_of(setup, node, total), count_at(&counts, node)) {
+    for place in 0..usize::from(setup.nodes()) {
+        let node = node_at(place);
+        if members.has(node) && !is_fair(base_of(setup, node, total), counts[place]) {
             return false;
         }
     }
@@ -50,7 +66,7 @@ pub fn count_owners(owners: &[Node], counts: &mut [u16; PLACES])
     ensures { (node : ℕ) → IsNodeNumber node → slice_index_or counts.new (node - 1) 0 ≡ count_of node owners.now }
 {
     for owner in owners {
-        counts[usize::from(owner.number() - 1)] += 1;
+        counts[place_of(*owner)] += 1;
     }
 }
 
@@ -58,7 +74,7 @@ pub fn count_owners(owners: &[Node], counts: &mut [u16; PLACES])
 pub fn count_at(counts: &[u16; PLACES], node: Node) -> u16
     ensures { result ≡ slice_index_or counts.now (node - 1) 0 }
 {
-    counts[usize::from(node.number() - 1)]
+    counts[place_of(node)]
 }
 
 /// What the members weigh together.
@@ -68,8 +84,8 @@ pub fn total_weight(setup: &Setup, members: &NodeSet) -> u32
     ensures each { (m : ℕ) → Contains members.now m → (0 < weight_of setup.now m) × (weight_of setup.now m ≤ result) }
 {
     let mut total = 0;
-    for number in 1..setup.nodes() + 1 {
-        let node = Node::new(number).unwrap();
+    for place in 0..usize::from(setup.nodes()) {
+        let node = node_at(place);
         if members.has(node) {
             total += u32::from(setup.weight(node));
         }

@@ -1,14 +1,13 @@
-ghost use Rattle.std.specs.Prelude.{◌≡◌, ◌≢◌, ◌↔◌, ◌+◌, ◌-◌, ◌<◌, ◌≤◌, ℕ, List, [], All, Some, None, map, take, length, slice_index_or, IfOk, IfErr, if◌then◌else◌};
+ghost use Rattle.std.specs.Prelude.{◌≡◌, ◌≢◌, ◌↔◌, ◌+◌, ◌-◌, ◌<◌, ◌≤◌, ℕ, List, [], All, Some, None, map, length, IfOk, IfErr, if◌then◌else◌};
 ghost use Rattle.std.specs.List.{range_with_len};
 ghost use Rattle.std.specs.Option.{IfSome, option_copied};
 ghost use Rattle.bully_base.specs.NodeSet.{IsFallingBelow};
-ghost use Rattle.bully_base.specs.declared.TheConstants.{PARTITIONS_MAX};
-ghost use Rattle.bully_base.specs.Setup.{Setup as SetupState, IsNodeNumber};
-ghost use Rattle.bully_table.specs.Balance.{count_of, total_weight};
+ghost use Rattle.bully_base.specs.Setup.{Setup as SetupState};
+ghost use Rattle.bully_table.specs.Balance.{total_weight};
 ghost use Rattle.bully_table.specs.Planning.{IsFewest, IsMostKept, moves_from, planned, owners_before, planned_owner, owner_at, stays};
-ghost use Rattle.bully_table.specs.Takers.{share};
+ghost use Rattle.bully_table.specs.Takers.{share, AreLeft};
 
-use crate::balance::{PLACES, count_at, count_owners};
+use crate::balance::{PLACES, count_owners, place_of};
 use crate::quotas::write_quotas;
 use crate::table::Table;
 use crate::takers::Takers;
@@ -151,38 +150,29 @@ fn planned_owners(
     let mut quotas = [0; PLACES];
     write_quotas(setup, members, &counts, &mut quotas);
     let mut takers = Takers::of(&quotas, &counts);
+    let mut left = quotas;
     let mut owners = Vec::with_capacity(alloc, partitions)?;
-    let mut seen = [0; PLACES];
     for place in 0..partitions {
-        let owner = match staying_owner(before, &quotas, place, &mut seen) {
+        let owner = match staying_owner(before, place, &mut left) {
             Some(owner) => owner,
             None => takers.next().unwrap(),
         };
-        owners.push(owner)?;
+        owners.push_reserved(owner);
     }
     Ok(owners)
 }
 
-// The owner of the partition at this place, if it stays there. `seen` counts the owners of the places before, and then
-// this one too.
-fn staying_owner(
-    before: &[Node],
-    quotas: &[u16; PLACES],
-    place: usize,
-    seen: &mut [u16; PLACES],
-) -> Option<Node>
-    requires few { length before.now ≤ PARTITIONS_MAX }
-    requires seen { (m : ℕ) → IsNodeNumber m → slice_index_or seen.old (m - 1) 0 ≡ count_of m (take place before.now) }
-    ensures seen { (m : ℕ) → IsNodeNumber m → slice_index_or seen.new (m - 1) 0 ≡ count_of m (take (place + 1) before.now) }
-    ensures owner { (setup : SetupState) (members : List ℕ) → IsFallingBelow (setup.nodes + 1) members → ((m : ℕ) → IsNodeNumber m → slice_index_or quotas.now (m - 1) 0 ≡ share setup before.now members m) → result ≡ (if stays setup before.now members place then Some (owner_at before.now place) else None) }
+// The owner of the partition at this place, if it stays there. `left` has what is left of each quota once the places
+// before are counted, and then once this one is, too.
+fn staying_owner(before: &[Node], place: usize, left: &mut [u16; PLACES]) -> Option<Node>
+    ensures left { (quotas : ℕ → ℕ) → AreLeft quotas before.now place left.old → AreLeft quotas before.now (place + 1) left.new }
+    ensures owner { (setup : SetupState) (members : List ℕ) → IsFallingBelow (setup.nodes + 1) members → AreLeft (share setup before.now members) before.now place left.old → result ≡ (if stays setup before.now members place then Some (owner_at before.now place) else None) }
 {
     let owner = *before.get(place)?;
-    let index = usize::from(owner.number() - 1);
-    let count = seen[index];
-    seen[index] = count + 1;
-    if count < count_at(quotas, owner) {
-        Some(owner)
-    } else {
-        None
+    let left = &mut left[place_of(owner)];
+    if *left == 0 {
+        return None;
     }
+    *left -= 1;
+    Some(owner)
 }

@@ -1,13 +1,13 @@
-ghost use Rattle.std.specs.Prelude.{◌≡◌, ◌+◌, ◌-◌, ◌≤◌, ℕ, List, min, replicate, slice_index_or, count_by, nat_lt};
+ghost use Rattle.std.specs.Prelude.{◌≡◌, ◌+◌, ◌-◌, ◌<◌, ℕ, List, min, replicate, slice_index_or, count_by, nat_lt};
 ghost use Rattle.bully_base.specs.NodeSet.{IsFallingBelow};
 ghost use Rattle.bully_base.specs.declared.TheConstants.{NODES_MAX};
 ghost use Rattle.bully_base.specs.Setup.{IsNodeNumber};
-ghost use Rattle.bully_table.specs.Balance.{count_of};
+ghost use Rattle.bully_table.specs.Balance.{count_of, total_weight, base_of};
 ghost use Rattle.bully_table.specs.Planning.{rest_of};
 ghost use Rattle.bully_table.specs.Takers.{share, base_share};
 
-use crate::balance::{PLACES, base_of, count_at, total_weight};
-use bully_base::{NODES_MAX, Node, NodeSet, Setup};
+use crate::balance::{PLACES, base_of, node_at, total_weight};
+use bully_base::{NodeSet, Setup};
 
 /// Writes the quota of each member, that of node 1 first, where each node owned so many partitions. All quotas are 0
 /// before, and those of other nodes stay so.
@@ -18,62 +18,66 @@ pub fn write_quotas(
     quotas: &mut [u16; PLACES],
 )
     requires falling { IsFallingBelow (setup.now.nodes + 1) members.now }
+    requires weighs { 0 < total_weight setup.now members.now }
     requires none { quotas.old ≡ replicate NODES_MAX 0 }
     ensures { (before : List ℕ) → ((m : ℕ) → IsNodeNumber m → slice_index_or counts.now (m - 1) 0 ≡ count_of m before) → (m : ℕ) → IsNodeNumber m → slice_index_or quotas.new (m - 1) 0 ≡ share setup.now before members.now m }
 {
-    let rest = write_bases(setup, members, quotas);
+    let beyond = write_bases(setup, members, counts, quotas);
     // What is left of the rest for the members that owned more than their base, and for the others.
-    let mut first_rest = rest;
-    let mut later_rest = rest.saturating_sub(count_above(setup.nodes(), members, counts, quotas));
-    for number in 1..setup.nodes() + 1 {
-        let node = Node::new(number).unwrap();
-        if members.has(node) {
-            let base = count_at(quotas, node);
-            let more = if count_at(counts, node) > base {
+    let mut first_rest = beyond.rest;
+    let mut later_rest = beyond.rest.saturating_sub(beyond.above);
+    for place in 0..usize::from(setup.nodes()) {
+        if members.has(node_at(place)) {
+            let base = quotas[place];
+            let more = if counts[place] > base {
                 spend_one(&mut first_rest)
             } else {
                 spend_one(&mut later_rest)
             };
-            quotas[usize::from(number - 1)] = base + more;
+            quotas[place] = base + more;
         }
     }
 }
 
-// Writes the base of each member, that of node 1 first, and tells how many partitions are left. All are 0 before, and
+// What goes beyond the bases.
+#[derive(Clone, Copy)]
+struct Beyond {
+    /// How many partitions the bases leave.
+    rest: u16,
+    /// How many members owned more than their base.
+    above: u16,
+}
+
+// Writes the base of each member, that of node 1 first, where each node owned so many partitions. All are 0 before, and
 // those of other nodes stay so.
-fn write_bases(setup: &Setup, members: &NodeSet, bases: &mut [u16; PLACES]) -> u16
+fn write_bases(
+    setup: &Setup,
+    members: &NodeSet,
+    counts: &[u16; PLACES],
+    bases: &mut [u16; PLACES],
+) -> Beyond
     requires falling { IsFallingBelow (setup.now.nodes + 1) members.now }
+    requires weighs { 0 < total_weight setup.now members.now }
     requires none { bases.old ≡ replicate NODES_MAX 0 }
     ensures bases { (m : ℕ) → IsNodeNumber m → slice_index_or bases.new (m - 1) 0 ≡ base_share setup.now members.now m }
-    ensures rest { result ≡ rest_of setup.now members.now }
+    ensures rest { result.rest ≡ rest_of setup.now members.now }
+    ensures above { result.above ≡ count_by (λ m. nat_lt (base_of setup.now members.now m) (slice_index_or counts.now (m - 1) 0)) members.now }
 {
     let total = total_weight(setup, members);
-    let mut rest = setup.partitions();
-    for number in 1..setup.nodes() + 1 {
-        let node = Node::new(number).unwrap();
+    let mut beyond = Beyond {
+        rest: setup.partitions(),
+        above: 0,
+    };
+    for place in 0..usize::from(setup.nodes()) {
+        let node = node_at(place);
         if members.has(node) {
             let base = base_of(setup, node, total);
-            bases[usize::from(number - 1)] = base;
-            rest -= base;
+            bases[place] = base;
+            beyond.rest -= base;
+            beyond.above += u16::from(counts[place] > base);
         }
     }
-    rest
-}
-
-// How many members owned more than their base, where the group has so many nodes.
-fn count_above(nodes: u16, members: &NodeSet, counts: &[u16; PLACES], bases: &[u16; PLACES]) -> u16
-    requires nodes { nodes ≤ NODES_MAX }
-    requires falling { IsFallingBelow (nodes + 1) members.now }
-    ensures { result ≡ count_by (λ m. nat_lt (slice_index_or bases.now (m - 1) 0) (slice_index_or counts.now (m - 1) 0)) members.now }
-{
-    let mut above = 0;
-    for number in 1..nodes + 1 {
-        let node = Node::new(number).unwrap();
-        if members.has(node) && count_at(counts, node) > count_at(bases, node) {
-            above += 1;
-        }
-    }
-    above
+    beyond
 }
 
 // Spends one where any are left: how many it spent.
