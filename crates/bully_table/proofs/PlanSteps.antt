@@ -4,7 +4,6 @@ use Rattle.std.specs.Prelude.{not, ◌==◌, count_by}
 use Rattle.std.specs.List.{list_any}
 use Rattle.std.proofs.lemmas.Bool.Decides.{nat_tests}
 use Rattle.bully_base.specs.NodeSet.{IsFallingBelow, below_node}
-use Rattle.bully_base.specs.Setup.{Setup}
 use Rattle.bully_table.specs.Planning.{owner_at, places_where, room, taker}
 use Rattle.bully_table.proofs.BalanceLemmas.{any_decides}
 use Rattle.bully_table.proofs.TotalLemmas.{total, total-sum_by, total-above, total-below-member, total-below-other, total-below-same, one}
@@ -67,9 +66,9 @@ pub count-below-all : (test : ℕ → Bool) (bound k : ℕ) (ms : List ℕ) → 
 count-below-all test bound k ms falling l = omega (arith, count-total test (below_node k ms), count-total test ms, total-above (λ m. one (test m)) bound k ms falling l)
 
 -- who is found is the taker
-pub taken-at : (setup : Setup) (before : List ℕ) (bound : ℕ) (members : List ℕ) (f : ℕ → ℕ) (m rest index : ℕ) → IsFallingBelow bound members → Contains members m →
-    ((k : ℕ) → Contains members k → f k ≡ room setup before members k) → rest + total f (below_node m members) ≡ index → rest < f m → taker setup before members index ≡ m
-taken-at setup before bound members f m rest index falling x same e l =
-    let below = total-below-same f (room setup before members) m members same in
+pub taken-at : (quotas : ℕ → ℕ) (before : List ℕ) (bound : ℕ) (members : List ℕ) (f : ℕ → ℕ) (m rest index : ℕ) → IsFallingBelow bound members → Contains members m →
+    ((k : ℕ) → Contains members k → f k ≡ room quotas before members k) → rest + total f (below_node m members) ≡ index → rest < f m → taker quotas before members index ≡ m
+taken-at quotas before bound members f m rest index falling x same e l =
+    let below = total-below-same f (room quotas before members) m members same in
     let here = same m x in
-    taker-of setup bound before members m index falling x (omega (arith, rooms_below-is setup before members m), omega (arith, rooms_below-is setup before members m))
+    taker-of quotas bound before members m index falling x (omega (arith, rooms_below-is quotas before members m), omega (arith, rooms_below-is quotas before members m))

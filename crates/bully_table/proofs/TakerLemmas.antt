@@ -1,6 +1,6 @@
 -- The nodes that take the partitions which don't stay: how many they are, and which one is the j-th.
 use Rattle.std.proofs.Common.{◌≡◌, ℕ, zero, suc, ◌+◌, ◌-◌, ◌<◌, ◌≤◌, ◌⊎◌, inl, inr, Bool, true, false, List, [], ◌∷◌, ◌++◌, drop, length, replicate, take, arith, sym, refl, ◌∙◌, ap, add-one, Contains, slice_index_or, Option, Some, None}
-use Rattle.std.specs.Prelude.{◌&&◌, nat_lt, ◌==◌, sum_by}
+use Rattle.std.specs.Prelude.{nat_lt, ◌==◌, sum_by}
 use Rattle.std.specs.List.{list_any}
 use Rattle.std.specs.Option.{IsSome, MatchOption}
 use Rattle.std.proofs.lemmas.Bool.Decides.{nat_tests}
@@ -9,12 +9,13 @@ use Rattle.bully_base.specs.declared.TheConstants.{NODES_MAX}
 use Rattle.bully_base.specs.NodeSet.{IsFallingBelow, below_node}
 use Rattle.bully_base.specs.Setup.{Setup, IsNodeNumber}
 use Rattle.bully_table.specs.Balance.{count_of, base_of}
-use Rattle.bully_table.specs.Planning.{owner_at, quota, stays, room, taker, planned_owner}
-use Rattle.bully_table.specs.Takers.{share, base_share, spare, takers_from, takers_left}
+use Rattle.bully_table.specs.Planning.{owner_at, rest_of, quota, stays, room, taker, planned_owner}
+use Rattle.bully_table.specs.Takers.{base_share, spare, takers_from, takers_left}
 use Rattle.bully_table.proofs.BalanceLemmas.{any_decides}
 use Rattle.bully_table.proofs.BalanceSteps.{falling-within}
 use Rattle.bully_table.proofs.TotalLemmas.{total, total-sum_by, total-same, total-above, total-below-member, total-below-other}
-use Rattle.bully_table.proofs.StayLemmas.{Plannable, room-is}
+use Rattle.bully_table.proofs.ShareLemmas.{quota-outside}
+use Rattle.bully_table.proofs.StayLemmas.{AreQuotas, stays-of, stays-outside, room-is}
 use Rattle.bully_table.proofs.PlannedLemmas.{leaving, leaving-more, leaving-same, leaving-fits, planned-found}
 use Rattle.bully_table.proofs.PlanSteps.{member-or-not, below-none, taken-at}
 
@@ -93,21 +94,9 @@ takers-part takes bound (suc n) m end j i ms falling outside e l is =
         rw there (more (j - takes m) (omega arith) (omega arith))
 
 -- whoever is no member takes nothing, and a member as often as it has room
-pub record AreRooms (setup : Setup) (before members : List ℕ) (takes : ℕ → ℕ) : Type 0 where
+pub record AreRooms (quotas : ℕ → ℕ) (before members : List ℕ) (takes : ℕ → ℕ) : Type 0 where
   pub outside : (k : ℕ) → ¬ Contains members k → 1 ≤ k → k < NODES_MAX + 1 → takes k ≡ 0
-  pub inside : (k : ℕ) → Contains members k → takes k ≡ room setup before members k
-
-pub share-outside : (setup : Setup) (before members : List ℕ) (m : ℕ) → ¬ Contains members m → share setup before members m ≡ 0
-share-outside setup before members m out = by_case (list_any (λ k. k == m) members) refl
-  where
-    by_case : (b : Bool) → list_any (λ k. k == m) members ≡ b → share setup before members m ≡ 0
-    by_case true e = absurd (out ((any_decides m members).0 e))
-    by_case false e = rw e refl
-
-pub share-inside : (setup : Setup) (before members : List ℕ) (m : ℕ) → Contains members m → share setup before members m ≡ quota setup before members m
-share-inside setup before members m x =
-    let is_member = (any_decides m members).1 x in
-    rw is_member refl
+  pub inside : (k : ℕ) → Contains members k → takes k ≡ room quotas before members k
 
 pub base-outside : (setup : Setup) (members : List ℕ) (m : ℕ) → ¬ Contains members m → base_share setup members m ≡ 0
 base-outside setup members m out = by_case (list_any (λ k. k == m) members) refl
@@ -121,88 +110,92 @@ base-inside setup members m x =
     let is_member = (any_decides m members).1 x in
     rw is_member refl
 
-pub are-rooms : (setup : Setup) (before members quotas counts : List ℕ) → Plannable setup (NODES_MAX + 1) before members →
-    ((m : ℕ) → IsNodeNumber m → slice_index_or quotas (m - 1) 0 ≡ share setup before members m) → ((m : ℕ) → IsNodeNumber m → slice_index_or counts (m - 1) 0 ≡ count_of m before) →
-    AreRooms setup before members (spare quotas counts)
-are-rooms setup before members quotas counts h shares counted = record {
-  outside = λ k out low high. omega (arith, shares k (omega arith, omega arith), share-outside setup before members k out);
-  inside = λ k x.
-      let within = falling-within (NODES_MAX + 1) members k h.falling x in
-      omega (arith, shares k (within.0, omega (arith, within.1)), counted k (within.0, omega (arith, within.1)), share-inside setup before members k x, room-is setup (NODES_MAX + 1) before members k h x);
+-- the lists that the quotas and the counts are written in
+pub record AreTold (quotas : ℕ → ℕ) (before members told counts : List ℕ) : Type 0 where
+  pub outside : (m : ℕ) → ¬ Contains members m → quotas m ≡ 0
+  pub quotas_told : (m : ℕ) → IsNodeNumber m → slice_index_or told (m - 1) 0 ≡ quotas m
+  pub counts_told : (m : ℕ) → IsNodeNumber m → slice_index_or counts (m - 1) 0 ≡ count_of m before
+
+pub told-from : (setup : Setup) (before members told counts : List ℕ) → ((m : ℕ) → IsNodeNumber m → slice_index_or told (m - 1) 0 ≡ quota setup before members m) → ((m : ℕ) → IsNodeNumber m → slice_index_or counts (m - 1) 0 ≡ count_of m before) →
+    AreTold (quota setup before members) before members told counts
+told-from setup before members told counts quotas_told counts_told = record {
+  outside = λ m out. quota-outside (base_of setup members) (rest_of setup members) before members m out;
+  quotas_told = quotas_told;
+  counts_told = counts_told;
 }
 
-pub takers-all : (setup : Setup) (before members : List ℕ) (takes : ℕ → ℕ) → IsFallingBelow (NODES_MAX + 1) members → AreRooms setup before members takes → length (takers_from takes NODES_MAX 1) ≡ sum_by (room setup before members) members
-takers-all setup before members takes falling rooms =
-    let counted = takers-length takes (NODES_MAX + 1) NODES_MAX 1 (NODES_MAX + 1) members falling rooms.outside (omega arith) in
-    omega (arith, below-none takes (NODES_MAX + 1) members falling, total-above takes (NODES_MAX + 1) (NODES_MAX + 1) members falling (omega arith), total-same takes (room setup before members) members rooms.inside, total-sum_by (room setup before members) members)
+pub are-rooms : (quotas : ℕ → ℕ) (before members told counts : List ℕ) → IsFallingBelow (NODES_MAX + 1) members → AreTold quotas before members told counts → AreRooms quotas before members (spare told counts)
+are-rooms quotas before members told counts falling h = record {
+  outside = λ k out low high. omega (arith, h.quotas_told k (omega arith, omega arith), h.outside k out);
+  inside = λ k x.
+      let within = falling-within (NODES_MAX + 1) members k falling x in
+      omega (arith, h.quotas_told k (within.0, omega (arith, within.1)), h.counts_told k (within.0, omega (arith, within.1)), room-is quotas (NODES_MAX + 1) before members k falling x);
+}
 
-pub taker-at : (setup : Setup) (before members : List ℕ) (takes : ℕ → ℕ) (j : ℕ) → IsFallingBelow (NODES_MAX + 1) members → AreRooms setup before members takes → j < length (takers_from takes NODES_MAX 1) →
-    slice_index_or (takers_from takes NODES_MAX 1) j 0 ≡ taker setup before members j
-taker-at setup before members takes j falling rooms l =
+pub takers-all : (quotas : ℕ → ℕ) (before members : List ℕ) (takes : ℕ → ℕ) → IsFallingBelow (NODES_MAX + 1) members → AreRooms quotas before members takes → length (takers_from takes NODES_MAX 1) ≡ sum_by (room quotas before members) members
+takers-all quotas before members takes falling rooms =
+    let counted = takers-length takes (NODES_MAX + 1) NODES_MAX 1 (NODES_MAX + 1) members falling rooms.outside (omega arith) in
+    omega (arith, below-none takes (NODES_MAX + 1) members falling, total-above takes (NODES_MAX + 1) (NODES_MAX + 1) members falling (omega arith), total-same takes (room quotas before members) members rooms.inside, total-sum_by (room quotas before members) members)
+
+pub taker-at : (quotas : ℕ → ℕ) (before members : List ℕ) (takes : ℕ → ℕ) (j : ℕ) → IsFallingBelow (NODES_MAX + 1) members → AreRooms quotas before members takes → j < length (takers_from takes NODES_MAX 1) →
+    slice_index_or (takers_from takes NODES_MAX 1) j 0 ≡ taker quotas before members j
+taker-at quotas before members takes j falling rooms l =
     let found = takers-part takes (NODES_MAX + 1) NODES_MAX 1 (NODES_MAX + 1) j j members falling rooms.outside (omega arith) l (omega (arith, below-none takes (NODES_MAX + 1) members falling)) in
     let below = total takes (below_node (slice_index_or (takers_from takes NODES_MAX 1) j 0) members) in
-    sym (taken-at setup before (NODES_MAX + 1) members takes (slice_index_or (takers_from takes NODES_MAX 1) j 0) (j - below) j falling found.0 rooms.inside (omega (arith, found.1)) (omega (arith, found.1, found.2)))
+    sym (taken-at quotas before (NODES_MAX + 1) members takes (slice_index_or (takers_from takes NODES_MAX 1) j 0) (j - below) j falling found.0 rooms.inside (omega (arith, found.1)) (omega (arith, found.1, found.2)))
 
 -- who takes the next partition that doesn't stay
-record IsTaking (setup : Setup) (before members takers left : List ℕ) (place : ℕ) : Type 0 where
-  within : leaving setup before members place < length takers
-  taker_is : slice_index_or takers (leaving setup before members place) 0 ≡ taker setup before members (leaving setup before members place)
-  here : left ≡ slice_index_or takers (leaving setup before members place) 0 ∷ drop (leaving setup before members place + 1) takers
+record IsTaking (quotas : ℕ → ℕ) (before members takers left : List ℕ) (place : ℕ) : Type 0 where
+  within : leaving quotas before members place < length takers
+  taker_is : slice_index_or takers (leaving quotas before members place) 0 ≡ taker quotas before members (leaving quotas before members place)
+  here : left ≡ slice_index_or takers (leaving quotas before members place) 0 ∷ drop (leaving quotas before members place + 1) takers
 
-is-taking : (setup : Setup) (before members quotas counts takers left : List ℕ) (place : ℕ) → Plannable setup (NODES_MAX + 1) before members →
-    ((m : ℕ) → IsNodeNumber m → slice_index_or quotas (m - 1) 0 ≡ share setup before members m) → ((m : ℕ) → IsNodeNumber m → slice_index_or counts (m - 1) 0 ≡ count_of m before) →
-    takers ≡ takers_from (spare quotas counts) NODES_MAX 1 → place < setup.partitions → stays setup before members place ≡ false → left ≡ drop (leaving setup before members place) takers → IsTaking setup before members takers left place
-is-taking setup before members quotas counts takers left place h shares counted takers_is low leaves left_is =
-    let rooms = are-rooms setup before members quotas counts h shares counted in
-    let all = takers-all setup before members (spare quotas counts) h.falling rooms in
-    let fits = leaving-fits setup (NODES_MAX + 1) before members place h low leaves in
-    let inside : leaving setup before members place < length takers = rw takers_is (omega arith) in
+is-taking : (quotas : ℕ → ℕ) (partitions : ℕ) (before members told counts takers left : List ℕ) (place : ℕ) → AreQuotas quotas partitions (NODES_MAX + 1) before members → AreTold quotas before members told counts →
+    takers ≡ takers_from (spare told counts) NODES_MAX 1 → place < partitions → stays quotas before members place ≡ false → left ≡ drop (leaving quotas before members place) takers → IsTaking quotas before members takers left place
+is-taking quotas partitions before members told counts takers left place h lists takers_is low leaves left_is =
+    let rooms = are-rooms quotas before members told counts h.falling lists in
+    let all = takers-all quotas before members (spare told counts) h.falling rooms in
+    let fits = leaving-fits quotas partitions (NODES_MAX + 1) before members place h low leaves in
+    let inside : leaving quotas before members place < length takers = rw takers_is (omega arith) in
     record {
       within = inside;
-      taker_is = rw takers_is (taker-at setup before members (spare quotas counts) (leaving setup before members place) h.falling rooms (omega arith));
-      here = left_is ∙ drop_more takers (leaving setup before members place) 0 inside;
+      taker_is = rw takers_is (taker-at quotas before members (spare told counts) (leaving quotas before members place) h.falling rooms (omega arith));
+      here = left_is ∙ drop_more takers (leaving quotas before members place) 0 inside;
     }
 
-pub next-is-some : (setup : Setup) (before members quotas counts takers left next : List ℕ) (place : ℕ) (taken : Option ℕ) → Plannable setup (NODES_MAX + 1) before members →
-    ((m : ℕ) → IsNodeNumber m → slice_index_or quotas (m - 1) 0 ≡ share setup before members m) → ((m : ℕ) → IsNodeNumber m → slice_index_or counts (m - 1) 0 ≡ count_of m before) →
-    takers ≡ takers_from (spare quotas counts) NODES_MAX 1 → place < setup.partitions → stays setup before members place ≡ false → left ≡ drop (leaving setup before members place) takers →
+pub next-is-some : (quotas : ℕ → ℕ) (partitions : ℕ) (before members told counts takers left next : List ℕ) (place : ℕ) (taken : Option ℕ) → AreQuotas quotas partitions (NODES_MAX + 1) before members → AreTold quotas before members told counts →
+    takers ≡ takers_from (spare told counts) NODES_MAX 1 → place < partitions → stays quotas before members place ≡ false → left ≡ drop (leaving quotas before members place) takers →
     MatchOption taken ((left ≡ []) × (next ≡ [])) (λ node. left ≡ node ∷ next) → IsSome taken
-next-is-some setup before members quotas counts takers left next place None h shares counted takers_is low leaves left_is told =
-    let taking = is-taking setup before members quotas counts takers left place h shares counted takers_is low leaves left_is in
-    let empty = told.0 in
+next-is-some quotas partitions before members told counts takers left next place None h lists takers_is low leaves left_is taken_is =
+    let taking = is-taking quotas partitions before members told counts takers left place h lists takers_is low leaves left_is in
+    let empty = taken_is.0 in
     let whole = taking.here in
     absurd (cc)
-next-is-some setup before members quotas counts takers left next place (Some node) h shares counted takers_is low leaves left_is told = refl
+next-is-some quotas partitions before members told counts takers left next place (Some node) h lists takers_is low leaves left_is taken_is = refl
 
-pub next-is-planned : (setup : Setup) (before members quotas counts takers left next : List ℕ) (place owner : ℕ) (taken : Option ℕ) → Plannable setup (NODES_MAX + 1) before members →
-    ((m : ℕ) → IsNodeNumber m → slice_index_or quotas (m - 1) 0 ≡ share setup before members m) → ((m : ℕ) → IsNodeNumber m → slice_index_or counts (m - 1) 0 ≡ count_of m before) →
-    takers ≡ takers_from (spare quotas counts) NODES_MAX 1 → place < setup.partitions → stays setup before members place ≡ false → left ≡ drop (leaving setup before members place) takers →
+pub next-is-planned : (quotas : ℕ → ℕ) (partitions : ℕ) (before members told counts takers left next : List ℕ) (place owner : ℕ) (taken : Option ℕ) → AreQuotas quotas partitions (NODES_MAX + 1) before members → AreTold quotas before members told counts →
+    takers ≡ takers_from (spare told counts) NODES_MAX 1 → place < partitions → stays quotas before members place ≡ false → left ≡ drop (leaving quotas before members place) takers →
     MatchOption taken ((left ≡ []) × (next ≡ [])) (λ node. left ≡ node ∷ next) → taken ≡ Some owner →
-    (owner ≡ planned_owner setup before members place) × (next ≡ drop (leaving setup before members (place + 1)) takers)
-next-is-planned setup before members quotas counts takers left next place owner None h shares counted takers_is low leaves left_is told is = absurd (cc)
-next-is-planned setup before members quotas counts takers left next place owner (Some node) h shares counted takers_is low leaves left_is told is =
-    let taking = is-taking setup before members quotas counts takers left place h shares counted takers_is low leaves left_is in
+    (owner ≡ planned_owner quotas before members place) × (next ≡ drop (leaving quotas before members (place + 1)) takers)
+next-is-planned quotas partitions before members told counts takers left next place owner None h lists takers_is low leaves left_is taken_is is = absurd (cc)
+next-is-planned quotas partitions before members told counts takers left next place owner (Some node) h lists takers_is low leaves left_is taken_is is =
+    let taking = is-taking quotas partitions before members told counts takers left place h lists takers_is low leaves left_is in
     let whole = taking.here in
-    let first : owner ≡ slice_index_or takers (leaving setup before members place) 0 = cc in
-    let rest : next ≡ drop (leaving setup before members place + 1) takers = cc in
-    let step = leaving-more setup before members place (leaving setup before members place) (leaving setup before members place + 1) leaves refl refl in
-    (planned-found setup before members place (leaving setup before members place) owner leaves refl (first ∙ taking.taker_is), rest ∙ ap (λ (k : ℕ). drop k takers) step)
+    let first : owner ≡ slice_index_or takers (leaving quotas before members place) 0 = cc in
+    let rest : next ≡ drop (leaving quotas before members place + 1) takers = cc in
+    let step = leaving-more quotas before members place (leaving quotas before members place) (leaving quotas before members place + 1) leaves refl refl in
+    (planned-found quotas before members place (leaving quotas before members place) owner leaves refl (first ∙ taking.taker_is), rest ∙ ap (λ (k : ℕ). drop k takers) step)
 
 -- and none is taken for one that stays
-pub taking-stays : (setup : Setup) (before members takers left : List ℕ) (place : ℕ) → stays setup before members place ≡ true → left ≡ drop (leaving setup before members place) takers →
-    left ≡ drop (leaving setup before members (place + 1)) takers
-taking-stays setup before members takers left place e is =
-    is ∙ ap (λ (k : ℕ). drop k takers) (leaving-same setup before members place (leaving setup before members place) (leaving setup before members place) e refl refl)
+pub taking-stays : (quotas : ℕ → ℕ) (before members takers left : List ℕ) (place : ℕ) → stays quotas before members place ≡ true → left ≡ drop (leaving quotas before members place) takers →
+    left ≡ drop (leaving quotas before members (place + 1)) takers
+taking-stays quotas before members takers left place e is =
+    is ∙ ap (λ (k : ℕ). drop k takers) (leaving-same quotas before members place (leaving quotas before members place) (leaving quotas before members place) e refl refl)
 
--- what stays, by the share of its owner, and by what is left of it
-stays-share : (setup : Setup) (before members : List ℕ) (p m : ℕ) → owner_at before p ≡ m → stays setup before members p ≡ nat_lt (count_of m (take p before)) (share setup before members m)
-unfolding stays
-stays-share setup before members p m owned = rw owned (by_case (list_any (λ k. k == m) members) refl)
+-- what stays, by what is left of its owner's quota
+pub stays-left : (quotas : ℕ → ℕ) (before members : List ℕ) (p m left : ℕ) → (¬ Contains members m → quotas m ≡ 0) → owner_at before p ≡ m → left ≡ quotas m - count_of m (take p before) → stays quotas before members p ≡ nat_lt 0 left
+stays-left quotas before members p m left outside owned is = by_case (member-or-not members m)
   where
-    by_case : (b : Bool) → list_any (λ k. k == m) members ≡ b →
-        (list_any (λ k. k == m) members && nat_lt (count_of m (take p before)) (quota setup before members m)) ≡ nat_lt (count_of m (take p before)) (share setup before members m)
-    by_case true e = rw e refl
-    by_case false e = grind (arith, nat_tests, e)
-
-pub stays-left : (setup : Setup) (before members : List ℕ) (p m left : ℕ) → owner_at before p ≡ m → left ≡ share setup before members m - count_of m (take p before) → stays setup before members p ≡ nat_lt 0 left
-stays-left setup before members p m left owned is = stays-share setup before members p m owned ∙ grind (arith, nat_tests, is)
+    by_case : Contains members m ⊎ (¬ Contains members m) → stays quotas before members p ≡ nat_lt 0 left
+    by_case (inl x) = stays-of quotas before members p m x owned ∙ grind (arith, nat_tests, is)
+    by_case (inr out) = stays-outside quotas before members p (rw owned out) ∙ grind (arith, nat_tests, is, outside out)

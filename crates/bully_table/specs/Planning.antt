@@ -39,18 +39,16 @@ pub record IsMostKept (setup : Setup) (old : Option (List ℕ)) (members : List 
   pub some : (table : List ℕ) × (length table ≡ setup.partitions) × IsBalanced setup table members × (kept_from old table ≡ bound)
   pub none_more : (other : List ℕ) → length other ≡ setup.partitions → IsBalanced setup other members → kept_from old other ≤ bound
 
--- the planned table, by its rule. `before` has the owners in the old table, and nobody where there is none
+-- The planned table, by its rule.
+
+-- the owners in the old table, and nobody where there is none
 abbrev pub owners_before : Option (List ℕ) → List ℕ
 owners_before None = []
 owners_before (Some old) = old
 
--- how many members own one more than their base: what the bases leave
-abbrev pub rest_of : Setup → List ℕ → ℕ
-rest_of setup members = setup.partitions - sum_by (base_of setup members) members
-
 -- whether the member has more than its base in the old table
-abbrev pub holds_more : Setup → List ℕ → List ℕ → ℕ → Bool
-holds_more setup before members m = nat_lt (base_of setup members m) (count_of m before)
+abbrev pub holds_more : (ℕ → ℕ) → List ℕ → ℕ → Bool
+holds_more base before m = nat_lt (base m) (count_of m before)
 
 -- whether k comes before m: first those that hold more, in rising number, and then the others
 abbrev pub comes_first : (ℕ → Bool) → ℕ → ℕ → Bool
@@ -58,26 +56,38 @@ comes_first more k m =
     if more k then (if more m then nat_lt k m else true)
     else (if more m then false else nat_lt k m)
 
--- how many partitions the member is to own
-unfoldable pub quota : Setup → List ℕ → List ℕ → ℕ → ℕ
-quota setup before members m =
-    if nat_lt (count_by (λ k. comes_first (holds_more setup before members) k m) members) (rest_of setup members) then base_of setup members m + 1
-    else base_of setup members m
+-- how many partitions the node is to own: where it is a member its base, and one more where fewer than `rest` members come
+-- before it
+unfoldable pub quota_by : (ℕ → ℕ) → ℕ → List ℕ → List ℕ → ℕ → ℕ
+quota_by base rest before members m =
+    if list_any (λ k. k == m) members then
+    (if nat_lt (count_by (λ k. comes_first (holds_more base before) k m) members) rest then base m + 1 else base m)
+    else 0
+
+-- how many members own one more than their base by weight: what the bases leave
+abbrev pub rest_of : Setup → List ℕ → ℕ
+rest_of setup members = setup.partitions - sum_by (base_of setup members) members
+
+-- the quotas by weight
+abbrev pub quota : Setup → List ℕ → List ℕ → ℕ → ℕ
+quota setup before members = quota_by (base_of setup members) (rest_of setup members) before members
+
+-- The table that quotas make.
 
 -- a partition stays where its owner is a member, and fewer than its quota of the partitions before have that owner
-unfoldable pub stays : Setup → List ℕ → List ℕ → ℕ → Bool
-stays setup before members p =
+unfoldable pub stays : (ℕ → ℕ) → List ℕ → List ℕ → ℕ → Bool
+stays quotas before members p =
     list_any (λ m. m == owner_at before p) members
-    && nat_lt (count_of (owner_at before p) (take p before)) (quota setup before members (owner_at before p))
+    && nat_lt (count_of (owner_at before p) (take p before)) (quotas (owner_at before p))
 
--- how many partitions the member still gets
-unfoldable pub room : Setup → List ℕ → List ℕ → ℕ → ℕ
-room setup before members m =
-    quota setup before members m - places_where (λ p. stays setup before members p && (owner_at before p == m)) setup.partitions
+-- how many partitions the member still gets: its quota less what stays with it
+unfoldable pub room : (ℕ → ℕ) → List ℕ → List ℕ → ℕ → ℕ
+room quotas before members m =
+    quotas m - places_where (λ p. stays quotas before members p && (owner_at before p == m)) (length before)
 
 -- the rooms of the lower members
-unfoldable pub rooms_below : Setup → List ℕ → List ℕ → ℕ → ℕ
-rooms_below setup before members m = sum_by (room setup before members) (below_node m members)
+unfoldable pub rooms_below : (ℕ → ℕ) → List ℕ → List ℕ → ℕ → ℕ
+rooms_below quotas before members m = sum_by (room quotas before members) (below_node m members)
 
 -- the member that passes the test, and 0 where none does
 abbrev pub member_where : (ℕ → Bool) → List ℕ → ℕ
@@ -85,15 +95,20 @@ member_where test [] = 0
 member_where test (m ∷ ms) = if test m then m else member_where test ms
 
 -- who gets the j-th partition that doesn't stay: the lower members have so much room, and with this one more than that
-unfoldable pub taker : Setup → List ℕ → List ℕ → ℕ → ℕ
-taker setup before members j =
-    member_where (λ m. nat_le (rooms_below setup before members m) j && nat_lt j (rooms_below setup before members m + room setup before members m)) members
+unfoldable pub taker : (ℕ → ℕ) → List ℕ → List ℕ → ℕ → ℕ
+taker quotas before members j =
+    member_where (λ m. nat_le (rooms_below quotas before members m) j && nat_lt j (rooms_below quotas before members m + room quotas before members m)) members
 
 -- the owner of a partition in the planned table
-unfoldable pub planned_owner : Setup → List ℕ → List ℕ → ℕ → ℕ
-planned_owner setup before members p =
-    if stays setup before members p then owner_at before p
-    else taker setup before members (places_where (λ k. not (stays setup before members k)) p)
+unfoldable pub planned_owner : (ℕ → ℕ) → List ℕ → List ℕ → ℕ → ℕ
+planned_owner quotas before members p =
+    if stays quotas before members p then owner_at before p
+    else taker quotas before members (places_where (λ k. not (stays quotas before members k)) p)
 
+-- the owners of so many partitions
+abbrev pub planned_by : (ℕ → ℕ) → ℕ → List ℕ → List ℕ → List ℕ
+planned_by quotas partitions before members = map (planned_owner quotas before members) (range_with_len 0 partitions)
+
+-- the planned table is that of the quotas by weight
 abbrev pub planned : Setup → Option (List ℕ) → List ℕ → List ℕ
-planned setup old members = map (planned_owner setup (owners_before old) members) (range_with_len 0 setup.partitions)
+planned setup old members = planned_by (quota setup (owners_before old) members) setup.partitions (owners_before old) members

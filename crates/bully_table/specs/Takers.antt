@@ -4,13 +4,8 @@ use Rattle.std.specs.List.{list_any}
 use Rattle.bully_base.specs.Setup.{Setup, IsNodeNumber}
 use Rattle.bully_base.specs.declared.TheConstants.{NODES_MAX}
 use Rattle.bully_table.specs.Balance.{count_of, base_of}
-use Rattle.bully_table.specs.Planning.{quota}
 
--- how many partitions the node is to own: its quota, and none where it is no member
-abbrev pub share : Setup → List ℕ → List ℕ → ℕ → ℕ
-share setup before members m = if list_any (λ k. k == m) members then quota setup before members m else 0
-
--- what of them is its base
+-- the node's base, and none where it is no member
 abbrev pub base_share : Setup → List ℕ → ℕ → ℕ
 base_share setup members m = if list_any (λ k. k == m) members then base_of setup members m else 0
 

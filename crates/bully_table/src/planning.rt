@@ -1,11 +1,10 @@
-ghost use Rattle.std.specs.Prelude.{◌≡◌, ◌≢◌, ◌↔◌, ◌+◌, ◌-◌, ◌<◌, ◌≤◌, ℕ, List, [], All, Some, None, map, length, IfOk, IfErr, if◌then◌else◌};
-ghost use Rattle.std.specs.List.{range_with_len};
+ghost use Rattle.std.specs.Prelude.{◌≡◌, ◌≢◌, ◌↔◌, ◌+◌, ◌-◌, ◌<◌, ◌≤◌, ℕ, List, [], All, Contains, Some, None, length, IfOk, IfErr, if◌then◌else◌};
 ghost use Rattle.std.specs.Option.{IfSome, option_copied};
 ghost use Rattle.bully_base.specs.NodeSet.{IsFallingBelow};
-ghost use Rattle.bully_base.specs.Setup.{Setup as SetupState};
+ghost use Rattle.bully_base.specs.declared.TheConstants.{NODES_MAX};
 ghost use Rattle.bully_table.specs.Balance.{total_weight};
-ghost use Rattle.bully_table.specs.Planning.{IsFewest, IsMostKept, moves_from, planned, owners_before, planned_owner, owner_at, stays};
-ghost use Rattle.bully_table.specs.Takers.{share, AreLeft};
+ghost use Rattle.bully_table.specs.Planning.{IsFewest, IsMostKept, moves_from, owners_before, quota, planned_by, planned, owner_at, stays};
+ghost use Rattle.bully_table.specs.Takers.{AreLeft};
 
 use crate::balance::{PLACES, count_owners, place_of};
 use crate::quotas::write_quotas;
@@ -142,7 +141,7 @@ fn planned_owners(
     requires falling { IsFallingBelow (setup.now.nodes + 1) members.now }
     requires weighs { 0 < total_weight setup.now members.now }
     requires covers { length before.now ≤ setup.now.partitions }
-    ensures { IfOk result (λ owners. owners.items ≡ map (planned_owner setup.now before.now members.now) (range_with_len 0 setup.now.partitions)) }
+    ensures { IfOk result (λ owners. owners.items ≡ planned_by (quota setup.now before.now members.now) setup.now.partitions before.now members.now) }
 {
     let partitions = usize::from(setup.partitions());
     let mut counts = [0; PLACES];
@@ -166,7 +165,7 @@ fn planned_owners(
 // before are counted, and then once this one is, too.
 fn staying_owner(before: &[Node], place: usize, left: &mut [u16; PLACES]) -> Option<Node>
     ensures left { (quotas : ℕ → ℕ) → AreLeft quotas before.now place left.old → AreLeft quotas before.now (place + 1) left.new }
-    ensures owner { (setup : SetupState) (members : List ℕ) → IsFallingBelow (setup.nodes + 1) members → AreLeft (share setup before.now members) before.now place left.old → result ≡ (if stays setup before.now members place then Some (owner_at before.now place) else None) }
+    ensures owner { (quotas : ℕ → ℕ) (members : List ℕ) → IsFallingBelow (NODES_MAX + 1) members → ((m : ℕ) → ¬ Contains members m → quotas m ≡ 0) → AreLeft quotas before.now place left.old → result ≡ (if stays quotas before.now members place then Some (owner_at before.now place) else None) }
 {
     let owner = *before.get(place)?;
     let left = &mut left[place_of(owner)];

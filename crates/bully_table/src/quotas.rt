@@ -3,8 +3,8 @@ ghost use Rattle.bully_base.specs.NodeSet.{IsFallingBelow};
 ghost use Rattle.bully_base.specs.declared.TheConstants.{NODES_MAX};
 ghost use Rattle.bully_base.specs.Setup.{IsNodeNumber};
 ghost use Rattle.bully_table.specs.Balance.{count_of, total_weight, base_of};
-ghost use Rattle.bully_table.specs.Planning.{rest_of};
-ghost use Rattle.bully_table.specs.Takers.{share, base_share};
+ghost use Rattle.bully_table.specs.Planning.{rest_of, quota};
+ghost use Rattle.bully_table.specs.Takers.{base_share};
 
 use crate::balance::{PLACES, base_of, node_at, total_weight};
 use bully_base::{NodeSet, Setup};
@@ -20,7 +20,7 @@ pub fn write_quotas(
     requires falling { IsFallingBelow (setup.now.nodes + 1) members.now }
     requires weighs { 0 < total_weight setup.now members.now }
     requires none { quotas.old ≡ replicate NODES_MAX 0 }
-    ensures { (before : List ℕ) → ((m : ℕ) → IsNodeNumber m → slice_index_or counts.now (m - 1) 0 ≡ count_of m before) → (m : ℕ) → IsNodeNumber m → slice_index_or quotas.new (m - 1) 0 ≡ share setup.now before members.now m }
+    ensures { (before : List ℕ) → ((m : ℕ) → IsNodeNumber m → slice_index_or counts.now (m - 1) 0 ≡ count_of m before) → (m : ℕ) → IsNodeNumber m → slice_index_or quotas.new (m - 1) 0 ≡ quota setup.now before members.now m }
 {
     let beyond = write_bases(setup, members, counts, quotas);
     // What is left of the rest for the members that owned more than their base, and for the others.

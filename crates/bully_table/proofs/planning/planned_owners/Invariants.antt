@@ -1,15 +1,14 @@
-use Rattle.std.proofs.Common.{◌≡◌, ◌≤◌, drop, map}
-use Rattle.std.specs.List.{range_with_len}
+use Rattle.std.proofs.Common.{◌≡◌, ◌≤◌, drop}
 use Rattle.std.specs.Vec.{vec_capacity}
-use Rattle.bully_table.specs.Planning.{planned_owner}
-use Rattle.bully_table.specs.Takers.{share, AreLeft}
+use Rattle.bully_table.specs.Planning.{quota, planned_by}
+use Rattle.bully_table.specs.Takers.{AreLeft}
 use Rattle.bully_table.proofs.PlannedLemmas.{leaving}
 use Rattle.bully_table.proofs.planning.planned_owners.Given as goal
 
 abbrev pub invariant-loop-place : goal.invariant-loop-place
 invariant-loop-place l = record {
-  planned : l.owners.items ≡ map (planned_owner l.fn.setup l.before l.members) (range_with_len 0 l.place);
-  taking : l.takers ≡ drop (leaving l.fn.setup l.before l.members l.place) l.initial.takers;
+  planned : l.owners.items ≡ planned_by (quota l.fn.setup l.before l.members) l.place l.before l.members;
+  taking : l.takers ≡ drop (leaving (quota l.fn.setup l.before l.members) l.before l.members l.place) l.initial.takers;
   room : l.fn.setup.partitions ≤ vec_capacity l.owners;
-  left : AreLeft (share l.fn.setup l.before l.members) l.before l.place l.left;
+  left : AreLeft (quota l.fn.setup l.before l.members) l.before l.place l.left;
 }
