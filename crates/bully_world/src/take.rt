@@ -26,11 +26,7 @@ impl World {
     /// the procedure goes on by the outcome, where it lies. After a loss, and after an orphan's return or drop, it is
     /// the same. Takes no memory: a plan's event has the procedure's table. Refused as Full where as many events as the
     /// setup bounds were applied; then world and procedure are unchanged.
-    pub fn take(
-        &mut self,
-        kind: StepKind,
-        procedure: &mut Procedure,
-    ) -> Result<TakenStep, Refused>
+    pub fn take(&mut self, kind: StepKind, procedure: &mut Procedure) -> Result<TakenStep, Refused>
         requires setup { (state_of procedure.old).setup ≡ self.old.setup }
         requires offered { turn self.old (state_of procedure.old) ≡ Next.Take kind }
         ensures step { IfOk result (λ taken. StepsTo self.old taken.event self.new taken.answer) }
