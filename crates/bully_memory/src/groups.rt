@@ -162,7 +162,9 @@ fn played<L: Naming>(alloc: Global, asked: Asked, opened: &mut Opened<L>) -> Opt
     let events = election(alloc)?;
     let before = match asked {
         Asked::Serve => BEFORE_RUN,
-        Asked::Step | Asked::Turn | Asked::NodeTurn | Asked::View => BEFORE_PLAN,
+        Asked::Step | Asked::Turn | Asked::TurnInPlace | Asked::NodeTurn | Asked::View => {
+            BEFORE_PLAN
+        }
         _ => events.len(),
     };
     opened.play(events.get(..before)?)

@@ -125,7 +125,7 @@ enum Kind {
 }
 
 // Each call that isn't one on a group that nobody watches.
-const KINDS: [(&str, Kind); 35] = [
+const KINDS: [(&str, Kind); 36] = [
     ("Setup::weighted", Kind::Table),
     ("Table::read", Kind::Table),
     ("Table::read_in", Kind::Table),
@@ -140,6 +140,7 @@ const KINDS: [(&str, Kind); 35] = [
     ("World::new", Kind::New),
     ("Walk::new", Kind::New),
     ("Planning::prepare", Kind::Event),
+    ("Procedure::prepare", Kind::Event),
     ("Event::copy", Kind::Event),
     ("Entry::copy", Kind::Event),
     ("run", Kind::Event),
