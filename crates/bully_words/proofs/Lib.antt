@@ -1,2 +1,3 @@
 pub mod WordsLemmas
 mod ActionLemmas
+mod CommandLemmas

@@ -1,9 +1,12 @@
 -- What the words after the program's name ask for, as clap reads them.
-use Rattle.std.specs.Prelude.{◌≡◌, Bool, true, false, not, ◌&&◌, List, [], ◌∷◌, Option, Some, None, map, option_and_then, option_map, codes, if◌then◌else◌}
+use Rattle.std.specs.Prelude.{◌≡◌, Bool, true, false, not, ◌&&◌, List, [], ◌∷◌, Option, Some, None, Result, IfOk, map, option_and_then, option_map, codes, if◌then◌else◌}
 use Rattle.std.specs.List.{list_all}
 use Rattle.std.specs.Str.{bytes_eq}
-use Rattle.clap.specs.Words.{App, Row, Rule, Text, Kinds, all_of, fault_of, first_of, new_app, new_rule, subcommand_of, takes, with_rule, with_subcommand}
+use Rattle.std.specs.declared.alloc.AllocError.{AllocError}
+use Rattle.clap.specs.Words.{App, app_of, Row, Rule, Text, Kinds, all_of, fault_of, first_of, new_app, new_rule, subcommand_of, takes, with_rule, with_subcommand}
 use Rattle.clap.specs.declared.builder.action.ArgAction.TheVariants.{Append, Set}
+use Rattle.clap.specs.declared.builder.command.Command.{Command}
+use Rattle.clap.specs.declared.builder.command.Command.TheViews.{out-Command as fields_of}
 use Rattle.clap.specs.declared.error.kind.ErrorKind.{ErrorKind}
 use Rattle.clap.specs.declared.error.kind.ErrorKind.TheVariants as kind
 use Rattle.bully_words.specs.declared.action.Action.{Action}
@@ -36,18 +39,17 @@ run_app = with_rule (new_app (codes "run")) config_rule
 abbrev pub table_app : App
 table_app = with_rule (with_rule (with_rule (new_app (codes "table")) config_rule) member_rule) old_rule
 
--- the program with the first of its commands, with two of them, with three, and with all
-abbrev pub with_check : App
-with_check = with_subcommand bare check_app.top
-
-abbrev pub with_play : App
-with_play = with_subcommand with_check play_app.top
-
-abbrev pub with_run : App
-with_run = with_subcommand with_play run_app.top
-
+-- the program with all of its commands
 abbrev pub program : App
-program = with_subcommand with_run table_app.top
+program = with_subcommand (with_subcommand (with_subcommand (with_subcommand bare check_app.top) play_app.top) run_app.top) table_app.top
+
+-- where the command was made, it reads words as this
+abbrev pub ReadsAs : App → Result Command AllocError → Type 0
+ReadsAs app made = IfOk made (λ command. app_of command ≡ app)
+
+-- where the command was made, it reads words as this, and none of its arguments is global
+abbrev pub IsLocalCommand : App → Result Command AllocError → Type 0
+IsLocalCommand app made = IfOk made (λ command. (app_of command ≡ app) × ((fields_of command).has_globals ≡ false))
 
 -- the command that the words name
 abbrev pub command_named : List Text → Option Text

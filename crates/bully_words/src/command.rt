@@ -1,83 +1,82 @@
-ghost use Rattle.std.specs.Prelude.{◌≡◌, false, IfOk};
-ghost use Rattle.clap.specs.Words.{app_of, rule_of};
-ghost use Rattle.clap.specs.declared.builder.command.Command.TheViews.{out-Command as fields_of};
-ghost use Rattle.bully_words.specs.Words.{bare, config_rule, member_rule, old_rule, play_app, program, run_app, table_app, with_check, with_play, with_run};
+ghost use Rattle.std.specs.Prelude.{◌≡◌, false, IfOk, IsOkAnd, Ok};
+ghost use Rattle.clap.specs.Words.{new_app, rule_of, with_rule};
+ghost use Rattle.bully_words.specs.Words.{bare, config_rule, member_rule, old_rule, play_app, program, run_app, table_app, IsLocalCommand, ReadsAs};
 
 use clap::{Arg, ArgAction, Command};
 use std::alloc::{AllocError, Global};
 
 /// The program's command line.
 pub fn command_line<'a>(alloc: Global) -> Result<Command<'a>, AllocError>
-    ensures { IfOk result (λ command. app_of command ≡ program) }
-{
-    with_run(alloc)?.subcommand(table_command(alloc)?)
-}
-
-// The command line with the commands that are about traces.
-fn with_run<'a>(alloc: Global) -> Result<Command<'a>, AllocError>
-    ensures { IfOk result (λ command. app_of command ≡ with_run) }
-{
-    with_play(alloc)?.subcommand(run_command(alloc)?)
-}
-
-// The command line with its first two commands.
-fn with_play<'a>(alloc: Global) -> Result<Command<'a>, AllocError>
-    ensures { IfOk result (λ command. app_of command ≡ with_play) }
-{
-    with_check(alloc)?.subcommand(play_command(alloc)?)
-}
-
-// The command line with its first command.
-fn with_check<'a>(alloc: Global) -> Result<Command<'a>, AllocError>
-    ensures { IfOk result (λ command. app_of command ≡ with_check) }
+    ensures { ReadsAs program result }
 {
     let check = Command::new(alloc, "check").about("Judges the trace on the standard input");
-    bare_command(alloc)?.subcommand(check)
+    let command = joined(bare_command(alloc), Ok(check), Command::subcommand);
+    let command = joined(command, play_command(alloc), Command::subcommand);
+    let command = joined(command, run_command(alloc), Command::subcommand);
+    joined(command, table_command(alloc), Command::subcommand)
+}
+
+// What the function makes of the two, where memory sufficed for both.
+fn joined<A: Drop, B: Drop, C, F: FnOnce(A, B) -> Result<C, AllocError> + Drop>(
+    one: Result<A, AllocError>,
+    other: Result<B, AllocError>,
+    join: F,
+) -> Result<C, AllocError>
+    requires { IfOk one (λ a. IfOk other (λ b. F.pre join a b)) }
+    ensures { IfOk result (λ c. IsOkAnd one (λ a. IsOkAnd other (λ b. F.post join a b (Ok c)))) }
+{
+    match (one, other) {
+        (Ok(one), Ok(other)) => join(one, other),
+        _ => Err(AllocError),
+    }
 }
 
 // The command line without its commands, of which one is required.
 fn bare_command<'a>(alloc: Global) -> Result<Command<'a>, AllocError>
-    ensures { IfOk result (λ command. app_of command ≡ bare) }
+    ensures { ReadsAs bare result }
 {
-    Ok(
-        Command::new(alloc, "bully")
-            .bin_name("bully")?
-            .about("Checks recorded runs of the Bully election algorithm")
-            .no_binary_name(true)
-            .subcommand_required(true),
-    )
+    Command::new(alloc, "bully")
+        .about("Checks recorded runs of the Bully election algorithm")
+        .no_binary_name(true)
+        .subcommand_required(true)
+        .bin_name("bully")
 }
 
 // The command that plays a group.
 fn play_command<'a>(alloc: Global) -> Result<Command<'a>, AllocError>
-    ensures app { IfOk result (λ command. app_of command ≡ play_app) }
-    ensures local { IfOk result (λ command. (fields_of command).has_globals ≡ false) }
+    ensures { IsLocalCommand play_app result }
 {
-    Command::new(alloc, "play")
-        .about("Plays a group and writes its trace")
-        .arg(config_arg(alloc))
+    config_command(alloc, "play", "Plays a group and writes its trace")
 }
 
 // The command that runs a group in threads.
 fn run_command<'a>(alloc: Global) -> Result<Command<'a>, AllocError>
-    ensures app { IfOk result (λ command. app_of command ≡ run_app) }
-    ensures local { IfOk result (λ command. (fields_of command).has_globals ≡ false) }
+    ensures { IsLocalCommand run_app result }
 {
-    Command::new(alloc, "run")
-        .about("Runs a group in threads and writes its history as a trace")
-        .arg(config_arg(alloc))
+    let about = "Runs a group in threads and writes its history as a trace";
+    config_command(alloc, "run", about)
 }
 
 // The command that plans a table.
 fn table_command<'a>(alloc: Global) -> Result<Command<'a>, AllocError>
-    ensures app { IfOk result (λ command. app_of command ≡ table_app) }
-    ensures local { IfOk result (λ command. (fields_of command).has_globals ≡ false) }
+    ensures { IsLocalCommand table_app result }
 {
-    Command::new(alloc, "table")
-        .about("Plans a table with the fewest moves")
-        .arg(config_arg(alloc))?
-        .arg(member_arg(alloc))?
-        .arg(old_arg(alloc))
+    let command = config_command(alloc, "table", "Plans a table with the fewest moves");
+    let command = joined(command, Ok(member_arg(alloc)), Command::arg);
+    joined(command, Ok(old_arg(alloc)), Command::arg)
+}
+
+// A command with the path of a configuration.
+fn config_command<'a>(
+    alloc: Global,
+    name: &'a str,
+    about: &'a str,
+) -> Result<Command<'a>, AllocError>
+    ensures { IsLocalCommand (with_rule (new_app name.entry.now) config_rule) result }
+{
+    Command::new(alloc, name)
+        .about(about)
+        .arg(config_arg(alloc))
 }
 
 fn config_arg<'a>(alloc: Global) -> Arg<'a>
