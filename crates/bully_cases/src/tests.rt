@@ -14,7 +14,6 @@ mod worlds;
 use bully_base::{EVENTS_MAX, Node, NodeSet, Setup, SetupFault};
 use bully_table::{Table, TableFault};
 use std::process::Abort;
-use std::test::Fail;
 
 fn setup(rt: &impl Abort, nodes: u16, partitions: u16, events_max: u32) -> Setup {
     Setup::new(nodes, partitions, events_max).expect(rt, "a setup")
@@ -34,17 +33,32 @@ const MEMBERS: [(u16, u16, bool); 6] = [
     (1, 64, false),
 ];
 
+// Whether the group has both nodes, if there are such.
+fn has_both(group: &Setup, first: u16, second: u16) -> Option<bool> {
+    let mut nodes = NodeSet::new();
+    nodes.insert(Node::new(first)?);
+    nodes.insert(Node::new(second)?);
+    Some(group.has_all(&nodes))
+}
+
 #[test]
-fn nodes_that_a_group_has(rt: HostRuntime) -> Result<(), Fail> {
-    let group = Setup::new(3, 1, 1)?;
+fn nodes_that_a_group_has(rt: HostRuntime) {
+    let group = setup(&rt, 3, 1, 1);
     assert!(rt; group.has_all(&NodeSet::new()));
     for (first, second, has) in MEMBERS.iter() {
-        let mut nodes = NodeSet::new();
-        nodes.insert(node(&rt, *first));
-        nodes.insert(node(&rt, *second));
-        assert_eq!(rt; group.has_all(&nodes), *has);
+        assert!(rt;
+            has_both(&group, *first, *second) == Some(*has),
+            "{first}, {second}"
+        );
     }
-    Ok(())
+}
+
+// The node's number, where there is a node.
+fn number_of(node: Option<Node>) -> Option<u16> {
+    match node {
+        Some(node) => Some(node.number()),
+        None => None,
+    }
 }
 
 // The setup with this bound on events, if there is such a one.
@@ -69,7 +83,11 @@ const SETUPS: [(u16, u16, u32, Option<SetupFault>); 6] = [
 #[test]
 fn setup_ranges(rt: HostRuntime) {
     for (nodes, partitions, events_max, fault) in SETUPS.iter() {
-        assert_eq!(rt; Setup::new(*nodes, *partitions, *events_max).err(), *fault);
+        let setup = Setup::new(*nodes, *partitions, *events_max);
+        assert!(rt;
+            setup.err() == *fault,
+            "{nodes}, {partitions}, {events_max}"
+        );
     }
 }
 
@@ -95,10 +113,12 @@ const WEIGHTED: [(u16, u16, u32, &[u16], Option<SetupFault>); 15] = [
 #[test]
 fn weighted_setup_ranges(rt: HostRuntime) {
     for (nodes, partitions, events_max, weights, fault) in WEIGHTED.iter() {
-        for keeps in [false, true].iter() {
-            let setup = Setup::weighted(*nodes, *partitions, *events_max, *weights, *keeps);
-            assert_eq!(rt; setup.err(), *fault);
-        }
+        let cleared = Setup::weighted(*nodes, *partitions, *events_max, *weights, false);
+        let kept = Setup::weighted(*nodes, *partitions, *events_max, *weights, true);
+        assert!(rt;
+            cleared.err() == *fault && kept.err() == *fault,
+            "{weights:?}"
+        );
     }
 }
 
@@ -111,28 +131,30 @@ fn weight_of(setup: &Setup, number: u16) -> Option<u16> {
     Some(setup.weight(node))
 }
 
-// What the setup tells of its numbers, of its first four nodes, and of what is kept.
-fn told_of(setup: &Setup) -> (u16, u16, u32, [Option<u16>; 4], bool) {
-    let weights = [1, 2, 3, 4].map(|number: u16| weight_of(setup, number));
-    let (nodes, partitions) = (setup.nodes(), setup.partitions());
-    (
-        nodes,
-        partitions,
-        setup.events_max(),
-        weights,
-        setup.keeps(),
-    )
+// Whether the setup tells 3 nodes, 7 partitions and 9 events, these weights of the first four nodes, and this of what is
+// kept.
+fn tells(setup: &Setup, weights: [Option<u16>; 4], keeps: bool) -> bool {
+    let told = [
+        weight_of(setup, 1),
+        weight_of(setup, 2),
+        weight_of(setup, 3),
+        weight_of(setup, 4),
+    ];
+    setup.nodes() == 3
+        && setup.partitions() == 7
+        && setup.events_max() == 9
+        && told == weights
+        && setup.keeps() == keeps
 }
 
 #[test]
-fn setups_tell_what_they_were_given(rt: HostRuntime) -> Result<(), Fail> {
-    let weighted = Setup::weighted(3, 7, 9, &[1, 1000, 2], true)?;
+fn setups_tell_what_they_were_given(rt: HostRuntime) {
+    let weighted = Setup::weighted(3, 7, 9, &[1, 1000, 2], true).expect(&rt, "a setup");
     let weights = [Some(1), Some(1000), Some(2), None];
-    assert_eq!(rt; told_of(&weighted), (3, 7, 9, weights, true));
-    let even = Setup::new(3, 7, 9)?;
+    assert!(rt; tells(&weighted, weights, true));
+    let even = setup(&rt, 3, 7, 9);
     let ones = [Some(1), Some(1), Some(1), None];
-    assert_eq!(rt; told_of(&even), (3, 7, 9, ones, false));
-    Ok(())
+    assert!(rt; tells(&even, ones, false));
 }
 
 /// The weights of two nodes, whether tasks are kept, and whether this is what a setup of three numbers is.
@@ -143,14 +165,21 @@ const EVEN: [(&[u16], bool, bool); 4] = [
     (&[2, 2], false, false),
 ];
 
+// Whether the setup of these weights is that of three numbers, and whether it says so.
+fn evenness(weights: &[u16], keeps: bool) -> Option<(bool, bool)> {
+    let numbers = Setup::new(2, 5, 9).ok()?;
+    let setup = Setup::weighted(2, 5, 9, weights, keeps).ok()?;
+    Some((setup == numbers, setup.is_even()))
+}
+
 #[test]
-fn weights_of_one_are_no_weights(rt: HostRuntime) -> Result<(), Fail> {
-    let numbers = Setup::new(2, 5, 9)?;
+fn weights_of_one_are_no_weights(rt: HostRuntime) {
     for (weights, keeps, even) in EVEN.iter() {
-        let setup = Setup::weighted(2, 5, 9, *weights, *keeps)?;
-        assert_eq!(rt; (setup == numbers, setup.is_even()), (*even, *even));
+        assert!(rt;
+            evenness(*weights, *keeps) == Some((*even, *even)),
+            "{weights:?}, {keeps}"
+        );
     }
-    Ok(())
 }
 
 /// Why a text is no table of three nodes and three partitions.
@@ -167,14 +196,10 @@ const TABLES: [(&str, Option<TableFault>); 9] = [
 ];
 
 #[test]
-fn table_texts(rt: HostRuntime) -> Result<(), Fail> {
-    let three = Setup::new(3, 3, 1)?;
+fn table_texts(rt: HostRuntime) {
+    let three = setup(&rt, 3, 3, 1);
     for (text, fault) in TABLES.iter() {
-        assert_eq!(rt;
-            Table::read(rt.alloc(), three, *text).err(),
-            *fault,
-            "{text}"
-        );
+        let table = Table::read(rt.alloc(), three, *text);
+        assert!(rt; table.err() == *fault, "{text}");
     }
-    Ok(())
 }
