@@ -5,9 +5,8 @@ use super::scripts::{
     REPLY_LOST, WEIGHTED,
 };
 use super::weight_of;
-use bully_trace::{TraceFault, Version, check, read_trace, write_trace};
+use bully_trace::{Trace, TraceFault, Version, check, read_trace, write_trace};
 use std::alloc::Global;
-use std::test::Fail;
 
 /// More rows than any script has.
 const ALL: usize = 99;
@@ -185,48 +184,49 @@ const ODD_TRACES: [(&[u8], &str); 5] = [
 ];
 
 /// The script's rows up to this number, with others behind them.
-pub fn changed(alloc: Global, script: &str, rows: usize, more: &str) -> Result<String, Fail> {
+// (where there is no memory for a row, the text is another one)
+pub fn changed(alloc: Global, script: &str, rows: usize, more: &str) -> String {
     let mut text = String::new(alloc);
     for line in script.lines().take(rows) {
-        text.push_str(line)?;
-        text.push('\n')?;
+        let _ = text.push_str(line);
+        let _ = text.push_str("\n");
     }
-    text.push_str(more)?;
-    Ok(text)
+    let _ = text.push_str(more);
+    text
 }
 
-// What the checker writes of the trace; where it is at fault, this, and nothing is written.
-fn told(alloc: Global, trace: &[u8]) -> Option<String> {
+// Whether the checker tells this of the trace: what it writes, or the fault, and then nothing is written.
+fn tells(alloc: Global, trace: &[u8], expected: &str) -> bool {
     let mut output = Vec::new(alloc);
     match check(alloc, trace, &mut output) {
-        Ok(_) => String::from_utf8(output).ok(),
-        Err(fault) => fault_text(alloc, fault, output.as_slice()),
+        Ok(_) => output.as_slice() == expected.as_bytes(),
+        Err(fault) => output.is_empty() && is_told(alloc, fault, expected),
     }
 }
 
-fn fault_text(alloc: Global, fault: TraceFault, output: &[u8]) -> Option<String> {
-    if !output.is_empty() {
-        return None;
-    }
+// Whether the fault is told so.
+fn is_told(alloc: Global, fault: TraceFault, expected: &str) -> bool {
     let (row, cause) = (fault.row, fault.cause);
-    format!(in alloc; "fault {row} {cause}").ok()
+    let mut text = String::new(alloc);
+    // (where it isn't written, the text is another one)
+    let _ = write!(text, "fault {row} {cause}");
+    text.as_str() == expected
 }
 
-// Whether the checker tells this of the trace.
-fn tells(alloc: Global, trace: &[u8], expected: &str) -> bool {
-    match told(alloc, trace) {
-        Some(text) => text.as_str() == expected,
-        None => false,
-    }
+// Whether the checker tells this of the script with other rows.
+fn tells_changed(alloc: Global, script: &str, rows: usize, more: &str, expected: &str) -> bool {
+    let text = changed(alloc, script, rows, more);
+    tells(alloc, text.as_bytes(), expected)
 }
 
 #[test]
-fn scripts(rt: HostRuntime) -> Result<(), Fail> {
+fn scripts(rt: HostRuntime) {
     for (script, rows, more, expected) in SCRIPTS.iter() {
-        let text = changed(rt.alloc(), *script, *rows, *more)?;
-        assert!(rt; tells(rt.alloc(), text.as_bytes(), *expected), "{expected}");
+        assert!(rt;
+            tells_changed(rt.alloc(), *script, *rows, *more, *expected),
+            "{expected}"
+        );
     }
-    Ok(())
 }
 
 #[test]
@@ -243,69 +243,63 @@ fn odd_texts(rt: HostRuntime) {
     }
 }
 
-// Whether the trace is written as it was read.
-fn is_written_again(alloc: Global, text: &str) -> Result<bool, Fail> {
-    let trace = read_trace(alloc, text.as_bytes())?;
-    let mut output = Vec::new(alloc);
-    let written = write_trace(alloc, &mut output, &trace);
-    Ok(written.is_ok() && output.as_slice() == text.as_bytes())
-}
-
-/// Traces as they are written.
-const AGAIN: [&str; 8] = [
-    ALONE,
-    ALL_UP,
-    ORPHAN_HALT,
-    ANNOUNCED_TOO_LATE,
-    KEPT,
-    WEIGHTED,
-    "bully,1,2,1\ndrop,1\n",
-    "bully,2,2,1,1 1,clear\nsaw,1,down,-\n",
+/// Traces as they are written: the version, what node 1 weighs, whether tasks are kept, and how many rows there are.
+const READ: [(&str, Version, u16, bool, usize); 10] = [
+    (ALONE, Version::One, 1, false, 6),
+    (ALL_UP, Version::One, 1, false, 26),
+    (ORPHAN_HALT, Version::One, 1, false, 39),
+    (ANNOUNCED_TOO_LATE, Version::One, 1, false, 22),
+    (KEPT, Version::Two, 1, true, 7),
+    (WEIGHTED, Version::Two, 1, false, 26),
+    ("bully,1,2,1\ndrop,1\n", Version::One, 1, false, 1),
+    (
+        "bully,2,2,1,1 1,clear\nsaw,1,down,-\n",
+        Version::Two,
+        1,
+        false,
+        1,
+    ),
+    ("bully,2,2,1,1000 1,clear\n", Version::Two, 1000, false, 0),
+    ("bully,2,1,1,1,clear\n", Version::Two, 1, false, 0),
 ];
 
-#[test]
-fn read_and_written_again(rt: HostRuntime) -> Result<(), Fail> {
-    for text in AGAIN.iter() {
-        assert!(rt; is_written_again(rt.alloc(), *text)?, "{text}");
-    }
-    Ok(())
-}
-
-// The version of a trace, what node 1 weighs, and whether tasks are kept.
-fn header_of(alloc: Global, text: &str) -> Result<(Version, Option<u16>, bool), Fail> {
-    let trace = read_trace(alloc, text.as_bytes())?;
-    Ok((
+// The version of a trace, what node 1 weighs, whether tasks are kept, how many rows there are, and the bound on events.
+fn header_of(trace: &Trace) -> (Version, Option<u16>, bool, usize, u32) {
+    let weight = weight_of(&trace.setup, 1);
+    let rows = trace.rows.as_slice().len();
+    (
         trace.version,
-        weight_of(&trace.setup, 1),
+        weight,
         trace.setup.keeps(),
-    ))
+        rows,
+        trace.setup.events_max(),
+    )
 }
 
-/// A trace, its version, the weight of node 1, and whether tasks are kept.
-const VERSIONS: [(&str, Version, u16, bool); 4] = [
-    (ALONE, Version::One, 1, false),
-    (KEPT, Version::Two, 1, true),
-    ("bully,2,2,1,1000 1,clear\n", Version::Two, 1000, false),
-    ("bully,2,1,1,1,clear\n", Version::Two, 1, false),
-];
+// Whether the trace is written so.
+fn is_written(alloc: Global, trace: &Trace, text: &str) -> bool {
+    let mut output = Vec::new(alloc);
+    let written = write_trace(alloc, &mut output, trace);
+    written.is_ok() && output.as_slice() == text.as_bytes()
+}
 
-#[test]
-fn versions_and_setups(rt: HostRuntime) -> Result<(), Fail> {
-    for (text, version, weight, keeps) in VERSIONS.iter() {
-        let header = header_of(rt.alloc(), *text)?;
-        assert!(rt; header == (*version, Some(*weight), *keeps), "{text}");
+// Whether this is read of the trace, and it is written again as it was read.
+fn is_read(
+    alloc: Global,
+    text: &str,
+    header: (Version, Option<u16>, bool, usize, u32),
+) -> bool {
+    match read_trace(alloc, text.as_bytes()) {
+        Ok(trace) => header_of(&trace) == header && is_written(alloc, &trace, text),
+        Err(_) => false,
     }
-    Ok(())
 }
 
-// How many rows there are, and the bound on events.
-fn counts(alloc: Global, text: &str) -> Result<(usize, u32), Fail> {
-    let trace = read_trace(alloc, text.as_bytes())?;
-    Ok((trace.rows.as_slice().len(), trace.setup.events_max()))
-}
-
+// (a trace doesn't tell its bound on events, which is the largest)
 #[test]
-fn rows_and_bound(rt: HostRuntime) -> Result<(), Fail> {
-    assert_eq!(rt; counts(rt.alloc(), ALONE)?, (6, 1_000_000));
-    Ok(())
+fn read_and_written_again(rt: HostRuntime) {
+    for (text, version, weight, keeps, rows) in READ.iter() {
+        let header = (*version, Some(*weight), *keeps, *rows, 1_000_000);
+        assert!(rt; is_read(rt.alloc(), *text, header), "{text}");
+    }
 }

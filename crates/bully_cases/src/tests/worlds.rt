@@ -1,12 +1,11 @@
 //! A world at its bound on events, and who waits for whom.
 
-use super::bounded;
 use super::scripts::ALONE;
+use super::{bounded, node, number_of};
 use bully_base::Node;
 use bully_trace::{Row, Trace, read_trace};
 use bully_world::{Event, World};
 use std::alloc::Global;
-use std::test::Fail;
 
 /// Two nodes wait for node 3, one after the other.
 const WAITING: &str = "\
@@ -75,55 +74,73 @@ Some(NoCall) Err(NoCall) None
     ),
 ];
 
-fn add_event(text: &mut String, world: &mut World, event: &Event, callee: Node) -> Option<()> {
+// (where a line isn't written, the text is another one)
+fn add_event(text: &mut String, world: &mut World, event: &Event, callee: Node) {
     let cause = world.cause(event);
     let answer = world.apply(event);
-    let waiting = world.waiting_for(callee).map(|caller| caller.number());
-    writeln!(text, "{cause:?} {answer:?} {waiting:?}").ok()
+    let waiting = number_of(world.waiting_for(callee));
+    let _ = writeln!(text, "{cause:?} {answer:?} {waiting:?}");
 }
 
-fn add_events(text: &mut String, world: &mut World, trace: &Trace, callee: u16) -> Option<()> {
-    let callee = Node::new(callee)?;
+fn add_events(text: &mut String, world: &mut World, trace: &Trace, callee: Node) {
     for row in trace.rows.as_slice() {
         if let Row::Event(event) = row {
-            add_event(text, world, event, callee)?;
+            add_event(text, world, event, callee);
         }
     }
-    Some(())
 }
 
-fn add_end(text: &mut String, world: &World, number: u16) -> Option<()> {
-    let node = Node::new(number)?;
-    if world.setup().nodes() < node.number() {
-        return None;
+// Adds nothing where the group hasn't the node.
+fn add_end(text: &mut String, world: &World, node: Node) {
+    if node.number() <= world.setup().nodes() {
+        let (status, generation) = (world.vector(node).status(), world.generation(node));
+        let events = world.events();
+        let _ = writeln!(text, "{events} {status:?} {generation}");
     }
-    let (status, generation) = (world.vector(node).status(), world.generation(node));
-    let events = world.events();
-    writeln!(text, "{events} {status:?} {generation}").ok()
 }
 
-// What is told of the trace's events, with this bound.
-fn told(
+// Whether this is told of the trace's events, with this bound.
+fn is_told(
     alloc: Global,
-    trace: &str,
+    trace: &Trace,
     events_max: u32,
-    callee: u16,
-    last: u16,
-) -> Result<String, Fail> {
-    let trace = read_trace(alloc, trace.as_bytes())?;
-    let mut world = World::new(alloc, bounded(&trace.setup, events_max))?;
-    let mut text = String::new(alloc);
-    // (where a line isn't written, the text is another one)
-    let _ = add_events(&mut text, &mut world, &trace, callee);
-    let _ = add_end(&mut text, &world, last);
-    Ok(text)
+    callee: Node,
+    last: Node,
+    expected: &str,
+) -> bool {
+    match World::new(alloc, bounded(&trace.setup, events_max)) {
+        Ok(mut world) => {
+            let mut text = String::new(alloc);
+            add_events(&mut text, &mut world, trace, callee);
+            add_end(&mut text, &world, last);
+            text.as_str() == expected
+        }
+        Err(_) => false,
+    }
+}
+
+// The same of the text of a trace.
+fn tells(
+    alloc: Global,
+    text: &str,
+    events_max: u32,
+    callee: Node,
+    last: Node,
+    expected: &str,
+) -> bool {
+    match read_trace(alloc, text.as_bytes()) {
+        Ok(trace) => is_told(alloc, &trace, events_max, callee, last, expected),
+        Err(_) => false,
+    }
 }
 
 #[test]
-fn bound_and_waiting_callers(rt: HostRuntime) -> Result<(), Fail> {
+fn bound_and_waiting_callers(rt: HostRuntime) {
     for (trace, events_max, callee, last, expected) in WORLDS.iter() {
-        let told = told(rt.alloc(), *trace, *events_max, *callee, *last)?;
-        assert_eq!(rt; told.as_str(), *expected);
+        let (callee, last) = (node(&rt, *callee), node(&rt, *last));
+        assert!(rt;
+            tells(rt.alloc(), *trace, *events_max, callee, last, *expected),
+            "{trace}"
+        );
     }
-    Ok(())
 }
