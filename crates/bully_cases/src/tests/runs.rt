@@ -1,191 +1,174 @@
 //! Runs of lists of events, and the views that they give.
 
 use super::scripts::{ALL_UP, ALONE, KEPT, ORPHAN_HALT, ORPHAN_READY};
-use super::{bounded, node, setup};
-use bully_agree::{RunFault, View, Walk, WholeFault, run, run_whole, view};
+use super::{bounded, node, number_of, setup};
+use bully_agree::{View, Walk, run, run_whole, view};
 use bully_base::{Node, Setup};
-use bully_table::push_owners;
-use bully_trace::{Row, read_trace};
-use bully_world::{Event, Refused, World};
+use bully_table::{Table, push_owners};
+use bully_trace::{Row, Rows, read_trace};
+use bully_world::{Event, World};
 use std::alloc::Global;
-use std::test::Fail;
+use std::fmt::Debug;
 
-/// What is shown where each of three nodes is Normal.
-const ALL_NORMAL: &str = "26 events
+/// A script, whether it is run in whole calls, a bound on events, and what is told: the view, or why it isn't run to its
+/// end.
+const RUNS: [(&str, bool, u32, &str); 10] = [
+    (
+        ALL_UP,
+        true,
+        1_000_000,
+        "26 events
 1 Normal Some(3) 1 2 3
 2 Normal Some(3) 1 2 3
 3 Normal Some(3) 1 2 3
-";
+",
+    ),
+    (ORPHAN_HALT, true, 1_000_000, "NotWhole { index: 7 }"),
+    (
+        "bully,1,2,2\nrecover,1\nstart,1\n",
+        true,
+        9,
+        "NotWhole { index: 2 }",
+    ),
+    (
+        "bully,1,2,2\nrecover,1\nmove,1\n",
+        true,
+        1,
+        "Stop { index: 1, cause: Full }",
+    ),
+    ("bully,1,1,1\nrun,1\n", true, 9, "NotWhole { index: 0 }"),
+    (
+        "bully,1,1,1\nrun,1\n",
+        false,
+        9,
+        "Stop { index: 0, cause: IsDown }",
+    ),
+    (
+        ORPHAN_READY,
+        false,
+        1_000_000,
+        "Stop { index: 22, cause: SlotBusy }",
+    ),
+    (ALONE, false, 5, "Stop { index: 5, cause: Full }"),
+    (ALONE, false, 6, "6 events\n1 Normal Some(1) 1 1\n"),
+    (KEPT, false, 7, "7 events\n1 Down None 1 1\n"),
+];
 
-// The script's setup and its events.
-fn script(alloc: Global, text: &str) -> Result<(Setup, Vec<Event>), Fail> {
-    let trace = read_trace(alloc, text.as_bytes())?;
+// The events of the rows, in order.
+fn events_of(alloc: Global, rows: Rows) -> Vec<Event> {
     let mut events = Vec::new(alloc);
-    for row in trace.rows.into_vec() {
+    for row in rows.into_vec() {
         if let Row::Event(event) = row {
-            events.push(event)?;
+            // (where there is no memory for it, the list is another one)
+            let _ = events.push(event);
         }
     }
-    Ok((trace.setup, events))
+    events
 }
 
-// What the view shows, in a line for the events and one for each node.
-fn shown(alloc: Global, view: &View) -> Option<String> {
-    let mut text = String::new(alloc);
-    match add_view(&mut text, view) {
-        Some(()) => Some(text),
-        None => None,
-    }
-}
-
-fn add_view(text: &mut String, view: &View) -> Option<()> {
+// Adds what the view shows, in a line for the events and one for each node.
+// (where a line isn't written, the text is another one)
+fn add_view(text: &mut String, view: &View) {
     let events = view.events();
-    writeln!(text, "{events} events").ok()?;
+    let _ = writeln!(text, "{events} events");
     for number in 1..=view.nodes() {
-        add_node(text, view, Node::new(number)?)?;
+        if let Some(node) = Node::new(number) {
+            add_node(text, view, node);
+        }
     }
-    Some(())
 }
 
-fn add_node(text: &mut String, view: &View, node: Node) -> Option<()> {
-    if view.nodes() < node.number() {
-        return None;
+fn add_node(text: &mut String, view: &View, node: Node) {
+    if node.number() <= view.nodes() {
+        let (number, status) = (node.number(), view.status(node));
+        let coordinator = number_of(view.coordinator(node));
+        let _ = write!(text, "{number} {status:?} {coordinator:?} ");
+        add_task(text, view.task(node));
     }
-    let (number, status) = (node.number(), view.status(node));
-    let coordinator = view.coordinator(node).map(|node| node.number());
-    write!(text, "{number} {status:?} {coordinator:?} ").ok()?;
-    match view.task(node) {
-        Some(table) => push_owners(text, table, ' ').ok()?,
-        None => text.push_str("-").ok()?,
-    }
-    text.push_str("\n").ok()
+}
+
+fn add_task(text: &mut String, task: Option<&Table>) {
+    let _ = match task {
+        Some(table) => push_owners(text, table, ' '),
+        None => text.push_str("-"),
+    };
+    let _ = text.push_str("\n");
 }
 
 // Whether the view shows this.
 fn shows(alloc: Global, view: &View, expected: &str) -> bool {
-    match shown(alloc, view) {
-        Some(text) => text.as_str() == expected,
-        None => false,
+    let mut text = String::new(alloc);
+    add_view(&mut text, view);
+    text.as_str() == expected
+}
+
+// Whether the world has as many events as the view, which shows this.
+fn ends_as(alloc: Global, world: &World, view: &View, expected: &str) -> bool {
+    world.events() == view.events() && shows(alloc, view, expected)
+}
+
+// Whether this is told of the fault.
+fn is_fault<F: Debug>(alloc: Global, fault: &F, expected: &str) -> bool {
+    let mut text = String::new(alloc);
+    // (where it isn't written, the text is another one)
+    let _ = write!(text, "{fault:?}");
+    text.as_str() == expected
+}
+
+// Whether this is told of a run of the events.
+fn is_run(alloc: Global, setup: Setup, events: &[Event], expected: &str) -> bool {
+    match run(alloc, setup, events) {
+        Ok((world, view)) => ends_as(alloc, &world, &view, expected),
+        Err(fault) => is_fault(alloc, &fault, expected),
     }
 }
 
-// What a run of the script in whole calls shows.
-fn run_in_whole_calls(alloc: Global, text: &str) -> Result<(World, View), Fail> {
-    let (group, events) = script(alloc, text)?;
-    Ok(run_whole(alloc, group, events.as_slice())?)
-}
-
-#[test]
-fn whole_call_lists(rt: HostRuntime) -> Result<(), Fail> {
-    let (world, view) = run_in_whole_calls(rt.alloc(), ALL_UP)?;
-    assert_eq!(rt; world.events(), 26);
-    assert!(rt; shows(rt.alloc(), &view, ALL_NORMAL));
-    Ok(())
-}
-
-// Why the script doesn't run in whole calls.
-fn whole_fault(alloc: Global, text: &str) -> Result<Option<WholeFault>, Fail> {
-    let (group, events) = script(alloc, text)?;
-    Ok(run_whole(alloc, group, events.as_slice()).err())
-}
-
-#[test]
-fn call_that_is_not_whole(rt: HostRuntime) -> Result<(), Fail> {
-    let fault = whole_fault(rt.alloc(), ORPHAN_HALT)?;
-    assert_eq!(rt; fault, Some(WholeFault::NotWhole { index: 7 }));
-    Ok(())
-}
-
-#[test]
-fn short_lists(rt: HostRuntime) {
-    let alloc = rt.alloc();
-    let one = node(&rt, 1);
-    let started = [Event::Recover(one), Event::Start(one)];
-    assert_eq!(rt;
-        run_whole(alloc, setup(&rt, 2, 2, 9), &started).err(),
-        Some(WholeFault::NotWhole { index: 2 })
-    );
-    let moved = [Event::Recover(one), Event::Move(one)];
-    assert_eq!(rt;
-        run_whole(alloc, setup(&rt, 2, 2, 1), &moved).err(),
-        Some(WholeFault::Stop {
-            index: 1,
-            cause: Refused::Full
-        })
-    );
-    let alone = [Event::Run(one)];
-    assert_eq!(rt;
-        run_whole(alloc, setup(&rt, 1, 1, 9), &alone).err(),
-        Some(WholeFault::NotWhole { index: 0 })
-    );
-    assert_eq!(rt;
-        run(alloc, setup(&rt, 1, 1, 9), &alone).err(),
-        Some(RunFault::Stop {
-            index: 0,
-            cause: Refused::IsDown
-        })
-    );
-}
-
-// What a run of the script gives with this bound on events.
-fn run_with(alloc: Global, text: &str, events_max: u32) -> Result<Result<View, RunFault>, Fail> {
-    let (group, events) = script(alloc, text)?;
-    match run(alloc, bounded(&group, events_max), events.as_slice()) {
-        Ok((_, view)) => Ok(Ok(view)),
-        Err(fault) => Ok(Err(fault)),
+// The same of a run in whole calls.
+fn is_run_whole(alloc: Global, setup: Setup, events: &[Event], expected: &str) -> bool {
+    match run_whole(alloc, setup, events) {
+        Ok((world, view)) => ends_as(alloc, &world, &view, expected),
+        Err(fault) => is_fault(alloc, &fault, expected),
     }
 }
 
-/// A script, a bound on events, at which event it stops, and why.
-const STOPS: [(&str, u32, usize, Refused); 2] = [
-    (ORPHAN_READY, 1_000_000, 22, Refused::SlotBusy),
-    (ALONE, 5, 5, Refused::Full),
-];
-
-#[test]
-fn stopped_runs(rt: HostRuntime) -> Result<(), Fail> {
-    for (text, events_max, index, cause) in STOPS.iter() {
-        let stop = RunFault::Stop {
-            index: *index,
-            cause: *cause,
-        };
-        let fault = run_with(rt.alloc(), *text, *events_max)?.err();
-        assert_eq!(rt; fault, Some(stop));
+// Whether this is told of a run of the script with this bound on events.
+fn tells(alloc: Global, script: &str, whole: bool, events_max: u32, expected: &str) -> bool {
+    let Ok(trace) = read_trace(alloc, script.as_bytes()) else {
+        return false;
+    };
+    let setup = bounded(&trace.setup, events_max);
+    let events = events_of(alloc, trace.rows);
+    if whole {
+        is_run_whole(alloc, setup, events.as_slice(), expected)
+    } else {
+        is_run(alloc, setup, events.as_slice(), expected)
     }
-    Ok(())
-}
-
-/// A script, how many events it has, and what is shown behind them.
-const TO_THE_BOUND: [(&str, u32, &str); 2] = [
-    (ALONE, 6, "6 events\n1 Normal Some(1) 1 1\n"),
-    (KEPT, 7, "7 events\n1 Down None 1 1\n"),
-];
-
-#[test]
-fn runs_to_the_bound(rt: HostRuntime) -> Result<(), Fail> {
-    for (text, events_max, expected) in TO_THE_BOUND.iter() {
-        match run_with(rt.alloc(), *text, *events_max)? {
-            Ok(view) => assert!(rt; shows(rt.alloc(), &view, *expected), "{expected}"),
-            Err(_) => assert!(rt; false),
-        }
-    }
-    Ok(())
 }
 
 #[test]
-fn view_of_a_new_world(rt: HostRuntime) -> Result<(), Fail> {
-    let two = setup(&rt, 2, 2, 9);
-    let world = World::new(rt.alloc(), two)?;
-    let view = view(rt.alloc(), &world)?;
-    assert!(rt; *view.setup() == two);
-    assert!(rt;
-        shows(
-            rt.alloc(),
-            &view,
-            "0 events\n1 Down None -\n2 Down None -\n"
-        )
-    );
-    Ok(())
+fn runs_of_scripts(rt: HostRuntime) {
+    for (script, whole, events_max, expected) in RUNS.iter() {
+        assert!(rt;
+            tells(rt.alloc(), *script, *whole, *events_max, *expected),
+            "{script}, {events_max}, {whole}"
+        );
+    }
+}
+
+// Whether the world's view has this setup, and shows this.
+fn world_shows(alloc: Global, world: &World, setup: &Setup, expected: &str) -> bool {
+    match view(alloc, world) {
+        Ok(view) => *view.setup() == *setup && shows(alloc, &view, expected),
+        Err(_) => false,
+    }
+}
+
+// The same of a new world.
+fn new_world_shows(alloc: Global, setup: Setup, expected: &str) -> bool {
+    match World::new(alloc, setup) {
+        Ok(world) => world_shows(alloc, &world, &setup, expected),
+        Err(_) => false,
+    }
 }
 
 // Whether the walk shows this.
@@ -196,12 +179,27 @@ fn walk_shows(alloc: Global, walk: &Walk, expected: &str) -> bool {
     }
 }
 
+// Whether the walk, which is new and of one node, shows that the node is down, and then that it recovers.
+fn walk_shows_recovery(alloc: Global, walk: &mut Walk, recover: &Event) -> bool {
+    walk_shows(alloc, walk, "0 events\n1 Down None -\n")
+        && walk.apply(recover).is_ok()
+        && walk_shows(alloc, walk, "1 events\n1 Election None -\n")
+}
+
+// The same of a walk of this setup.
+fn new_walk_shows_recovery(alloc: Global, setup: Setup, recover: &Event) -> bool {
+    match Walk::new(alloc, setup) {
+        Ok(mut walk) => walk_shows_recovery(alloc, &mut walk, recover),
+        Err(_) => false,
+    }
+}
+
 #[test]
-fn views_of_a_walk(rt: HostRuntime) -> Result<(), Fail> {
+fn first_views(rt: HostRuntime) {
+    let two = setup(&rt, 2, 2, 9);
+    let both_down = "0 events\n1 Down None -\n2 Down None -\n";
+    assert!(rt; new_world_shows(rt.alloc(), two, both_down));
+    let one = setup(&rt, 1, 2, 9);
     let recover = Event::Recover(node(&rt, 1));
-    let mut walk = Walk::new(rt.alloc(), setup(&rt, 1, 2, 9))?;
-    assert!(rt; walk_shows(rt.alloc(), &walk, "0 events\n1 Down None -\n"));
-    assert!(rt; walk.apply(&recover).is_ok());
-    assert!(rt; walk_shows(rt.alloc(), &walk, "1 events\n1 Election None -\n"));
-    Ok(())
+    assert!(rt; new_walk_shows_recovery(rt.alloc(), one, &recover));
 }
