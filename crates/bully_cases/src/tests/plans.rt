@@ -1,11 +1,11 @@
 //! Plans that were worked out by hand, and each small plan beside a slow search.
 
-ghost use Rattle.std.specs.Prelude.{◌≡◌, ◌≤◌, All, length};
+ghost use Rattle.std.specs.Prelude.{◌≡◌, ◌≤◌, All, IfSome, length};
+ghost use Rattle.std.specs.Option.{option_copied};
 
 use bully_base::{Node, NodeSet, Setup};
 use bully_table::{PlanFault, Table, TablePlan, plan, push_owners};
 use std::alloc::Global;
-use std::test::Fail;
 
 // A group of 1 to 3 nodes and 1 to 7 partitions, what its nodes weigh, and which of them are members.
 #[derive(Clone, Copy)]
@@ -17,11 +17,9 @@ struct Case {
 }
 
 impl Case {
-    fn setup(self) -> Result<Setup, Fail> {
-        match self.weights.get(..usize::from(self.nodes)) {
-            Some(weights) => Ok(Setup::weighted(self.nodes, self.partitions, 1, weights, false)?),
-            None => Ok(Setup::new(self.nodes, self.partitions, 1)?),
-        }
+    fn setup(self) -> Option<Setup> {
+        let weights = self.weights.get(..usize::from(self.nodes))?;
+        Setup::weighted(self.nodes, self.partitions, 1, weights, false).ok()
     }
 
     // What the node weighs where it is a member, and else nothing.
@@ -68,6 +66,14 @@ impl Case {
             }
         }
         set
+    }
+
+    // Whether there is a member, and each is one of the nodes.
+    fn has_members(self) -> bool {
+        match self.member_set().highest() {
+            Some(node) => node.number() <= self.nodes,
+            None => false,
+        }
     }
 
     // How many lists of owners there are.
@@ -141,50 +147,78 @@ impl Case {
         best
     }
 
-    fn text(self, alloc: Global, list: u32) -> Result<String, Fail> {
-        let mut text = String::new(alloc);
+    // Adds the list of this number as a text.
+    // (where there is no memory for it, the text is no such list)
+    fn add_list(self, text: &mut String, list: u32) {
         for place in 0..self.partitions {
             if place > 0 {
-                text.push_str(" ")?;
+                let _ = text.push_str(" ");
             }
-            text.push_str(match self.owner(list, place) {
+            let _ = text.push_str(match self.owner(list, place) {
                 1 => "1",
                 2 => "2",
                 _ => "3",
-            })?;
+            });
         }
-        Ok(text)
     }
 }
 
-// The plan's table, its moves and its bound, or why there is none.
-fn add_plan(text: &mut String, found: &Result<TablePlan, PlanFault>) -> Option<()> {
+// Adds the plan's table, its moves and its bound, or why there is none.
+// (where it isn't written, the text is another one)
+fn add_plan(text: &mut String, found: &Result<TablePlan, PlanFault>) {
     match found {
         Ok(found) => {
-            push_owners(text, &found.table, ' ').ok()?;
             let (moves, bound) = (found.moves, found.bound);
-            write!(text, ", {moves} {bound}").ok()
+            let _ = push_owners(text, &found.table, ' ');
+            let _ = write!(text, ", {moves} {bound}");
         }
-        Err(fault) => write!(text, "{fault:?}").ok(),
+        Err(fault) => {
+            let _ = write!(text, "{fault:?}");
+        }
     }
 }
 
-// The same as a text, from an old table, if there is one.
-fn planned(alloc: Global, case: Case, old: &str) -> Result<String, Fail> {
-    let setup = case.setup()?;
-    let members = case.member_set();
+// Whether this is planned over the members.
+fn plans(
+    alloc: Global,
+    setup: Setup,
+    members: &NodeSet,
+    old: Option<&Table>,
+    expected: &str,
+) -> bool
+    requires covers { IfSome (option_copied old) (λ t. length t ≡ setup.partitions) }
+    requires members { All (λ m. m ≤ setup.nodes) members.now }
+{
+    let found = plan(alloc, setup, members, old);
     let mut text = String::new(alloc);
-    if !setup.has_all(&members) {
-        return Ok(text);
+    add_plan(&mut text, &found);
+    text.as_str() == expected
+}
+
+// The same from the table of a text.
+fn plans_from(alloc: Global, setup: Setup, members: &NodeSet, old: &str, expected: &str) -> bool
+    requires { All (λ m. m ≤ setup.nodes) members.now }
+{
+    match Table::read(alloc, setup, old) {
+        Ok(old) => plans(alloc, setup, members, Some(&old), expected),
+        Err(_) => false,
     }
-    let found = if old.is_empty() {
-        plan(alloc, setup, &members, None)
-    } else {
-        let old = Table::read(alloc, setup, old)?;
-        plan(alloc, setup, &members, Some(&old))
+}
+
+// The same of a case, from an old table, if there is one.
+fn is_planned(alloc: Global, case: Case, old: &str, expected: &str) -> bool {
+    let Some(setup) = case.setup() else {
+        return false;
     };
-    let _ = add_plan(&mut text, &found);
-    Ok(text)
+    let members = case.member_set();
+    if !setup.has_all(&members) {
+        return false;
+    }
+    if old.is_empty() {
+        plans(alloc, setup, &members, None, expected)
+    } else {
+        plans_from(alloc, setup, &members, old, expected)
+    }
 }
 
 /// The number of partitions of a group of three, the weights, the members, the old table, and the plan.
@@ -262,7 +296,7 @@ const BY_HAND: [(u16, [u16; 3], [bool; 3], &str, &str); 17] = [
 ];
 
 #[test]
-fn plans_worked_by_hand(rt: HostRuntime) -> Result<(), Fail> {
+fn plans_worked_by_hand(rt: HostRuntime) {
     for (partitions, weights, members, old, expected) in BY_HAND.iter() {
         let case = Case {
             nodes: 3,
@@ -270,10 +304,11 @@ fn plans_worked_by_hand(rt: HostRuntime) -> Result<(), Fail> {
             weights: *weights,
             members: *members,
         };
-        let text = planned(rt.alloc(), case, *old)?;
-        assert_eq!(rt; text.as_str(), *expected);
+        assert!(rt;
+            is_planned(rt.alloc(), case, *old, *expected),
+            "{expected}"
+        );
     }
-    Ok(())
 }
 
 // Whether the plan from the old table is as good as the best, which keeps so many.
@@ -293,33 +328,40 @@ fn is_best(alloc: Global, setup: Setup, members: &NodeSet, old: &Table, most: u1
     }
 }
 
-// The same of the list of this number.
-fn is_best_from(alloc: Global, setup: Setup, case: Case, list: u32) -> Result<bool, Fail> {
-    let text = case.text(alloc, list)?;
-    let old = Table::read(alloc, setup, text.as_str())?;
+// The same of the list of this number, which the old table was read of.
+fn is_best_over(alloc: Global, setup: Setup, case: Case, list: u32, old: &Table) -> bool
+    requires { length old.now ≡ setup.partitions }
+{
     let members = case.member_set();
     let most = case.most_kept(list);
-    Ok(setup.has_all(&members) && is_best(alloc, setup, &members, &old, most))
+    setup.has_all(&members) && is_best(alloc, setup, &members, old, most)
+}
+
+// The same of the list alone.
+fn is_best_from(alloc: Global, setup: Setup, case: Case, list: u32) -> bool {
+    let mut text = String::new(alloc);
+    case.add_list(&mut text, list);
+    match Table::read(alloc, setup, text.as_str()) {
+        Ok(old) => is_best_over(alloc, setup, case, list, &old),
+        Err(_) => false,
+    }
 }
 
 // The plan from each old table is as good as what the search finds.
-fn are_all_best(alloc: Global, case: Case) -> Result<bool, Fail> {
-    let setup = case.setup()?;
+fn are_all_best(alloc: Global, case: Case) -> bool {
+    let Some(setup) = case.setup() else {
+        return false;
+    };
     for list in 0..case.lists() {
-        if !is_best_from(alloc, setup, case, list)? {
-            return Ok(false);
+        if !is_best_from(alloc, setup, case, list) {
+            return false;
         }
     }
-    Ok(true)
+    true
 }
 
 // For each set of members among the nodes that isn't empty, the plans are as good as what the search finds.
-fn are_best_for_all(
-    alloc: Global,
-    nodes: u16,
-    partitions: u16,
-    weights: [u16; 3],
-) -> Result<bool, Fail> {
+fn are_best_for_all(alloc: Global, nodes: u16, partitions: u16, weights: [u16; 3]) -> bool {
     for marks in 1..8 {
         let case = Case {
             nodes,
@@ -327,28 +369,26 @@ fn are_best_for_all(
             weights,
             members: [marks % 2 == 1, marks / 2 % 2 == 1, marks / 4 == 1],
         };
-        let highest = case.member_set().highest();
-        if highest.is_some_and(|node| node.number() <= nodes) && !are_all_best(alloc, case)? {
-            return Ok(false);
+        if case.has_members() && !are_all_best(alloc, case) {
+            return false;
         }
     }
-    Ok(true)
+    true
 }
 
 /// What the three nodes weigh.
 const WEIGHTS: [[u16; 3]; 5] = [[1, 1, 1], [1, 2, 1], [3, 1, 2], [1, 1000, 1], [2, 3, 3]];
 
 #[test]
-fn plans_beside_a_search(rt: HostRuntime) -> Result<(), Fail> {
+fn plans_beside_a_search(rt: HostRuntime) {
     for weights in WEIGHTS.iter() {
         for nodes in 1..=3 {
             for partitions in 1..=5 {
                 assert!(rt;
-                    are_best_for_all(rt.alloc(), nodes, partitions, *weights)?,
+                    are_best_for_all(rt.alloc(), nodes, partitions, *weights),
                     "{weights:?}, {nodes}, {partitions}"
                 );
             }
         }
     }
-    Ok(())
 }
