@@ -1,20 +1,20 @@
 //! Each value that reserves memory is made for the largest group, 64 nodes with 256 partitions, and used once:
 //! where there is memory, none of them is refused.
 
-ghost use Rattle.std.specs.Prelude.{◌≡◌, IfOk, length};
-ghost use Rattle.bully_steps.specs.Procedure.{state_of};
+ghost use Rattle.std.specs.Prelude.{◌≡◌, ◌≤◌, All, IfSome, length};
+ghost use Rattle.std.specs.Option.{option_copied};
 
+use super::preparing::{owner_in, prepares, prepares_in_place};
 use super::{node, setup};
 use bully_agree::{View, run, view};
 use bully_base::{Node, NodeSet, OutOfMemory, Setup, Status};
 use bully_calls::{Answer, Call, CallKind, Outcome, Slot, Tag};
 use bully_handlers::Vector;
 use bully_steps::{Point, Procedure};
-use bully_table::{PlanFault, Table, TablePlan, TableRoom, plan};
+use bully_table::{Table, TableRoom, plan};
 use bully_world::{Event, World};
 use std::alloc::Global;
 use std::process::Abort;
-use std::test::Fail;
 
 const NODES: u16 = 64;
 
@@ -29,84 +29,87 @@ fn heaviest(rt: &impl Abort) -> Setup {
     Setup::weighted(NODES, PARTITIONS, 1_000, &[1_000; 64], true).expect(rt, "a setup")
 }
 
-// The text of the table in which each node in turn owns four partitions: 1 1 1 1 2 2 2 2, and so on to 64.
-fn fours(alloc: Global) -> Result<String, OutOfMemory> {
-    let mut text = String::from_str(alloc, "1")?;
+// Adds the text of the table in which each node in turn owns four partitions: 1 1 1 1 2 2 2 2, and so on to 64.
+fn add_fours(text: &mut String) -> Result<(), OutOfMemory> {
+    text.push_str("1")?;
     for place in 1..PARTITIONS {
         let owner = place / 4 + 1;
         write!(text, " {owner}")?;
     }
-    Ok(text)
-}
-
-// The text of the table in which node 64 owns each partition.
-fn only_64(alloc: Global) -> Result<String, OutOfMemory> {
-    let mut text = String::from_str(alloc, "64")?;
-    for _ in 1..PARTITIONS {
-        write!(text, " 64")?;
-    }
-    Ok(text)
+    Ok(())
 }
 
 // The largest table, in which each node owns four partitions.
-fn table_of_fours(alloc: Global, group: Setup) -> Result<Table, Fail>
-    ensures { IfOk result (λ t. length t ≡ group.partitions) }
+fn table_of_fours(alloc: Global, group: Setup) -> Option<Table>
+    ensures { IfSome result (λ t. length t ≡ group.partitions) }
 {
-    let text = fours(alloc)?;
-    Ok(Table::read(alloc, group, text.as_str())?)
-}
-
-// Whether the table has four partitions for each node, and its copy is the same.
-fn is_of_fours(table: &Table) -> bool {
-    let owners = [2, 3, 4, 255].map(|place: usize| owner_in(table, place));
-    owners == [Some(1), Some(1), Some(2), Some(64)]
-        && table.len() == 256
-        && table.copy().is_ok_and(|copy| copy == *table)
-}
-
-fn owner_in(table: &Table, place: usize) -> Option<u16> {
-    if table.len() <= place {
-        return None;
+    let mut text = String::new(alloc);
+    // (a text that is cut short is no table)
+    let _ = add_fours(&mut text);
+    match Table::read(alloc, group, text.as_str()) {
+        Ok(table) => Some(table),
+        Err(_) => None,
     }
-    Some(table.owner(place).number())
 }
 
-#[test]
-fn tables(rt: HostRuntime) -> Result<(), Fail> {
-    let table = table_of_fours(rt.alloc(), largest(&rt))?;
-    assert!(rt; is_of_fours(&table));
-    Ok(())
+// Whether the table has four partitions for each node.
+fn is_of_fours(table: &Table) -> bool {
+    table.len() == 256
+        && owner_in(table, 2) == Some(1)
+        && owner_in(table, 3) == Some(1)
+        && owner_in(table, 4) == Some(2)
+        && owner_in(table, 255) == Some(64)
 }
 
-#[test]
-fn rooms(rt: HostRuntime) -> Result<(), Fail> {
-    let group = largest(&rt);
-    let table = table_of_fours(rt.alloc(), group)?;
-    let mut room = TableRoom::new(rt.alloc(), group)?;
-    room.put(&table);
-    assert!(rt; room.table() == Some(&table));
-    Ok(())
+// Whether the table's copy is the same.
+fn is_copied(table: &Table) -> bool {
+    match table.copy() {
+        Ok(copy) => copy == *table,
+        Err(_) => false,
+    }
 }
 
-#[test]
-fn slots(rt: HostRuntime) -> Result<(), Fail> {
-    let group = largest(&rt);
-    let table = table_of_fours(rt.alloc(), group)?;
-    let mut slot = Slot::new(rt.alloc(), group)?;
+// Whether a room keeps the table.
+fn is_kept_in_room(alloc: Global, group: Setup, table: &Table) -> bool
+    requires { length table.now ≡ group.partitions }
+{
+    match TableRoom::new(alloc, group) {
+        Ok(mut room) => {
+            room.put(table);
+            room.table() == Some(table)
+        }
+        Err(_) => false,
+    }
+}
+
+// Whether a slot keeps the table of a Ready between these nodes, until its outcome is taken.
+fn is_kept_in_slot(
+    alloc: Global,
+    group: Setup,
+    caller: Node,
+    callee: Node,
+    table: &Table,
+) -> bool
+    requires { length table.now ≡ group.partitions }
+{
     let tag = Tag {
-        caller: node(&rt, 64),
+        caller,
         generation: 0,
     };
     let call = Call {
-        callee: node(&rt, 63),
+        callee,
         kind: CallKind::Ready,
     };
-    slot.open(tag, call, Some(&table));
-    let kept = slot.table() == Some(&table);
-    slot.ran(Answer::Yes);
-    let outcome = slot.take();
-    assert_eq!(rt; (kept, outcome, slot.call()), (true, Outcome::Yes, None));
-    Ok(())
+    match Slot::new(alloc, group) {
+        Ok(mut slot) => {
+            slot.open(tag, call, Some(table));
+            let kept = slot.table() == Some(table);
+            slot.ran(Answer::Yes);
+            let outcome = slot.take();
+            kept && outcome == Outcome::Yes && slot.call().is_none()
+        }
+        Err(_) => false,
+    }
 }
 
 // Whether it is a vector of a node that was never up.
@@ -118,94 +121,90 @@ fn is_new(vector: &Vector) -> bool {
         && vector.task().is_none()
 }
 
-#[test]
-fn vectors(rt: HostRuntime) -> Result<(), Fail> {
-    let group = largest(&rt);
-    let table = table_of_fours(rt.alloc(), group)?;
-    let mut vector = Vector::new(rt.alloc(), group)?;
-    assert!(rt; is_new(&vector));
-    vector.plan(&table);
-    assert!(rt; vector.task() == Some(&table));
-    Ok(())
-}
-
-fn everybody(rt: &impl Abort) -> NodeSet {
-    let mut nodes = NodeSet::new();
-    for number in 1..=NODES {
-        nodes.insert(node(rt, number));
-    }
-    nodes
-}
-
-// The plan has this table, these moves and this bound.
-fn assert_planned(
-    rt: &impl Abort,
-    found: Result<TablePlan, PlanFault>,
-    table: &Table,
-    expected: (u16, u16),
-) {
-    match found {
-        Ok(found) => {
-            assert!(rt; found.table == *table);
-            assert_eq!(rt; (found.moves, found.bound), expected);
-        }
-        Err(fault) => assert!(rt; false, "{fault:?}"),
-    }
-}
-
-#[test]
-fn plans(rt: HostRuntime) -> Result<(), Fail> {
-    let group = largest(&rt);
-    let table = table_of_fours(rt.alloc(), group)?;
-    let members = everybody(&rt);
-    assert!(rt; group.has_all(&members));
-    assert_planned(
-        &rt,
-        plan(rt.alloc(), group, &members, None),
-        &table,
-        (256, 0),
-    );
-    let kept = plan(rt.alloc(), group, &members, Some(&table));
-    assert_planned(&rt, kept, &table, (0, 256));
-    Ok(())
-}
-
-#[test]
-fn plans_by_the_largest_weights(rt: HostRuntime) -> Result<(), Fail> {
-    let group = heaviest(&rt);
-    let table = table_of_fours(rt.alloc(), group)?;
-    let members = everybody(&rt);
-    assert!(rt; group.has_all(&members) && table.is_balanced(group, &members));
-    let found = plan(rt.alloc(), group, &members, None);
-    assert_planned(&rt, found, &table, (256, 0));
-    Ok(())
-}
-
-/// Whether the procedure prepares the expected table from the old one.
-pub fn prepares(alloc: Global, procedure: Procedure, old: &Table, expected: &Table) -> bool
-    requires { length old.now ≡ (state_of procedure).setup.partitions }
+// Whether a new vector keeps the table as its node's task.
+fn is_kept_in_vector(alloc: Global, group: Setup, table: &Table) -> bool
+    requires { length table.now ≡ group.partitions }
 {
-    let Procedure::Planning(planning) = procedure else {
-        return false;
-    };
-    match planning.prepare(alloc, Some(old)) {
-        Ok(planned) => Procedure::Planned(planned).table() == Some(expected),
+    match Vector::new(alloc, group) {
+        Ok(mut vector) => {
+            let new = is_new(&vector);
+            vector.plan(table);
+            new && vector.task() == Some(table)
+        }
         Err(_) => false,
     }
 }
 
-#[test]
-fn procedures(rt: HostRuntime) -> Result<(), Fail> {
-    let group = largest(&rt);
-    let old = table_of_fours(rt.alloc(), group)?;
-    let text = only_64(rt.alloc())?;
-    let expected = Table::read(rt.alloc(), group, text.as_str())?;
-    let last = node(&rt, 64);
-    assert!(rt; last.number() <= group.nodes());
+fn everybody() -> NodeSet {
+    let mut nodes = NodeSet::new();
+    for number in 1..=NODES {
+        if let Some(node) = Node::new(number) {
+            nodes.insert(node);
+        }
+    }
+    nodes
+}
+
+// Whether the plan over the members has this table, and these moves and this bound.
+fn plans(
+    alloc: Global,
+    group: Setup,
+    members: &NodeSet,
+    old: Option<&Table>,
+    table: &Table,
+    counts: (u16, u16),
+) -> bool
+    requires covers { IfSome (option_copied old) (λ t. length t ≡ group.partitions) }
+    requires members { All (λ m. m ≤ group.nodes) members.now }
+{
+    match plan(alloc, group, members, old) {
+        Ok(found) => found.table == *table && (found.moves, found.bound) == counts,
+        Err(_) => false,
+    }
+}
+
+// Whether the plan over all nodes is this table, without an old one and from itself.
+fn is_planned(alloc: Global, group: Setup, table: &Table) -> bool {
+    let members = everybody();
+    if table.len() != usize::from(group.partitions()) || !group.has_all(&members) {
+        return false;
+    }
+    members.len() == 64
+        && table.is_balanced(group, &members)
+        && plans(alloc, group, &members, None, table, (256, 0))
+        && plans(alloc, group, &members, Some(table), table, (0, 256))
+}
+
+// Whether the node prepares from this table, for itself alone, the one in which node 64 owns each partition.
+fn is_prepared_from(alloc: Global, group: Setup, last: Node, table: &Table) -> bool
+    requires last { last ≤ group.nodes }
+    requires covers { length table.now ≡ group.partitions }
+{
     let alone = NodeSet::new();
+    let owners = [64u16; 256];
     let procedure = Procedure::at(group, last, 0, Point::Planning, &alone, None, false);
-    assert!(rt; prepares(rt.alloc(), procedure, &old, &expected));
-    Ok(())
+    let mut in_place = Procedure::at(group, last, 0, Point::Planning, &alone, None, false);
+    prepares(alloc, procedure, table, &owners)
+        && prepares_in_place(alloc, &mut in_place, table, &owners)
+}
+
+#[test]
+fn tables(rt: HostRuntime) {
+    let (group, last) = (largest(&rt), node(&rt, 64));
+    assert!(rt; last.number() <= group.nodes());
+    match table_of_fours(rt.alloc(), group) {
+        Some(table) => {
+            assert!(rt; is_of_fours(&table));
+            assert!(rt; is_copied(&table));
+            assert!(rt; is_kept_in_room(rt.alloc(), group, &table));
+            assert!(rt; is_kept_in_slot(rt.alloc(), group, last, node(&rt, 63), &table));
+            assert!(rt; is_kept_in_vector(rt.alloc(), group, &table));
+            assert!(rt; is_planned(rt.alloc(), group, &table));
+            assert!(rt; is_planned(rt.alloc(), heaviest(&rt), &table));
+            assert!(rt; is_prepared_from(rt.alloc(), group, last, &table));
+        }
+        None => assert!(rt; false),
+    }
 }
 
 // Whether it shows one event, after which the last of 64 nodes elects.
@@ -215,20 +214,37 @@ fn is_recovered(shown: &View, last: Node) -> bool {
         && (shown.nodes(), shown.events()) == (64, 1)
 }
 
-#[test]
-fn worlds(rt: HostRuntime) -> Result<(), Fail> {
-    let last = node(&rt, 64);
-    let mut world = World::new(rt.alloc(), largest(&rt))?;
-    let answer = world.apply(&Event::Recover(last));
-    let shown = view(rt.alloc(), &world)?;
-    assert!(rt; answer.is_ok() && is_recovered(&shown, last));
-    Ok(())
+// Whether a view of the world shows that.
+fn shows_recovered(alloc: Global, world: &World, last: Node) -> bool {
+    match view(alloc, world) {
+        Ok(shown) => is_recovered(&shown, last),
+        Err(_) => false,
+    }
+}
+
+// Whether a new world shows that after the event.
+fn world_recovers(alloc: Global, group: Setup, event: &Event, last: Node) -> bool {
+    match World::new(alloc, group) {
+        Ok(mut world) => {
+            let answer = world.apply(event);
+            answer.is_ok() && shows_recovered(alloc, &world, last)
+        }
+        Err(_) => false,
+    }
+}
+
+// Whether a run of the events shows that.
+fn run_recovers(alloc: Global, group: Setup, events: &[Event], last: Node) -> bool {
+    match run(alloc, group, events) {
+        Ok((world, shown)) => world.events() == 1 && is_recovered(&shown, last),
+        Err(_) => false,
+    }
 }
 
 #[test]
-fn runs(rt: HostRuntime) -> Result<(), Fail> {
-    let last = node(&rt, 64);
-    let (world, shown) = run(rt.alloc(), largest(&rt), &[Event::Recover(last)])?;
-    assert!(rt; world.events() == 1 && is_recovered(&shown, last));
-    Ok(())
+fn worlds_and_runs(rt: HostRuntime) {
+    let (group, last) = (largest(&rt), node(&rt, 64));
+    let events = [Event::Recover(last)];
+    assert!(rt; world_recovers(rt.alloc(), group, &events[0], last));
+    assert!(rt; run_recovers(rt.alloc(), group, &events, last));
 }
