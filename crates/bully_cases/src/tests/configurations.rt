@@ -2,11 +2,10 @@
 
 mod changes;
 
-use bully_base::{Node, OutOfMemory};
-use bully_config::{Config, ConfigFault, FAULTS_MAX, Key};
-use changes::{CHANGES, GOOD, MANY, TAILS};
+use bully_base::Node;
+use bully_config::{Config, ConfigFault, Fault, Key};
+use changes::{CHANGES, EqualFaults, GOOD, LINES, MANY, READ, TAILS, TOP};
 use std::alloc::Global;
-use std::test::Fail;
 
 /// A configuration of one node, which recovers in the first turn.
 const ALONE: &str = "nodes = 1
@@ -20,28 +19,15 @@ node = \"a\"
 kind = \"recover\"
 ";
 
-// The answer to a text, as the program tells it.
-fn answer(alloc: Global, text: &str) -> Result<String, Fail> {
-    match Config::read(alloc, text) {
-        Ok(_) => Ok(String::from_str(alloc, "Ok")?),
-        Err(fault) => Ok(format!(in alloc; "{fault}")?),
+// Adds so many of the good configuration's lines, some of them written anew: `PLACE LINE`, with semicolons between them.
+// (in all functions that add to a text: where there is no memory for a line, the text is another one)
+fn add_lines(text: &mut String, count: usize, changes: &str) {
+    for (index, line) in GOOD.iter().enumerate() {
+        if index < count {
+            let _ = text.push_str(line_at(changes, index, *line));
+            let _ = text.push_str("\n");
+        }
     }
-}
-
-// The good configuration with some lines written anew: `PLACE LINE`, with semicolons between them.
-fn changed(alloc: Global, changes: &str) -> Result<String, Fail> {
-    let mut text = String::new(alloc);
-    add_lines(&mut text, GOOD.as_slice(), changes)?;
-    Ok(text)
-}
-
-// Adds the lines, some of them written anew.
-fn add_lines(text: &mut String, lines: &[&str], changes: &str) -> Result<(), OutOfMemory> {
-    for (index, line) in lines.iter().enumerate() {
-        text.push_str(line_at(changes, index, *line))?;
-        text.push_str("\n")?;
-    }
-    Ok(())
 }
 
 // The line that stands at a place after the changes.
@@ -56,208 +42,170 @@ fn line_at<'a>(changes: &'a str, index: usize, line: &'a str) -> &'a str {
     line
 }
 
-// What is read of a configuration, as a text: its numbers and what is kept, each node's name and weight, and each fault's
-// turn, node and kind.
-fn read_again(alloc: Global, text: &str) -> Option<String> {
-    let config = Config::read(alloc, text).ok()?;
-    let mut told = String::new(alloc);
-    match add_config(&mut told, &config) {
-        Some(()) => Some(told),
-        None => None,
+// Adds what is read of a configuration: its numbers and what is kept, each node's name and weight, and each fault's turn,
+// node and kind.
+fn add_config(text: &mut String, config: &Config) {
+    add_numbers(text, config);
+    for number in 1..=config.setup().nodes() {
+        if let Some(node) = Node::new(number) {
+            add_name(text, config, node);
+        }
+    }
+    for fault in config.faults() {
+        add_fault(text, fault);
     }
 }
 
-fn add_config(text: &mut String, config: &Config) -> Option<()> {
+fn add_numbers(text: &mut String, config: &Config) {
     let (nodes, partitions) = (config.setup().nodes(), config.setup().partitions());
     let (events, keeps) = (config.setup().events_max(), config.setup().keeps());
     let (turns, period) = (config.turns(), config.period());
-    writeln!(
+    let _ = writeln!(
         text,
         "{nodes} {partitions} {events} {turns} {period} {keeps}"
-    )
-    .ok()?;
-    for number in 1..=nodes {
-        add_name(text, config, Node::new(number)?)?;
-    }
-    for fault in config.faults() {
-        let (at, number, kind) = (fault.at, fault.node.number(), fault.kind);
-        writeln!(text, "{at} {number} {kind:?}").ok()?;
-    }
-    Some(())
-}
-
-// The node's name, the number of the node that has it, and what the node weighs.
-fn add_name(text: &mut String, config: &Config, node: Node) -> Option<()> {
-    if config.setup().nodes() < node.number() {
-        return None;
-    }
-    let name = config.name(node);
-    let number = config.node(name)?.number();
-    let weight = config.setup().weight(node);
-    writeln!(text, "{number} {name} {weight}").ok()
-}
-
-// Whether this is read of the text.
-fn reads(alloc: Global, text: &str, expected: &str) -> bool {
-    match read_again(alloc, text) {
-        Some(told) => told.as_str() == expected,
-        None => false,
-    }
-}
-
-#[test]
-fn reads_one_node(rt: HostRuntime) {
-    assert!(rt;
-        reads(
-            rt.alloc(),
-            ALONE,
-            "1 2 100 6 16 false\n1 a 1\n1 1 Recover\n"
-        )
     );
 }
 
-#[test]
-fn reads_three_nodes(rt: HostRuntime) -> Result<(), Fail> {
-    let text = changed(rt.alloc(), "")?;
-    let expected = "3 4 100 9 16 false\n1 a 1\n2 b 1\n3 c 1\n1 1 Recover\n9 3 Crash\n";
-    assert!(rt; reads(rt.alloc(), text.as_str(), expected));
-    Ok(())
+// The node's name, the number of the node that has it, and what the node weighs.
+fn add_name(text: &mut String, config: &Config, node: Node) {
+    if node.number() <= config.setup().nodes() {
+        let (name, weight) = (config.name(node), config.setup().weight(node));
+        if let Some(named) = config.node(name) {
+            let number = named.number();
+            let _ = writeln!(text, "{number} {name} {weight}");
+        }
+    }
 }
 
-#[test]
-fn reads_the_period(rt: HostRuntime) -> Result<(), Fail> {
-    let text = changed(rt.alloc(), "3 turns = 9\nperiod = 5")?;
-    let expected = "3 4 100 9 5 false\n1 a 1\n2 b 1\n3 c 1\n1 1 Recover\n9 3 Crash\n";
-    assert!(rt; reads(rt.alloc(), text.as_str(), expected));
-    Ok(())
+fn add_fault(text: &mut String, fault: &Fault) {
+    let (at, number, kind) = (fault.at, fault.node.number(), fault.kind);
+    let _ = writeln!(text, "{at} {number} {kind:?}");
 }
 
-#[test]
-fn reads_weights_and_what_is_kept(rt: HostRuntime) -> Result<(), Fail> {
-    let text = changed(
-        rt.alloc(),
-        "3 turns = 9\nweights = [1, 1000, 2]\nkeep = true",
-    )?;
-    let expected = "3 4 100 9 16 true\n1 a 1\n2 b 1000\n3 c 2\n1 1 Recover\n9 3 Crash\n";
-    assert!(rt; reads(rt.alloc(), text.as_str(), expected));
-    Ok(())
+// Whether this is read of the configuration.
+fn is_read(alloc: Global, config: &Config, expected: &str) -> bool {
+    let mut text = String::new(alloc);
+    add_config(&mut text, config);
+    text.as_str() == expected
 }
 
-// Whether the configuration has no node of this name.
-fn has_no(alloc: Global, text: &str, name: &str) -> bool {
-    match Config::read(alloc, text) {
-        Ok(config) => config.node(name).is_none(),
+// The same of the good configuration after the changes.
+fn reads(alloc: Global, changes: &str, expected: &str) -> bool {
+    let mut text = String::new(alloc);
+    add_lines(&mut text, LINES, changes);
+    match Config::read(alloc, text.as_str()) {
+        Ok(config) => is_read(alloc, &config, expected),
         Err(_) => false,
     }
 }
 
 #[test]
-fn knows_no_other_name(rt: HostRuntime) {
-    assert!(rt; has_no(rt.alloc(), ALONE, "b") && has_no(rt.alloc(), ALONE, "A"));
+fn reads_one_node(rt: HostRuntime) {
+    match Config::read(rt.alloc(), ALONE) {
+        Ok(config) => {
+            let expected = "1 2 100 6 16 false\n1 a 1\n1 1 Recover\n";
+            assert!(rt; is_read(rt.alloc(), &config, expected));
+            assert!(rt; config.node("b").is_none() && config.node("A").is_none());
+        }
+        Err(fault) => assert!(rt; false, "{fault}"),
+    }
 }
 
-// A fault's name and its key's word.
-fn fault_told(alloc: Global, fault: ConfigFault) -> Option<String> {
-    let (name, key) = (fault.name(), fault.key().map(|key| key.word()));
-    format!(in alloc; "{name} {key:?}").ok()
+#[test]
+fn reads_three_nodes(rt: HostRuntime) {
+    for (changes, expected) in READ.iter() {
+        assert!(rt; reads(rt.alloc(), *changes, *expected), "{changes}");
+    }
 }
+
+/// A fault, its name, and its key's word, which is empty where it tells no key.
+const FAULTS: [(ConfigFault, &str, &str); 4] = [
+    (ConfigFault::Missing(Key::Nodes), "Missing", "nodes"),
+    (ConfigFault::Range(Key::Kind), "Range", "kind"),
+    (ConfigFault::DoubleName, "DoubleName", ""),
+    (ConfigFault::OutOfMemory, "OutOfMemory", ""),
+];
 
 // Whether this is told of the fault.
-fn tells(alloc: Global, fault: ConfigFault, expected: &str) -> bool {
-    match fault_told(alloc, fault) {
-        Some(told) => told.as_str() == expected,
-        None => false,
-    }
+fn tells(fault: ConfigFault, name: &str, word: &str) -> bool {
+    let told = match fault.key() {
+        Some(key) => key.word(),
+        None => "",
+    };
+    fault.name() == name && told == word
 }
 
 #[test]
 fn tells_faults(rt: HostRuntime) {
-    for (fault, told) in [
-        (ConfigFault::Missing(Key::Nodes), "Missing Some(\"nodes\")"),
-        (ConfigFault::Range(Key::Kind), "Range Some(\"kind\")"),
-        (ConfigFault::DoubleName, "DoubleName None"),
-        (ConfigFault::OutOfMemory, "OutOfMemory None"),
-    ]
-    .iter()
-    {
-        assert!(rt; tells(rt.alloc(), *fault, *told), "{told}");
+    for (fault, name, word) in FAULTS.iter() {
+        assert!(rt; tells(*fault, *name, *word), "{name} {word}");
     }
 }
 
-// The answer to the good configuration after the changes.
-fn answer_to(alloc: Global, changes: &str) -> Result<String, Fail> {
-    let text = changed(alloc, changes)?;
-    answer(alloc, text.as_str())
-}
-
-#[test]
-fn refuses_changes(rt: HostRuntime) -> Result<(), Fail> {
-    for (changes, wanted) in CHANGES.iter() {
-        let told = answer_to(rt.alloc(), *changes)?;
-        assert_eq!(rt; told.as_str(), *wanted, "{changes}");
+// Whether this is the answer to the text, as the program tells it.
+fn answers(alloc: Global, text: &str, wanted: &str) -> bool {
+    match Config::read(alloc, text) {
+        Ok(_) => wanted == "Ok",
+        Err(fault) => is_told(alloc, fault, wanted),
     }
-    Ok(())
 }
 
-// The answer to a line at the top written anew, and this in place of the faults.
-fn answer_with(alloc: Global, changes: &str, tail: &str) -> Result<String, Fail> {
+// Whether this is told of the fault.
+fn is_told(alloc: Global, fault: ConfigFault, wanted: &str) -> bool {
     let mut text = String::new(alloc);
-    add_lines(&mut text, &GOOD[..5], changes)?;
-    text.push_str(tail)?;
-    answer(alloc, text.as_str())
+    let _ = write!(text, "{fault}");
+    text.as_str() == wanted
+}
+
+// Whether this is the answer to so many lines of the good configuration after the changes, and this behind them.
+fn answers_to(alloc: Global, count: usize, changes: &str, tail: &str, wanted: &str) -> bool {
+    let mut text = String::new(alloc);
+    add_lines(&mut text, count, changes);
+    let _ = text.push_str(tail);
+    answers(alloc, text.as_str(), wanted)
 }
 
 #[test]
-fn reads_faults_of_each_form(rt: HostRuntime) -> Result<(), Fail> {
+fn refuses_changes(rt: HostRuntime) {
+    assert!(rt; answers(rt.alloc(), "", "Missing nodes"));
+    for (changes, wanted) in CHANGES.iter() {
+        assert!(rt;
+            answers_to(rt.alloc(), LINES, *changes, "", *wanted),
+            "{changes}"
+        );
+    }
+}
+
+#[test]
+fn reads_faults_of_each_form(rt: HostRuntime) {
     for (changes, tail, wanted) in TAILS.iter() {
-        let told = answer_with(rt.alloc(), *changes, *tail)?;
-        assert_eq!(rt; told.as_str(), *wanted, "{tail}");
+        assert!(rt;
+            answers_to(rt.alloc(), TOP, *changes, *tail, *wanted),
+            "{tail}"
+        );
     }
-    Ok(())
 }
 
-// As many equal faults, in this turn, behind an array's bracket.
-fn many_faults(alloc: Global, count: usize, turn: &str) -> Result<String, Fail> {
-    let mut tail = String::from_str(alloc, "fault = [\n")?;
-    for _ in 0..count {
-        tail.push_str("{node = \"a\", kind = \"crash\", at = ")?;
-        tail.push_str(turn)?;
-        tail.push_str("},\n")?;
+fn add_many(text: &mut String, many: &EqualFaults) {
+    let _ = text.push_str(many.before);
+    for _ in 0..many.count {
+        let _ = text.push_str(many.fault);
     }
-    tail.push_str("]\n")?;
-    Ok(tail)
+    let _ = text.push_str(many.behind);
 }
 
-// As many faults without a turn.
-fn unfinished_faults(alloc: Global, count: usize) -> Result<String, Fail> {
-    let mut tail = String::new(alloc);
-    for _ in 0..count {
-        tail.push_str("[[fault]]\nnode = \"a\"\nkind = \"crash\"\n")?;
-    }
-    Ok(tail)
+// Whether the answer to the top and to these faults is the wanted one.
+fn answers_to_many(alloc: Global, many: &EqualFaults) -> bool {
+    let mut text = String::new(alloc);
+    add_lines(&mut text, TOP, many.changes);
+    add_many(&mut text, many);
+    answers(alloc, text.as_str(), many.wanted)
 }
 
 #[test]
-fn counts_faults(rt: HostRuntime) -> Result<(), Fail> {
-    for (count, turn, names, wanted) in MANY.iter() {
-        let tail = many_faults(rt.alloc(), *count, *turn)?;
-        let told = answer_with(rt.alloc(), *names, tail.as_str())?;
-        assert_eq!(rt; told.as_str(), *wanted);
+fn counts_faults(rt: HostRuntime) {
+    for many in MANY.iter() {
+        let wanted = many.wanted;
+        assert!(rt; answers_to_many(rt.alloc(), many), "{wanted}");
     }
-    Ok(())
-}
-
-#[test]
-fn misses_the_first_key_of_no_text(rt: HostRuntime) -> Result<(), Fail> {
-    let told = answer(rt.alloc(), "")?;
-    assert_eq!(rt; told.as_str(), "Missing nodes");
-    Ok(())
-}
-
-#[test]
-fn misses_a_turn_before_it_counts(rt: HostRuntime) -> Result<(), Fail> {
-    let tail = unfinished_faults(rt.alloc(), FAULTS_MAX + 1)?;
-    let told = answer_with(rt.alloc(), "", tail.as_str())?;
-    assert_eq!(rt; told.as_str(), "Missing at");
-    Ok(())
 }

@@ -1,7 +1,13 @@
 //! Changes of a good configuration, and what they are refused for. The answers are the profile's.
 
+/// How many lines the good configuration has.
+pub const LINES: usize = 13;
+
+/// How many of them stand at the top.
+pub const TOP: usize = 5;
+
 /// A configuration of three nodes with two faults, line by line.
-pub const GOOD: [&str; 13] = [
+pub const GOOD: [&str; LINES] = [
     "nodes = 3",
     "partitions = 4",
     "events = 100",
@@ -15,6 +21,22 @@ pub const GOOD: [&str; 13] = [
     "at = 9",
     "node = \"c\"",
     "kind = \"crash\"",
+];
+
+/// Lines that are written anew, as in [`CHANGES`], and what is read then.
+pub const READ: [(&str, &str); 3] = [
+    (
+        "",
+        "3 4 100 9 16 false\n1 a 1\n2 b 1\n3 c 1\n1 1 Recover\n9 3 Crash\n",
+    ),
+    (
+        "3 turns = 9\nperiod = 5",
+        "3 4 100 9 5 false\n1 a 1\n2 b 1\n3 c 1\n1 1 Recover\n9 3 Crash\n",
+    ),
+    (
+        "3 turns = 9\nweights = [1, 1000, 2]\nkeep = true",
+        "3 4 100 9 16 true\n1 a 1\n2 b 1000\n3 c 2\n1 1 Recover\n9 3 Crash\n",
+    ),
 ];
 
 /// Lines that are written anew, each as `PLACE LINE` with semicolons between them, and the answer: of two or three faults
@@ -257,16 +279,65 @@ pub const TAILS: [(&str, &str, &str); 17] = [
     ("0 nodes = 0", "fault = [{}, 1]", "Kind fault"),
 ];
 
-/// How many equal faults, their turn, the line of the names, and the answer.
-pub const MANY: [(usize, &str, &str, &str); 5] = [
-    (10_000, "1", "4 names = [\"a\", \"b\", \"c\"]", "Ok"),
-    (10_000, "0", "4 names = [\"a\", \"b\", \"c\"]", "Range at"),
-    (
-        10_001,
-        "0",
-        "4 names = [\"a\", \"b\", \"c\"]",
-        "Range fault",
-    ),
-    (10_001, "0", "4 names = []", "Range names"),
-    (10_001, "true", "4 names = [\"a\", \"b\", \"c\"]", "Kind at"),
+/// Equal faults, how many, what stands before and behind them, a line at the top that is written anew, and the answer.
+#[derive(Clone, Copy)]
+pub struct EqualFaults {
+    pub before: &'static str,
+    pub count: usize,
+    pub fault: &'static str,
+    pub behind: &'static str,
+    pub changes: &'static str,
+    pub wanted: &'static str,
+}
+
+/// Faults in an array, and at last some without a turn, one by one.
+pub const MANY: [EqualFaults; 6] = [
+    EqualFaults {
+        before: "fault = [\n",
+        count: 10_000,
+        fault: "{node = \"a\", kind = \"crash\", at = 1},\n",
+        behind: "]\n",
+        changes: "4 names = [\"a\", \"b\", \"c\"]",
+        wanted: "Ok",
+    },
+    EqualFaults {
+        before: "fault = [\n",
+        count: 10_000,
+        fault: "{node = \"a\", kind = \"crash\", at = 0},\n",
+        behind: "]\n",
+        changes: "4 names = [\"a\", \"b\", \"c\"]",
+        wanted: "Range at",
+    },
+    EqualFaults {
+        before: "fault = [\n",
+        count: 10_001,
+        fault: "{node = \"a\", kind = \"crash\", at = 0},\n",
+        behind: "]\n",
+        changes: "4 names = [\"a\", \"b\", \"c\"]",
+        wanted: "Range fault",
+    },
+    EqualFaults {
+        before: "fault = [\n",
+        count: 10_001,
+        fault: "{node = \"a\", kind = \"crash\", at = 0},\n",
+        behind: "]\n",
+        changes: "4 names = []",
+        wanted: "Range names",
+    },
+    EqualFaults {
+        before: "fault = [\n",
+        count: 10_001,
+        fault: "{node = \"a\", kind = \"crash\", at = true},\n",
+        behind: "]\n",
+        changes: "4 names = [\"a\", \"b\", \"c\"]",
+        wanted: "Kind at",
+    },
+    EqualFaults {
+        before: "",
+        count: 10_001,
+        fault: "[[fault]]\nnode = \"a\"\nkind = \"crash\"\n",
+        behind: "",
+        changes: "",
+        wanted: "Missing at",
+    },
 ];
