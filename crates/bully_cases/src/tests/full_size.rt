@@ -83,13 +83,7 @@ fn is_kept_in_room(alloc: Global, group: Setup, table: &Table) -> bool
 }
 
 // Whether a slot keeps the table of a Ready between these nodes, until its outcome is taken.
-fn is_kept_in_slot(
-    alloc: Global,
-    group: Setup,
-    caller: Node,
-    callee: Node,
-    table: &Table,
-) -> bool
+fn is_kept_in_slot(alloc: Global, group: Setup, caller: Node, callee: Node, table: &Table) -> bool
     requires { length table.now ≡ group.partitions }
 {
     let tag = Tag {

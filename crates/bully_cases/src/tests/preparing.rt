@@ -49,8 +49,8 @@ pub fn prepares(alloc: Global, procedure: Procedure, old: &Table, owners: &[u16]
     }
 }
 
-/// Whether the procedure prepares a table of these owners from the old one where it lies, and keeps it when it is told to
-/// prepare one without an old one.
+/// Whether the procedure prepares a table of these owners from the old one where it lies, and keeps it when it is to
+/// prepare another one.
 pub fn prepares_in_place(
     alloc: Global,
     procedure: &mut Procedure,
@@ -92,7 +92,7 @@ fn is_prepared(alloc: Global, weights: &[u16], owners: &[u16]) -> bool {
         return false;
     };
     match Table::read(alloc, setup, "1 2 2 2 3") {
-        Ok(old) => is_prepared_from(alloc, setup, &old, owners),
+        Ok(old) => old.len() == 5 && is_prepared_from(alloc, setup, &old, owners),
         Err(_) => false,
     }
 }

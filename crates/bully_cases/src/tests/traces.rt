@@ -284,11 +284,7 @@ fn is_written(alloc: Global, trace: &Trace, text: &str) -> bool {
 }
 
 // Whether this is read of the trace, and it is written again as it was read.
-fn is_read(
-    alloc: Global,
-    text: &str,
-    header: (Version, Option<u16>, bool, usize, u32),
-) -> bool {
+fn is_read(alloc: Global, text: &str, header: (Version, Option<u16>, bool, usize, u32)) -> bool {
     match read_trace(alloc, text.as_bytes()) {
         Ok(trace) => header_of(&trace) == header && is_written(alloc, &trace, text),
         Err(_) => false,
