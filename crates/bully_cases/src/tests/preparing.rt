@@ -4,6 +4,7 @@ ghost use Rattle.std.specs.Prelude.{◌≡◌, [], ◌∷◌, None, false, lengt
 ghost use Rattle.bully_steps.specs.ProcedureState.{procedure_state};
 ghost use Rattle.bully_steps.specs.Procedure.{state_of};
 
+use super::setup;
 use bully_base::{Node, NodeSet, Setup};
 use bully_calls::Outcome;
 use bully_steps::{Point, Procedure, Want};
@@ -138,15 +139,9 @@ fn goes_on(setup: Setup) -> bool
     is_readying(&in_place) && is_readying(&started)
 }
 
-// The same in a group of three nodes.
-fn goes_on_in_three() -> bool {
-    match Setup::new(3, 5, 1) {
-        Ok(setup) => goes_on(setup),
-        Err(_) => false,
-    }
-}
-
 #[test]
 fn goes_on_by_outcomes(rt: HostRuntime) {
-    assert!(rt; goes_on_in_three());
+    let three = setup(&rt, 3, 5, 1);
+    assert!(rt; three.nodes() == 3);
+    assert!(rt; goes_on(three));
 }

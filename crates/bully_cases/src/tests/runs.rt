@@ -150,7 +150,7 @@ fn runs_of_scripts(rt: HostRuntime) {
     for (script, whole, events_max, expected) in RUNS.iter() {
         assert!(rt;
             tells(rt.alloc(), *script, *whole, *events_max, *expected),
-            "{script}, {events_max}, {whole}"
+            "{script}, {events_max}"
         );
     }
 }
