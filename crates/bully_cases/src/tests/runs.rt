@@ -136,8 +136,9 @@ fn tells(alloc: Global, script: &str, whole: bool, events_max: u32, expected: &s
     let Ok(trace) = read_trace(alloc, script.as_bytes()) else {
         return false;
     };
-    let setup = bounded(&trace.setup, events_max);
+    let group = trace.setup;
     let events = events_of(alloc, trace.rows);
+    let setup = bounded(&group, events_max);
     if whole {
         is_run_whole(alloc, setup, events.as_slice(), expected)
     } else {
