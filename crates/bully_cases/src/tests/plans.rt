@@ -304,10 +304,7 @@ fn plans_worked_by_hand(rt: HostRuntime) {
             weights: *weights,
             members: *members,
         };
-        assert!(rt;
-            is_planned(rt.alloc(), case, *old, *expected),
-            "{expected}"
-        );
+        assert!(rt; is_planned(rt.alloc(), case, *old, *expected), "{expected}");
     }
 }
 
