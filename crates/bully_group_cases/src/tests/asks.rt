@@ -1,21 +1,21 @@
 //! What is asked of a group that nobody watches, ask by ask, what is told of each, and the group's end.
 
-ghost use Rattle.std.specs.Prelude.{◌≡◌, ◌≤◌, ◌+◌, None};
+ghost use Rattle.std.specs.Prelude.{◌≡◌, ◌+◌, None};
 ghost use Rattle.bully_steps.specs.Procedure.{state_of};
 
-use super::held::{Opened, Way, finished, open, refused};
+use super::held::{Held, Opened, Part, Way, finished, open, without_one};
 use bully_agree::View;
 use bully_base::{Node, Setup, Status};
 use bully_calls::Answer;
-use bully_group::{Closed, Naming, NodeTurn, Turn};
+use bully_group::{Closed, Locked, Naming, NodeTurn, Pass, Seat, StepFault, Turn};
 use bully_steps::Procedure;
 use bully_table::Table;
-use bully_watch::Entry;
 use bully_world::Event;
 use std::alloc::Global;
 use std::marker::Brand;
-use std::sync::Wait;
+use std::mem;
 use std::sync::ledger::Blank;
+use std::sync::{MutexGuard, Wait};
 
 /// What an event does.
 #[derive(Clone, Copy)]
@@ -40,12 +40,30 @@ pub enum Ask {
     Step(usize, Deed, u16),
     Serve(usize),
     Turn(usize),
+    /// The same with the procedure where it lies.
+    TurnInPlace(usize),
     /// A serve, or else a turn, in one call.
     NodeTurn(usize),
     View(usize),
     Publish(usize),
+    /// How many entries the seat has.
+    Entries(usize),
     /// The procedure that is held is prepared, without an old table.
     Prepare,
+}
+
+impl Ask {
+    // With whose seat it is asked. The operator's stands for that of what needs none.
+    fn actor(self) -> usize {
+        match self {
+            Ask::Step(actor, _, _) => actor,
+            Ask::Serve(actor) | Ask::View(actor) | Ask::Publish(actor) | Ask::Entries(actor) => {
+                actor
+            }
+            Ask::Turn(actor) | Ask::TurnInPlace(actor) | Ask::NodeTurn(actor) => actor,
+            Ask::Prepare => 0,
+        }
+    }
 }
 
 /// A group, whose procedure is held, and what is asked. A line is told of each ask, and at the end one of a finish
@@ -81,15 +99,13 @@ fn event_of(alloc: Global, setup: &Setup, deed: Deed, number: u16) -> Option<Eve
     })
 }
 
-/// What is told of a case, and whether it ends as it has to.
-pub fn tried<R: Wait>(rt: &R, alloc: Global, way: Way, case: &Case) -> Option<(String, bool)> {
-    let setup = Setup::new(case.nodes, case.partitions, case.events_max).ok()?;
-    let node = Node::new(case.node)?;
-    if node.number() > setup.nodes() {
-        return None;
-    }
+/// Whether what has to be told of the case is told, and it ends as it has to.
+pub fn tried<R: Wait>(rt: &R, alloc: Global, way: Way, case: &Case) -> bool {
+    let Ok(setup) = Setup::new(case.nodes, case.partitions, case.events_max) else {
+        return false;
+    };
     let blank = Blank::new(u64::from(setup.nodes()) + 1);
-    tried_by::<Brand, R>(rt, alloc, way, setup, blank, node, case)
+    tried_by::<Brand, R>(rt, alloc, way, setup, blank, case)
 }
 
 fn tried_by<L: Naming, R: Wait>(
@@ -98,87 +114,280 @@ fn tried_by<L: Naming, R: Wait>(
     way: Way,
     setup: Setup,
     blank: Blank,
-    node: Node,
     case: &Case,
-) -> Option<(String, bool)>
+) -> bool
     requires setup { setup ≡ L.setup }
     requires unwatched { L.publisher ≡ None }
     requires name { blank.name ≡ L.name }
     requires parts { (blank.parts ≡ L.parts) × (L.parts ≡ L.setup.nodes + 1) }
-    requires node { node ≤ setup.nodes }
 {
-    let mut opened = open::<L>(alloc, way, setup, blank)?;
-    let mut procedure = Procedure::idle(setup, node, 0);
-    let mut text = String::new(alloc);
-    for each in case.asks {
-        procedure = perform(rt, alloc, &mut opened, procedure, *each, &mut text);
-    }
-    match ended(rt, opened, &mut text) {
-        Some(closed) => {
-            let ends = ends_as(alloc, &closed, case);
-            closed.end(rt);
-            Some((text, ends))
-        }
-        None => None,
-    }
-}
-
-// The finish, tried without the last seat and without the last pass before.
-fn ended<L: Naming, R: Wait>(rt: &R, opened: Opened<L>, text: &mut String) -> Option<Closed> {
-    let opened = without_a_seat(rt, opened, text)?;
-    let opened = without_a_pass(rt, opened, text)?;
-    finished(rt, opened).ok()
-}
-
-fn without_a_seat<L: Naming, R: Wait>(
-    rt: &R,
-    opened: Opened<L>,
-    text: &mut String,
-) -> Option<Opened<L>> {
-    let mut opened = opened;
-    let seat = opened.seats.pop();
-    let (fault, mut opened) = refused(rt, opened)?;
-    if let Some(seat) = seat {
-        let _ = opened.seats.push(seat);
-    }
-    let _ = writeln!(text, "a seat less: {fault:?}");
-    Some(opened)
-}
-
-fn without_a_pass<L: Naming, R: Wait>(
-    rt: &R,
-    opened: Opened<L>,
-    text: &mut String,
-) -> Option<Opened<L>> {
-    let mut opened = opened;
-    let pass = opened.passes.pop();
-    let (fault, mut opened) = refused(rt, opened)?;
-    if let Some(pass) = pass {
-        let _ = opened.passes.push(pass);
-    }
-    let _ = writeln!(text, "a pass less: {fault:?}");
-    Some(opened)
-}
-
-// Whether the finished group is as it has to be.
-fn ends_as(alloc: Global, closed: &Closed, case: &Case) -> bool {
-    let mut pairs = closed.history().iter().zip(case.history.iter());
-    pairs.all(|(entry, wanted)| is_entry(alloc, closed.setup(), entry, wanted))
-        && closed.history().len() == case.entries
-        && status_of(closed.view(), case.node) == Some(case.status)
-}
-
-fn is_entry(
-    alloc: Global,
-    setup: &Setup,
-    entry: &Entry,
-    wanted: &(u16, Deed, u16, Answer),
-) -> bool {
-    match event_of(alloc, setup, wanted.1, wanted.2) {
-        Some(event) => {
-            entry.actor == wanted.0 && entry.answer == wanted.3 && entry.event.is_same(&event)
-        }
+    match open::<L>(alloc, way, setup, blank) {
+        Some(opened) => goes_as_told(rt, alloc, opened, setup, case),
         None => false,
+    }
+}
+
+fn goes_as_told<L: Naming, R: Wait>(
+    rt: &R,
+    alloc: Global,
+    opened: Opened<L>,
+    setup: Setup,
+    case: &Case,
+) -> bool
+    requires { setup ≡ L.setup }
+{
+    let mut opened = opened;
+    let mut text = String::new(alloc);
+    ask_all(
+        rt,
+        alloc,
+        &mut opened,
+        setup,
+        case.node,
+        case.asks,
+        &mut text,
+    );
+    let ends = ends_as(rt, alloc, opened, case, &mut text);
+    ends && text.as_str() == case.told
+}
+
+/// Asks all of it, one ask after the other. The procedure that is held is this node's. Nothing is asked where the setup
+/// has no such node.
+pub fn ask_all<L: Naming, R: Wait>(
+    rt: &R,
+    alloc: Global,
+    opened: &mut Opened<L>,
+    setup: Setup,
+    number: u16,
+    asks: &[Ask],
+    text: &mut String,
+)
+    requires { setup ≡ L.setup }
+{
+    let Some(node) = Node::new(number) else {
+        return;
+    };
+    if setup.nodes() < node.number() {
+        return;
+    }
+    let mut procedure = Procedure::idle(setup, node, 0);
+    for each in asks {
+        perform(rt, alloc, opened, &mut procedure, *each, text);
+    }
+}
+
+// One ask, with the seat and the pass of its actor. Nothing is told where there are none.
+fn perform<L: Naming, R: Wait>(
+    rt: &R,
+    alloc: Global,
+    opened: &mut Opened<L>,
+    procedure: &mut Procedure,
+    asked: Ask,
+    text: &mut String,
+)
+    requires { (state_of procedure.old).setup ≡ L.setup }
+    ensures { (state_of procedure.new).setup ≡ L.setup }
+{
+    let actor = asked.actor();
+    let (Some(seat), Some(pass)) = (opened.seats.get_mut(actor), opened.passes.get_mut(actor))
+    else {
+        return;
+    };
+    ask_held(
+        rt,
+        alloc,
+        &mut opened.held,
+        seat,
+        procedure,
+        pass,
+        asked,
+        text,
+    );
+}
+
+// The same, bare or in one hold of the lock.
+fn ask_held<L: Naming, R: Wait>(
+    rt: &R,
+    alloc: Global,
+    held: &mut Held<L>,
+    seat: &mut Seat,
+    procedure: &mut Procedure,
+    pass: &mut Pass<L>,
+    asked: Ask,
+    text: &mut String,
+)
+    requires { (state_of procedure.old).setup ≡ L.setup }
+    ensures { (state_of procedure.new).setup ≡ L.setup }
+{
+    match held {
+        Held::Bare(locked) => ask_locked(rt, alloc, locked, seat, procedure, pass, asked, text),
+        Held::Shared(group) => {
+            let mut guard = group.locked.lock(rt);
+            ask_locked(rt, alloc, &mut guard, seat, procedure, pass, asked, text);
+            MutexGuard::unlock(guard);
+        }
+    }
+}
+
+fn ask_locked<L: Naming, R: Wait>(
+    rt: &R,
+    alloc: Global,
+    locked: &mut Locked<L>,
+    seat: &mut Seat,
+    procedure: &mut Procedure,
+    pass: &mut Pass<L>,
+    asked: Ask,
+    text: &mut String,
+)
+    requires { (state_of procedure.old).setup ≡ L.setup }
+    ensures { (state_of procedure.new).setup ≡ L.setup }
+{
+    match asked {
+        Ask::Step(_, deed, number) => step_by(alloc, locked, seat, deed, number, pass, text),
+        Ask::Serve(_) => serve(locked, seat, pass, text),
+        Ask::View(_) => view(locked, seat, procedure.node().number(), text),
+        Ask::Publish(_) => publish(rt, locked, seat, text),
+        Ask::Entries(_) => tell_entries(seat, text),
+        Ask::Prepare => prepare(alloc, procedure, text),
+        _ => turn(locked, seat, procedure, pass, asked, text),
+    }
+}
+
+fn step_by<L: Naming>(
+    alloc: Global,
+    locked: &mut Locked<L>,
+    seat: &mut Seat,
+    deed: Deed,
+    number: u16,
+    pass: &mut Pass<L>,
+    text: &mut String,
+) {
+    let event = event_of(alloc, locked.setup(), deed, number);
+    if let Some(event) = event {
+        step(locked, seat, event, pass, text);
+    }
+}
+
+/// Tells of a step of the seat's actor.
+pub fn step<L: Naming>(
+    locked: &mut Locked<L>,
+    seat: &mut Seat,
+    event: Event,
+    pass: &mut Pass<L>,
+    text: &mut String,
+) {
+    let answer = locked.step(seat, &event, pass);
+    let _ = writeln!(text, "{answer:?}");
+}
+
+fn serve<L: Naming>(
+    locked: &mut Locked<L>,
+    seat: &mut Seat,
+    pass: &mut Pass<L>,
+    text: &mut String,
+) {
+    let answer = locked.serve(seat, pass);
+    let _ = writeln!(text, "{answer:?}");
+}
+
+/// Tells of the view with the seat how many events it has, and the status of the node; or why it isn't shown.
+pub fn view<L: Naming>(locked: &Locked<L>, seat: &Seat, number: u16, text: &mut String) {
+    match locked.view(seat) {
+        Ok(view) => tell_view(text, &view, number),
+        Err(fault) => drop(writeln!(text, "{fault:?}")),
+    }
+}
+
+// Nothing is told of a publish that succeeds.
+fn publish<L: Naming, R: Wait>(rt: &R, locked: &mut Locked<L>, seat: &Seat, text: &mut String) {
+    if let Err(fault) = locked.publish(rt, seat) {
+        let _ = writeln!(text, "{fault:?}");
+    }
+}
+
+fn tell_entries(seat: &Seat, text: &mut String) {
+    let entries = seat.log().len();
+    let _ = writeln!(text, "{entries}");
+}
+
+fn prepare(alloc: Global, procedure: &mut Procedure, text: &mut String)
+    ensures { (state_of procedure.new).setup ≡ (state_of procedure.old).setup }
+{
+    if procedure.prepare(alloc, None).is_ok() && procedure.table().is_some() {
+        let _ = writeln!(text, "prepared");
+    }
+}
+
+// A turn of one of the three kinds, and where the procedure stands then.
+fn turn<L: Naming>(
+    locked: &mut Locked<L>,
+    seat: &mut Seat,
+    procedure: &mut Procedure,
+    pass: &mut Pass<L>,
+    asked: Ask,
+    text: &mut String,
+)
+    requires { (state_of procedure.old).setup ≡ L.setup }
+    ensures { (state_of procedure.new).setup ≡ L.setup }
+{
+    let answer = match asked {
+        Ask::TurnInPlace(_) => locked.turn_in_place(seat, procedure, pass),
+        Ask::NodeTurn(_) => locked.serve_or_turn(seat, procedure, pass),
+        _ => turn_by_value(locked, seat, procedure, pass),
+    };
+    tell_turn(text, answer, procedure);
+}
+
+fn turn_by_value<L: Naming>(
+    locked: &mut Locked<L>,
+    seat: &mut Seat,
+    procedure: &mut Procedure,
+    pass: &mut Pass<L>,
+) -> Result<NodeTurn, StepFault>
+    requires { (state_of procedure.old).setup ≡ L.setup }
+    ensures { (state_of procedure.new).setup ≡ L.setup }
+{
+    let idle = Procedure::idle_in(procedure.setup(), procedure.node(), 0);
+    let (back, answer) = turned(locked, seat, mem::replace(procedure, idle), pass);
+    *procedure = back;
+    answer
+}
+
+// The turn's answer, beside the procedure that it hands back.
+fn turned<L: Naming>(
+    locked: &mut Locked<L>,
+    seat: &mut Seat,
+    procedure: Procedure,
+    pass: &mut Pass<L>,
+) -> (Procedure, Result<NodeTurn, StepFault>)
+    requires { (state_of procedure).setup ≡ L.setup }
+    ensures { (state_of result.0).setup ≡ L.setup }
+{
+    match locked.turn(seat, procedure, pass) {
+        Turn::Went(back) => (back, Ok(NodeTurn::Went)),
+        Turn::Waiting(back) => (back, Ok(NodeTurn::Waiting)),
+        Turn::Resynced(back) => (back, Ok(NodeTurn::Resynced)),
+        Turn::Fault(back, fault) => (back, Err(fault)),
+    }
+}
+
+fn tell_turn(text: &mut String, answer: Result<NodeTurn, StepFault>, procedure: &Procedure) {
+    let _ = match answer {
+        Ok(turn) => {
+            let (word, point) = (word_of(turn), procedure.point());
+            let generation = procedure.generation();
+            writeln!(text, "{word} {point:?} {generation}")
+        }
+        Err(fault) => writeln!(text, "{fault:?}"),
+    };
+}
+
+fn word_of(turn: NodeTurn) -> &'static str {
+    match turn {
+        NodeTurn::Served => "served",
+        NodeTurn::Went => "went",
+        NodeTurn::Waiting => "waits",
+        NodeTurn::Resynced => "resynced",
     }
 }
 
@@ -201,141 +410,53 @@ pub fn tell_view(text: &mut String, view: &View, number: u16) {
     };
 }
 
-// One ask. The procedure stays one of the group.
-fn perform<L: Naming, R: Wait>(
+// Tells of a finish without the last seat and of one without the last pass. Whether the finished group is as it has to be.
+fn ends_as<L: Naming, R: Wait>(
     rt: &R,
     alloc: Global,
-    opened: &mut Opened<L>,
-    procedure: Procedure,
-    asked: Ask,
+    opened: Opened<L>,
+    case: &Case,
     text: &mut String,
-) -> Procedure
-    requires { (state_of procedure).setup ≡ L.setup }
-    ensures { (state_of result).setup ≡ L.setup }
-{
-    match asked {
-        Ask::Turn(actor) => turn(rt, opened, actor, procedure, text),
-        Ask::NodeTurn(actor) => node_turn(rt, opened, actor, procedure, text),
-        Ask::Prepare => prepare(alloc, procedure, text),
-        _ => {
-            let (setup, node) = (procedure.setup(), procedure.node());
-            let _ = answer(rt, alloc, opened, setup, node, asked, text);
-            procedure
+) -> bool {
+    match ended(rt, opened, text) {
+        Some(closed) => {
+            let ends = is_as_told(alloc, &closed, case);
+            closed.end(rt);
+            ends
         }
+        None => false,
     }
 }
 
-// An ask of what isn't a procedure's. None where nothing is told.
-fn answer<L: Naming, R: Wait>(
-    rt: &R,
+fn ended<L: Naming, R: Wait>(rt: &R, opened: Opened<L>, text: &mut String) -> Option<Closed> {
+    let opened = without_one(rt, opened, Part::Seat, text)?;
+    let opened = without_one(rt, opened, Part::Pass, text)?;
+    finished(rt, opened).ok()
+}
+
+// Whether the finished group is as it has to be.
+fn is_as_told(alloc: Global, closed: &Closed, case: &Case) -> bool {
+    let mut is_same = closed.history().len() == case.entries;
+    for (place, wanted) in case.history.iter().enumerate() {
+        is_same = is_same && is_entry(alloc, closed, place, wanted);
+    }
+    is_same && status_of(closed.view(), case.node) == Some(case.status)
+}
+
+// Whether the entry at this place is as it has to be.
+fn is_entry(
     alloc: Global,
-    opened: &mut Opened<L>,
-    setup: &Setup,
-    node: Node,
-    asked: Ask,
-    text: &mut String,
-) -> Option<()> {
-    match asked {
-        Ask::Step(actor, deed, number) => {
-            let event = event_of(alloc, setup, deed, number)?;
-            let answer = opened.step(rt, actor, &event)?;
-            writeln!(text, "{answer:?}").ok()
-        }
-        Ask::Serve(actor) => {
-            let answer = opened.serve(rt, actor)?;
-            writeln!(text, "{answer:?}").ok()
-        }
-        Ask::View(actor) => {
-            let view = opened.view(rt, actor)?;
-            tell_view(text, &view, node.number());
-            Some(())
-        }
-        Ask::Publish(actor) => {
-            let fault = opened.publish(rt, actor).err()?;
-            writeln!(text, "{:?}", fault?).ok()
-        }
-        _ => None,
-    }
-}
-
-fn turn<L: Naming, R: Wait>(
-    rt: &R,
-    opened: &mut Opened<L>,
-    actor: usize,
-    procedure: Procedure,
-    text: &mut String,
-) -> Procedure
-    requires { (state_of procedure).setup ≡ L.setup }
-    ensures { (state_of result).setup ≡ L.setup }
-{
-    let (Some(seat), Some(pass)) = (opened.seats.get_mut(actor), opened.passes.get_mut(actor))
-    else {
-        return procedure;
+    closed: &Closed,
+    place: usize,
+    wanted: &(u16, Deed, u16, Answer),
+) -> bool {
+    let Some(entry) = closed.history().get(place) else {
+        return false;
     };
-    match opened.held.turn(rt, seat, procedure, pass) {
-        Turn::Went(procedure) => told_of("went", procedure, text),
-        Turn::Waiting(procedure) => told_of("waits", procedure, text),
-        Turn::Resynced(procedure) => told_of("resynced", procedure, text),
-        Turn::Fault(procedure, fault) => {
-            let _ = writeln!(text, "{fault:?}");
-            procedure
+    match event_of(alloc, closed.setup(), wanted.1, wanted.2) {
+        Some(event) => {
+            entry.actor == wanted.0 && entry.answer == wanted.3 && entry.event.is_same(&event)
         }
-    }
-}
-
-fn node_turn<L: Naming, R: Wait>(
-    rt: &R,
-    opened: &mut Opened<L>,
-    actor: usize,
-    procedure: Procedure,
-    text: &mut String,
-) -> Procedure
-    requires { (state_of procedure).setup ≡ L.setup }
-    ensures { (state_of result).setup ≡ L.setup }
-{
-    let mut procedure = procedure;
-    let (Some(seat), Some(pass)) = (opened.seats.get_mut(actor), opened.passes.get_mut(actor))
-    else {
-        return procedure;
-    };
-    match opened.held.serve_or_turn(rt, seat, &mut procedure, pass) {
-        Ok(turn) => told_of(word_of(turn), procedure, text),
-        Err(fault) => {
-            let _ = writeln!(text, "{fault:?}");
-            procedure
-        }
-    }
-}
-
-fn word_of(turn: NodeTurn) -> &'static str {
-    match turn {
-        NodeTurn::Served => "served",
-        NodeTurn::Went => "went",
-        NodeTurn::Waiting => "waits",
-        NodeTurn::Resynced => "resynced",
-    }
-}
-
-// Tells where the procedure stands.
-fn told_of(told: &str, procedure: Procedure, text: &mut String) -> Procedure
-    ensures { result ≡ procedure }
-{
-    let (point, generation) = (procedure.point(), procedure.generation());
-    let _ = writeln!(text, "{told} {point:?} {generation}");
-    procedure
-}
-
-fn prepare(alloc: Global, procedure: Procedure, text: &mut String) -> Procedure
-    ensures { (state_of result).setup ≡ (state_of procedure).setup }
-{
-    match procedure {
-        Procedure::Planning(planning) => match planning.prepare(alloc, None) {
-            Ok(planned) => {
-                let _ = writeln!(text, "prepared");
-                Procedure::Planned(planned)
-            }
-            Err((planning, _)) => Procedure::Planning(planning),
-        },
-        other => other,
+        None => false,
     }
 }

@@ -1,24 +1,15 @@
 //! A group that is called without a lock, or each time through its lock.
 
-ghost use Rattle.std.specs.Prelude.{◌≡◌, ◌+◌, [], IfOk, Some, None};
-ghost use Rattle.bully_group.specs.Turns.{handed_back};
-ghost use Rattle.bully_steps.specs.Procedure.{state_of};
-ghost use Rattle.bully_steps.specs.ProcedureState.{HasSameNode};
+ghost use Rattle.std.specs.Prelude.{◌≡◌, ◌+◌, [], Some, None};
 
-use bully_agree::View;
 use bully_base::Setup;
-use bully_group::{
-    Closed, FinishFault, Group, Locked, Naming, NodeTurn, Pass, PublishFault, Seat, StepFault,
-    Turn, ViewFault,
-};
-use bully_steps::Procedure;
-use bully_watch::{Publisher, Told};
-use bully_world::Event;
+use bully_group::{Closed, FinishFault, Group, Locked, Naming, Pass, Seat};
+use bully_watch::Publisher;
 use std::alloc::Global;
 use std::sync::ledger::Blank;
-use std::sync::{Mutex, MutexGuard, Wait};
+use std::sync::{Mutex, Wait};
 
-#[derive(Clone, Copy, PartialEq, Eq, Debug)]
+#[derive(Clone, Copy)]
 pub enum Way {
     Bare,
     Shared,
@@ -42,35 +33,6 @@ impl<L: Naming> Opened<L> {
             held: Held::of(way, locked),
             seats,
             passes,
-        }
-    }
-
-    /// A step of this actor, by its seat and its pass. None where there are none, as in the others.
-    pub fn step<R: Wait>(
-        &mut self,
-        rt: &R,
-        actor: usize,
-        event: &Event,
-    ) -> Option<Result<(), StepFault>> {
-        let (seat, pass) = (self.seats.get_mut(actor)?, self.passes.get_mut(actor)?);
-        Some(self.held.step(rt, seat, event, pass))
-    }
-
-    pub fn serve<R: Wait>(&mut self, rt: &R, actor: usize) -> Option<Result<bool, StepFault>> {
-        let (seat, pass) = (self.seats.get_mut(actor)?, self.passes.get_mut(actor)?);
-        Some(self.held.serve(rt, seat, pass))
-    }
-
-    pub fn view<R: Wait>(&self, rt: &R, actor: usize) -> Option<View> {
-        self.held.view(rt, self.seats.get(actor)?).ok()
-    }
-
-    pub fn publish<R: Wait>(&mut self, rt: &R, actor: usize) -> Result<Told, Option<PublishFault>>
-        ensures { IfOk result (λ told. L.publisher ≡ Some told.publisher) }
-    {
-        match self.seats.get(actor) {
-            Some(seat) => self.held.publish(rt, seat).map_err(Some),
-            None => Err(None),
         }
     }
 
@@ -131,8 +93,38 @@ pub fn open_watched<L: Naming, R: Wait>(
     }
 }
 
-/// Why the group isn't finished with its seats and passes. It is given back, called as before.
-pub fn refused<L: Naming, R: Wait>(rt: &R, opened: Opened<L>) -> Option<(FinishFault, Opened<L>)> {
+/// What a finish is tried without.
+#[derive(Clone, Copy)]
+pub enum Part {
+    Seat,
+    Pass,
+}
+
+/// Tells why the group isn't finished without its last seat, or without its last pass. It is given back, called as
+/// before, with all of them.
+pub fn without_one<L: Naming, R: Wait>(
+    rt: &R,
+    opened: Opened<L>,
+    part: Part,
+    text: &mut String,
+) -> Option<Opened<L>> {
+    let mut opened = opened;
+    let (told, seat, pass) = match part {
+        Part::Seat => ("a seat less", opened.seats.pop(), None),
+        Part::Pass => ("a pass less", None, opened.passes.pop()),
+    };
+    let mut back = refused(rt, opened, told, text);
+    give_back(&mut back, seat, pass);
+    back
+}
+
+// Tells why it isn't finished with the seats and passes that are left.
+fn refused<L: Naming, R: Wait>(
+    rt: &R,
+    opened: Opened<L>,
+    told: &str,
+    text: &mut String,
+) -> Option<Opened<L>> {
     let Opened {
         held,
         seats,
@@ -145,7 +137,20 @@ pub fn refused<L: Naming, R: Wait>(rt: &R, opened: Opened<L>) -> Option<(FinishF
             None
         }
         Err((locked, seats, passes, fault)) => {
-            Some((fault, Opened::of(way, locked, seats, passes)))
+            let _ = writeln!(text, "{told}: {fault:?}");
+            Some(Opened::of(way, locked, seats, passes))
+        }
+    }
+}
+
+fn give_back<L: Naming>(opened: &mut Option<Opened<L>>, seat: Option<Seat>, pass: Option<Pass<L>>) {
+    if let Some(opened) = opened {
+        // (where a push fails, the group isn't finished)
+        if let Some(seat) = seat {
+            let _ = opened.seats.push(seat);
+        }
+        if let Some(pass) = pass {
+            let _ = opened.passes.push(pass);
         }
     }
 }
@@ -179,109 +184,6 @@ pub fn ends<L: Naming, R: Wait>(rt: &R, opened: Opened<L>) -> Result<usize, Fini
 }
 
 impl<L: Naming> Held<L> {
-    pub fn step<R: Wait>(
-        &mut self,
-        rt: &R,
-        seat: &mut Seat,
-        event: &Event,
-        pass: &mut Pass<L>,
-    ) -> Result<(), StepFault> {
-        match self {
-            Held::Bare(locked) => locked.step(seat, event, pass),
-            Held::Shared(group) => {
-                let mut guard = group.locked.lock(rt);
-                let answer = guard.step(seat, event, pass);
-                MutexGuard::unlock(guard);
-                answer
-            }
-        }
-    }
-
-    pub fn serve<R: Wait>(
-        &mut self,
-        rt: &R,
-        seat: &mut Seat,
-        pass: &mut Pass<L>,
-    ) -> Result<bool, StepFault> {
-        match self {
-            Held::Bare(locked) => locked.serve(seat, pass),
-            Held::Shared(group) => {
-                let mut guard = group.locked.lock(rt);
-                let answer = guard.serve(seat, pass);
-                MutexGuard::unlock(guard);
-                answer
-            }
-        }
-    }
-
-    pub fn turn<R: Wait>(
-        &mut self,
-        rt: &R,
-        seat: &mut Seat,
-        procedure: Procedure,
-        pass: &mut Pass<L>,
-    ) -> Turn
-        requires { (state_of procedure).setup ≡ L.setup }
-        ensures { (handed_back result).setup ≡ L.setup }
-    {
-        match self {
-            Held::Bare(locked) => locked.turn(seat, procedure, pass),
-            Held::Shared(group) => {
-                let mut guard = group.locked.lock(rt);
-                let answer = guard.turn(seat, procedure, pass);
-                MutexGuard::unlock(guard);
-                answer
-            }
-        }
-    }
-
-    pub fn serve_or_turn<R: Wait>(
-        &mut self,
-        rt: &R,
-        seat: &mut Seat,
-        procedure: &mut Procedure,
-        pass: &mut Pass<L>,
-    ) -> Result<NodeTurn, StepFault>
-        requires { (state_of procedure.old).setup ≡ L.setup }
-        ensures { HasSameNode (state_of procedure.old) (state_of procedure.new) }
-    {
-        match self {
-            Held::Bare(locked) => locked.serve_or_turn(seat, procedure, pass),
-            Held::Shared(group) => {
-                let mut guard = group.locked.lock(rt);
-                let answer = guard.serve_or_turn(seat, procedure, pass);
-                MutexGuard::unlock(guard);
-                answer
-            }
-        }
-    }
-
-    pub fn view<R: Wait>(&self, rt: &R, seat: &Seat) -> Result<View, ViewFault> {
-        match self {
-            Held::Bare(locked) => locked.view(seat),
-            Held::Shared(group) => {
-                let guard = group.locked.lock(rt);
-                let answer = guard.view(seat);
-                MutexGuard::unlock(guard);
-                answer
-            }
-        }
-    }
-
-    pub fn publish<R: Wait>(&mut self, rt: &R, seat: &Seat) -> Result<Told, PublishFault>
-        ensures { IfOk result (λ told. L.publisher ≡ Some told.publisher) }
-    {
-        match self {
-            Held::Bare(locked) => locked.publish(rt, seat),
-            Held::Shared(group) => {
-                let mut guard = group.locked.lock(rt);
-                let answer = guard.publish(rt, seat);
-                MutexGuard::unlock(guard);
-                answer
-            }
-        }
-    }
-
     fn of(way: Way, locked: Locked<L>) -> Held<L> {
         match way {
             Way::Bare => Held::Bare(locked),

@@ -2,17 +2,17 @@
 
 ghost use Rattle.std.specs.Prelude.{◌≡◌, ◌+◌, [], IfSome, Some};
 
-use super::asks::tell_view;
-use super::held::{Opened, Way, finished, open_watched};
+use super::asks::{step, tell_view, view};
+use super::held::{Held, Opened, Way, finished, open_watched};
 use bully_agree::View;
 use bully_base::{Node, Setup};
-use bully_group::Naming;
+use bully_group::{Locked, Naming, Pass, Seat};
 use bully_watch::{LookFault, Observer, Publisher, Told};
 use bully_world::Event;
 use std::alloc::Global;
 use std::marker::{Brand, Model};
-use std::sync::Wait;
 use std::sync::ledger::Blank;
+use std::sync::{MutexGuard, Wait};
 
 /// One of the two observers, or of the two places at which what was told is kept.
 #[derive(Clone, Copy)]
@@ -21,7 +21,8 @@ pub enum Which {
     Second,
 }
 
-/// What is done. Nothing is told of what succeeds, but what is seen.
+/// What is done. A line is told of each step, of each look and view, of each publish that is refused, and of many
+/// publishes or rounds.
 #[derive(Clone, Copy)]
 pub enum Act {
     /// The operator recovers node 1, or crashes it.
@@ -31,7 +32,8 @@ pub enum Act {
     Publish(Which),
     /// So many publishes. All that is told is kept, and it is told how many were refused.
     PublishMany(u32),
-    /// Node 1 recovers and crashes so often. Each is published, and what is told is dropped.
+    /// Node 1 recovers and crashes so often. Each is published, and what is told is dropped. It is told in how many
+    /// rounds a step was refused.
     Rounds(u32),
     /// The observer learns what is kept at the place.
     Learn(Which, Which),
@@ -166,21 +168,25 @@ fn publisher_for<R: Wait>(rt: &R, alloc: Global, setup: Setup) -> Option<(Publis
     }
 }
 
-/// What is told of the acts; and then of a look of the first observer once the group is finished, and of one once the
-/// finished group is ended.
-pub fn watched<R: Wait>(rt: &R, alloc: Global, way: Way, acts: &[Act]) -> Option<String> {
-    let setup = Setup::new(1, 2, 2_000).ok()?;
-    let (publisher, watchers) = publisher_for(rt, alloc, setup)?;
-    watched_by::<Brand, R>(
-        rt,
-        alloc,
-        way,
-        setup,
-        publisher,
-        watchers,
-        acts,
-        Blank::new(2),
-    )
+/// What is done with a watched group, and what has to be told of it: of the acts, and then of a look of the first observer
+/// once the group is finished, and of one once the finished group is ended.
+pub struct Scene {
+    pub acts: &'static [Act],
+    pub told: &'static str,
+}
+
+/// Whether this is told of the scene.
+pub fn watched<R: Wait>(rt: &R, alloc: Global, way: Way, scene: &Scene) -> bool {
+    let Ok(setup) = Setup::new(1, 2, 2_000) else {
+        return false;
+    };
+    match publisher_for(rt, alloc, setup) {
+        Some((publisher, watchers)) => {
+            let blank = Blank::new(2);
+            watched_by::<Brand, R>(rt, alloc, way, setup, publisher, watchers, scene, blank)
+        }
+        None => false,
+    }
 }
 
 fn watched_by<L: Naming, R: Wait>(
@@ -190,9 +196,9 @@ fn watched_by<L: Naming, R: Wait>(
     setup: Setup,
     publisher: Publisher,
     watchers: Watchers,
-    acts: &[Act],
+    scene: &Scene,
     blank: Blank,
-) -> Option<String>
+) -> bool
     requires setup { (setup ≡ L.setup) × (publisher.publisher.setup ≡ setup) }
     requires publisher { L.publisher ≡ Some publisher.publisher }
     requires new { (publisher.shown ≡ []) × (publisher.taken ≡ []) }
@@ -201,25 +207,62 @@ fn watched_by<L: Naming, R: Wait>(
     requires parts { (blank.parts ≡ L.parts) × (L.parts ≡ L.setup.nodes + 1) }
 {
     let mut watchers = watchers;
-    let mut opened = open_watched::<L, R>(rt, alloc, way, setup, publisher, blank)?;
-    let mut text = String::new(alloc);
-    for each in acts {
-        perform(rt, alloc, &mut opened, &mut watchers, *each, &mut text);
+    match open_watched::<L, R>(rt, alloc, way, setup, publisher, blank) {
+        Some(opened) => is_seen(rt, alloc, opened, &mut watchers, scene),
+        None => false,
     }
+}
+
+fn is_seen<L: Naming, R: Wait>(
+    rt: &R,
+    alloc: Global,
+    opened: Opened<L>,
+    watchers: &mut Watchers,
+    scene: &Scene,
+) -> bool
+    requires { L.publisher ≡ Some watchers.old }
+{
+    let mut opened = opened;
+    let mut text = String::new(alloc);
+    act_all(rt, &mut opened, watchers, scene.acts, &mut text);
+    tell_end(rt, opened, watchers, &mut text);
+    text.as_str() == scene.told
+}
+
+fn act_all<L: Naming, R: Wait>(
+    rt: &R,
+    opened: &mut Opened<L>,
+    watchers: &mut Watchers,
+    acts: &[Act],
+    text: &mut String,
+)
+    requires { L.publisher ≡ Some watchers.old }
+    ensures { watchers.new ≡ watchers.old }
+{
+    for each in acts {
+        perform(rt, opened, watchers, *each, text);
+    }
+}
+
+// Tells of the two last looks, where the group is finished.
+fn tell_end<L: Naming, R: Wait>(
+    rt: &R,
+    opened: Opened<L>,
+    watchers: &mut Watchers,
+    text: &mut String,
+) {
     match finished(rt, opened) {
         Ok(closed) => {
-            tell_look(&mut watchers, Which::First, &mut text);
+            tell_look(watchers, Which::First, text);
             closed.end(rt);
-            tell_look(&mut watchers, Which::First, &mut text);
-            Some(text)
+            tell_look(watchers, Which::First, text);
         }
-        Err(_) => None,
+        Err(_) => {}
     }
 }
 
 fn perform<L: Naming, R: Wait>(
     rt: &R,
-    alloc: Global,
     opened: &mut Opened<L>,
     watchers: &mut Watchers,
     act: Act,
@@ -229,42 +272,87 @@ fn perform<L: Naming, R: Wait>(
     ensures { watchers.new ≡ watchers.old }
 {
     match act {
-        Act::Publish(place) => publish(rt, opened, watchers, place, text),
-        Act::PublishMany(count) => publish_many(rt, opened, watchers, count, text),
         Act::Learn(observer, place) => watchers.learn(observer, place),
         Act::Forget(place) => watchers.forget(place),
         Act::ForgetMany => watchers.forget_many(),
         Act::Look(observer) => tell_look(watchers, observer, text),
-        other => call(rt, opened, other, text),
+        other => call(rt, opened, watchers, other, text),
     }
 }
 
-// What no observer has part in.
-fn call<L: Naming, R: Wait>(rt: &R, opened: &mut Opened<L>, act: Act, text: &mut String) {
+// What the group has part in, with the seat and the pass of one actor.
+fn call<L: Naming, R: Wait>(
+    rt: &R,
+    opened: &mut Opened<L>,
+    watchers: &mut Watchers,
+    act: Act,
+    text: &mut String,
+)
+    requires { L.publisher ≡ Some watchers.old }
+    ensures { watchers.new ≡ watchers.old }
+{
+    let actor = match act {
+        Act::View(actor) => actor,
+        _ => 0,
+    };
+    let (Some(seat), Some(pass)) = (opened.seats.get_mut(actor), opened.passes.get_mut(actor))
+    else {
+        return;
+    };
+    call_held(rt, &mut opened.held, seat, pass, watchers, act, text);
+}
+
+// The same, bare or in one hold of the lock.
+fn call_held<L: Naming, R: Wait>(
+    rt: &R,
+    held: &mut Held<L>,
+    seat: &mut Seat,
+    pass: &mut Pass<L>,
+    watchers: &mut Watchers,
+    act: Act,
+    text: &mut String,
+)
+    requires { L.publisher ≡ Some watchers.old }
+    ensures { watchers.new ≡ watchers.old }
+{
+    match held {
+        Held::Bare(locked) => call_locked(rt, locked, seat, pass, watchers, act, text),
+        Held::Shared(group) => {
+            let mut guard = group.locked.lock(rt);
+            call_locked(rt, &mut guard, seat, pass, watchers, act, text);
+            MutexGuard::unlock(guard);
+        }
+    }
+}
+
+fn call_locked<L: Naming, R: Wait>(
+    rt: &R,
+    locked: &mut Locked<L>,
+    seat: &mut Seat,
+    pass: &mut Pass<L>,
+    watchers: &mut Watchers,
+    act: Act,
+    text: &mut String,
+)
+    requires { L.publisher ≡ Some watchers.old }
+    ensures { watchers.new ≡ watchers.old }
+{
     let one = Node::new(1).unwrap();
     match act {
-        Act::Recover => step(rt, opened, &Event::Recover(one), text),
-        Act::Crash => step(rt, opened, &Event::Crash(one), text),
-        Act::Rounds(count) => rounds(rt, opened, count, text),
-        Act::View(actor) => match opened.view(rt, actor) {
-            Some(view) => tell_view(text, &view, 1),
-            None => drop(writeln!(text, "no view")),
-        },
+        Act::Recover => step(locked, seat, Event::Recover(one), pass, text),
+        Act::Crash => step(locked, seat, Event::Crash(one), pass, text),
+        Act::View(_) => view(locked, seat, 1, text),
+        Act::Publish(place) => publish(rt, locked, seat, watchers, place, text),
+        Act::PublishMany(count) => publish_many(rt, locked, seat, watchers, count, text),
+        Act::Rounds(count) => rounds(rt, locked, seat, pass, count, text),
         _ => {}
-    }
-}
-
-// The operator's step.
-fn step<L: Naming, R: Wait>(rt: &R, opened: &mut Opened<L>, event: &Event, text: &mut String) {
-    let answer = opened.step(rt, 0, event);
-    if answer != Some(Ok(())) {
-        drop(writeln!(text, "{answer:?}"));
     }
 }
 
 fn publish<L: Naming, R: Wait>(
     rt: &R,
-    opened: &mut Opened<L>,
+    locked: &mut Locked<L>,
+    seat: &Seat,
     watchers: &mut Watchers,
     place: Which,
     text: &mut String,
@@ -272,7 +360,7 @@ fn publish<L: Naming, R: Wait>(
     requires { L.publisher ≡ Some watchers.old }
     ensures { watchers.new ≡ watchers.old }
 {
-    match opened.publish(rt, 0) {
+    match locked.publish(rt, seat) {
         Ok(told) => watchers.keep(place, told),
         Err(fault) => drop(writeln!(text, "{fault:?}")),
     }
@@ -280,7 +368,8 @@ fn publish<L: Naming, R: Wait>(
 
 fn publish_many<L: Naming, R: Wait>(
     rt: &R,
-    opened: &mut Opened<L>,
+    locked: &mut Locked<L>,
+    seat: &Seat,
     watchers: &mut Watchers,
     count: u32,
     text: &mut String,
@@ -289,7 +378,7 @@ fn publish_many<L: Naming, R: Wait>(
 {
     let mut refused: u32 = 0;
     for _each in 0..count {
-        match opened.publish(rt, 0) {
+        match locked.publish(rt, seat) {
             Ok(told) => watchers.keep_also(told),
             Err(_) => refused = refused.saturating_add(1),
         }
@@ -297,12 +386,35 @@ fn publish_many<L: Naming, R: Wait>(
     drop(writeln!(text, "{refused} refused"));
 }
 
-fn rounds<L: Naming, R: Wait>(rt: &R, opened: &mut Opened<L>, count: u32, text: &mut String) {
+fn rounds<L: Naming, R: Wait>(
+    rt: &R,
+    locked: &mut Locked<L>,
+    seat: &mut Seat,
+    pass: &mut Pass<L>,
+    count: u32,
+    text: &mut String,
+) {
     let one = Node::new(1).unwrap();
+    let mut refused: u32 = 0;
     for _each in 0..count {
-        step(rt, opened, &Event::Recover(one), text);
-        drop(opened.publish(rt, 0));
-        step(rt, opened, &Event::Crash(one), text);
-        drop(opened.publish(rt, 0));
+        let recovered = step_and_publish(rt, locked, seat, Event::Recover(one), pass);
+        let crashed = step_and_publish(rt, locked, seat, Event::Crash(one), pass);
+        if !recovered || !crashed {
+            refused = refused.saturating_add(1);
+        }
     }
+    drop(writeln!(text, "{refused} refused"));
+}
+
+// Whether the step was taken. What the publish tells is dropped.
+fn step_and_publish<L: Naming, R: Wait>(
+    rt: &R,
+    locked: &mut Locked<L>,
+    seat: &mut Seat,
+    event: Event,
+    pass: &mut Pass<L>,
+) -> bool {
+    let is_taken = locked.step(seat, &event, pass).is_ok();
+    drop(locked.publish(rt, seat));
+    is_taken
 }

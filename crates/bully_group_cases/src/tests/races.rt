@@ -1,12 +1,11 @@
-//! A publish with the seat of another group, and a group that one thread changes while another looks on.
+//! A group that one thread changes while another looks on.
 
 ghost use Rattle.std.specs.Prelude.{◌≡◌, ◌+◌, [], IfSome, Some};
 
 use super::asks::status_of;
-use super::held::{Way, open_watched};
 use super::observers::look_at;
 use bully_base::{Node, Setup, Status};
-use bully_group::{Group, Naming, Pass, PublishFault, Seat};
+use bully_group::{Group, Naming, Pass, Seat};
 use bully_watch::{Observer, Publisher, Told};
 use bully_world::Event;
 use std::alloc::Global;
@@ -16,8 +15,8 @@ use std::sync::{MutexGuard, Wait};
 use std::thread;
 use std::thread::Threads;
 
-// A publisher with one observer.
-fn publisher_for<R: Wait>(rt: &R, alloc: Global, setup: Setup) -> Option<(Publisher, Observer)>
+/// A publisher with one observer.
+pub fn publisher_for<R: Wait>(rt: &R, alloc: Global, setup: Setup) -> Option<(Publisher, Observer)>
     ensures publisher { IfSome result (λ r. (r.0.publisher.setup ≡ setup) × (r.0.shown ≡ []) × (r.0.taken ≡ [])) }
     ensures observer { IfSome result (λ r. r.1.publisher ≡ r.0.publisher) }
 {
@@ -31,63 +30,6 @@ fn publisher_for<R: Wait>(rt: &R, alloc: Global, setup: Setup) -> Option<(Publis
             None
         }
     }
-}
-
-/// What a watched group that is still empty tells of a publish with the operator's seat of another one, which has two
-/// entries.
-pub fn with_a_foreign_publish<R: Wait>(rt: &R, alloc: Global, way: Way) -> Option<PublishFault> {
-    let setup = Setup::new(1, 2, 10).ok()?;
-    let (publisher, observer) = publisher_for(rt, alloc, setup)?;
-    let seat = operators_seat::<Brand, R>(rt, alloc, way, setup, publisher, Blank::new(2))?;
-    drop(observer);
-    let (publisher, _observer) = publisher_for(rt, alloc, setup)?;
-    unpublished_by::<Brand, R>(rt, alloc, way, setup, publisher, &seat, Blank::new(2))
-}
-
-// The operator's seat of a group, after two of its steps.
-fn operators_seat<L: Naming, R: Wait>(
-    rt: &R,
-    alloc: Global,
-    way: Way,
-    setup: Setup,
-    publisher: Publisher,
-    blank: Blank,
-) -> Option<Seat>
-    requires setup { (setup ≡ L.setup) × (publisher.publisher.setup ≡ setup) }
-    requires publisher { L.publisher ≡ Some publisher.publisher }
-    requires new { (publisher.shown ≡ []) × (publisher.taken ≡ []) }
-    requires name { blank.name ≡ L.name }
-    requires parts { (blank.parts ≡ L.parts) × (L.parts ≡ L.setup.nodes + 1) }
-{
-    let mut opened = open_watched::<L, R>(rt, alloc, way, setup, publisher, blank)?;
-    let one = Node::new(1).unwrap();
-    let _recovered = opened.step(rt, 0, &Event::Recover(one));
-    let _crashed = opened.step(rt, 0, &Event::Crash(one));
-    opened.seats.truncate(1);
-    let seat = opened.seats.pop();
-    opened.end(rt);
-    seat
-}
-
-fn unpublished_by<L: Naming, R: Wait>(
-    rt: &R,
-    alloc: Global,
-    way: Way,
-    setup: Setup,
-    publisher: Publisher,
-    seat: &Seat,
-    blank: Blank,
-) -> Option<PublishFault>
-    requires setup { (setup ≡ L.setup) × (publisher.publisher.setup ≡ setup) }
-    requires publisher { L.publisher ≡ Some publisher.publisher }
-    requires new { (publisher.shown ≡ []) × (publisher.taken ≡ []) }
-    requires name { blank.name ≡ L.name }
-    requires parts { (blank.parts ≡ L.parts) × (L.parts ≡ L.setup.nodes + 1) }
-{
-    let mut opened = open_watched::<L, R>(rt, alloc, way, setup, publisher, blank)?;
-    let fault = opened.held.publish(rt, seat).err();
-    opened.end(rt);
-    fault
 }
 
 /// Whether the counts that an observer sees never fall, while another thread recovers and crashes node 1 in turn, 50
@@ -117,12 +59,8 @@ fn counts_by<L: Naming + Send + Sync, R: Threads + Wait + Sync>(
     requires parts { (blank.parts ≡ L.parts) × (L.parts ≡ L.setup.nodes + 1) }
 {
     match Group::<L>::open_watched(alloc, setup, publisher, blank) {
-        Ok((group, mut seats, mut passes)) => {
-            seats.truncate(1);
-            let counts = match (seats.pop(), passes.pop()) {
-                (Some(seat), Some(pass)) => Some(race(rt, &group, seat, pass, observer)),
-                _ => None,
-            };
+        Ok((group, seats, passes)) => {
+            let counts = race_in(rt, &group, seats, passes, observer);
             group.close().end(rt);
             counts
         }
@@ -130,6 +68,24 @@ fn counts_by<L: Naming + Send + Sync, R: Threads + Wait + Sync>(
             publisher.end(rt);
             None
         }
+    }
+}
+
+// The operator's seat is the first one, and one pass is as good as another.
+fn race_in<L: Naming + Send + Sync, R: Threads + Wait + Sync>(
+    rt: &R,
+    group: &Group<L>,
+    seats: Vec<Seat>,
+    passes: Vec<Pass<L>>,
+    observer: Observer,
+) -> Option<(bool, Option<(u32, Status)>)>
+    requires { L.publisher ≡ Some observer.publisher }
+{
+    let (mut seats, mut passes) = (seats, passes);
+    seats.truncate(1);
+    match (seats.pop(), passes.pop()) {
+        (Some(seat), Some(pass)) => Some(race(rt, group, seat, pass, observer)),
+        _ => None,
     }
 }
 
@@ -169,12 +125,29 @@ fn recovers_and_crashes<L: Naming, R: Wait>(
     let mut seat = seat;
     let mut pass = pass;
     let mut last = None;
-    let one = Node::new(1).unwrap();
     for _pair in 0..50u32 {
-        published_in(rt, group, &mut seat, &Event::Recover(one), &mut pass)?;
-        last = published_in(rt, group, &mut seat, &Event::Crash(one), &mut pass);
+        last = published_pair(rt, group, &mut seat, &mut pass);
+        if last.is_none() {
+            break;
+        }
     }
     last
+}
+
+// What the second of two publishes tells: one after a recovery, and one after a crash.
+fn published_pair<L: Naming, R: Wait>(
+    rt: &R,
+    group: &Group<L>,
+    seat: &mut Seat,
+    pass: &mut Pass<L>,
+) -> Option<Told>
+    ensures { IfSome result (λ told. L.publisher ≡ Some told.publisher) }
+{
+    let one = Node::new(1).unwrap();
+    if published_in(rt, group, seat, Event::Recover(one), pass).is_none() {
+        return None;
+    }
+    published_in(rt, group, seat, Event::Crash(one), pass)
 }
 
 // A step and a publish under one lock.
@@ -182,13 +155,13 @@ fn published_in<L: Naming, R: Wait>(
     rt: &R,
     group: &Group<L>,
     seat: &mut Seat,
-    event: &Event,
+    event: Event,
     pass: &mut Pass<L>,
 ) -> Option<Told>
     ensures { IfSome result (λ told. L.publisher ≡ Some told.publisher) }
 {
     let mut guard = group.locked.lock(rt);
-    let told = match guard.step(seat, event, pass) {
+    let told = match guard.step(seat, &event, pass) {
         Ok(()) => guard.publish(rt, seat).ok(),
         Err(_) => None,
     };

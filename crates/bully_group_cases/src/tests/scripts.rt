@@ -5,9 +5,10 @@ use bully_base::Status;
 use bully_calls::Answer;
 
 /// Each is tried on a bare `Locked`, and through the lock of a `Group`.
-pub const CASES: [Case; 8] = [
+pub const CASES: [Case; 9] = [
     SMALL_GROUP,
     ALONE_BY_TURNS,
+    TURNS_IN_PLACE,
     TURNS_AND_A_STOP,
     NODE_TURNS,
     DROPPED_CALL,
@@ -97,6 +98,37 @@ a pass less: SeatCount
     ],
     entries: 6,
     status: Status::Normal,
+};
+
+// The procedure goes on where it lies, and stays as it was where the seat isn't its node's.
+const TURNS_IN_PLACE: Case = Case {
+    nodes: 1,
+    partitions: 2,
+    events_max: 10,
+    node: 1,
+    asks: &[
+        Ask::TurnInPlace(1),
+        Ask::Step(0, Deed::Recover, 1),
+        Ask::TurnInPlace(1),
+        Ask::TurnInPlace(1),
+        Ask::TurnInPlace(0),
+        Ask::Entries(1),
+    ],
+    told: "waits Idle 0
+Ok(())
+resynced Asking(2) 0
+went Halting(0) 0
+NotYours
+1
+a seat less: SeatCount
+a pass less: SeatCount
+",
+    history: &[
+        (0, Deed::Recover, 1, Answer::Done),
+        (1, Deed::Move, 1, Answer::Done),
+    ],
+    entries: 2,
+    status: Status::Election,
 };
 
 // Node 1 elects itself while node 2 is down, and plans. Then node 2 recovers and halts it: the plan is given up.

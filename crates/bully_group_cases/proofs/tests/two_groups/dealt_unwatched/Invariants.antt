@@ -1,5 +1,5 @@
 use Rattle.std.proofs.Common.{None}
-use Rattle.bully_group_cases.proofs.tests.two_groups.dealt.Given as goal
+use Rattle.bully_group_cases.proofs.tests.two_groups.dealt_unwatched.Given as goal
 
 abbrev pub ghosts-dealt_by-L-Naming : goal.ghosts-dealt_by-L-Naming
 ghosts-dealt_by-L-Naming g a = record { setup = a.setup; publisher = None }
