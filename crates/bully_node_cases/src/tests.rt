@@ -2,17 +2,17 @@
 //! checker says of it; and what node threads do.
 
 mod configurations;
+mod gates;
+mod paper;
 mod playing;
-mod rounds;
 mod threads;
 
-use bully_nodes::{PlayFault, play};
 use bully_trace::check;
 use configurations::{Group, ONE_NODE, ONE_NODE_KEPT, ONE_NODE_WEIGHED, TWO_NODES, TWO_NODES_KEPT};
+use paper::is_played;
+use playing::{CODES, largest_plays, rests_in_order};
 use std::alloc::Global;
-use std::io;
-use std::io::{ErrorKind, Write};
-use std::test::Fail;
+use threads::{RUNS, goes_as_wanted};
 
 /// What is played of one node.
 const ONE_NODE_PLAYED: &str =
@@ -45,12 +45,13 @@ const SMALL_GROUPS: [(Group, &str, &str); 5] = [
     ),
 ];
 
-// Whether this is played of the group.
-fn plays(alloc: Global, group: Group, expected: &str) -> Result<bool, Fail> {
-    let config = group.config(alloc)?;
-    let mut trace = Vec::new(alloc);
-    let played = play(alloc, &config, &mut trace);
-    Ok(played.is_ok() && trace.as_slice() == expected.as_bytes())
+// Whether this is played of the group, and the checker writes that of it.
+fn plays(alloc: Global, group: Group, played: &str, judged: &str) -> bool {
+    match group.config(alloc) {
+        Some(config) => is_played(alloc, &config, played)
+            && judges(alloc, played.as_bytes(), judged),
+        None => false,
+    }
 }
 
 // Whether the checker writes this of the trace.
@@ -61,45 +62,36 @@ fn judges(alloc: Global, trace: &[u8], expected: &str) -> bool {
 }
 
 #[test]
-fn small_groups(rt: HostRuntime) -> Result<(), Fail> {
+fn small_groups(rt: HostRuntime) {
     for (group, played, judged) in SMALL_GROUPS.iter() {
-        assert!(rt; plays(rt.alloc(), *group, *played)?, "{played}");
-        assert!(rt; judges(rt.alloc(), played.as_bytes(), *judged), "{judged}");
-    }
-    Ok(())
-}
-
-// A writer that takes some bytes and then fails.
-#[derive(Drop)]
-struct Narrow {
-    room: usize,
-}
-
-impl Write for Narrow {
-    fn write(&mut self, buf: &[u8]) -> io::Result<usize> {
-        if self.room == 0 {
-            return Err(io::Error::from(ErrorKind::Other));
-        }
-        let taken = buf.len().min(self.room);
-        self.room -= taken;
-        Ok(taken)
-    }
-
-    fn flush(&mut self) -> io::Result<()> {
-        Ok(())
+        assert!(rt; plays(rt.alloc(), *group, *played, *judged), "{played}");
     }
 }
 
 #[test]
-fn writer_that_fails(rt: HostRuntime) -> Result<(), Fail> {
-    let config = ONE_NODE.config(rt.alloc())?;
-    for room in 0..ONE_NODE_PLAYED.len() {
-        let mut narrow = Narrow { room };
-        assert_eq!(rt;
-            play(rt.alloc(), &config, &mut narrow),
-            Err(PlayFault::Write),
-            "with room for {room}"
+fn crashes_and_recoveries(rt: HostRuntime) {
+    let mut tried: u32 = 0;
+    for code in 0..CODES {
+        if let Some(rests) = rests_in_order(rt.alloc(), code) {
+            assert!(rt; rests, "{code}");
+            tried = tried.saturating_add(1);
+        }
+    }
+    assert_eq!(rt; tried, 120);
+}
+
+#[test]
+fn largest_group(rt: HostRuntime) {
+    assert!(rt; largest_plays(rt.alloc()));
+}
+
+#[test]
+fn node_threads(rt: HostRuntime) {
+    for (group, rule, wanted) in RUNS.iter() {
+        let turns = group.turns;
+        assert!(rt;
+            goes_as_wanted(&rt, rt.alloc(), *group, *rule, *wanted),
+            "{turns} turns"
         );
     }
-    Ok(())
 }

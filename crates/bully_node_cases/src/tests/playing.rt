@@ -3,13 +3,13 @@
 ghost use Rattle.std.specs.Prelude.{◌<◌};
 
 use super::configurations::{Group, add_fault};
+use super::paper::Paper;
 use bully_base::{Node, NodeSet, OutOfMemory};
 use bully_config::Config;
 use bully_nodes::play;
 use bully_trace::{Verdict, check};
 use std::alloc::Global;
 use std::fmt::Write;
-use std::test::Fail;
 
 /// Five nodes with 2,000 turns; faults follow.
 const FIVE_NODES: Group = Group {
@@ -25,14 +25,14 @@ const FIVE_NODES: Group = Group {
 const NODES: u16 = 5;
 
 /// How many codes there are of lists of five nodes, digit by digit.
-const CODES: u32 = 3_125;
+pub const CODES: u32 = 3_125;
 
 // What `check` writes of the trace that is played of this configuration, and its verdict.
 fn judged(alloc: Global, config: &Config) -> Option<(Verdict, String)> {
-    let mut trace = Vec::new(alloc);
+    let mut trace = Paper::endless(alloc);
     let played = play(alloc, config, &mut trace);
     let mut output = Vec::new(alloc);
-    let verdict = check(alloc, trace.as_slice(), &mut output);
+    let verdict = check(alloc, trace.text.as_slice(), &mut output);
     match (played, verdict, String::from_utf8(output)) {
         (Ok(()), Ok(verdict), Ok(text)) => Some((verdict, text)),
         _ => None,
@@ -177,16 +177,30 @@ fn node_of(digit: u32) -> Option<Node> {
 // Adds the lines of nodes at rest: each one that lives is Normal under the highest, with the owners that it has there.
 fn add_at_rest(text: &mut String, nodes: u16, living: &NodeSet, output: &str) -> Option<()> {
     let highest = living.highest()?.number();
-    let line = output.lines().nth(usize::from(highest))?;
-    let owners = line.rsplit(' ').next()?;
+    let owners = owners_in(output, highest)?;
     for number in 1..=nodes {
-        if living.has(Node::new(number)?) {
-            writeln!(text, "{number} normal {highest} {highest} {owners}").ok()?;
-        } else {
-            writeln!(text, "{number} down - - -").ok()?;
-        }
+        add_node(text, number, living, highest, owners)?;
     }
     Some(())
+}
+
+// The owners that this node's line tells.
+fn owners_in(output: &str, number: u16) -> Option<&str> {
+    output.lines().nth(usize::from(number))?.rsplit(' ').next()
+}
+
+fn add_node(
+    text: &mut String,
+    number: u16,
+    living: &NodeSet,
+    highest: u16,
+    owners: &str,
+) -> Option<()> {
+    if living.has(Node::new(number)?) {
+        writeln!(text, "{number} normal {highest} {highest} {owners}").ok()
+    } else {
+        writeln!(text, "{number} down - - -").ok()
+    }
 }
 
 // Whether what the checker writes is that so many events are lawful, and that so many nodes are there at its end, of which
@@ -218,17 +232,13 @@ fn rests_after(alloc: Global, order: &[Node], seed: u32) -> bool {
     }
 }
 
-#[test]
-fn crashes_and_recoveries(rt: HostRuntime) {
-    let mut tried: u32 = 0;
-    for code in 0..CODES {
-        let mut order = Vec::new(rt.alloc());
-        if add_order(&mut order, code).is_some() {
-            assert!(rt; rests_after(rt.alloc(), order.as_slice(), code), "{code}");
-            tried = tried.saturating_add(1);
-        }
+/// Whether what is played with the faults of the code's order comes to rest; None where the code is of no order.
+pub fn rests_in_order(alloc: Global, code: u32) -> Option<bool> {
+    let mut order = Vec::new(alloc);
+    match add_order(&mut order, code) {
+        Some(()) => Some(rests_after(alloc, order.as_slice(), code)),
+        None => None,
     }
-    assert_eq!(rt; tried, 120);
 }
 
 /// The largest group, in which node 64 recovers. The other nodes stay down.
@@ -241,15 +251,6 @@ const NODE_64: Group = Group {
     more: "",
     faults: &[(1, 64, "recover")],
 };
-
-#[test]
-fn largest_configuration(rt: HostRuntime) -> Result<(), Fail> {
-    let config = NODE_64.config(rt.alloc())?;
-    assert_eq!(rt; config.setup().nodes(), 64);
-    assert_eq!(rt; config.node("64").map(|node| node.number()), Some(64));
-    assert_eq!(rt; config.faults().len(), 1);
-    Ok(())
-}
 
 // Adds what the checker writes of a trace in which node 64 comes to lead itself alone.
 fn add_led_by_64(text: &mut String) -> Result<(), OutOfMemory> {
@@ -264,18 +265,30 @@ fn add_led_by_64(text: &mut String) -> Result<(), OutOfMemory> {
     text.push_str("\n")
 }
 
-// One node alone takes six events; for each lower node that is down a call is started, lost and returned.
-#[test]
-fn largest_play(rt: HostRuntime) -> Result<(), Fail> {
-    let mut expected = String::new(rt.alloc());
-    assert!(rt; add_led_by_64(&mut expected).is_ok());
-    let config = NODE_64.config(rt.alloc())?;
-    match judged(rt.alloc(), &config) {
-        Some((verdict, told)) => {
-            assert_eq!(rt; verdict, Verdict::Lawful(195));
-            assert_eq!(rt; told.as_str(), expected.as_str());
-        }
-        None => assert!(rt; false),
+/// Whether the largest configuration is read, and what is played of it leads to node 64. It takes six events alone; for
+/// each lower node that is down a call is started, lost and returned.
+pub fn largest_plays(alloc: Global) -> bool {
+    match NODE_64.config(alloc) {
+        Some(config) => is_largest(&config) && leads_to_64(alloc, &config),
+        None => false,
     }
-    Ok(())
+}
+
+fn is_largest(config: &Config) -> bool {
+    let is_named = match config.node("64") {
+        Some(node) => node.number() == 64,
+        None => false,
+    };
+    is_named && config.setup().nodes() == 64 && config.faults().len() == 1
+}
+
+fn leads_to_64(alloc: Global, config: &Config) -> bool {
+    let mut expected = String::new(alloc);
+    let is_added = add_led_by_64(&mut expected).is_ok();
+    match judged(alloc, config) {
+        Some((verdict, told)) => {
+            is_added && verdict == Verdict::Lawful(195) && told.as_str() == expected.as_str()
+        }
+        None => false,
+    }
 }

@@ -1,16 +1,47 @@
-//! Node threads: that they run at once, that each takes its turns, and what a gate can order.
+//! Node threads: that they run at once, that each takes its turns, what a gate can order, and that threads which take
+//! their turns in rounds do what `play` does.
 
-use super::Narrow;
 use super::configurations::{Group, ONE_NODE};
+use super::gates::{Keeper, Rule};
+use super::paper::{is_as_played, is_written};
+use bully_config::Config;
 use bully_group::Closed;
-use bully_nodes::{Gate, NodesFault, PlayFault, run_nodes, write_history};
+use bully_nodes::run_nodes;
 use bully_world::Event;
 use std::alloc::Global;
-use std::sync::atomic::{AtomicBool, Ordering};
-use std::test::Fail;
+use std::sync::Wait;
+use std::thread::Threads;
 
-/// How often a flag is polled, at most.
-const POLLS: u32 = 2_000_000_000;
+/// What the finished group has to be.
+#[derive(Clone, Copy)]
+pub enum Wanted {
+    /// Whatever it is.
+    Finished,
+    /// One node's election: the operator recovers it, and then it takes five steps.
+    Election,
+    /// The operator recovers each of three nodes.
+    Recoveries,
+    /// One recovery, and this is written of it.
+    Recovery(&'static str),
+    /// What is written of it is what is played.
+    Played,
+}
+
+/// What each run of node threads keeps and comes to.
+pub const RUNS: [(Group, Rule, Wanted); 6] = [
+    (BOTH_DOWN, Rule::Meeting, Wanted::Finished),
+    // The operator's turn comes before what is called behind it: else nothing would come of node 1's turns.
+    (ONE_NODE, Rule::OperatorFirst, Wanted::Election),
+    (ALL_RECOVER, Rule::Open, Wanted::Recoveries),
+    // The bound on events is reached by the recovery.
+    (
+        FULL,
+        Rule::Open,
+        Wanted::Recovery("bully,1,1,1\nrecover,1\n"),
+    ),
+    (THREE_NODES, Rule::InRounds, Wanted::Played),
+    (THREE_WEIGHED, Rule::InRounds, Wanted::Played),
+];
 
 /// Two nodes, which stay down.
 const BOTH_DOWN: Group = Group {
@@ -45,130 +76,81 @@ const FULL: Group = Group {
     faults: &[(1, 1, "recover")],
 };
 
-/// What is written of it.
-const FULL_WRITTEN: &str = "bully,1,1,1\nrecover,1\n";
+/// Three nodes, which all recover. The coordinator crashes, and comes back.
+const THREE_NODES: Group = Group {
+    nodes: 3,
+    partitions: 4,
+    events: 1_000,
+    turns: 96,
+    period: 12,
+    more: "",
+    faults: &[
+        (1, 3, "recover"),
+        (14, 2, "recover"),
+        (14, 1, "recover"),
+        (50, 3, "crash"),
+        (71, 3, "recover"),
+    ],
+};
 
-/// A gate that nobody waits at.
-struct Open;
+/// The same with weights, and with tasks that are kept.
+const THREE_WEIGHED: Group = Group {
+    more: "weights = [1, 3, 2]\nkeep = true\n",
+    ..THREE_NODES
+};
 
-impl Gate for Open {
-    fn before(&self, _actor: u16, _turn: u32) {}
-
-    fn after(&self, _actor: u16, _turn: u32) {}
-}
-
-// Whether the flag is set before so many polls are over.
-fn is_seen(flag: &AtomicBool) -> bool {
-    for _ in 0..POLLS {
-        if flag.load(Ordering::SeqCst) {
-            return true;
+/// Whether a run of the group keeps the rule, and comes to what is wanted.
+pub fn goes_as_wanted<R: Threads + Wait + Sync>(
+    rt: &R,
+    alloc: Global,
+    group: Group,
+    rule: Rule,
+    wanted: Wanted,
+) -> bool {
+    match group.config(alloc) {
+        Some(config) => {
+            let keeper = Keeper::new(rule);
+            goes_by(rt, alloc, &config, &keeper, wanted)
         }
-    }
-    false
-}
-
-/// Nodes 1 and 2 wait for each other before their first turns.
-#[derive(Drop)]
-struct Meeting {
-    first: AtomicBool,
-    second: AtomicBool,
-    missed: AtomicBool,
-}
-
-impl Gate for Meeting {
-    fn before(&self, actor: u16, turn: u32) {
-        if turn != 1 {
-            return;
-        }
-        let met = match actor {
-            1 => {
-                self.first.store(true, Ordering::SeqCst);
-                is_seen(&self.second)
-            }
-            2 => {
-                self.second.store(true, Ordering::SeqCst);
-                is_seen(&self.first)
-            }
-            _ => true,
-        };
-        if !met {
-            self.missed.store(true, Ordering::SeqCst);
-        }
-    }
-
-    fn after(&self, _actor: u16, _turn: u32) {}
-}
-
-#[test]
-fn two_threads_meet(rt: HostRuntime) -> Result<(), Fail> {
-    let config = BOTH_DOWN.config(rt.alloc())?;
-    let gate = Meeting {
-        first: AtomicBool::new(false),
-        second: AtomicBool::new(false),
-        missed: AtomicBool::new(false),
-    };
-    match run_nodes(&rt, rt.alloc(), &config, &gate) {
-        Ok(closed) => closed.end(&rt),
-        Err(_) => assert!(rt; false),
-    }
-    assert!(rt; gate.first.load(Ordering::SeqCst) && gate.second.load(Ordering::SeqCst));
-    assert!(rt; !gate.missed.load(Ordering::SeqCst));
-    Ok(())
-}
-
-/// Node 1 waits before its first turn until the operator has taken its own, behind which the operator waits until node 1
-/// has taken all of its six.
-#[derive(Drop)]
-struct OperatorFirst {
-    taken: AtomicBool,
-    all_taken: AtomicBool,
-    missed: AtomicBool,
-}
-
-impl Gate for OperatorFirst {
-    fn before(&self, actor: u16, turn: u32) {
-        if actor == 1 && turn == 1 && !is_seen(&self.taken) {
-            self.missed.store(true, Ordering::SeqCst);
-        }
-    }
-
-    fn after(&self, actor: u16, turn: u32) {
-        match (actor, turn) {
-            (0, 1) => {
-                self.taken.store(true, Ordering::SeqCst);
-                if !is_seen(&self.all_taken) {
-                    self.missed.store(true, Ordering::SeqCst);
-                }
-            }
-            (1, 6) => self.all_taken.store(true, Ordering::SeqCst),
-            _ => {}
-        }
+        None => false,
     }
 }
 
-// So the operator's turn comes before what is called behind it: else nothing would come of node 1's turns.
-#[test]
-fn a_gate_orders_two_threads(rt: HostRuntime) -> Result<(), Fail> {
-    let config = ONE_NODE.config(rt.alloc())?;
-    let gate = OperatorFirst {
-        taken: AtomicBool::new(false),
-        all_taken: AtomicBool::new(false),
-        missed: AtomicBool::new(false),
-    };
-    match run_nodes(&rt, rt.alloc(), &config, &gate) {
+fn goes_by<R: Threads + Wait + Sync>(
+    rt: &R,
+    alloc: Global,
+    config: &Config,
+    keeper: &Keeper,
+    wanted: Wanted,
+) -> bool {
+    match run_nodes(rt, alloc, config, keeper) {
         Ok(closed) => {
-            let alone = is_alone(&closed);
-            closed.end(&rt);
-            assert!(rt; alone);
+            let comes = comes_to(alloc, config, &closed, wanted);
+            closed.end(rt);
+            comes && keeper.is_kept()
         }
-        Err(_) => assert!(rt; false),
+        Err(_) => false,
     }
-    assert!(rt; !gate.missed.load(Ordering::SeqCst));
-    Ok(())
 }
 
-// Whether the history is one node's election: the operator recovers it, and then it takes five steps.
-fn is_alone(closed: &Closed) -> bool {
+fn comes_to(alloc: Global, config: &Config, closed: &Closed, wanted: Wanted) -> bool {
+    match wanted {
+        Wanted::Finished => true,
+        Wanted::Election => is_election(closed),
+        Wanted::Recoveries => {
+            has_recovery(closed, 1) && has_recovery(closed, 2) && has_recovery(closed, 3)
+        }
+        Wanted::Recovery(text) => {
+            closed.history().len() == 1
+                && has_recovery(closed, 1)
+                && is_written(alloc, closed, text)
+        }
+        Wanted::Played => is_as_played(alloc, config, closed),
+    }
+}
+
+// Whether the history is one node's election.
+fn is_election(closed: &Closed) -> bool {
     match closed.history() {
         [recover, one, two, three, plan, last] => {
             matches!(recover.event, Event::Recover(_))
@@ -184,53 +166,18 @@ fn is_alone(closed: &Closed) -> bool {
     }
 }
 
-#[test]
-fn all_recover(rt: HostRuntime) -> Result<(), Fail> {
-    let config = ALL_RECOVER.config(rt.alloc())?;
-    match run_nodes(&rt, rt.alloc(), &config, &Open) {
-        Ok(closed) => {
-            let recovered = [1, 2, 3].map(|number: u16| has_recovery(&closed, number));
-            closed.end(&rt);
-            assert_eq!(rt; recovered, [true; 3]);
-        }
-        Err(_) => assert!(rt; false),
-    }
-    Ok(())
-}
-
 // Whether the operator recovers the node.
 fn has_recovery(closed: &Closed, number: u16) -> bool {
-    closed.history().iter().any(|entry| match entry.event {
-        Event::Recover(node) => entry.actor == 0 && node.number() == number,
-        _ => false,
-    })
-}
-
-// The bound on events is reached by the recovery.
-#[test]
-fn a_full_group(rt: HostRuntime) -> Result<(), Fail> {
-    let config = FULL.config(rt.alloc())?;
-    match run_nodes(&rt, rt.alloc(), &config, &Open) {
-        Ok(closed) => {
-            let recovered = closed.history().len() == 1 && has_recovery(&closed, 1);
-            let written = written_whole(rt.alloc(), &closed);
-            let fails = fails_where_narrow(rt.alloc(), &closed);
-            closed.end(&rt);
-            assert!(rt; recovered && written && fails);
-        }
-        Err(fault) => assert_eq!(rt; fault, NodesFault::Spawn),
+    let mut is_there = false;
+    for entry in closed.history() {
+        is_there = is_there || (entry.actor == 0 && recovers(&entry.event, number));
     }
-    Ok(())
+    is_there
 }
 
-// Whether the text of the full group is written.
-fn written_whole(alloc: Global, closed: &Closed) -> bool {
-    let mut text = Vec::new(alloc);
-    write_history(alloc, &mut text, closed).is_ok() && text.as_slice() == FULL_WRITTEN.as_bytes()
-}
-
-// Whether a writer with less room than the text fails, whatever its room is.
-fn fails_where_narrow(alloc: Global, closed: &Closed) -> bool {
-    let mut rooms = 0..FULL_WRITTEN.len();
-    rooms.all(|room| write_history(alloc, &mut Narrow { room }, closed) == Err(PlayFault::Write))
+fn recovers(event: &Event, number: u16) -> bool {
+    match event {
+        Event::Recover(node) => node.number() == number,
+        _ => false,
+    }
 }
