@@ -1,7 +1,8 @@
-//! Worked cases of groups and of observers.
+//! Worked cases of groups, of observers, and of nodes at work.
 
 mod asks;
 mod held;
+mod nodes;
 mod observers;
 mod races;
 mod scenes;
