@@ -1,4 +1,5 @@
 pub mod NodeSetLemmas
 pub mod PlaceLemmas
+pub mod RowLemmas
 pub mod SetupLemmas
 pub mod WordLemmas

@@ -1,6 +1,6 @@
 -- Lists of members in falling order.
-use Rattle.std.proofs.Common.{◌≡◌, ◌≢◌, ℕ, zero, suc, ◌+◌, ◌<◌, ◌≤◌, Bool, true, false, List, [], ◌∷◌, length, arith, refl, sym, ap, ◌∙◌, ◌⊎◌, inl, inr}
-use Rattle.std.specs.Prelude.{◌-◌, ◌^◌, Contains, All, Option, IfSome, ◌↔◌, slice_index_or, nat_lt, ◌==◌, bytes_eq, not, if◌then◌else◌, Some, None}
+use Rattle.std.proofs.Common.{◌≡◌, ◌≢◌, ℕ, zero, suc, ◌+◌, ◌<◌, ◌≤◌, Bool, true, false, List, [], ◌∷◌, length, is_none, arith, refl, sym, ap, ◌∙◌, ◌⊎◌, inl, inr}
+use Rattle.std.specs.Prelude.{◌-◌, ◌^◌, Contains, All, Option, IfSome, IsTrue, ◌↔◌, slice_index_or, nat_lt, ◌==◌, bytes_eq, not, if◌then◌else◌, Some, None}
 use Rattle.std.specs.Bool.{Decides}
 use Rattle.std.proofs.Math.Nat.{pow-le-pow_right, pow-suc}
 use Rattle.std.proofs.lemmas.Bool.Decides.{nat_tests, Decides-eqb, Decides-ltb}
@@ -171,6 +171,22 @@ lowest-least (m ∷ n ∷ ms) bound h = one_more (lowest_of (n ∷ ms)) (lowest-
     one_more (Some k) more =
         let below : k < m = All-contains (λ j. j < m) (n ∷ ms) k (falling-below (n ∷ ms) m h.2) more.0 in
         (Contains-tail m (n ∷ ms) k more.0, All-cons (λ j. k ≤ j) m (n ∷ ms) (omega arith) more.1)
+
+-- an empty set alone has no lowest member
+lowest-some : (m : ℕ) (ms : List ℕ) → lowest_of (m ∷ ms) ≡ None → ⊥
+lowest-some m [] e = absurd (cc)
+lowest-some m (n ∷ ms) e = lowest-some n ms e
+
+lowest-none : (ms : List ℕ) → (lowest_of ms ≡ None) ↔ (ms ≡ [])
+lowest-none [] = ((λ e. refl), (λ e. refl))
+lowest-none (m ∷ ms) = ((λ e. absurd (lowest-some m ms e)), (λ e. absurd (cc)))
+
+pub lowest-empty : (ms : List ℕ) (lowest : Option ℕ) → lowest ≡ lowest_of ms → IsTrue (is_none lowest) ↔ (ms ≡ [])
+lowest-empty ms None is = ((λ t. (lowest-none ms).0 (sym is)), (λ e. refl))
+lowest-empty ms (Some m) is = ((λ t. absurd (cc)), (λ e. absurd (some_none (is ∙ (lowest-none ms).1 e))))
+  where
+    some_none : Some m ≡ None → ⊥
+    some_none e = cc
 
 -- The word of a falling list tells its members.
 

@@ -5,3 +5,4 @@ pub mod SetupEq
 pub mod NodeSet
 pub mod NodeSetLaws
 pub mod NodeSetView
+pub mod NodeSetEq

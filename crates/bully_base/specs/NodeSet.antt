@@ -1,6 +1,8 @@
 -- Sets of nodes, as the lists of their numbers in falling order.
-use Rattle.std.specs.Prelude.{ℕ, zero, suc, ◌+◌, ◌-◌, ◌^◌, ◌<◌, Bool, List, [], ◌∷◌, Option, Some, None, filter, nat_lt, ◌==◌, not, if◌then◌else◌}
+use Rattle.std.specs.Prelude.{◌≡◌, ℕ, zero, suc, ◌+◌, ◌-◌, ◌*◌, ◌/◌, ◌%◌, ◌^◌, ◌<◌, Bool, List, [], ◌∷◌, Option, Some, None, filter, nat_lt, ◌==◌, not, if◌then◌else◌}
 use Rattle.std.specs.Int.{bit_at}
+use Rattle.bully_base.specs.declared.TheConstants.{NODES_MAX}
+use Rattle.bully_base.specs.declared.node_set.TheConstants.{WORDS}
 
 -- the set with one more member
 abbrev pub with_node : ℕ → List ℕ → List ℕ
@@ -31,16 +33,51 @@ abbrev pub IsFallingBelow : ℕ → List ℕ → Type 0
 IsFallingBelow bound [] = Unit {0}
 IsFallingBelow bound (m ∷ ms) = (0 < m) × (m < bound) × IsFallingBelow m ms
 
--- whether bit k of the word is set
+-- whether bit k of the number is set
 abbrev pub is_set : ℕ → ℕ → Bool
-is_set word k = bit_at word k == 1
+is_set number k = bit_at number k == 1
 
--- which nodes are members: bit k stands for node k + 1. Of the lowest n bits
+-- which nodes are members: bit k of the number stands for node k + 1. Of the lowest n bits
 unfoldable pub members_among : ℕ → ℕ → List ℕ
-members_among word zero = []
-members_among word (suc n) = if is_set word n then (n + 1) ∷ members_among word n else members_among word n
+members_among number zero = []
+members_among number (suc n) = if is_set number n then (n + 1) ∷ members_among number n else members_among number n
 
--- the word in which exactly the bits of these members are set
+-- the number in which exactly the bits of these members are set
 unfoldable pub word_of : List ℕ → ℕ
 word_of [] = 0
 word_of (m ∷ ms) = 2 ^ (m - 1) + word_of ms
+
+-- the number that these words of 64 bits make, the lowest word first
+unfoldable pub number_of : List ℕ → ℕ
+number_of [] = 0
+number_of (w ∷ ws) = number_of ws * 2 ^ 64 + w
+
+-- the n lowest words of a number
+unfoldable pub words_among : ℕ → ℕ → List ℕ
+words_among number zero = []
+words_among number (suc n) = number % 2 ^ 64 ∷ words_among (number / 2 ^ 64) n
+
+-- the members of a row of words: those of the highest word first, each word's raised by 64 for each word before it
+abbrev pub members_of : List ℕ → List ℕ
+members_of words = members_among (number_of words) NODES_MAX
+
+-- the row of words that has these members
+abbrev pub words_of : List ℕ → List ℕ
+words_of ms = words_among (word_of ms) WORDS
+
+-- each is a word of 64 bits
+abbrev pub AreWords : List ℕ → Type 0
+AreWords [] = Unit {0}
+AreWords (w ∷ ws) = (w < 2 ^ 64) × AreWords ws
+
+-- bit k of the word is set, and none above it
+pub record IsHighestBit (word k : ℕ) : Type 0 where
+  pub within : k < 64
+  pub set : bit_at word k ≡ 1
+  pub above : (i : ℕ) → k < i → bit_at word i ≡ 0
+
+-- bit k of the word is set, and none below it
+pub record IsLowestBit (word k : ℕ) : Type 0 where
+  pub within : k < 64
+  pub set : bit_at word k ≡ 1
+  pub below : (i : ℕ) → i < k → bit_at word i ≡ 0

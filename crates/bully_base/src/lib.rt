@@ -20,10 +20,10 @@ use std::alloc::AllocError;
 pub type OutOfMemory = AllocError;
 
 /// The most nodes of a group. The rule: docs/ALGORITHM.md.
-pub const NODES_MAX: u16 = 64;
+pub const NODES_MAX: u16 = 1024;
 
 /// The most partitions of a group's task. The rule: docs/ALGORITHM.md.
-pub const PARTITIONS_MAX: u16 = 256;
+pub const PARTITIONS_MAX: u16 = 4096;
 
 /// The most events that a group may be bounded to. The rule: docs/ALGORITHM.md.
 pub const EVENTS_MAX: u32 = 1_000_000;
@@ -33,8 +33,8 @@ pub const WEIGHT_MAX: u16 = 1000;
 
 /// The law of the limits, which says their numbers. Every other contract and definition cites them by name.
 pub fn limits()
-    ensures nodes { NODES_MAX ≡ 64 }
-    ensures partitions { PARTITIONS_MAX ≡ 256 }
+    ensures nodes { NODES_MAX ≡ 1024 }
+    ensures partitions { PARTITIONS_MAX ≡ 4096 }
     ensures events { EVENTS_MAX ≡ 1000000 }
     ensures weight { WEIGHT_MAX ≡ 1000 }
 {}

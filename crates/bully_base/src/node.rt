@@ -8,7 +8,7 @@ use std::marker::Model;
 /// A node's number, from 1 to [`NODES_MAX`]. A larger number has priority.
 #[derive(Clone, Copy, PartialEq, Eq, PartialOrd, Ord, Debug)]
 pub struct Node {
-    number: u8, // as tables have one for each partition
+    number: u16,
 }
 
 impl Model for Node {
@@ -30,9 +30,7 @@ impl Node {
         ensures { SomeIff result (IsNodeNumber number) number }
     {
         if 0 < number && number <= NODES_MAX {
-            Some(Node {
-                number: number as u8,
-            })
+            Some(Node { number })
         } else {
             None
         }
@@ -43,7 +41,7 @@ impl Node {
         ensures number { result ≡ self }
         ensures within { IsNodeNumber self }
     {
-        u16::from(self.number)
+        self.number
     }
 }
 

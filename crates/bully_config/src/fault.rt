@@ -7,9 +7,9 @@ use std::fmt;
 /// A key of a configuration. The first nine stand at the top, the last three in a fault.
 #[derive(Clone, Copy, PartialEq, Eq, Debug)]
 pub enum Key {
-    /// How many nodes the group has: an integer from 1 to 64.
+    /// How many nodes the group has: an integer from 1 to [`bully_base::NODES_MAX`].
     Nodes,
-    /// How many partitions its task has: an integer from 1 to 256.
+    /// How many partitions its task has: an integer from 1 to [`bully_base::PARTITIONS_MAX`].
     Partitions,
     /// The most events: an integer from 1 to 1,000,000.
     Events,

@@ -6,6 +6,7 @@ use Rattle.bully_world.specs.State.{world_of}
 use Rattle.bully_world.specs.World.{first_world}
 use Rattle.bully_trace.specs.declared.TheConstants.{ROWS_MAX}
 use Rattle.bully_trace.specs.declared.header.Header.{Header}
+use Rattle.bully_trace.specs.declared.header.Version.{Version}
 use Rattle.bully_trace.specs.declared.trace.Row.{Row}
 use Rattle.bully_trace.specs.declared.verdict.Verdict.{Verdict}
 use Rattle.bully_trace.specs.Headers.{Record}
@@ -25,11 +26,11 @@ pub judged-start : (known : Option (List ℕ)) (reader now : ReadSoFar) (state b
     → state ≡ None → MatchOption begun ⊥ (λ judge. Begins now.fields judge)
     → IsJudgedSoFar known reader state → IsJudgedSoFar known now begun
 judged-start known reader now state None found takes is counted none begins so_far = absurd begins
-judged-start known reader now state (Some judge) found takes is counted none (header, told, judged) so_far =
+judged-start known reader now state (Some judge) found takes is counted none (header, told, judged, version) so_far =
     let read = header-read known reader now found header (rw none at so_far) takes is (counted is).1 told in (
-      header.version,
       [],
-      subst (λ s. HasRead known [] (rows_left (header_with header.version s) now)) (sym judged.same) read,
+      subst (λ v. HasRead known [] (rows_left (header_with v judge.world.setup) now)) (sym version) (
+          subst (λ s. HasRead known [] (rows_left (header_with header.version s) now)) (sym judged.same) read),
       subst (λ s. HasJudged s [] judge) (sym judged.same) judged,
     )
 
@@ -43,43 +44,43 @@ judged-unbegun known reader now state found fault takes is none (inl (unheaded, 
 judged-unbegun known reader now state found fault takes is none (inr same) so_far = rw same (memory-ends known)
 
 -- behind one more row
-pub judged-row : (known : Option (List ℕ)) (reader now : ReadSoFar) (state : Option JudgeState) (judge after : JudgeState) (found : Bool) (setup : Setup) (row : Row) (number : ℕ)
+pub judged-row : (known : Option (List ℕ)) (reader now : ReadSoFar) (state : Option JudgeState) (judge after : JudgeState) (found : Bool) (version : Version) (setup : Setup) (row : Row) (number : ℕ)
     → Takes reader.records now.records found now.fields → found ≡ true → (found ≡ true → (reader.number ≤ ROWS_MAX) × (now.number ≡ reader.number + 1))
-    → state ≡ Some judge → setup ≡ judge.world.setup → row_of setup now.fields ≡ Some row → number ≡ now.number
+    → state ≡ Some judge → version ≡ judge.version → setup ≡ judge.world.setup → row_of version setup now.fields ≡ Some row → number ≡ now.number → after.version ≡ judge.version
     → ((setup : Setup) (rows : List Row) → length rows + 2 ≡ number → HasJudged setup rows judge → HasJudged setup (rows ++ (row ∷ [])) after)
     → IsJudgedSoFar known reader state → AreJudged known now after
-judged-row known reader now state judge after found setup row number takes is counted at_judge same told numbered judges so_far =
+judged-row known reader now state judge after found version setup row number takes is counted at_judge at_version same told numbered stays judges so_far =
     let s = judge.world.setup in
     let (low, next) = counted is in
-    let (version, rows, read, judged) : AreJudged known reader judge = rw at_judge at so_far in
-    let header = header_with version s in
+    let (rows, read, judged) : AreJudged known reader judge = rw at_judge at so_far in
+    let header = header_with judge.version s in
     let more : HasRead known (rows ++ (row ∷ [])) (rows_left header now) =
-    read-more known rows (rows_left header reader) (rows_left header now) found now.fields row read takes is (omega (arith, low)) (rw same at told) refl next in
+    read-more known rows (rows_left header reader) (rows_left header now) found now.fields row read takes is (omega (arith, low)) (rw (at_version, same) at told) refl next in
     let at_number : length rows + 2 ≡ number = omega (arith, read.number, next, numbered) in
     let all = judges s rows at_number judged in (
-      version,
       rows ++ (row ∷ []),
-      subst (λ s. HasRead known (rows ++ (row ∷ [])) (rows_left (header_with version s) now)) (sym all.same) more,
+      subst (λ v. HasRead known (rows ++ (row ∷ [])) (rows_left (header_with v after.world.setup) now)) (sym stays) (
+          subst (λ s. HasRead known (rows ++ (row ∷ [])) (rows_left (header_with judge.version s) now)) (sym all.same) more),
       subst (λ s. HasJudged s (rows ++ (row ∷ [])) after) (sym all.same) all,
     )
 
 -- at a row of no form
-pub judged-bad : (known : Option (List ℕ)) (reader now : ReadSoFar) (state : Option JudgeState) (judge : JudgeState) (found : Bool) (setup : Setup)
+pub judged-bad : (known : Option (List ℕ)) (reader now : ReadSoFar) (state : Option JudgeState) (judge : JudgeState) (found : Bool) (version : Version) (setup : Setup)
     → Takes reader.records now.records found now.fields → found ≡ true → (found ≡ true → (reader.number ≤ ROWS_MAX) × (now.number ≡ reader.number + 1))
-    → state ≡ Some judge → setup ≡ judge.world.setup → row_of setup now.fields ≡ None
+    → state ≡ Some judge → version ≡ judge.version → setup ≡ judge.world.setup → row_of version setup now.fields ≡ None
     → IsJudgedSoFar known reader state → EndsReading known (fault_at now.number TraceCause.BadRow)
-judged-bad known reader now state judge found setup takes is counted at_judge same none so_far =
+judged-bad known reader now state judge found version setup takes is counted at_judge at_version same none so_far =
     let s = judge.world.setup in
     let (low, next) = counted is in
-    let (version, rows, read, judged) : AreJudged known reader judge = rw at_judge at so_far in
-    rw next (read-bad known rows (rows_left (header_with version s) reader) now.records found now.fields read takes is (omega (arith, low)) (rw same at none))
+    let (rows, read, judged) : AreJudged known reader judge = rw at_judge at so_far in
+    rw next (read-bad known rows (rows_left (header_with judge.version s) reader) now.records found now.fields read takes is (omega (arith, low)) (rw (at_version, same) at none))
 
 -- behind the last row
 pub judged-end : (known : Option (List ℕ)) (reader : ReadSoFar) (after : Option (List Record)) (found : Bool) (fields : Record) (judge : JudgeState)
     → Takes reader.records after found fields → found ≡ false → AreJudged known reader judge
     → AreAllJudged known judge.world.setup judge
-judged-end known reader after found fields judge takes is (version, rows, read, judged) =
-    (version, rows, read-end known rows (rows_left (header_with version judge.world.setup) reader) after found fields read takes is, judged)
+judged-end known reader after found fields judge takes is (rows, read, judged) =
+    (judge.version, rows, read-end known rows (rows_left (header_with judge.version judge.world.setup) reader) after found fields read takes is, judged)
 
 -- a fault of the reader
 pub judged-fault : (known : Option (List ℕ)) (reader : ReadSoFar) (judge : Option JudgeState) (fault : TraceFault)
@@ -87,7 +88,7 @@ pub judged-fault : (known : Option (List ℕ)) (reader : ReadSoFar) (judge : Opt
     → ((rows : List Row) (header : Header) → HasRead known rows (rows_left header reader) → EndsReading known fault)
     → IsJudgedSoFar known reader judge → EndsReading known fault
 judged-fault known reader None fault first later unread = first unread
-judged-fault known reader (Some judge) fault first later (version, rows, read, judged) = later rows (header_with version judge.world.setup) read
+judged-fault known reader (Some judge) fault first later (rows, read, judged) = later rows (header_with judge.version judge.world.setup) read
 
 pub no-fault : (known : Option (List ℕ)) (setup : Setup) (judge : JudgeState) → AreAllJudged known setup judge → HasNoFault known
 no-fault None setup judge all = tt

@@ -6,37 +6,60 @@ use Rattle.std.specs.Str.{bytes_eq}
 use Rattle.std.proofs.lemmas.Grind.{common_steps}
 use Rattle.std.proofs.lemmas.List.Elements.{All-cons, All-nil}
 use Rattle.std.proofs.lemmas.Option.{same_Some}
+use Rattle.std.specs.Prelude.{nat_le}
+use Rattle.std.proofs.lemmas.Bool.Decides.{nat_tests}
 use Rattle.bully_base.specs.declared.TheConstants.{EVENTS_MAX, WEIGHT_MAX}
 use Rattle.bully_base.specs.declared.setup.SetupFault.{SetupFault}
 use Rattle.bully_base.specs.Setup.{AreWeights, IsWeight, Setup, even_setup, is_even}
 use Rattle.bully_base.proofs.SetupLemmas.{even-is_even}
 use Rattle.bully_table.specs.Numeral.{number_of}
 use Rattle.bully_table.specs.TableText.{pieces_of}
+use Rattle.bully_trace.specs.declared.TheConstants.{FIRST_NODES_MAX, FIRST_PARTITIONS_MAX}
 use Rattle.bully_trace.specs.declared.header.Header.{Header}
 use Rattle.bully_trace.specs.declared.header.Version.{Version}
 use Rattle.bully_trace.specs.declared.trace.TraceFault.{TraceFault}
-use Rattle.bully_trace.specs.Headers.{IsVersionFor, Record, first_header, header_of, node_in, partitions_in, second_header, setup_in, version_for, weight_in, weighted_in, weights_from, weights_in, within}
+use Rattle.bully_trace.specs.Headers.{IsVersionFor, Record, first_header, header_of, is_first, node_in, partitions_in, second_header, setup_in, version_for, weight_in, weighted_in, weights_from, weights_in, within}
 use Rattle.bully_trace.specs.Words.{keeps_named}
+
+-- ---- what is read is within the limits
+
+one-within : (limit n w : ℕ) → within limit n ≡ Some w → (0 < w) × (w ≤ limit)
+one-within limit n w e = grind (arith, common_steps, e)
+
+pub told-within : (limit : ℕ) (o : Option ℕ) (w : ℕ) → option_and_then (within limit) o ≡ Some w → (0 < w) × (w ≤ limit)
+told-within limit None w e = absurd (cc e)
+told-within limit (Some n) w e = one-within limit n w e
 
 -- ---- versions
 
-first_if : (even : Bool) → (if even then Version.One else Version.Two) ≡ Version.One → even ≡ true
+first_if : (first : Bool) → (if first then Version.One else Version.Two) ≡ Version.One → first ≡ true
 first_if true e = refl
 first_if false e = absurd (cc e)
 
 pub version_fits : (setup : Setup) → IsVersionFor (version_for setup) setup
-version_fits setup e = first_if (is_even setup) e
+version_fits setup e = first_if (is_first setup) e
 
-numbers-even : (n p : Option ℕ) (setup : Setup) → option_and_then (λ i. option_map (λ k. even_setup i k EVENTS_MAX) p) n ≡ Some setup → is_even setup ≡ true
-numbers-even None p setup e = absurd (cc e)
-numbers-even (Some i) None setup e = absurd (cc e)
-numbers-even (Some i) (Some k) setup e = subst (λ s. is_even s ≡ true) (same_Some _ _ e) (even-is_even i k EVENTS_MAX)
+-- numbers within the limits of version 1, and weights of 1
+numbers-first : (n p : Option ℕ) (setup : Setup) → ((i : ℕ) → n ≡ Some i → i ≤ FIRST_NODES_MAX) → ((k : ℕ) → p ≡ Some k → k ≤ FIRST_PARTITIONS_MAX)
+    → option_and_then (λ i. option_map (λ k. even_setup i k EVENTS_MAX) p) n ≡ Some setup → is_first setup ≡ true
+numbers-first None p setup few_nodes few_partitions e = absurd (cc e)
+numbers-first (Some i) None setup few_nodes few_partitions e = absurd (cc e)
+numbers-first (Some i) (Some k) setup few_nodes few_partitions e =
+    let even = even-is_even i k EVENTS_MAX in
+    let nodes : nat_le i FIRST_NODES_MAX ≡ true = grind (arith, nat_tests, few_nodes i refl) in
+    let partitions : nat_le k FIRST_PARTITIONS_MAX ≡ true = grind (arith, nat_tests, few_partitions k refl) in
+    subst (λ s. is_first s ≡ true) (same_Some _ _ e) (rw (even, nodes, partitions) refl)
 
-first-fits : (test : Bool) (o : Option Setup) (header : Header) → ((setup : Setup) → o ≡ Some setup → is_even setup ≡ true)
+first-setup : (nodes partitions : List ℕ) (setup : Setup) → setup_in nodes partitions ≡ Some setup → is_first setup ≡ true
+first-setup nodes partitions setup e =
+    numbers-first (node_in Version.One nodes) (partitions_in Version.One partitions) setup
+    (λ i at_i. (told-within FIRST_NODES_MAX (number_of nodes) i at_i).1) (λ k at_k. (told-within FIRST_PARTITIONS_MAX (number_of partitions) k at_k).1) e
+
+first-fits : (test : Bool) (o : Option Setup) (header : Header) → ((setup : Setup) → o ≡ Some setup → is_first setup ≡ true)
     → (if test then option_map first_header o else None) ≡ Some header → IsVersionFor header.version header.setup
-first-fits true (Some s) header even e = subst (λ (h : Header). IsVersionFor h.version h.setup) (same_Some _ _ e) (λ _. even s refl)
-first-fits true None header even e = absurd (cc e)
-first-fits false o header even e = absurd (cc e)
+first-fits true (Some s) header first e = subst (λ (h : Header). IsVersionFor h.version h.setup) (same_Some _ _ e) (λ _. first s refl)
+first-fits true None header first e = absurd (cc e)
+first-fits false o header first e = absurd (cc e)
 
 second-fits : (test : Bool) (o : Option Setup) (header : Header) → (if test then option_map second_header o else None) ≡ Some header → IsVersionFor header.version header.setup
 second-fits true (Some s) header e = subst (λ (h : Header). IsVersionFor h.version h.setup) (same_Some _ _ e) (λ one. absurd (cc one))
@@ -50,7 +73,7 @@ header-fits (a ∷ []) header e = absurd (cc e)
 header-fits (a ∷ b ∷ []) header e = absurd (cc e)
 header-fits (a ∷ b ∷ c ∷ []) header e = absurd (cc e)
 header-fits (a ∷ b ∷ c ∷ d ∷ []) header e =
-    first-fits (bytes_eq a (codes "bully") && bytes_eq b (codes "1")) (setup_in c d) header (λ setup. numbers-even (node_in c) (partitions_in d) setup) e
+    first-fits (bytes_eq a (codes "bully") && bytes_eq b (codes "1")) (setup_in c d) header (first-setup c d) e
 header-fits (a ∷ b ∷ c ∷ d ∷ x ∷ []) header e = absurd (cc e)
 header-fits (a ∷ b ∷ c ∷ d ∷ x ∷ y ∷ []) header e =
     second-fits (bytes_eq a (codes "bully") && bytes_eq b (codes "2")) (weighted_in c d x y) header e
@@ -87,14 +110,7 @@ pub weights-more : (all left next : List (List ℕ)) (xs : List ℕ) (w : ℕ) �
     → weights_from left ≡ option_map (λ more. w ∷ more) (weights_from next) → weights_from all ≡ joined (xs ++ w ∷ []) (weights_from next)
 weights-more all left next xs w so_far is = so_far ∙ ap (joined xs) is ∙ joined-push xs w (weights_from next)
 
--- ---- what is read is within the limits
-
-one-within : (limit n w : ℕ) → within limit n ≡ Some w → (0 < w) × (w ≤ limit)
-one-within limit n w e = grind (arith, common_steps, e)
-
-pub told-within : (limit : ℕ) (o : Option ℕ) (w : ℕ) → option_and_then (within limit) o ≡ Some w → (0 < w) × (w ≤ limit)
-told-within limit None w e = absurd (cc e)
-told-within limit (Some n) w e = one-within limit n w e
+-- ---- weights that are read
 
 pub are-weights : (pieces : List (List ℕ)) (ws : List ℕ) → weights_from pieces ≡ Some ws → AreWeights (length pieces) ws
 are-weights [] ws e = subst (λ xs. AreWeights 0 xs) (same_Some _ _ e) (refl, All-nil IsWeight)
@@ -125,6 +141,6 @@ made-told (Err fault) s is same = absurd (cc is)
 
 -- what a header of version 2 tells of the setup, from its parts
 pub weighted-told : (nodes partitions weights keeps : List ℕ) (n p : ℕ) (ws : List ℕ) (k : Bool) (o : Option Setup)
-    → node_in nodes ≡ Some n → partitions_in partitions ≡ Some p → weights_in n weights ≡ Some ws → keeps_named keeps ≡ Some k
+    → node_in Version.Two nodes ≡ Some n → partitions_in Version.Two partitions ≡ Some p → weights_in n weights ≡ Some ws → keeps_named keeps ≡ Some k
     → o ≡ Some (record { nodes = n; partitions = p; events_max = EVENTS_MAX; keeps = k; weights = ws }) → o ≡ weighted_in nodes partitions weights keeps
 weighted-told nodes partitions weights keeps n p ws k o at_n at_p at_w at_k is = rw (at_n, at_p, at_w, at_k) is

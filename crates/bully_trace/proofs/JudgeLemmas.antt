@@ -21,7 +21,7 @@ use Rattle.bully_trace.specs.Trace.{Trace}
 use Rattle.bully_trace.specs.Verdict.{AgreesAfterEachRow, IsJudged, IsVerdict, IsLawfulCount, events_of, is_true}
 
 -- behind the last row
-pub judged-all : (setup : Setup) (rows : List Row) (judge : JudgeState) (verdict : Verdict) (w : World) → IsJudgedOn judge (length rows + 2) [] verdict w
+pub judged-all : (setup : Setup) (rows : List Row) (judge : JudgeState) (verdict : Verdict) (w : World) → IsJudgedOn judge.world judge.stopped (length rows + 2) [] verdict w
     → HasJudged setup rows judge → IsJudged setup (first_world setup) 0 2 rows verdict w
 judged-all setup rows judge verdict w is judged =
     subst (λ all. IsJudged setup (first_world setup) 0 2 all verdict w) (append-nil rows) (judged.judged [] verdict w is)

@@ -14,7 +14,7 @@ use Rattle.bully_trace.specs.Trace.{headed}
 use Rattle.bully_trace.proofs.RowsLemmas.{bad-first, good-first, late-first, rows-behind}
 
 header-first : (header : Header) (first : Record) (rest : List Record) → header_of first ≡ Some header
-    → trace_of (first ∷ rest) ≡ read_as (headed header) (rows_from header.setup 2 rest)
+    → trace_of (first ∷ rest) ≡ read_as (headed header) (rows_from header 2 rest)
 header-first header first rest e = rw (e, trace_of) refl
 
 -- a read that found a record, and one that found none
@@ -29,10 +29,10 @@ ended (first ∷ more) after found fields takes is = cc (takes.0, is)
 
 -- what the trace comes to is said by the records that are left
 trace-left : (records : List Record) (rows : List Row) (left : RowsLeft) (t : HasTaken records rows left)
-    → trace_of records ≡ read_as (headed left.header) (read_as (λ xs. rows ++ xs) (rows_from left.header.setup (left.number + 1) t.rest))
+    → trace_of records ≡ read_as (headed left.header) (read_as (λ xs. rows ++ xs) (rows_from left.header (left.number + 1) t.rest))
 trace-left records rows left t =
     ap trace_of t.all ∙ header-first left.header t.first (t.taken ++ t.rest) t.told
-    ∙ ap (read_as (headed left.header)) (rows-behind left.header.setup 2 (left.number + 1) t.taken t.rest rows (omega (arith, t.counted)) t.mean)
+    ∙ ap (read_as (headed left.header)) (rows-behind left.header 2 (left.number + 1) t.taken t.rest rows (omega (arith, t.counted)) t.mean)
 
 -- the end of the text
 pub read-end : (known : Option (List ℕ)) (rows : List Row) (left : RowsLeft) (after : Option (List Record)) (found : Bool) (fields : Record)
@@ -66,11 +66,11 @@ read-late known rows left after found fields read takes is late =
     by_text (Some bytes) read =
         let t = read.text in
         let (more, rest, after) = took t.rest after found fields (rw t.behind at takes) is in
-        trace-left (records_of bytes) rows left t ∙ rw rest (rw (late-first left.header.setup (left.number + 1) fields more late) refl)
+        trace-left (records_of bytes) rows left t ∙ rw rest (rw (late-first left.header (left.number + 1) fields more late) refl)
 
 -- a row of no form
 pub read-bad : (known : Option (List ℕ)) (rows : List Row) (left : RowsLeft) (after : Option (List Record)) (found : Bool) (fields : Record)
-    → HasRead known rows left → Takes left.records after found fields → found ≡ true → left.number + 1 ≤ ROWS_MAX + 1 → row_of left.header.setup fields ≡ None
+    → HasRead known rows left → Takes left.records after found fields → found ≡ true → left.number + 1 ≤ ROWS_MAX + 1 → row_of left.header.version left.header.setup fields ≡ None
     → EndsReading known (fault_at (left.number + 1) TraceCause.BadRow)
 read-bad known rows left after found fields read takes is low none =
     fault-ends known (fault_at (left.number + 1) TraceCause.BadRow) refl (by_text known read)
@@ -81,7 +81,7 @@ read-bad known rows left after found fields read takes is low none =
     by_text (Some bytes) read =
         let t = read.text in
         let (more, rest, after) = took t.rest after found fields (rw t.behind at takes) is in
-        trace-left (records_of bytes) rows left t ∙ rw rest (rw (bad-first left.header.setup (left.number + 1) fields more low none) refl)
+        trace-left (records_of bytes) rows left t ∙ rw rest (rw (bad-first left.header (left.number + 1) fields more low none) refl)
 
 -- a fault from outside, which is at the row behind those that were read where the reader failed
 pub read-failed : (known : Option (List ℕ)) (rows : List Row) (left : RowsLeft) (fault : TraceFault)
@@ -102,7 +102,7 @@ read-failed known rows left fault read outside at_row = record {
 
 -- one more row
 pub read-more : (known : Option (List ℕ)) (rows : List Row) (left now : RowsLeft) (found : Bool) (fields : Record) (row : Row)
-    → HasRead known rows left → Takes left.records now.records found fields → found ≡ true → left.number + 1 ≤ ROWS_MAX + 1 → row_of left.header.setup fields ≡ Some row
+    → HasRead known rows left → Takes left.records now.records found fields → found ≡ true → left.number + 1 ≤ ROWS_MAX + 1 → row_of left.header.version left.header.setup fields ≡ Some row
     → now.header ≡ left.header → now.number ≡ left.number + 1 → HasRead known (rows ++ (row ∷ [])) now
 read-more known rows left now found fields row read takes is low told same next = record {
   number = omega (arith, length-append rows (row ∷ []), read.number, next);
@@ -122,8 +122,8 @@ read-more known rows left now found fields row read takes is low told same next 
           all = t.all ∙ ap (λ rs. t.first ∷ (t.taken ++ rs)) rest ∙ ap (λ rs. t.first ∷ rs) (sym (append_assoc t.taken (fields ∷ []) more));
           told = rw same t.told;
           counted = omega (arith, length-append t.taken (fields ∷ []), t.counted, next);
-          mean = rw same (rows-behind left.header.setup 2 (left.number + 1) t.taken (fields ∷ []) rows (omega (arith, t.counted)) t.mean
-              ∙ rw (good-first left.header.setup (left.number + 1) fields [] row low told) refl);
+          mean = rw same (rows-behind left.header 2 (left.number + 1) t.taken (fields ∷ []) rows (omega (arith, t.counted)) t.mean
+              ∙ rw (good-first left.header (left.number + 1) fields [] row low told) refl);
           behind = after;
         }
 

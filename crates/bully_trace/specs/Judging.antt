@@ -14,27 +14,29 @@ use Rattle.bully_trace.specs.RecordsLeft.{EndsReading, HasRead, IsUnread, ReadSo
 use Rattle.bully_trace.specs.Rows.{IsTraceOf, fault_at, no_memory}
 use Rattle.bully_trace.specs.Verdict.{IsJudged}
 
--- the world that the rows were taken to, and the first verdict that isn't lawful
+-- the version of the trace, the world that its rows were taken to, and the first verdict that isn't lawful
 pub record JudgeState : Type 0 where
+  pub version : Version
   pub world : WorldState
   pub stopped : Option Verdict
 
--- behind further rows, the first of which has this number, the verdict and the last world are these
-abbrev pub IsJudgedOn : JudgeState → ℕ → List Row → Verdict → World → Type 0
-IsJudgedOn judge number more verdict w =
-    MatchOption judge.stopped
-    (IsJudged judge.world.setup (world_of judge.world) judge.world.events number more verdict w)
-    (λ first. (verdict ≡ first) × (w ≡ world_of judge.world))
+-- from this world and this first verdict on, behind further rows, the first of which has this number, the verdict and the
+-- last world are these
+abbrev pub IsJudgedOn : WorldState → Option Verdict → ℕ → List Row → Verdict → World → Type 0
+IsJudgedOn world stopped number more verdict w =
+    MatchOption stopped
+    (IsJudged world.setup (world_of world) world.events number more verdict w)
+    (λ first. (verdict ≡ first) × (w ≡ world_of world))
 
 -- the rows of a trace were judged: what it comes to behind further rows, all of them come to from the first world
 pub record HasJudged (setup : Setup) (rows : List Row) (judge : JudgeState) : Type 0 where
   pub same : judge.world.setup ≡ setup
-  pub judged : (more : List Row) (verdict : Verdict) (w : World) → IsJudgedOn judge (length rows + 2) more verdict w
+  pub judged : (more : List Row) (verdict : Verdict) (w : World) → IsJudgedOn judge.world judge.stopped (length rows + 2) more verdict w
       → IsJudged setup (first_world setup) 0 2 (rows ++ more) verdict w
 
 -- the judge begins behind a header of these fields
 abbrev pub Begins : Record → JudgeState → Type 0
-Begins fields judge = (header : Header) × (header_of fields ≡ Some header) × HasJudged header.setup [] judge
+Begins fields judge = (header : Header) × (header_of fields ≡ Some header) × HasJudged header.setup [] judge × (judge.version ≡ header.version)
 
 -- why it doesn't begin: the fields are no header, or there is no memory
 abbrev pub IsNoStart : Record → TraceFault → Type 0
@@ -44,10 +46,10 @@ IsNoStart fields fault = ((header_of fields ≡ None) × (fault ≡ fault_at 1 T
 abbrev pub header_with : Version → Setup → Header
 header_with version setup = record { version = version; setup = setup }
 
--- the rows that were read of a text, behind a header of either version, were judged
+-- the rows that were read of a text, behind the judge's header, were judged
 abbrev pub AreJudged : Option (List ℕ) → ReadSoFar → JudgeState → Type 0
 AreJudged known reader judge =
-    (version : Version) × (rows : List Row) × HasRead known rows (rows_left (header_with version judge.world.setup) reader) × HasJudged judge.world.setup rows judge
+    (rows : List Row) × HasRead known rows (rows_left (header_with judge.version judge.world.setup) reader) × HasJudged judge.world.setup rows judge
 
 -- what was read of a text was judged: nothing of it yet, or the rows behind its header
 abbrev pub IsJudgedSoFar : Option (List ℕ) → ReadSoFar → Option JudgeState → Type 0

@@ -61,7 +61,7 @@ pub record HasTaken (records : List Record) (rows : List Row) (left : RowsLeft) 
   pub all : records ≡ first ∷ (taken ++ rest)
   pub told : header_of first ≡ Some left.header
   pub counted : length taken + 1 ≡ left.number
-  pub mean : rows_from left.header.setup 2 taken ≡ Ok rows
+  pub mean : rows_from left.header 2 taken ≡ Ok rows
   pub behind : left.records ≡ Some rest
 
 -- these rows were read of a text

@@ -7,6 +7,8 @@ use Rattle.bully_base.specs.Setup.{Setup}
 use Rattle.bully_table.specs.TableText.{table_of_text}
 use Rattle.bully_world.specs.declared.event.Event.{Event}
 use Rattle.bully_trace.specs.declared.TheConstants.{ROWS_MAX}
+use Rattle.bully_trace.specs.declared.header.Header.{Header}
+use Rattle.bully_trace.specs.declared.header.Version.{Version}
 use Rattle.bully_trace.specs.declared.trace.Row.{Row}
 use Rattle.bully_trace.specs.declared.trace.TraceCause.{TraceCause}
 use Rattle.bully_trace.specs.declared.trace.TraceFault.{TraceFault}
@@ -15,26 +17,27 @@ use Rattle.bully_trace.specs.Trace.{Trace, headed}
 use Rattle.bully_trace.specs.Words.{event_named, plan_word, status_named}
 
 -- a node, or none
-abbrev pub coordinator_in : List ℕ → Option (Option ℕ)
-coordinator_in text = if bytes_eq text (codes "-") then Some None else option_map Some (node_in text)
+abbrev pub coordinator_in : Version → List ℕ → Option (Option ℕ)
+coordinator_in version text = if bytes_eq text (codes "-") then Some None else option_map Some (node_in version text)
 
-abbrev pub plan_in : Setup → List ℕ → List ℕ → Option Row
-plan_in setup node owners =
-    option_and_then (λ i. option_map (λ table. Row.Event (Event.Plan i table)) (result_ok (table_of_text setup owners))) (node_in node)
+abbrev pub plan_in : Version → Setup → List ℕ → List ℕ → Option Row
+plan_in version setup node owners =
+    option_and_then (λ i. option_map (λ table. Row.Event (Event.Plan i table)) (result_ok (table_of_text setup owners))) (node_in version node)
 
-abbrev pub claim_in : List ℕ → List ℕ → List ℕ → Option Row
-claim_in node status coordinator =
-    option_and_then (λ i. option_and_then (λ s. option_map (λ c. Row.Claim (record { node = i; status = s; coordinator = c })) (coordinator_in coordinator)) (status_named status)) (node_in node)
+abbrev pub claim_in : Version → List ℕ → List ℕ → List ℕ → Option Row
+claim_in version node status coordinator =
+    option_and_then (λ i. option_and_then (λ s. option_map (λ c. Row.Claim (record { node = i; status = s; coordinator = c })) (coordinator_in version coordinator)) (status_named status))
+    (node_in version node)
 
--- what a later record means
-abbrev pub row_of : Setup → Record → Option Row
-row_of setup [] = None
-row_of setup (a ∷ []) = None
-row_of setup (word ∷ node ∷ []) = option_and_then (λ i. option_map Row.Event (event_named word i)) (node_in node)
-row_of setup (word ∷ node ∷ owners ∷ []) = if bytes_eq word plan_word then plan_in setup node owners else None
-row_of setup (word ∷ node ∷ status ∷ coordinator ∷ []) =
-    if bytes_eq word (codes "saw") then claim_in node status coordinator else None
-row_of setup (a ∷ b ∷ c ∷ d ∷ e ∷ rest) = None
+-- what a later record means in a trace of this version and this setup
+abbrev pub row_of : Version → Setup → Record → Option Row
+row_of version setup [] = None
+row_of version setup (a ∷ []) = None
+row_of version setup (word ∷ node ∷ []) = option_and_then (λ i. option_map Row.Event (event_named word i)) (node_in version node)
+row_of version setup (word ∷ node ∷ owners ∷ []) = if bytes_eq word plan_word then plan_in version setup node owners else None
+row_of version setup (word ∷ node ∷ status ∷ coordinator ∷ []) =
+    if bytes_eq word (codes "saw") then claim_in version node status coordinator else None
+row_of version setup (a ∷ b ∷ c ∷ d ∷ e ∷ rest) = None
 
 abbrev pub fault_at : ℕ → TraceCause → TraceFault
 fault_at row cause = record { row = row; cause = cause }
@@ -44,14 +47,14 @@ abbrev pub read_as : {A B : Type 0} → (A → B) → Result A TraceFault → Re
 read_as f (Ok x) = Ok (f x)
 read_as f (Err fault) = Err fault
 
--- the rows from this number on
-abbrev pub rows_from : Setup → ℕ → List Record → Result (List Row) TraceFault
-rows_from setup number [] = Ok []
-rows_from setup number (fields ∷ rest) =
+-- the rows from this number on, behind this header
+abbrev pub rows_from : Header → ℕ → List Record → Result (List Row) TraceFault
+rows_from header number [] = Ok []
+rows_from header number (fields ∷ rest) =
     if nat_lt (ROWS_MAX + 1) number then Err (fault_at number TraceCause.TooManyRows)
-    else elim (row_of setup fields) [
+    else elim (row_of header.version header.setup fields) [
       | None ↦ Err (fault_at number TraceCause.BadRow)
-      | Some row ↦ read_as (λ rows. row ∷ rows) (rows_from setup (number + 1) rest)
+      | Some row ↦ read_as (λ rows. row ∷ rows) (rows_from header (number + 1) rest)
     ]
 
 -- the trace that the records mean, or the fault of the first faulty row
@@ -60,7 +63,7 @@ trace_of [] = Err (fault_at 1 TraceCause.BadHeader)
 trace_of (first ∷ rest) =
     elim (header_of first) [
       | None ↦ Err (fault_at 1 TraceCause.BadHeader)
-      | Some header ↦ read_as (headed header) (rows_from header.setup 2 rest)
+      | Some header ↦ read_as (headed header) (rows_from header 2 rest)
     ]
 
 -- the records of a text, as `csv` gives them

@@ -85,7 +85,7 @@ fn judge_each<R: Read + Drop>(
 {
     while rows.advance()? {
         if let Some(judge) = judge {
-            match &rows.row(alloc, judge.world().setup())? {
+            match &rows.row(alloc, judge.version(), judge.world().setup())? {
                 Some(row) => judge.take_row(rows.number(), row),
                 None => return Err(rows.bad_row()),
             }
@@ -108,7 +108,7 @@ fn begin<R: Read + Drop>(
     ensures fault { IfErr result (IsNoStart rows.now.fields) }
 {
     let header = rows.header()?;
-    *judge = Some(Judge::new(alloc, header.setup)?);
+    *judge = Some(Judge::new(alloc, header)?);
     Ok(())
 }
 

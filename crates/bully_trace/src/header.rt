@@ -1,22 +1,51 @@
 //! The header of a trace: its first row.
-ghost use Rattle.std.specs.Prelude.{◌≡◌, ◌⊎◌, ◌∷◌, ◌+◌, [], length, Some, None, false, IsTrue, MatchOption};
+ghost use Rattle.std.specs.Prelude.{◌≡◌, ◌⊎◌, ◌∷◌, ◌+◌, ◌≤◌, [], length, Some, None, false, IsTrue, MatchOption};
 ghost use Rattle.std.specs.Option.{option_map};
 ghost use Rattle.csv.specs.Records.{fields_of};
-ghost use Rattle.bully_trace.specs.Headers.{header_of, setup_in, version_for, weighted_in, weights_from, weights_in};
+ghost use Rattle.bully_base.specs.declared.TheConstants.{NODES_MAX, PARTITIONS_MAX};
+ghost use Rattle.bully_trace.specs.Headers.{header_of, nodes_max, partitions_max, setup_in, version_for, weighted_in, weights_from, weights_in};
 
 use crate::row::{field, number_within};
 use crate::words::{is_word, keeps_named};
+use crate::{FIRST_NODES_MAX, FIRST_PARTITIONS_MAX};
 use bully_base::{EVENTS_MAX, NODES_MAX, PARTITIONS_MAX, Setup, WEIGHT_MAX};
 use bully_table::Pieces;
 use csv::ByteRecord;
 
-/// The version of a trace: what its header tells. The rows behind the header are the same in both.
+/// The version of a trace: what its header tells, and how large a group may be. The rows behind the header have the same
+/// forms in both.
 #[derive(Clone, Copy, PartialEq, Eq, Debug)]
 pub enum Version {
-    /// How many nodes and partitions there are. All nodes weigh 1, and no task is kept over a crash.
+    /// How many nodes and partitions there are, at most [`FIRST_NODES_MAX`] and [`FIRST_PARTITIONS_MAX`]. All nodes weigh 1,
+    /// and no task is kept over a crash.
     One,
-    /// Beside that what each node weighs, and whether tasks are kept over a crash.
+    /// How many nodes and partitions there are, as many as a group may have; beside that what each node weighs, and whether
+    /// tasks are kept over a crash.
     Two,
+}
+
+impl Version {
+    /// The most nodes that a trace of this version has, and the highest node that its rows may name.
+    pub fn nodes_max(self) -> u16
+        ensures most { result ≡ nodes_max self }
+        ensures within { result ≤ NODES_MAX }
+    {
+        match self {
+            Version::One => FIRST_NODES_MAX,
+            Version::Two => NODES_MAX,
+        }
+    }
+
+    /// The most partitions that a trace of this version has.
+    pub fn partitions_max(self) -> u16
+        ensures most { result ≡ partitions_max self }
+        ensures within { result ≤ PARTITIONS_MAX }
+    {
+        match self {
+            Version::One => FIRST_PARTITIONS_MAX,
+            Version::Two => PARTITIONS_MAX,
+        }
+    }
 }
 
 /// What the header of a trace tells.
@@ -30,7 +59,8 @@ pub struct Header {
 pub fn version_for(setup: &Setup) -> Version
     ensures { result ≡ version_for setup.now }
 {
-    if setup.is_even() {
+    let fits = setup.nodes() <= FIRST_NODES_MAX && setup.partitions() <= FIRST_PARTITIONS_MAX;
+    if setup.is_even() && fits {
         Version::One
     } else {
         Version::Two
@@ -81,8 +111,8 @@ fn first_header(word: &[u8], version: &[u8], nodes: &[u8], partitions: &[u8]) ->
 fn setup_in(nodes: &[u8], partitions: &[u8]) -> Option<Setup>
     ensures { result ≡ setup_in nodes.now partitions.now }
 {
-    let nodes = number_within(nodes, NODES_MAX)?;
-    let partitions = number_within(partitions, PARTITIONS_MAX)?;
+    let nodes = number_within(nodes, FIRST_NODES_MAX)?;
+    let partitions = number_within(partitions, FIRST_PARTITIONS_MAX)?;
     Setup::new(nodes, partitions, EVENTS_MAX).ok()
 }
 

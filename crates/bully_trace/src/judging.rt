@@ -7,9 +7,10 @@ ghost use Rattle.bully_trace.specs.Verdict.{IsJudged, is_true};
 ghost use Rattle.bully_world.specs.State.{world_of};
 ghost use Rattle.bully_world.specs.World.{World as WorldOf, first_world};
 
+use crate::header::{Header, Version};
 use crate::{Claim, Row, Verdict};
 use bully_agree::Walk;
-use bully_base::{OutOfMemory, Setup};
+use bully_base::OutOfMemory;
 use bully_world::{Event, World};
 use std::alloc::Global;
 use std::marker::Model;
@@ -17,6 +18,7 @@ use std::marker::Model;
 /// The judge of rows that come one by one.
 #[derive(Drop)]
 pub struct Judge {
+    version: Version,
     walk: Walk,
     // The first verdict that isn't lawful.
     stopped: Option<Verdict>,
@@ -27,18 +29,27 @@ impl Model for Judge {
 
     ghost Value = { JudgeState };
 
-    ghost view = { λ j. record { world = j.walk; stopped = j.stopped } };
+    ghost view = { λ j. record { version = j.version; world = j.walk; stopped = j.stopped } };
 }
 
 impl Judge {
-    /// A judge before any row. Refused where an allocation fails.
-    pub fn new(alloc: Global, setup: Setup) -> Result<Judge, OutOfMemory>
-        ensures { IfOk result (HasJudged setup []) }
+    /// A judge behind this header, before any row. Refused where an allocation fails.
+    pub fn new(alloc: Global, header: Header) -> Result<Judge, OutOfMemory>
+        ensures judged { IfOk result (HasJudged header.setup []) }
+        ensures version { IfOk result (λ judge. judge.version ≡ header.version) }
     {
         Ok(Judge {
-            walk: Walk::new(alloc, setup)?,
+            version: header.version,
+            walk: Walk::new(alloc, header.setup)?,
             stopped: None,
         })
+    }
+
+    /// The version of the trace.
+    pub fn version(&self) -> Version
+        ensures { result ≡ self.now.version }
+    {
+        self.version
     }
 
     /// Takes the row of this number. The first event that the world refuses, or the first claim that is false of it,
@@ -46,7 +57,8 @@ impl Judge {
     // (the eight arms are alike, and are kept apart for speed: each has a copy of the call of its own, in which the kind is
     // known, so what reads a word goes on right to what its event needs, and none of it chooses by the kind once more)
     pub fn take_row(&mut self, number: u32, row: &Row)
-        ensures { (setup : SetupState) (rows : List RowState) → length rows + 2 ≡ number → HasJudged setup rows self.old → HasJudged setup (rows ++ row.now ∷ []) self.new }
+        ensures version { self.new.version ≡ self.old.version }
+        ensures judged { (setup : SetupState) (rows : List RowState) → length rows + 2 ≡ number → HasJudged setup rows self.old → HasJudged setup (rows ++ row.now ∷ []) self.new }
     {
         match row {
             Row::Event(Event::Check(_)) => self.judge_row(number, row),
@@ -64,7 +76,8 @@ impl Judge {
     // (inlined, as `take_row` says)
     #[inline(always)]
     fn judge_row(&mut self, number: u32, row: &Row)
-        ensures { (setup : SetupState) (rows : List RowState) → length rows + 2 ≡ number → HasJudged setup rows self.old → HasJudged setup (rows ++ row.now ∷ []) self.new }
+        ensures version { self.new.version ≡ self.old.version }
+        ensures judged { (setup : SetupState) (rows : List RowState) → length rows + 2 ≡ number → HasJudged setup rows self.old → HasJudged setup (rows ++ row.now ∷ []) self.new }
     {
         if self.stopped.is_none() {
             if let Some(verdict) = stopping_verdict(&mut self.walk, number, row) {
@@ -95,7 +108,7 @@ impl Judge {
 // (inlined, as `take_row` says)
 #[inline(always)]
 fn stopping_verdict(walk: &mut Walk, number: u32, row: &Row) -> Option<Verdict>
-    ensures judged { (more : List RowState) (verdict : VerdictState) (w : WorldOf) → IsJudgedOn (record { world = walk.new; stopped = result }) (number + 1) more verdict w
+    ensures judged { (more : List RowState) (verdict : VerdictState) (w : WorldOf) → IsJudgedOn walk.new result (number + 1) more verdict w
         → IsJudged walk.old.setup (world_of walk.old) walk.old.events number (row.now ∷ more) verdict w }
     ensures setup { walk.new.setup ≡ walk.old.setup }
 {

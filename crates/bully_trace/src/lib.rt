@@ -5,7 +5,7 @@
 #![tactic(auto)]
 
 ghost use Rattle.std.specs.Prelude.{◌≡◌};
-ghost use Rattle.bully_trace.specs.declared.TheConstants.{ROWS_MAX};
+ghost use Rattle.bully_trace.specs.declared.TheConstants.{ROWS_MAX, FIRST_NODES_MAX, FIRST_PARTITIONS_MAX};
 
 mod checking;
 mod header;
@@ -29,7 +29,15 @@ pub use writing::write_trace;
 /// The most rows of a trace after its header. The profile's limit.
 pub const ROWS_MAX: u32 = 1_000_000;
 
-/// The limit in numbers. The definitions cite the constant, and so say as much as this number.
+/// The most nodes that a trace of version 1 has. Version 2 has as many as a group may have.
+pub const FIRST_NODES_MAX: u16 = 64;
+
+/// The most partitions that a trace of version 1 has. Version 2 has as many as a group may have.
+pub const FIRST_PARTITIONS_MAX: u16 = 256;
+
+/// The limits in numbers. The definitions cite the constants, and so say as much as these numbers.
 pub fn limits()
     ensures rows { ROWS_MAX ≡ 1000000 }
+    ensures first_nodes { FIRST_NODES_MAX ≡ 64 }
+    ensures first_partitions { FIRST_PARTITIONS_MAX ≡ 256 }
 {}

@@ -71,7 +71,7 @@ fn read_rows<R: Read + Drop>(
     ensures fault { (known : Option (List ℕ)) → HasRead known [] (rows_left header.now rows.old) → IfErr result (EndsReading known) }
 {
     while rows.advance()? {
-        match rows.row(alloc, &header.setup)? {
+        match rows.row(alloc, header.version, &header.setup)? {
             Some(row) => read.push(row)?,
             None => return Err(rows.bad_row()),
         }

@@ -7,31 +7,42 @@ ghost use Rattle.bully_trace.specs.declared.trace.Row.{Row};
 ghost use Rattle.bully_trace.specs.Headers.{node_in, within};
 ghost use Rattle.bully_trace.specs.Rows.{claim_in, coordinator_in, row_of};
 
+use crate::header::Version;
 use crate::trace::{Claim, Row};
 use crate::words::{PLAN, event_named, is_word, status_named};
-use bully_base::{NODES_MAX, Node, OutOfMemory, Setup};
+use bully_base::{Node, OutOfMemory, Setup};
 use bully_table::{Table, TableFault, read_number};
 use bully_world::Event;
 use csv::ByteRecord;
 use std::alloc::{AllocError, Global};
 
-/// The row that its record tells; none where it has no form that the profile lists. Refused where an allocation fails.
+/// The row that its record tells in a trace of this version and this setup; none where it has no form that the profile
+/// lists. Refused where an allocation fails.
 pub fn read_row(
     alloc: Global,
+    version: Version,
     setup: &Setup,
     fields: &ByteRecord,
 ) -> Result<Option<Row>, OutOfMemory>
-    ensures { IfOk result (λ row. row ≡ row_of setup.now (fields_of fields.now)) }
+    ensures { IfOk result (λ row. row ≡ row_of version setup.now (fields_of fields.now)) }
 {
     match fields.len() {
-        2 => Ok(event_row(field(fields, 0), field(fields, 1))),
+        2 => Ok(event_row(version, field(fields, 0), field(fields, 1))),
         3 => {
             let word = field(fields, 0);
-            plan_row(alloc, setup, word, field(fields, 1), field(fields, 2))
+            plan_row(
+                alloc,
+                version,
+                setup,
+                word,
+                field(fields, 1),
+                field(fields, 2),
+            )
         }
         4 => {
             let word = field(fields, 0);
-            Ok(claim_row(word, field(fields, 1), field(fields, 2), field(fields, 3)))
+            let node = field(fields, 1);
+            Ok(claim_row(version, word, node, field(fields, 2), field(fields, 3)))
         }
         _ => Ok(None),
     }
@@ -46,27 +57,28 @@ pub fn field(row: &ByteRecord, place: usize) -> &[u8]
 }
 
 // What two fields mean.
-fn event_row(word: &[u8], node: &[u8]) -> Option<Row>
-    ensures { (setup : SetupState) → result ≡ row_of setup (word.now ∷ node.now ∷ []) }
+fn event_row(version: Version, word: &[u8], node: &[u8]) -> Option<Row>
+    ensures { (setup : SetupState) → result ≡ row_of version setup (word.now ∷ node.now ∷ []) }
 {
-    let node = read_node(node)?;
+    let node = read_node(version, node)?;
     Some(Row::Event(event_named(word, node)?))
 }
 
 // What three fields mean.
 fn plan_row(
     alloc: Global,
+    version: Version,
     setup: &Setup,
     word: &[u8],
     node: &[u8],
     owners: &[u8],
 ) -> Result<Option<Row>, OutOfMemory>
-    ensures { IfOk result (λ row. row ≡ row_of setup.now (word.now ∷ node.now ∷ owners.now ∷ [])) }
+    ensures { IfOk result (λ row. row ≡ row_of version setup.now (word.now ∷ node.now ∷ owners.now ∷ [])) }
 {
     if !is_word(word, PLAN) {
         return Ok(None);
     }
-    let Some(node) = read_node(node) else {
+    let Some(node) = read_node(version, node) else {
         return Ok(None);
     };
     match Table::read_in(alloc, setup, owners) {
@@ -77,22 +89,28 @@ fn plan_row(
 }
 
 // What four fields mean.
-fn claim_row(word: &[u8], node: &[u8], status: &[u8], coordinator: &[u8]) -> Option<Row>
-    ensures { (setup : SetupState) → result ≡ row_of setup (word.now ∷ node.now ∷ status.now ∷ coordinator.now ∷ []) }
+fn claim_row(
+    version: Version,
+    word: &[u8],
+    node: &[u8],
+    status: &[u8],
+    coordinator: &[u8],
+) -> Option<Row>
+    ensures { (setup : SetupState) → result ≡ row_of version setup (word.now ∷ node.now ∷ status.now ∷ coordinator.now ∷ []) }
 {
     if !is_word(word, "saw") {
         return None;
     }
-    Some(Row::Claim(claim_of(node, status, coordinator)?))
+    Some(Row::Claim(claim_of(version, node, status, coordinator)?))
 }
 
 // What the fields of a claim mean.
-fn claim_of(node: &[u8], status: &[u8], coordinator: &[u8]) -> Option<Claim>
-    ensures { option_map Row.Claim result ≡ claim_in node.now status.now coordinator.now }
+fn claim_of(version: Version, node: &[u8], status: &[u8], coordinator: &[u8]) -> Option<Claim>
+    ensures { option_map Row.Claim result ≡ claim_in version node.now status.now coordinator.now }
 {
-    let node = read_node(node)?;
+    let node = read_node(version, node)?;
     let status = status_named(status)?;
-    let coordinator = read_coordinator(coordinator)?;
+    let coordinator = read_coordinator(version, coordinator)?;
     Some(Claim {
         node,
         status,
@@ -101,20 +119,20 @@ fn claim_of(node: &[u8], status: &[u8], coordinator: &[u8]) -> Option<Claim>
 }
 
 // A node, or none where the text is a dash.
-fn read_coordinator(text: &[u8]) -> Option<Option<Node>>
-    ensures { result ≡ coordinator_in text.now }
+fn read_coordinator(version: Version, text: &[u8]) -> Option<Option<Node>>
+    ensures { result ≡ coordinator_in version text.now }
 {
     if is_word(text, "-") {
         return Some(None);
     }
-    Some(Some(read_node(text)?))
+    Some(Some(read_node(version, text)?))
 }
 
-// The node of this number.
-fn read_node(text: &[u8]) -> Option<Node>
-    ensures { result ≡ node_in text.now }
+// The node of this number, which a trace of this version may name.
+fn read_node(version: Version, text: &[u8]) -> Option<Node>
+    ensures { result ≡ node_in version text.now }
 {
-    Node::new(number_within(text, NODES_MAX)?)
+    Node::new(number_within(text, version.nodes_max())?)
 }
 
 /// The number, where it is from 1 to the limit.

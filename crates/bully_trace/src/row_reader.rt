@@ -8,7 +8,7 @@ ghost use Rattle.bully_trace.specs.declared.trace.Row.{Row};
 ghost use Rattle.bully_trace.specs.RecordsLeft.{EndsReading, HasRead, IsOutside, IsUnread, ReadsPlain, Takes, records_left, rows_left};
 
 use crate::ROWS_MAX;
-use crate::header::{Header, read_header};
+use crate::header::{Header, Version, read_header};
 use crate::row::read_row;
 use crate::trace::{Row, TraceCause, TraceFault};
 use bully_base::{OutOfMemory, Setup};
@@ -89,12 +89,17 @@ impl<R: Read + Drop> RowReader<R> {
         read_header(&self.fields).ok_or(no_header())
     }
 
-    /// What the row read last means in a trace of this setup; none where it has no form that the profile lists.
-    /// Refused where an allocation fails.
-    pub fn row(&self, alloc: Global, setup: &Setup) -> Result<Option<Row>, OutOfMemory>
-        ensures { IfOk result (λ row. row ≡ row_of setup.now self.now.fields) }
+    /// What the row read last means in a trace of this version and this setup; none where it has no form that the profile
+    /// lists. Refused where an allocation fails.
+    pub fn row(
+        &self,
+        alloc: Global,
+        version: Version,
+        setup: &Setup,
+    ) -> Result<Option<Row>, OutOfMemory>
+        ensures { IfOk result (λ row. row ≡ row_of version setup.now self.now.fields) }
     {
-        read_row(alloc, setup, &self.fields)
+        read_row(alloc, version, setup, &self.fields)
     }
 
     /// The fault of a row of no form, at the one read last.

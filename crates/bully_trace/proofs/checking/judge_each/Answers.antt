@@ -4,27 +4,27 @@ use Rattle.bully_trace.proofs.checking.judge_each.Goals as goal
 
 pub returns-in-None-clause-fault : goal.returns-in-None-clause-fault
 returns-in-None-clause-fault g c = λ known unread. rw c.bad_row.ensures (
-    judged-bad known c.loop-judge.rows c.advance.new.self c.loop-judge.judge c.in-Some.judge c.in_ok-advance.field-0 c.setup.result.now
-    c.in_ok-advance.ensures.takes (search rules) c.in_ok-advance.ensures.counted c.in-Some.is (search rules) (sym c.in_ok-row.ensures ∙ c.in-None.is)
+    judged-bad known c.loop-judge.rows c.advance.new.self c.loop-judge.judge c.in-Some.judge c.in_ok-advance.field-0 c.version.result c.setup.result.now
+    c.in_ok-advance.ensures.takes (search rules) c.in_ok-advance.ensures.counted c.in-Some.is (search rules) (search rules) (sym c.in_ok-row.ensures ∙ c.in-None.is)
     (c.loop-judge.invariant known unread))
 
 pub loop-judge-preserved-in-Some-2 : goal.loop-judge-preserved-in-Some-2
 loop-judge-preserved-in-Some-2 g c = λ known unread.
-    judged-row known c.loop-judge.rows c.advance.new.self c.loop-judge.judge c.in-Some.judge c.take_row.new.self c.in_ok-advance.field-0 c.setup.result.now c.in-Some-2.row c.number.result
-    c.in_ok-advance.ensures.takes (search rules) c.in_ok-advance.ensures.counted c.in-Some.is (search rules) (sym c.in_ok-row.ensures ∙ c.in-Some-2.is)
-    c.number.ensures c.take_row.ensures (c.loop-judge.invariant known unread)
+    judged-row known c.loop-judge.rows c.advance.new.self c.loop-judge.judge c.in-Some.judge c.take_row.new.self c.in_ok-advance.field-0 c.version.result c.setup.result.now c.in-Some-2.row c.number.result
+    c.in_ok-advance.ensures.takes (search rules) c.in_ok-advance.ensures.counted c.in-Some.is (search rules) (search rules) (sym c.in_ok-row.ensures ∙ c.in-Some-2.is)
+    c.number.ensures c.take_row.ensures.version c.take_row.ensures.judged (c.loop-judge.invariant known unread)
 
 pub loop-judge-preserved-in-Some-2-2 : goal.loop-judge-preserved-in-Some-2-2
 loop-judge-preserved-in-Some-2-2 g c = λ known unread.
-    judged-row known c.loop-judge.rows c.advance.new.self c.loop-judge.judge c.in-Some.judge c.take_row.new.self c.in_ok-advance.field-0 c.setup.result.now c.in-Some-2.row c.number.result
-    c.in_ok-advance.ensures.takes (search rules) c.in_ok-advance.ensures.counted c.in-Some.is (search rules) (sym c.in_ok-row.ensures ∙ c.in-Some-2.is)
-    c.number.ensures c.take_row.ensures (c.loop-judge.invariant known unread)
+    judged-row known c.loop-judge.rows c.advance.new.self c.loop-judge.judge c.in-Some.judge c.take_row.new.self c.in_ok-advance.field-0 c.version.result c.setup.result.now c.in-Some-2.row c.number.result
+    c.in_ok-advance.ensures.takes (search rules) c.in_ok-advance.ensures.counted c.in-Some.is (search rules) (search rules) (sym c.in_ok-row.ensures ∙ c.in-Some-2.is)
+    c.number.ensures c.take_row.ensures.version c.take_row.ensures.judged (c.loop-judge.invariant known unread)
 
 pub loop-judge-preserved-in-Some-2-3 : goal.loop-judge-preserved-in-Some-2-3
 loop-judge-preserved-in-Some-2-3 g c = λ known unread.
-    judged-row known c.loop-judge.rows c.advance.new.self c.loop-judge.judge c.in-Some.judge c.take_row.new.self c.in_ok-advance.field-0 c.setup.result.now c.in-Some-2.row c.number.result
-    c.in_ok-advance.ensures.takes (search rules) c.in_ok-advance.ensures.counted c.in-Some.is (search rules) (sym c.in_ok-row.ensures ∙ c.in-Some-2.is)
-    c.number.ensures c.take_row.ensures (c.loop-judge.invariant known unread)
+    judged-row known c.loop-judge.rows c.advance.new.self c.loop-judge.judge c.in-Some.judge c.take_row.new.self c.in_ok-advance.field-0 c.version.result c.setup.result.now c.in-Some-2.row c.number.result
+    c.in_ok-advance.ensures.takes (search rules) c.in_ok-advance.ensures.counted c.in-Some.is (search rules) (search rules) (sym c.in_ok-row.ensures ∙ c.in-Some-2.is)
+    c.number.ensures c.take_row.ensures.version c.take_row.ensures.judged (c.loop-judge.invariant known unread)
 
 pub loop-judge-preserved : goal.loop-judge-preserved
 loop-judge-preserved g c = λ known unread.

@@ -4,6 +4,7 @@ use Rattle.bully_base.proofs.SetupLemmas.{weighted-made}
 use Rattle.bully_base.specs.declared.TheConstants.{NODES_MAX, PARTITIONS_MAX, EVENTS_MAX}
 use Rattle.bully_table.specs.Numeral.{number_of}
 use Rattle.bully_trace.specs.Headers.{node_in, partitions_in, weights_in}
+use Rattle.bully_trace.specs.declared.header.Version.{Version}
 use Rattle.bully_trace.specs.Words.{keeps_named}
 use Rattle.bully_trace.proofs.HeaderLemmas.{made-told, told-within, weighted-told, weights-within}
 use Rattle.bully_trace.proofs.header.weighted_in.Goals as goal
@@ -14,8 +15,8 @@ returns c =
     let p = c.in_ok-partitions.partitions in
     let k = c.in_ok-keeps.keeps in
     let ws = c.read_weights.new.weights in
-    let at_n : node_in c.args.nodes.now ≡ Some n = (search rules) in
-    let at_p : partitions_in c.args.partitions.now ≡ Some p = (search rules) in
+    let at_n : node_in Version.Two c.args.nodes.now ≡ Some n = (search rules) in
+    let at_p : partitions_in Version.Two c.args.partitions.now ≡ Some p = (search rules) in
     let at_k : keeps_named c.args.keeps.now ≡ Some k = (search rules) in
     let at_w : weights_in n c.args.weights.now ≡ Some ws = (search rules) in
     let made = weighted-made c.weighted.result n p EVENTS_MAX ws c.weighted.ensures.bad_nodes c.weighted.ensures.bad_partitions c.weighted.ensures.bad_limit c.weighted.ensures.bad_weights

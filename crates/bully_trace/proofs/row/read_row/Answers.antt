@@ -8,16 +8,16 @@ pub returns-in-2 : goal.returns-in-2
 returns-in-2 c =
     let two = fields-two (fields_of c.args.fields.now) c.field.result.now c.field-in-2.result.now
     (search rules) c.field.ensures c.field-in-2.ensures in
-    subst (λ (fs : List (List ℕ)). c.event_row.result ≡ row_of c.args.setup.now fs) (sym two) (c.event_row.ensures c.args.setup.now)
+    subst (λ (fs : List (List ℕ)). c.event_row.result ≡ row_of c.args.version c.args.setup.now fs) (sym two) (c.event_row.ensures c.args.setup.now)
 
 pub returns-in-3 : goal.returns-in-3
 returns-in-3 c =
     let three = fields-three (fields_of c.args.fields.now) c.field-word.result.now c.field-in-3.result.now c.field-in-3-2.result.now
     (search rules) c.field-word.ensures c.field-in-3.ensures c.field-in-3-2.ensures in
-    subst (λ (fs : List (List ℕ)). IfOk c.plan_row.result (λ row. row ≡ row_of c.args.setup.now fs)) (sym three) c.plan_row.ensures
+    subst (λ (fs : List (List ℕ)). IfOk c.plan_row.result (λ row. row ≡ row_of c.args.version c.args.setup.now fs)) (sym three) c.plan_row.ensures
 
 pub returns-in-4 : goal.returns-in-4
 returns-in-4 c =
-    let four = fields-four (fields_of c.args.fields.now) c.field-word-in-4.result.now c.field-in-4.result.now c.field-in-4-2.result.now c.field-in-4-3.result.now
-    (search rules) c.field-word-in-4.ensures c.field-in-4.ensures c.field-in-4-2.ensures c.field-in-4-3.ensures in
-    subst (λ (fs : List (List ℕ)). c.claim_row.result ≡ row_of c.args.setup.now fs) (sym four) (c.claim_row.ensures c.args.setup.now)
+    let four = fields-four (fields_of c.args.fields.now) c.field-word-in-4.result.now c.field-node.result.now c.field-in-4.result.now c.field-in-4-2.result.now
+    (search rules) c.field-word-in-4.ensures c.field-node.ensures c.field-in-4.ensures c.field-in-4-2.ensures in
+    subst (λ (fs : List (List ℕ)). c.claim_row.result ≡ row_of c.args.version c.args.setup.now fs) (sym four) (c.claim_row.ensures c.args.setup.now)

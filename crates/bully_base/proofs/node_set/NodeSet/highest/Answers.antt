@@ -1,5 +1,5 @@
 use Rattle.std.proofs.Common.{◌∙◌, ◌≡◌, ◌+◌, ap}
-use Rattle.bully_base.specs.NodeSet.{highest_of, IsFallingBelow}
+use Rattle.bully_base.specs.NodeSet.{highest_of, number_of, IsFallingBelow}
 use Rattle.bully_base.specs.declared.TheConstants.{NODES_MAX}
 use Rattle.bully_base.proofs.NodeSetLemmas.{highest-largest}
 use Rattle.bully_base.proofs.WordLemmas.{members-falling}
@@ -7,8 +7,8 @@ use Rattle.bully_base.proofs.node_set.NodeSet.highest.Goals as goal
 
 pub returns : goal.returns
 returns c =
-    let same : c.highest_in.result ≡ highest_of c.args.self.now = c.highest_in.ensures ∙ ap highest_of c.self.view_is in
-    let falling : IsFallingBelow (NODES_MAX + 1) c.args.self.now = rw (← c.self.view_is) (members-falling c.self.inside.word NODES_MAX) in
+    let same : c.highest_among.result ≡ highest_of c.args.self.now = c.highest_among.ensures ∙ ap highest_of c.self.view_is in
+    let falling : IsFallingBelow (NODES_MAX + 1) c.args.self.now = rw (← c.self.view_is) (members-falling (number_of c.self.inside.words) NODES_MAX) in
     record {
       highest = same;
       falling = falling;

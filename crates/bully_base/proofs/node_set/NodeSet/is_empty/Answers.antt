@@ -1,9 +1,8 @@
-use Rattle.std.proofs.Common.{arith}
-use Rattle.std.proofs.lemmas.Bool.Decides.{nat_tests}
-use Rattle.bully_base.proofs.WordLemmas.{empty-step}
+use Rattle.std.proofs.Common.{◌≡◌, arith, is_none}
+use Rattle.bully_base.proofs.NodeSetLemmas.{lowest-empty}
 use Rattle.bully_base.proofs.node_set.NodeSet.is_empty.Goals as goal
 
 pub returns : goal.returns
 returns c =
-    let empty = empty-step c.self.inside.word c.args.self.now c.self.invariant c.self.view_is in
-    ((λ t. empty.0 (grind (arith, nat_tests, t))), (λ h. grind (arith, nat_tests, empty.1 h)))
+    let same : c.is_none.result ≡ is_none c.lowest.result = grind (arith, c.is_none.ensures) in
+    rw same (lowest-empty c.args.self.now c.lowest.result c.lowest.ensures.lowest)

@@ -1,14 +1,14 @@
-use Rattle.std.proofs.Common.{◌∙◌, ◌+◌, ap, refl}
-use Rattle.bully_base.specs.NodeSet.{lowest_of, IsFallingBelow}
+use Rattle.std.proofs.Common.{◌∙◌, ◌+◌, ap}
+use Rattle.bully_base.specs.NodeSet.{lowest_of, number_of, IsFallingBelow}
 use Rattle.bully_base.specs.declared.TheConstants.{NODES_MAX}
 use Rattle.bully_base.proofs.NodeSetLemmas.{lowest-least}
-use Rattle.bully_base.proofs.WordLemmas.{lowest-found, members-falling}
+use Rattle.bully_base.proofs.WordLemmas.{members-falling}
 use Rattle.bully_base.proofs.node_set.NodeSet.lowest.Goals as goal
 
 pub returns-clause-lowest : goal.returns-clause-lowest
-returns-clause-lowest c = lowest-found c.self.inside.word _ _ c.new.result c.self.invariant refl refl c.new.ensures ∙ ap lowest_of c.self.view_is
+returns-clause-lowest c = c.lowest_among.ensures ∙ ap lowest_of c.self.view_is
 
 pub returns-clause-least : goal.returns-clause-least
 returns-clause-least c =
-    let falling : IsFallingBelow (NODES_MAX + 1) c.args.self.now = rw (← c.self.view_is) (members-falling c.self.inside.word NODES_MAX) in
+    let falling : IsFallingBelow (NODES_MAX + 1) c.args.self.now = rw (← c.self.view_is) (members-falling (number_of c.self.inside.words) NODES_MAX) in
     rw (returns-clause-lowest c) (lowest-least c.args.self.now (NODES_MAX + 1) falling)

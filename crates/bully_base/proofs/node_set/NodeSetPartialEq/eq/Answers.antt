@@ -1,6 +1,5 @@
-use Rattle.std.proofs.Common.{arith}
-use Rattle.bully_base.specs.NodeSetLaws.{word_of-members_among}
+use Rattle.bully_base.proofs.RowLemmas.{same-step}
 use Rattle.bully_base.proofs.node_set.NodeSetPartialEq.eq.Goals as goal
 
 pub returns : goal.returns
-returns c = grind (arith, word_of-members_among)
+returns c = rw (← c.self.view_is, ← c.other.view_is) (same-step c.self.inside.words c.other.inside.words c.eq.result c.self.invariant c.other.invariant c.eq.ensures)
