@@ -1,4 +1,4 @@
--- From what `check` of bully_trace ensures to what the program answers.
+-- From what `check` and `upgrade` of bully_trace ensure to what the program answers.
 use Rattle.std.proofs.Common.{◌≡◌, ◌≢◌, ◌⊎◌, inl, inr, ℕ, Some, None, Ok, Err, refl, ap, arith}
 use Rattle.std.specs.Prelude.{IfSome, IsOk, IsTrue}
 use Rattle.std.specs.Io.KnownBytes.{Appends, Keeps}
@@ -6,11 +6,12 @@ use Rattle.bully_world.specs.World.{World}
 use Rattle.bully_trace.specs.declared.trace.TraceCause.{TraceCause}
 use Rattle.bully_trace.specs.declared.trace.TraceFault.{TraceFault}
 use Rattle.bully_trace.specs.declared.verdict.Verdict.{Verdict}
-use Rattle.bully_trace.specs.Rows.{records_of, trace_of, is_of_form}
-use Rattle.bully_trace.specs.Trace.{Trace}
+use Rattle.bully_trace.specs.Rows.{OfTrace, records_of, trace_of, is_of_form}
+use Rattle.bully_trace.specs.Trace.{Trace, upgraded}
+use Rattle.bully_trace.specs.TraceText.{trace_text}
 use Rattle.bully_trace.specs.Verdict.{IsVerdict}
 use Rattle.bully_trace.specs.VerdictText.{verdict_text}
-use Rattle.bully.specs.Answer.{KnownBytes, Tells, IsAnswer, verdict_status, stop_of, stop_line, row_line}
+use Rattle.bully.specs.Answer.{KnownBytes, Tells, IsAnswer, IsUntaken, IsUpgradeAnswer, verdict_status, stop_of, stop_line, row_line}
 use Rattle.bully.specs.declared.telling.Stop.{Stop}
 use Rattle.bully.proofs.KnownBytesLemmas.{appends-keeps, keeps-same}
 
@@ -25,23 +26,47 @@ judged-answer contents (Some bytes) verdict output written output' errors errors
 judged-answer contents (Some bytes) verdict output written output' errors errors' status (trace, w, is, judged, text) (inr (stopped, told)) =
     inr (inr (Stop.Write, (λ other. absurd (other refl)), (λ _. rw is refl), told, stopped))
 
+-- the text of the upgraded trace was appended, and then the output was flushed
+pub upgraded-answer : {E : Type 0} (contents : E → KnownBytes) (remaining : KnownBytes) (output written output' : KnownBytes) (errors errors' : E) (status : ℕ)
+    → OfTrace remaining (λ trace. Appends output written (trace_text (upgraded trace)))
+    → (((status ≡ 0) × Keeps written output' × (errors' ≡ errors)) ⊎ ((status ≡ 4) × Tells (contents errors) (contents errors') (stop_line Stop.Write)))
+    → IfSome remaining (λ bytes. IsUpgradeAnswer bytes output output' (contents errors) (contents errors') status)
+upgraded-answer contents None output written output' errors errors' status done finished = tt
+upgraded-answer contents (Some bytes) output written output' errors errors' status (trace, is, text) (inl (done, kept, same)) =
+    inl (trace, is, appends-keeps output written output' _ text kept, keeps-same _ _ (ap contents same), done)
+upgraded-answer contents (Some bytes) output written output' errors errors' status (trace, is, text) (inr (stopped, told)) =
+    inr (inr (Stop.Write, (λ other. absurd (other refl)), (λ _. rw is refl), told, stopped))
+
+-- where no trace is taken, none is judged and none is upgraded
+pub none-judged : (remaining : KnownBytes) (output output' errors errors' : KnownBytes) (status : ℕ)
+    → IfSome remaining (λ bytes. IsUntaken bytes output output' errors errors' status)
+    → IfSome remaining (λ bytes. IsAnswer bytes output output' errors errors' status)
+none-judged None output output' errors errors' status untaken = tt
+none-judged (Some bytes) output output' errors errors' status untaken = inr untaken
+
+pub none-upgraded : (remaining : KnownBytes) (output output' errors errors' : KnownBytes) (status : ℕ)
+    → IfSome remaining (λ bytes. IsUntaken bytes output output' errors errors' status)
+    → IfSome remaining (λ bytes. IsUpgradeAnswer bytes output output' errors errors' status)
+none-upgraded None output output' errors errors' status untaken = tt
+none-upgraded (Some bytes) output output' errors errors' status untaken = inr untaken
+
 -- the first faulty row was told, or there was no memory for its line
 form-case : (remaining : KnownBytes) (fault : TraceFault) (output output' errors errors' : KnownBytes) (status : ℕ)
     → IfSome remaining (λ bytes. trace_of (records_of bytes) ≡ Err fault)
     → Keeps output output'
     → (((status ≡ 3) × Tells errors errors' (row_line fault)) ⊎ ((status ≡ 4) × Tells errors errors' (stop_line Stop.OutOfMemory)))
-    → IfSome remaining (λ bytes. IsAnswer bytes output output' errors errors' status)
+    → IfSome remaining (λ bytes. IsUntaken bytes output output' errors errors' status)
 form-case None fault output output' errors errors' status read kept told = tt
-form-case (Some bytes) fault output output' errors errors' status read kept (inl (done, told)) = inr (inl (fault, read, kept, told, done))
-form-case (Some bytes) fault output output' errors errors' status read kept (inr (done, told)) = inr (inr (Stop.OutOfMemory, (λ _. kept), (λ e. absurd (grind (arith, e))), told, done))
+form-case (Some bytes) fault output output' errors errors' status read kept (inl (done, told)) = inl (fault, read, kept, told, done)
+form-case (Some bytes) fault output output' errors errors' status read kept (inr (done, told)) = inr (Stop.OutOfMemory, (λ _. kept), (λ e. absurd (grind (arith, e))), told, done)
 
 pub stop-case : (remaining : KnownBytes) (stop : Stop) (output output' errors errors' : KnownBytes) (status : ℕ)
     → (stop ≢ Stop.Write → Keeps output output')
     → (stop ≡ Stop.Write → IfSome remaining (λ bytes. IsOk (trace_of (records_of bytes))))
     → (status ≡ 4) × Tells errors errors' (stop_line stop)
-    → IfSome remaining (λ bytes. IsAnswer bytes output output' errors errors' status)
+    → IfSome remaining (λ bytes. IsUntaken bytes output output' errors errors' status)
 stop-case None stop output output' errors errors' status kept read told = tt
-stop-case (Some bytes) stop output output' errors errors' status kept read (done, told) = inr (inr (stop, kept, read, told, done))
+stop-case (Some bytes) stop output output' errors errors' status kept read (done, told) = inr (stop, kept, read, told, done)
 
 -- the trace is at fault, or something failed
 pub fault-answer : (cause : TraceCause) (remaining : KnownBytes) (fault : TraceFault) (output output' errors errors' : KnownBytes) (status : ℕ)
@@ -50,7 +75,7 @@ pub fault-answer : (cause : TraceCause) (remaining : KnownBytes) (fault : TraceF
     → (cause ≡ TraceCause.Write → IfSome remaining (λ bytes. IsOk (trace_of (records_of bytes))))
     → (stop_of cause ≡ None → ((status ≡ 3) × Tells errors errors' (row_line fault)) ⊎ ((status ≡ 4) × Tells errors errors' (stop_line Stop.OutOfMemory)))
     → ((stop : Stop) → stop_of cause ≡ Some stop → (status ≡ 4) × Tells errors errors' (stop_line stop))
-    → IfSome remaining (λ bytes. IsAnswer bytes output output' errors errors' status)
+    → IfSome remaining (λ bytes. IsUntaken bytes output output' errors errors' status)
 fault-answer TraceCause.BadHeader remaining fault output output' errors errors' status read kept whole form other =
     form-case remaining fault output output' errors errors' status (read refl) (kept (λ e. grind (arith, e))) (form refl)
 fault-answer TraceCause.BadRow remaining fault output output' errors errors' status read kept whole form other =

@@ -1,4 +1,4 @@
--- What the program answers to `check`: the status, and what then stands on the output and on the errors.
+-- What the program answers to `check` and to `upgrade`: the status, and what then stands on the output and on the errors.
 use Rattle.std.specs.Prelude.{◌≡◌, ◌≢◌, ◌⊎◌, ℕ, List, ◌++◌, Option, Some, None, Ok, Err, IsOk, codes, take}
 use Rattle.std.specs.Fmt.{decimal}
 use Rattle.std.specs.Io.KnownBytes.{Appends, Keeps}
@@ -8,7 +8,8 @@ use Rattle.bully_trace.specs.VerdictText.{trace_cause_text}
 use Rattle.bully_trace.specs.declared.trace.TraceFault.{TraceFault}
 use Rattle.bully_trace.specs.declared.verdict.Verdict.{Verdict}
 use Rattle.bully_trace.specs.Rows.{records_of, trace_of}
-use Rattle.bully_trace.specs.Trace.{Trace}
+use Rattle.bully_trace.specs.Trace.{Trace, upgraded}
+use Rattle.bully_trace.specs.TraceText.{trace_text}
 use Rattle.bully_trace.specs.Verdict.{IsVerdict}
 use Rattle.bully_trace.specs.VerdictText.{verdict_text}
 use Rattle.bully.specs.declared.telling.Stop.{Stop}
@@ -62,9 +63,26 @@ IsStopAnswer bytes output output' errors errors' status =
     (stop : Stop) × (stop ≢ Stop.Write → Keeps output output') × (stop ≡ Stop.Write → IsOk (trace_of (records_of bytes)))
     × Tells errors errors' (stop_line stop) × (status ≡ 4)
 
+-- no trace is taken from the input: a row of it is faulty, or something failed
+abbrev pub IsUntaken : List ℕ → KnownBytes → KnownBytes → KnownBytes → KnownBytes → ℕ → Type 0
+IsUntaken bytes output output' errors errors' status =
+    IsFaultAnswer bytes output output' errors errors' status
+    ⊎ IsStopAnswer bytes output output' errors errors' status
+
 -- the answer to `check` with these bytes on the input
 abbrev pub IsAnswer : List ℕ → KnownBytes → KnownBytes → KnownBytes → KnownBytes → ℕ → Type 0
 IsAnswer bytes output output' errors errors' status =
     IsJudgedAnswer bytes output output' errors errors' status
-    ⊎ IsFaultAnswer bytes output output' errors errors' status
-    ⊎ IsStopAnswer bytes output output' errors errors' status
+    ⊎ IsUntaken bytes output output' errors errors' status
+
+-- the input means a trace: the text of the upgraded one stands on the output
+abbrev pub IsUpgradedAnswer : List ℕ → KnownBytes → KnownBytes → KnownBytes → KnownBytes → ℕ → Type 0
+IsUpgradedAnswer bytes output output' errors errors' status =
+    (trace : Trace) × (trace_of (records_of bytes) ≡ Ok trace)
+    × Appends output output' (trace_text (upgraded trace)) × Keeps errors errors' × (status ≡ 0)
+
+-- the answer to `upgrade` with these bytes on the input
+abbrev pub IsUpgradeAnswer : List ℕ → KnownBytes → KnownBytes → KnownBytes → KnownBytes → ℕ → Type 0
+IsUpgradeAnswer bytes output output' errors errors' status =
+    IsUpgradedAnswer bytes output output' errors errors' status
+    ⊎ IsUntaken bytes output output' errors errors' status

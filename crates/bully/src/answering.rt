@@ -1,7 +1,7 @@
 ghost use Rattle.std.specs.Prelude.{◌≡◌, ◌≤◌, ◌⊎◌, ◌∷◌, ℕ, List, [], true, false, codes, map, IfSome};
 ghost use Rattle.clap.specs.Words.{kind_of};
-ghost use Rattle.bully_words.specs.Words.{checking, planning, playing, running, texts_of, ParsesAsCheck, ParsesAsPlay, ParsesAsRun, ParsesAsTable, is_help, is_mistake, asks_for_help};
-ghost use Rattle.bully.specs.Answer.{IsAnswer, Tells, stop_line};
+ghost use Rattle.bully_words.specs.Words.{checking, planning, playing, running, texts_of, upgrading, ParsesAsCheck, ParsesAsPlay, ParsesAsRun, ParsesAsTable, ParsesAsUpgrade, is_help, is_mistake, asks_for_help};
+ghost use Rattle.bully.specs.Answer.{IsAnswer, IsUpgradeAnswer, Tells, stop_line};
 ghost use Rattle.bully.specs.ConfigAnswer.{IsPlayAnswer, IsRunAnswer, IsTableAnswer};
 
 use crate::checking::answer_check;
@@ -9,6 +9,7 @@ use crate::playing::answer_play;
 use crate::running::answer_run;
 use crate::tables::answer_table;
 use crate::telling::{Stop, answer_stop, finish};
+use crate::upgrading::answer_upgrade;
 use bully_words::{Action, action_of};
 use clap::Error;
 use clap::error::ErrorKind;
@@ -20,8 +21,8 @@ use std::thread::Threads;
 
 /// Does what the words ask for, those after the program's name, and tells the status.
 ///
-/// 0: done, the trace is lawful, a group's trace or the table is written, or help was asked for and stands on the
-/// output. 1: an event of the trace is refused or a claim of it differs. 2: bad words, a member that is no name, or
+/// 0: done, the trace is lawful, an upgraded trace, a group's trace or the table is written, or help was asked for and
+/// stands on the output. 1: an event of the trace is refused or a claim of it differs. 2: bad words, a member that is no name, or
 /// owners that are no table; the message stands on `errors` and nothing on the output. 3: a fault of form in the trace
 /// or in the configuration; its line stands on `errors` and nothing on the output. 4: Read, Write, Spawn, Finish or
 /// OutOfMemory, which a line on `errors` tells. A line on `errors` that can't be written changes no status. The words
@@ -36,6 +37,7 @@ pub fn answer<
 >(rt: &H, words: &[S], input: R, output: &mut W, errors: &mut E) -> u8
     ensures check { map S.text words.now ≡ codes "check" ∷ [] → IfSome (R.remaining input) (λ bytes. IsAnswer bytes (W.contents output.old) (W.contents output.new) (E.contents errors.old) (E.contents errors.new) result) }
     ensures parsed { ParsesAsCheck (map S.text words.now) → IfSome (R.remaining input) (λ bytes. IsAnswer bytes (W.contents output.old) (W.contents output.new) (E.contents errors.old) (E.contents errors.new) result) }
+    ensures upgrade { ParsesAsUpgrade (map S.text words.now) → IfSome (R.remaining input) (λ bytes. IsUpgradeAnswer bytes (W.contents output.old) (W.contents output.new) (E.contents errors.old) (E.contents errors.new) result) }
     ensures play { (path : _) → ParsesAsPlay (map S.text words.now) path → (bytes : List ℕ) × IsPlayAnswer bytes (W.contents output.old) (W.contents output.new) (E.contents errors.old) (E.contents errors.new) result }
     ensures run { (path : _) → ParsesAsRun (map S.text words.now) path → (bytes : List ℕ) × IsRunAnswer bytes (W.contents output.old) (W.contents output.new) (E.contents errors.old) (E.contents errors.new) result }
     ensures table { (path : _) (members : _) (old : _) → ParsesAsTable (map S.text words.now) path members old → (bytes : List ℕ) × IsTableAnswer bytes members old (W.contents output.old) (W.contents output.new) (E.contents errors.old) (E.contents errors.new) result }
@@ -59,6 +61,7 @@ fn act<H: Files + AllocGlobal + Threads + Wait + Sync, R: Read + Drop, W: Write,
     errors: &mut E,
 ) -> u8
     ensures check { texts_of action.now ≡ checking → IfSome (R.remaining input) (λ bytes. IsAnswer bytes (W.contents output.old) (W.contents output.new) (E.contents errors.old) (E.contents errors.new) result) }
+    ensures upgrade { texts_of action.now ≡ upgrading → IfSome (R.remaining input) (λ bytes. IsUpgradeAnswer bytes (W.contents output.old) (W.contents output.new) (E.contents errors.old) (E.contents errors.new) result) }
     ensures play { (path : _) → texts_of action.now ≡ playing path → (bytes : List ℕ) × IsPlayAnswer bytes (W.contents output.old) (W.contents output.new) (E.contents errors.old) (E.contents errors.new) result }
     ensures run { (path : _) → texts_of action.now ≡ running path → (bytes : List ℕ) × IsRunAnswer bytes (W.contents output.old) (W.contents output.new) (E.contents errors.old) (E.contents errors.new) result }
     ensures table { (path : _) (members : _) (old : _) → texts_of action.now ≡ planning path members old → (bytes : List ℕ) × IsTableAnswer bytes members old (W.contents output.old) (W.contents output.new) (E.contents errors.old) (E.contents errors.new) result }
@@ -67,6 +70,7 @@ fn act<H: Files + AllocGlobal + Threads + Wait + Sync, R: Read + Drop, W: Write,
 {
     match action {
         Action::Check => answer_check(rt.alloc(), input, output, errors),
+        Action::Upgrade => answer_upgrade(rt.alloc(), input, output, errors),
         Action::Play(path) => answer_play(rt, path, output, errors),
         Action::Run(path) => answer_run(rt, path, output, errors),
         Action::Table(words) => answer_table(rt, words, output, errors),

@@ -1,4 +1,4 @@
-//! The program `bully`: it judges recorded traces, plays groups, runs them in threads, and plans tables.
+//! The program `bully`: it judges and upgrades recorded traces, plays groups, runs them in threads, and plans tables.
 //!
 //! It stands on bully_nodes, bully_trace, bully_config, bully_table, the crates below them, and bully_words. No crate
 //! stands on it; its callers rely on the statuses: 0 done, lawful or help asked for; 1 refused or differs; 2 bad words;
@@ -14,6 +14,7 @@ mod refusals;
 mod running;
 mod tables;
 mod telling;
+mod upgrading;
 
 use crate::answering::answer;
 use crate::telling::{Stop, answer_stop, answer_unread};

@@ -39,6 +39,10 @@ first_if false e = absurd (cc e)
 pub version_fits : (setup : Setup) → IsVersionFor (version_for setup) setup
 version_fits setup e = first_if (is_first setup) e
 
+-- version 2 goes with every setup
+pub two_fits : (setup : Setup) → IsVersionFor Version.Two setup
+two_fits setup one = absurd (cc one)
+
 -- numbers within the limits of version 1, and weights of 1
 numbers-first : (n p : Option ℕ) (setup : Setup) → ((i : ℕ) → n ≡ Some i → i ≤ FIRST_NODES_MAX) → ((k : ℕ) → p ≡ Some k → k ≤ FIRST_PARTITIONS_MAX)
     → option_and_then (λ i. option_map (λ k. even_setup i k EVENTS_MAX) p) n ≡ Some setup → is_first setup ≡ true

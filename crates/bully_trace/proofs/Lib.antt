@@ -6,3 +6,4 @@ pub mod TraceLemmas
 pub mod TextLemmas
 pub mod JudgeLemmas
 pub mod CheckLemmas
+pub mod UpgradeLemmas

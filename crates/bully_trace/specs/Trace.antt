@@ -18,3 +18,7 @@ headed header rows = record { version = header.version; setup = header.setup; ro
 -- the trace of this setup with these rows, in the first version that can tell the setup
 abbrev pub trace_for : Setup → List Row → Trace
 trace_for setup rows = record { version = version_for setup; setup = setup; rows = rows }
+
+-- the trace of version 2 with the same setup and the same rows
+abbrev pub upgraded : Trace → Trace
+upgraded trace = record { version = Version.Two; setup = trace.setup; rows = trace.rows }

@@ -1,11 +1,16 @@
-//! Traces as text, and the checker of traces.
+//! Traces as text, the checker of traces, and what upgrades them.
 //!
 //! It stands on bully_world, bully_agree, the crates below them and csv. The crates above rely on the verdict
-//! being that of the rows that the text means, and on the nodes agreeing after each row of a lawful trace.
+//! being that of the rows that the text means, on the nodes agreeing after each row of a lawful trace, and on an upgraded
+//! trace having the same setup and the same rows.
 #![tactic(auto)]
 
-ghost use Rattle.std.specs.Prelude.{◌≡◌};
+ghost use Rattle.std.specs.Prelude.{◌≡◌, ◌↔◌};
+ghost use Rattle.bully_trace.specs.Trace.{Trace as TraceState, upgraded};
+ghost use Rattle.bully_trace.specs.Verdict.{IsVerdict};
 ghost use Rattle.bully_trace.specs.declared.TheConstants.{ROWS_MAX, FIRST_NODES_MAX, FIRST_PARTITIONS_MAX};
+ghost use Rattle.bully_trace.specs.declared.verdict.Verdict.{Verdict as VerdictState};
+ghost use Rattle.bully_world.specs.World.{World};
 
 mod checking;
 mod header;
@@ -15,6 +20,7 @@ mod row;
 mod row_reader;
 mod text;
 mod trace;
+mod upgrading;
 mod verdict;
 mod words;
 mod writing;
@@ -23,6 +29,7 @@ pub use checking::check;
 pub use header::Version;
 pub use reading::read_trace;
 pub use trace::{Claim, Row, Rows, Trace, TraceCause, TraceFault};
+pub use upgrading::upgrade;
 pub use verdict::Verdict;
 pub use writing::write_trace;
 
@@ -40,4 +47,11 @@ pub fn limits()
     ensures rows { ROWS_MAX ≡ 1000000 }
     ensures first_nodes { FIRST_NODES_MAX ≡ 64 }
     ensures first_partitions { FIRST_PARTITIONS_MAX ≡ 256 }
+{}
+
+/// The law of upgraded traces. The verdict on one, and the world that its rows were taken to, are those of the trace that
+/// was upgraded.
+pub fn same_verdict()
+    ensures { (trace : TraceState) (verdict : VerdictState) (w : World)
+        → IsVerdict (upgraded trace) verdict w ↔ IsVerdict trace verdict w }
 {}

@@ -30,6 +30,9 @@ old_rule = record (new_rule (codes "old")) { long = Some (codes "old"); value_na
 abbrev pub check_app : App
 check_app = new_app (codes "check")
 
+abbrev pub upgrade_app : App
+upgrade_app = new_app (codes "upgrade")
+
 abbrev pub play_app : App
 play_app = with_rule (new_app (codes "play")) config_rule
 
@@ -41,7 +44,8 @@ table_app = with_rule (with_rule (with_rule (new_app (codes "table")) config_rul
 
 -- the program with all of its commands
 abbrev pub program : App
-program = with_subcommand (with_subcommand (with_subcommand (with_subcommand bare check_app.top) play_app.top) run_app.top) table_app.top
+program =
+    with_subcommand (with_subcommand (with_subcommand (with_subcommand (with_subcommand bare check_app.top) upgrade_app.top) play_app.top) run_app.top) table_app.top
 
 -- where the command was made, it reads words as this
 abbrev pub ReadsAs : App → Result Command AllocError → Type 0
@@ -55,10 +59,11 @@ IsLocalCommand app made = IfOk made (λ command. (app_of command ≡ app) × ((f
 abbrev pub command_named : List Text → Option Text
 command_named words = option_map (λ p. p.0) (subcommand_of program words)
 
--- what words ask for: to judge the input; to play the configuration at a path, or to run its node threads; or to plan
--- a table for the configuration at a path, members by name, and the owners in an old table
+-- what words ask for: to judge the input, or to upgrade it; to play the configuration at a path, or to run its node
+-- threads; or to plan a table for the configuration at a path, members by name, and the owners in an old table
 pub data Asked : Type 0 where
   checking : Asked
+  upgrading : Asked
   playing : Text → Asked
   running : Text → Asked
   planning : Text → List Text → Option Text → Asked
@@ -75,6 +80,7 @@ planning_in rows = planning_of (first_of (codes "CONFIG") rows) (all_of (codes "
 abbrev pub asked_by : Text → List Row → Option Asked
 asked_by name rows =
     if bytes_eq name (codes "check") then Some checking
+    else if bytes_eq name (codes "upgrade") then Some upgrading
     else if bytes_eq name (codes "play") then option_map playing (first_of (codes "CONFIG") rows)
     else if bytes_eq name (codes "run") then option_map running (first_of (codes "CONFIG") rows)
     else if bytes_eq name (codes "table") then planning_in rows
@@ -90,6 +96,7 @@ asked_for words = asked_in (subcommand_of program words)
 -- an action, with its texts
 abbrev pub texts_of : Action → Asked
 texts_of Action.Check = checking
+texts_of Action.Upgrade = upgrading
 texts_of (Action.Play path) = playing path.now
 texts_of (Action.Run path) = running path.now
 texts_of (Action.Table words) = planning words.config.now (map (λ s. s.now) words.members.items) (option_map (λ s. s.now) words.old)
@@ -97,6 +104,10 @@ texts_of (Action.Table words) = planning words.config.now (map (λ s. s.now) wor
 -- the words are good, and they are those of `check`
 abbrev pub ParsesAsCheck : List Text → Type 0
 ParsesAsCheck words = (takes program words ≡ true) × (command_named words ≡ Some (codes "check"))
+
+-- the words are good, and they are those of `upgrade`
+abbrev pub ParsesAsUpgrade : List Text → Type 0
+ParsesAsUpgrade words = (takes program words ≡ true) × (asked_for words ≡ Some upgrading)
 
 -- the words are good, and they are those of `play` with this CONFIG
 abbrev pub ParsesAsPlay : List Text → Text → Type 0

@@ -1,6 +1,6 @@
 ghost use Rattle.std.specs.Prelude.{◌≡◌, ◌≢◌, ◌⊎◌, [], codes, true, None, Some, map, option_map, IfOk, IfErr, IsErrAnd, MatchResult};
 ghost use Rattle.clap.specs.Words.{fault_of, first_of, found_of, kind_of, rows_of, subcommand_of, subcommand_rows_of, takes, FailsBy, HasKind};
-ghost use Rattle.bully_words.specs.Words.{asked_by, asked_for, asked_in, playing, planning, planning_in, program, running, texts_of, ParsesAsCheck, ParsesAsPlay, ParsesAsRun, ParsesAsTable};
+ghost use Rattle.bully_words.specs.Words.{asked_by, asked_for, asked_in, playing, planning, planning_in, program, running, texts_of, upgrading, ParsesAsCheck, ParsesAsPlay, ParsesAsRun, ParsesAsTable, ParsesAsUpgrade};
 
 use crate::command::command_line;
 use clap::error::ErrorKind;
@@ -13,6 +13,8 @@ use std::convert::AsStr;
 pub enum Action<'a> {
     /// Judge the trace on the input.
     Check,
+    /// Write the trace on the input as one of version 2.
+    Upgrade,
     /// Play the group of the configuration at this path.
     Play(&'a str),
     /// Run the group of the configuration at this path in threads.
@@ -35,6 +37,7 @@ pub struct TableWords<'a> {
 pub fn action_of<'a, S: AsStr>(alloc: Global, words: &'a [S]) -> Result<Action<'a>, Error>
     ensures asked { IfOk result (λ action. asked_for (map S.text words.now) ≡ Some (texts_of action)) }
     ensures check { ParsesAsCheck (map S.text words.now) → MatchResult result (λ action. action ≡ Action.Check) (λ error. kind_of error ≡ ErrorKind.OutOfMemory) }
+    ensures upgrade { ParsesAsUpgrade (map S.text words.now) → MatchResult result (λ action. texts_of action ≡ upgrading) (λ error. kind_of error ≡ ErrorKind.OutOfMemory) }
     ensures play { (path : _) → ParsesAsPlay (map S.text words.now) path → MatchResult result (λ action. texts_of action ≡ playing path) (λ error. kind_of error ≡ ErrorKind.OutOfMemory) }
     ensures run { (path : _) → ParsesAsRun (map S.text words.now) path → MatchResult result (λ action. texts_of action ≡ running path) (λ error. kind_of error ≡ ErrorKind.OutOfMemory) }
     ensures table { (path : _) (members : _) (old : _) → ParsesAsTable (map S.text words.now) path members old → MatchResult result (λ action. texts_of action ≡ planning path members old) (λ error. kind_of error ≡ ErrorKind.OutOfMemory) }
@@ -91,6 +94,7 @@ fn named<'a>(
 {
     match name {
         "check" => Ok(Some(Action::Check)),
+        "upgrade" => Ok(Some(Action::Upgrade)),
         "play" => Ok(config_path(found).map(Action::Play)),
         "run" => Ok(config_path(found).map(Action::Run)),
         "table" => table_words(alloc, found),

@@ -10,7 +10,11 @@ pub fn command_line<'a>(alloc: Global) -> Result<Command<'a>, AllocError>
     ensures { ReadsAs program result }
 {
     let check = Command::new(alloc, "check").about("Judges the trace on the standard input");
+    let upgrade = Command::new(alloc, "upgrade").about(
+        "Writes the trace on the standard input as one of version 2",
+    );
     let command = joined(bare_command(alloc), Ok(check), Command::subcommand);
+    let command = joined(command, Ok(upgrade), Command::subcommand);
     let command = joined(command, play_command(alloc), Command::subcommand);
     let command = joined(command, run_command(alloc), Command::subcommand);
     joined(command, table_command(alloc), Command::subcommand)

@@ -3,7 +3,7 @@ use Rattle.clap.specs.Words.{fault_of}
 use Rattle.bully_words.specs.Words.{ParsesAsCheck, program, texts_of}
 use Rattle.bully.specs.declared.telling.Stop.{Stop}
 use Rattle.bully.proofs.KnownBytesLemmas.{keeps-same}
-use Rattle.bully.proofs.AnswerLemmas.{stop-case}
+use Rattle.bully.proofs.AnswerLemmas.{none-judged, none-upgraded, stop-case}
 use Rattle.bully_words.proofs.WordsLemmas.{check-parses, mistake-kind, help-kind}
 use Rattle.bully.proofs.answering.answer.Goals as goal
 
@@ -15,12 +15,20 @@ some_stop (inr (stopped, told)) = inr (stopped, Stop.Write, told)
 pub returns-in-Err-clause-check : goal.returns-in-Err-clause-check
 returns-in-Err-clause-check g c = λ alone.
     let stopped = c.answer_words.ensures.memory (c.in-Err.ensures.check (subst ParsesAsCheck (sym alone) check-parses)) in
-    stop-case (g.R.Read.remaining c.args.input) Stop.OutOfMemory _ _ _ _ _ (λ _. keeps-same _ _ (ap g.W.Write.contents stopped.1)) (λ e. absurd (grind (arith, e))) (stopped.0, stopped.2)
+    none-judged (g.R.Read.remaining c.args.input) _ _ _ _ _
+    (stop-case (g.R.Read.remaining c.args.input) Stop.OutOfMemory _ _ _ _ _ (λ _. keeps-same _ _ (ap g.W.Write.contents stopped.1)) (λ e. absurd (grind (arith, e))) (stopped.0, stopped.2))
 
 pub returns-in-Err-clause-parsed : goal.returns-in-Err-clause-parsed
 returns-in-Err-clause-parsed g c = λ parses.
     let stopped = c.answer_words.ensures.memory (c.in-Err.ensures.check parses) in
-    stop-case (g.R.Read.remaining c.args.input) Stop.OutOfMemory _ _ _ _ _ (λ _. keeps-same _ _ (ap g.W.Write.contents stopped.1)) (λ e. absurd (grind (arith, e))) (stopped.0, stopped.2)
+    none-judged (g.R.Read.remaining c.args.input) _ _ _ _ _
+    (stop-case (g.R.Read.remaining c.args.input) Stop.OutOfMemory _ _ _ _ _ (λ _. keeps-same _ _ (ap g.W.Write.contents stopped.1)) (λ e. absurd (grind (arith, e))) (stopped.0, stopped.2))
+
+pub returns-in-Err-clause-upgrade : goal.returns-in-Err-clause-upgrade
+returns-in-Err-clause-upgrade g c = λ parses.
+    let stopped = c.answer_words.ensures.memory (c.in-Err.ensures.upgrade parses) in
+    none-upgraded (g.R.Read.remaining c.args.input) _ _ _ _ _
+    (stop-case (g.R.Read.remaining c.args.input) Stop.OutOfMemory _ _ _ _ _ (λ _. keeps-same _ _ (ap g.W.Write.contents stopped.1)) (λ e. absurd (grind (arith, e))) (stopped.0, stopped.2))
 
 pub returns-in-Err-clause-mistake : goal.returns-in-Err-clause-mistake
 returns-in-Err-clause-mistake g c = λ mistake.

@@ -1,6 +1,6 @@
 use Rattle.std.proofs.Common.{ap}
 use Rattle.bully.proofs.KnownBytesLemmas.{keeps-same}
-use Rattle.bully.proofs.AnswerLemmas.{judged-answer, fault-answer}
+use Rattle.bully.proofs.AnswerLemmas.{judged-answer, fault-answer, none-judged}
 use Rattle.bully.proofs.checking.answer_check.Goals as goal
 
 pub returns-in-Ok-clause-answer : goal.returns-in-Ok-clause-answer
@@ -9,5 +9,6 @@ returns-in-Ok-clause-answer g c =
 
 pub returns-in-Err-clause-answer : goal.returns-in-Err-clause-answer
 returns-in-Err-clause-answer g c =
-    fault-answer c.in-Err.fault.cause (g.R.Read.remaining c.args.input) c.in-Err.fault _ _ _ _ _ c.in-Err.ensures.fault
-    (λ silent. keeps-same _ _ (ap g.W.Write.contents (c.in-Err.ensures.silent silent))) c.in-Err.ensures.read c.answer_fault.ensures.form c.answer_fault.ensures.other
+    none-judged (g.R.Read.remaining c.args.input) _ _ _ _ _
+    (fault-answer c.in-Err.fault.cause (g.R.Read.remaining c.args.input) c.in-Err.fault _ _ _ _ _ c.in-Err.ensures.fault
+    (λ silent. keeps-same _ _ (ap g.W.Write.contents (c.in-Err.ensures.silent silent))) c.in-Err.ensures.read c.answer_fault.ensures.form c.answer_fault.ensures.other)

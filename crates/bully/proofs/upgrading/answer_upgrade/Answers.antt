@@ -1,0 +1,14 @@
+use Rattle.std.proofs.Common.{ap}
+use Rattle.bully.proofs.KnownBytesLemmas.{keeps-same}
+use Rattle.bully.proofs.AnswerLemmas.{fault-answer, none-upgraded, upgraded-answer}
+use Rattle.bully.proofs.upgrading.answer_upgrade.Goals as goal
+
+pub returns-in-Ok-clause-answer : goal.returns-in-Ok-clause-answer
+returns-in-Ok-clause-answer g c =
+    upgraded-answer g.E.Write.contents (g.R.Read.remaining c.args.input) _ _ _ _ _ c.finish.result c.in-Ok.ensures.written c.finish.ensures
+
+pub returns-in-Err-clause-answer : goal.returns-in-Err-clause-answer
+returns-in-Err-clause-answer g c =
+    none-upgraded (g.R.Read.remaining c.args.input) _ _ _ _ _
+    (fault-answer c.in-Err.fault.cause (g.R.Read.remaining c.args.input) c.in-Err.fault _ _ _ _ _ c.in-Err.ensures.fault
+    (λ silent. keeps-same _ _ (ap g.W.Write.contents (c.in-Err.ensures.silent silent))) c.in-Err.ensures.read c.answer_fault.ensures.form c.answer_fault.ensures.other)
