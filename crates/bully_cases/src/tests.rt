@@ -24,13 +24,14 @@ fn node(rt: &impl Abort, number: u16) -> Node {
 }
 
 /// The numbers of two nodes, and whether a group of three nodes has both.
-const MEMBERS: [(u16, u16, bool); 6] = [
+const MEMBERS: [(u16, u16, bool); 7] = [
     (1, 2, true),
     (3, 3, true),
     (1, 3, true),
     (3, 4, false),
     (4, 4, false),
     (1, 64, false),
+    (3, 1024, false),
 ];
 
 // Whether the group has both nodes, if there are such.
@@ -71,10 +72,13 @@ fn bounded(setup: &Setup, events_max: u32) -> Setup {
 }
 
 /// The numbers of a setup, and why it is refused.
-const SETUPS: [(u16, u16, u32, Option<SetupFault>); 6] = [
+const SETUPS: [(u16, u16, u32, Option<SetupFault>); 9] = [
     (64, 256, 1_000_000, None),
-    (65, 0, 0, Some(SetupFault::BadNodes)),
-    (1, 257, 1, Some(SetupFault::BadPartitions)),
+    (1024, 4096, 1_000_000, None),
+    (65, 0, 0, Some(SetupFault::BadPartitions)),
+    (1025, 0, 0, Some(SetupFault::BadNodes)),
+    (1, 257, 1, None),
+    (1, 4097, 1, Some(SetupFault::BadPartitions)),
     (1, 1, 0, Some(SetupFault::BadLimit)),
     (0, 1, 1, Some(SetupFault::BadNodes)),
     (1, 1, 1_000_001, Some(SetupFault::BadLimit)),
@@ -92,7 +96,7 @@ fn setup_ranges(rt: HostRuntime) {
 }
 
 /// The numbers and the weights of a setup, and why it is refused.
-const WEIGHTED: [(u16, u16, u32, &[u16], Option<SetupFault>); 15] = [
+const WEIGHTED: [(u16, u16, u32, &[u16], Option<SetupFault>); 16] = [
     (1, 1, 1, &[1000], None),
     (1, 1, 1, &[1001], Some(SetupFault::BadWeights)),
     (1, 1, 1, &[0], Some(SetupFault::BadWeights)),
@@ -101,12 +105,13 @@ const WEIGHTED: [(u16, u16, u32, &[u16], Option<SetupFault>); 15] = [
     (2, 2, 2, &[1, 0], Some(SetupFault::BadWeights)),
     (2, 2, 2, &[1, 1, 1], Some(SetupFault::BadWeights)),
     (1, 1, 1, &[], Some(SetupFault::BadWeights)),
-    (3, 256, 1_000_000, &[1, 1000, 1], None),
+    (3, 4096, 1_000_000, &[1, 1000, 1], None),
     (64, 1, 1, &[7; 64], None),
     (64, 1, 1, &[7; 65], Some(SetupFault::BadWeights)),
-    (65, 0, 0, &[0], Some(SetupFault::BadNodes)),
+    (1024, 1, 1, &[7; 1024], None),
+    (1025, 0, 0, &[0], Some(SetupFault::BadNodes)),
     (0, 0, 0, &[], Some(SetupFault::BadNodes)),
-    (1, 257, 0, &[0], Some(SetupFault::BadPartitions)),
+    (1, 4097, 0, &[0], Some(SetupFault::BadPartitions)),
     (1, 1, 0, &[0], Some(SetupFault::BadLimit)),
 ];
 

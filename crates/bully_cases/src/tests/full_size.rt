@@ -1,4 +1,4 @@
-//! Each value that reserves memory is made for the largest group, 64 nodes with 256 partitions, and used once:
+//! Each value that reserves memory is made for the largest group, 1,024 nodes with 4,096 partitions, and used once:
 //! where there is memory, none of them is refused.
 
 ghost use Rattle.std.specs.Prelude.{◌≡◌, ◌≤◌, All, IfSome, length};
@@ -16,9 +16,9 @@ use bully_world::{Event, World};
 use std::alloc::Global;
 use std::process::Abort;
 
-const NODES: u16 = 64;
+const NODES: u16 = 1024;
 
-const PARTITIONS: u16 = 256;
+const PARTITIONS: u16 = 4096;
 
 fn largest(rt: &impl Abort) -> Setup {
     setup(rt, NODES, PARTITIONS, 1_000)
@@ -26,10 +26,10 @@ fn largest(rt: &impl Abort) -> Setup {
 
 // The same, with the largest weights.
 fn heaviest(rt: &impl Abort) -> Setup {
-    Setup::weighted(NODES, PARTITIONS, 1_000, &[1_000; 64], true).expect(rt, "a setup")
+    Setup::weighted(NODES, PARTITIONS, 1_000, &[1_000; 1024], true).expect(rt, "a setup")
 }
 
-// Adds the text of the table in which each node in turn owns four partitions: 1 1 1 1 2 2 2 2, and so on to 64.
+// Adds the text of the table in which each node in turn owns four partitions: 1 1 1 1 2 2 2 2, and so on to the last node.
 fn add_fours(text: &mut String) -> Result<(), OutOfMemory> {
     text.push_str("1")?;
     for place in 1..PARTITIONS {
@@ -54,11 +54,11 @@ fn table_of_fours(alloc: Global, group: Setup) -> Option<Table>
 
 // Whether the table has four partitions for each node.
 fn is_of_fours(table: &Table) -> bool {
-    table.len() == 256
+    table.len() == 4096
         && owner_in(table, 2) == Some(1)
         && owner_in(table, 3) == Some(1)
         && owner_in(table, 4) == Some(2)
-        && owner_in(table, 255) == Some(64)
+        && owner_in(table, 4095) == Some(1024)
 }
 
 // Whether the table's copy is the same.
@@ -163,19 +163,19 @@ fn is_planned(alloc: Global, group: Setup, table: &Table) -> bool {
     if table.len() != usize::from(group.partitions()) || !group.has_all(&members) {
         return false;
     }
-    members.len() == 64
+    members.len() == 1024
         && table.is_balanced(group, &members)
-        && plans(alloc, group, &members, None, table, (256, 0))
-        && plans(alloc, group, &members, Some(table), table, (0, 256))
+        && plans(alloc, group, &members, None, table, (4096, 0))
+        && plans(alloc, group, &members, Some(table), table, (0, 4096))
 }
 
-// Whether the node prepares from this table, for itself alone, the one in which node 64 owns each partition.
+// Whether the node prepares from this table, for itself alone, the one in which the last node owns each partition.
 fn is_prepared_from(alloc: Global, group: Setup, last: Node, table: &Table) -> bool
     requires last { last ≤ group.nodes }
     requires covers { length table.now ≡ group.partitions }
 {
     let alone = NodeSet::new();
-    let owners = [64u16; 256];
+    let owners = [1024u16; 4096];
     let procedure = Procedure::at(group, last, 0, Point::Planning, &alone, None, false);
     let mut in_place = Procedure::at(group, last, 0, Point::Planning, &alone, None, false);
     prepares(alloc, procedure, table, &owners)
@@ -184,14 +184,14 @@ fn is_prepared_from(alloc: Global, group: Setup, last: Node, table: &Table) -> b
 
 #[test]
 fn tables(rt: HostRuntime) {
-    let (group, last) = (largest(&rt), node(&rt, 64));
+    let (group, last) = (largest(&rt), node(&rt, NODES));
     assert!(rt; last.number() <= group.nodes());
     match table_of_fours(rt.alloc(), group) {
         Some(table) => {
             assert!(rt; is_of_fours(&table));
             assert!(rt; is_copied(&table));
             assert!(rt; is_kept_in_room(rt.alloc(), group, &table));
-            assert!(rt; is_kept_in_slot(rt.alloc(), group, last, node(&rt, 63), &table));
+            assert!(rt; is_kept_in_slot(rt.alloc(), group, last, node(&rt, 1023), &table));
             assert!(rt; is_kept_in_vector(rt.alloc(), group, &table));
             assert!(rt; is_planned(rt.alloc(), group, &table));
             assert!(rt; is_planned(rt.alloc(), heaviest(&rt), &table));
@@ -201,11 +201,11 @@ fn tables(rt: HostRuntime) {
     }
 }
 
-// Whether it shows one event, after which the last of 64 nodes elects.
+// Whether it shows one event, after which the last of 1,024 nodes elects.
 fn is_recovered(shown: &View, last: Node) -> bool {
     last.number() <= shown.nodes()
         && shown.status(last) == Status::Election
-        && (shown.nodes(), shown.events()) == (64, 1)
+        && (shown.nodes(), shown.events()) == (1024, 1)
 }
 
 // Whether a view of the world shows that.
@@ -237,7 +237,7 @@ fn run_recovers(alloc: Global, group: Setup, events: &[Event], last: Node) -> bo
 
 #[test]
 fn worlds_and_runs(rt: HostRuntime) {
-    let (group, last) = (largest(&rt), node(&rt, 64));
+    let (group, last) = (largest(&rt), node(&rt, NODES));
     let events = [Event::Recover(last)];
     assert!(rt; world_recovers(rt.alloc(), group, &events[0], last));
     assert!(rt; run_recovers(rt.alloc(), group, &events, last));

@@ -103,7 +103,7 @@ const SCRIPTS: [(&str, usize, &str, &str); 22] = [
 ];
 
 /// A trace, and what the checker writes.
-const TRACES: [(&str, &str); 48] = [
+const TRACES: [(&str, &str); 54] = [
     ("bully,1,2,1\n", "lawful 0\n1 down - - -\n2 down - - -\n"),
     ("bully,1,1,1\nrecover,1\nrecover,1\n", "refused 3 IsUp\n"),
     // headers
@@ -131,7 +131,9 @@ const TRACES: [(&str, &str); 48] = [
     ("bully,2,1,1,1\n", "fault 1 BadHeader"),
     ("bully,1,1,1,1,clear\n", "fault 1 BadHeader"),
     ("bully,2,0,1,,keep\n", "fault 1 BadHeader"),
-    ("bully,2,1,257,1,keep\n", "fault 1 BadHeader"),
+    ("bully,2,1,257,1,keep\n", "lawful 0\n1 down - - -\n"),
+    ("bully,2,1,4096,1,clear\n", "lawful 0\n1 down - - -\n"),
+    ("bully,2,1,4097,1,clear\n", "fault 1 BadHeader"),
     // rows
     ("bully,1,2,2\nrecover,01\n", "fault 2 BadRow"),
     ("bully,1,2,2\nrecover,0\n", "fault 2 BadRow"),
@@ -147,6 +149,11 @@ const TRACES: [(&str, &str); 48] = [
     ("bully,1,2,2\nrecover,3\n", "refused 2 BadNode\n"),
     ("bully,1,2,2\nsaw,3,down,-\n", "differs 2\n"),
     ("bully,1,2,2\nsaw,2,down,64\n", "differs 2\n"),
+    // nodes beyond version 1
+    ("bully,2,2,1,1 1,clear\nrecover,1024\n", "refused 2 BadNode\n"),
+    ("bully,2,2,1,1 1,clear\nrecover,1025\n", "fault 2 BadRow"),
+    ("bully,2,2,1,1 1,clear\nsaw,2,down,1024\n", "differs 2\n"),
+    ("bully,1,2,2\nsaw,2,down,65\n", "fault 2 BadRow"),
     (
         "bully,1,2,2\nsaw,2,down,-\n",
         "lawful 0\n1 down - - -\n2 down - - -\n",
@@ -227,6 +234,27 @@ fn scripts(rt: HostRuntime) {
             "{expected}"
         );
     }
+}
+
+// The header of a trace of 65 nodes and 257 partitions, which version 2 alone can tell.
+fn large_header(alloc: Global) -> Result<String, Fail> {
+    let mut text = String::from_str(alloc, "bully,2,65,257,1")?;
+    for _ in 1..65 {
+        text.push_str(" 1")?;
+    }
+    text.push_str(",clear\n")?;
+    Ok(text)
+}
+
+#[test]
+fn a_header_beyond_version_1(rt: HostRuntime) -> Result<(), Fail> {
+    let mut expected = String::from_str(rt.alloc(), "lawful 0\n")?;
+    for number in 1..=65 {
+        writeln!(expected, "{number} down - - -")?;
+    }
+    let trace = large_header(rt.alloc())?;
+    assert!(rt; tells(rt.alloc(), trace.as_bytes(), expected.as_str()));
+    Ok(())
 }
 
 #[test]

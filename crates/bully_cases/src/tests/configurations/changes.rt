@@ -41,8 +41,9 @@ pub const READ: [(&str, &str); 3] = [
 
 /// Lines that are written anew, each as `PLACE LINE` with semicolons between them, and the answer: of two or three faults
 /// at once the first in the written order.
-pub const CHANGES: [(&str, &str); 164] = [
-    ("1 partitions = 256", "Ok"),
+pub const CHANGES: [(&str, &str); 167] = [
+    ("1 partitions = 257", "Ok"),
+    ("1 partitions = 4096", "Ok"),
     ("2 events = 1000000", "Ok"),
     ("4 names = [\"a\", \"\\u0061\", \"c\"]", "DoubleName"),
     ("0 \"nodes\" = 3", "Ok"),
@@ -100,12 +101,14 @@ pub const CHANGES: [(&str, &str); 164] = [
     ("11 node = [\"c\"]", "Kind node"),
     ("12 kind = {}", "Kind kind"),
     ("0 nodes = 0", "Range nodes"),
-    ("0 nodes = 65", "Range nodes"),
+    ("0 nodes = 65", "Range names"),
+    ("0 nodes = 1024", "Range names"),
+    ("0 nodes = 1025", "Range nodes"),
     ("0 nodes = -1", "Range nodes"),
     ("0 nodes = 65539", "Range nodes"),
     ("0 nodes = 4294967299", "Range nodes"),
     ("1 partitions = 0", "Range partitions"),
-    ("1 partitions = 257", "Range partitions"),
+    ("1 partitions = 4097", "Range partitions"),
     ("2 events = 0", "Range events"),
     ("2 events = 1000001", "Range events"),
     ("3 turns = 0", "Range turns"),
@@ -170,7 +173,7 @@ pub const CHANGES: [(&str, &str); 164] = [
     ("6 at = \"1\";4 names = [1]", "Kind names"),
     ("8 kind = 1;10 at = \"9\"", "Kind kind"),
     ("7 node = 1;6 at = \"1\"", "Kind at"),
-    ("0 nodes = 65;6 at = \"1\"", "Kind at"),
+    ("0 nodes = 1025;6 at = \"1\"", "Kind at"),
     (
         "0 nodes = 0;2 events = 1.5;4 names = [\"a\", \"c\", \"c\"]",
         "Kind events",
@@ -184,7 +187,7 @@ pub const CHANGES: [(&str, &str); 164] = [
     ("3 turns = 9\nperiod = 0;4 names = []", "Range period"),
     ("3 turns = 9\nperiod = 1;0 nodes = 3\nx = 1", "Range period"),
     ("6 at = 0;4 names = [\"a\", \"\", \"c\"]", "Range names"),
-    ("4 names = [\"a\"];0 nodes = 65", "Range nodes"),
+    ("4 names = [\"a\"];0 nodes = 1025", "Range nodes"),
     ("8 kind = \"stop\";10 at = 0", "Range kind"),
     ("7 node = \"d\";8 kind = \"stop\";6 at = 0", "Range at"),
     ("8 kind = \"stop\";7 node = \"d\"", "Range node"),
@@ -194,7 +197,7 @@ pub const CHANGES: [(&str, &str); 164] = [
         "Range node",
     ),
     (
-        "4 names = [\"a\", \"c\", \"c\"];1 partitions = 257",
+        "4 names = [\"a\", \"c\", \"c\"];1 partitions = 4097",
         "Range partitions",
     ),
     ("0 nodes = 3\nx = 1;12 kind = \"stop\"", "Range kind"),
@@ -215,7 +218,7 @@ pub const CHANGES: [(&str, &str); 164] = [
     ("0 nodes = 3\nweights = [0];6 at = \"1\"", "Kind at"),
     ("0 nodes = 3\nweights = [0, 1];12 kind = 1", "Kind kind"),
     ("0 nodes = 3\nweights = [0, true, 1]", "Kind weights"),
-    ("0 nodes = 65\nweights = [0]", "Range nodes"),
+    ("0 nodes = 1025\nweights = [0]", "Range nodes"),
     ("0 nodes = 3\nweights = [0];4 names = []", "Range names"),
     (
         "0 nodes = 3\nweights = [0];3 turns = 9\nperiod = 1",

@@ -241,53 +241,53 @@ pub fn rests_in_order(alloc: Global, code: u32) -> Option<bool> {
     }
 }
 
-/// The largest group, in which node 64 recovers. The other nodes stay down.
-const NODE_64: Group = Group {
-    nodes: 64,
-    partitions: 256,
-    events: 1_000,
-    turns: 195,
+/// The largest group, in which node 1,024 recovers. The other nodes stay down.
+const NODE_1024: Group = Group {
+    nodes: 1024,
+    partitions: 4096,
+    events: 10_000,
+    turns: 3_075,
     period: 16,
     more: "",
-    faults: &[(1, 64, "recover")],
+    faults: &[(1, 1024, "recover")],
 };
 
-// Adds what the checker writes of a trace in which node 64 comes to lead itself alone.
-fn add_led_by_64(text: &mut String) -> Result<(), OutOfMemory> {
-    writeln!(text, "lawful 195")?;
-    for number in 1..64u16 {
+// Adds what the checker writes of a trace in which node 1,024 comes to lead itself alone.
+fn add_led_by_1024(text: &mut String) -> Result<(), OutOfMemory> {
+    writeln!(text, "lawful 3075")?;
+    for number in 1..1024u16 {
         writeln!(text, "{number} down - - -")?;
     }
-    text.push_str("64 normal 64 64 64")?;
-    for _ in 1..256u16 {
-        text.push_str(",64")?;
+    text.push_str("1024 normal 1024 1024 1024")?;
+    for _ in 1..4096u16 {
+        text.push_str(",1024")?;
     }
     text.push_str("\n")
 }
 
-/// Whether the largest configuration is read, and what is played of it leads to node 64. It takes six events alone; for
+/// Whether the largest configuration is read, and what is played of it leads to node 1,024. It takes six events alone; for
 /// each lower node that is down a call is started, lost and returned.
 pub fn largest_plays(alloc: Global) -> bool {
-    match NODE_64.config(alloc) {
-        Some(config) => is_largest(&config) && leads_to_64(alloc, &config),
+    match NODE_1024.config(alloc) {
+        Some(config) => is_largest(&config) && leads_to_1024(alloc, &config),
         None => false,
     }
 }
 
 fn is_largest(config: &Config) -> bool {
-    let is_named = match config.node("64") {
-        Some(node) => node.number() == 64,
+    let is_named = match config.node("1024") {
+        Some(node) => node.number() == 1024,
         None => false,
     };
-    is_named && config.setup().nodes() == 64 && config.faults().len() == 1
+    is_named && config.setup().nodes() == 1024 && config.faults().len() == 1
 }
 
-fn leads_to_64(alloc: Global, config: &Config) -> bool {
+fn leads_to_1024(alloc: Global, config: &Config) -> bool {
     let mut expected = String::new(alloc);
-    let is_added = add_led_by_64(&mut expected).is_ok();
+    let is_added = add_led_by_1024(&mut expected).is_ok();
     match judged(alloc, config) {
         Some((verdict, told)) => {
-            is_added && verdict == Verdict::Lawful(195) && told.as_str() == expected.as_str()
+            is_added && verdict == Verdict::Lawful(3075) && told.as_str() == expected.as_str()
         }
         None => false,
     }
