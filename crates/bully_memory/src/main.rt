@@ -70,6 +70,8 @@ write_trace
 write_trace/2
 check
 check/2
+upgrade
+upgrade/2
 Config::read
 play
 write_history
@@ -125,7 +127,7 @@ enum Kind {
 }
 
 // Each call that isn't one on a group that nobody watches.
-const KINDS: [(&str, Kind); 36] = [
+const KINDS: [(&str, Kind); 38] = [
     ("Setup::weighted", Kind::Table),
     ("Table::read", Kind::Table),
     ("Table::read_in", Kind::Table),
@@ -158,6 +160,8 @@ const KINDS: [(&str, Kind); 36] = [
     ("write_trace/2", Kind::Text),
     ("check", Kind::Text),
     ("check/2", Kind::Text),
+    ("upgrade", Kind::Text),
+    ("upgrade/2", Kind::Text),
     ("Config::read", Kind::Text),
     ("play", Kind::Text),
     ("action_of", Kind::Text),

@@ -2,7 +2,7 @@ use crate::trying::{Outcome, Trial, ended, text_of, with};
 use crate::worlds::ELECTION;
 use bully_config::Config;
 use bully_play::play;
-use bully_trace::{check, read_trace, write_trace};
+use bully_trace::{check, read_trace, upgrade, write_trace};
 use bully_words::{Action, action_of};
 use clap::error::ErrorKind;
 use std::alloc::Global;
@@ -73,6 +73,8 @@ fn trace_call<R: Print>(trial: &Trial<R>, name: &str) -> Option<Outcome> {
         "write_trace/2" => write_call(trial, KEPT),
         "check" => check_call(trial, ELECTION),
         "check/2" => check_call(trial, KEPT),
+        "upgrade" => upgrade_call(trial, ELECTION),
+        "upgrade/2" => upgrade_call(trial, KEPT),
         _ => None,
     }
 }
@@ -95,6 +97,13 @@ fn check_call<R: Print>(trial: &Trial<R>, text: &str) -> Option<Outcome> {
     let mut output = output(trial.alloc)?;
     trial.begin();
     let answer = check(trial.alloc, text.as_bytes(), &mut output);
+    trial.written(&answer, OF_TRACE, output.as_slice())
+}
+
+fn upgrade_call<R: Print>(trial: &Trial<R>, text: &str) -> Option<Outcome> {
+    let mut output = output(trial.alloc)?;
+    trial.begin();
+    let answer = upgrade(trial.alloc, text.as_bytes(), &mut output);
     trial.written(&answer, OF_TRACE, output.as_slice())
 }
 

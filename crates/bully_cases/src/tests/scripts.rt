@@ -4,6 +4,10 @@
 pub const ALONE: &str = "\
 bully,1,1,2\nrecover,1\nmove,1\nmove,1\nmove,1\nplan,1,1 1\nmove,1\n";
 
+/// The same in version 2.
+pub const ALONE_UPGRADED: &str = "\
+bully,2,1,2,1,clear\nrecover,1\nmove,1\nmove,1\nmove,1\nplan,1,1 1\nmove,1\n";
+
 /// The same in a group that keeps tasks, and then the node crashes.
 pub const KEPT: &str = "\
 bully,2,1,2,1,keep\nrecover,1\nmove,1\nmove,1\nmove,1\nplan,1,1 1\nmove,1\ncrash,1\n";

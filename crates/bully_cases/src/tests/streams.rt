@@ -4,7 +4,7 @@ ghost use Rattle.std.specs.Prelude.{◌<◌};
 
 use super::scripts::{ALONE, OTHERS_DOWN};
 use super::traces::changed;
-use bully_trace::{TraceCause, TraceFault, check, read_trace};
+use bully_trace::{TraceCause, TraceFault, check, read_trace, upgrade};
 use std::alloc::Global;
 use std::io;
 use std::io::{ErrorKind, Read};
@@ -22,13 +22,16 @@ impl Read for Broken {
 /// How many rows are read, and the row at which the read failed.
 const READS: [(usize, u32); 6] = [(0, 1), (1, 2), (2, 3), (3, 4), (12, 13), (13, 14)];
 
-// Whether the text behind which the reader fails is neither judged nor read, for that at this row, and nothing is written.
+// Whether the text behind which the reader fails is neither judged nor read nor upgraded, for that at this row, and nothing
+// is written.
 fn fails_at(alloc: Global, text: &str, row: u32) -> bool {
     let cause = TraceCause::Read;
     let mut output = Vec::new(alloc);
     let judged = check(alloc, text.as_bytes().chain(Broken), &mut output);
     let read = read_trace(alloc, text.as_bytes().chain(Broken));
+    let upgraded = upgrade(alloc, text.as_bytes().chain(Broken), &mut output);
     judged == Err(TraceFault { row, cause })
+        && upgraded == Err(TraceFault { row, cause })
         && read.err() == Some(TraceFault { row, cause })
         && output.is_empty()
 }
@@ -63,5 +66,25 @@ fn is_cut_off(alloc: Global, room: usize) -> bool
 fn failed_write(rt: HostRuntime) {
     for room in 0..26 {
         assert!(rt; is_cut_off(rt.alloc(), room), "with room for {room}");
+    }
+}
+
+#[test]
+fn failed_write_of_an_upgrade(rt: HostRuntime) {
+    let text = "bully,2,1,2,1,clear\nrecover,1\nmove,1\nmove,1\nmove,1\nplan,1,1 1\nmove,1\n";
+    let newer = text.as_bytes();
+    for room in 0..69 {
+        let mut taken = [0u8; 69];
+        // (a slice takes as many bytes as it has)
+        let mut narrow = &mut taken[..room];
+        assert_eq!(rt;
+            upgrade(rt.alloc(), ALONE.as_bytes(), &mut narrow),
+            Err(TraceFault {
+                row: 0,
+                cause: TraceCause::Write
+            }),
+            "with room for {room}"
+        );
+        assert_eq!(rt; &taken[..room], &newer[..room]);
     }
 }

@@ -1,11 +1,11 @@
-//! What the checker writes of traces, and why it judges none.
+//! What the checker and an upgrade write of traces, and why they write nothing.
 
 use super::scripts::{
-    ALL_UP, ALONE, ANNOUNCED_TOO_LATE, KEPT, LATE_FAILURE, ORPHAN_HALT, ORPHAN_READY, OTHERS_DOWN,
-    REPLY_LOST, WEIGHTED,
+    ALL_UP, ALONE, ALONE_UPGRADED, ANNOUNCED_TOO_LATE, KEPT, LATE_FAILURE, ORPHAN_HALT,
+    ORPHAN_READY, OTHERS_DOWN, REPLY_LOST, WEIGHTED,
 };
 use super::weight_of;
-use bully_trace::{Trace, TraceFault, Version, check, read_trace, write_trace};
+use bully_trace::{Trace, TraceFault, Version, check, read_trace, upgrade, write_trace};
 use std::alloc::Global;
 
 /// More rows than any script has.
@@ -202,11 +202,25 @@ pub fn changed(alloc: Global, script: &str, rows: usize, more: &str) -> String {
     text
 }
 
-// Whether the checker tells this of the trace: what it writes, or the fault, and then nothing is written.
+// Whether the checker tells this of the trace, and the same of the upgraded one.
 fn tells(alloc: Global, trace: &[u8], expected: &str) -> bool {
+    judges(alloc, trace, expected) && judges_upgraded(alloc, trace, expected)
+}
+
+// Whether the checker tells this of the trace: what it writes, or the fault, and then nothing is written.
+fn judges(alloc: Global, trace: &[u8], expected: &str) -> bool {
     let mut output = Vec::new(alloc);
     match check(alloc, trace, &mut output) {
         Ok(_) => output.as_slice() == expected.as_bytes(),
+        Err(fault) => output.is_empty() && is_told(alloc, fault, expected),
+    }
+}
+
+// The same of the trace that an upgrade writes. One that isn't upgraded has the fault that the checker tells.
+fn judges_upgraded(alloc: Global, trace: &[u8], expected: &str) -> bool {
+    let mut output = Vec::new(alloc);
+    match upgrade(alloc, trace, &mut output) {
+        Ok(_) => judges(alloc, output.as_slice(), expected),
         Err(fault) => output.is_empty() && is_told(alloc, fault, expected),
     }
 }
@@ -290,6 +304,39 @@ const READ: [(&str, Version, u16, bool, usize); 10] = [
     ("bully,2,2,1,1000 1,clear\n", Version::Two, 1000, false, 0),
     ("bully,2,1,1,1,clear\n", Version::Two, 1, false, 0),
 ];
+
+// Whether an upgrade of the text tells so many rows, and writes this.
+fn upgrades_to(alloc: Global, text: &str, rows: u32, expected: &str) -> bool {
+    let mut output = Vec::new(alloc);
+    let told = upgrade(alloc, text.as_bytes(), &mut output);
+    told == Ok(rows) && output.as_slice() == expected.as_bytes()
+}
+
+/// A trace, how many rows it has behind its header, and what an upgrade writes.
+const UPGRADES: [(&str, u32, &str); 7] = [
+    (ALONE, 6, ALONE_UPGRADED),
+    (ALONE_UPGRADED, 6, ALONE_UPGRADED),
+    (KEPT, 7, KEPT),
+    (WEIGHTED, 26, WEIGHTED),
+    ("bully,1,3,7\n", 0, "bully,2,3,7,1 1 1,clear\n"),
+    (
+        "bully,1,2,1\nsaw,1,down,-\nsaw,2,normal,1\ndrop,1\n",
+        3,
+        "bully,2,2,1,1 1,clear\nsaw,1,down,-\nsaw,2,normal,1\ndrop,1\n",
+    ),
+    (
+        "\"bully\",1,2,1\r\n\n\"saw\",1,down,-\rdrop,1",
+        2,
+        "bully,2,2,1,1 1,clear\nsaw,1,down,-\ndrop,1\n",
+    ),
+];
+
+#[test]
+fn upgraded(rt: HostRuntime) {
+    for (text, rows, expected) in UPGRADES.iter() {
+        assert!(rt; upgrades_to(rt.alloc(), *text, *rows, *expected), "{text}");
+    }
+}
 
 // The version of a trace, what node 1 weighs, whether tasks are kept, how many rows there are, and the bound on events.
 fn header_of(trace: &Trace) -> (Version, Option<u16>, bool, usize, u32) {
