@@ -2,7 +2,7 @@
 //! log for each actor, and asks no step whether it may be taken.
 
 use crate::planning::plan;
-use crate::world::{bit, Action, Node, Offer, Outcome, Phase, Point, Setup, World};
+use crate::world::{Action, Node, NodeSet, Offer, Outcome, Phase, Point, Setup, World};
 use std::sync::Mutex;
 
 /// How often the last node crashes: once in so many rounds.
@@ -19,17 +19,17 @@ pub enum Answer {
 
 #[derive(Clone)]
 pub struct Entry {
-    pub actor: u8,
+    pub actor: u16,
     pub action: Action,
-    pub node: u8,
+    pub node: u16,
     pub answer: Answer,
-    pub owners: Option<Box<[u8]>>,
+    pub owners: Option<Box<[u16]>>,
 }
 
 /// What an actor has: its entries beside their indices, and how many there are.
 #[derive(Default)]
 struct Seat {
-    actor: u8,
+    actor: u16,
     log: Vec<(usize, Entry)>,
     count: u64,
 }
@@ -41,18 +41,17 @@ struct Locked {
     count: u64,
 }
 
-/// The procedure that a node holds: where it stands, and what it holds there.
-#[derive(Clone, Copy, PartialEq)]
+/// The procedure that a node holds: where it stands, and what it holds at a point that needs it.
 struct Procedure {
     generation: u32,
     point: Point,
-    up: u64,
-    coordinator: Option<u8>,
+    up: NodeSet,
+    coordinator: Option<u16>,
     awaits: bool,
 }
 
 struct Player {
-    node: u8,
+    node: u16,
     seat: Seat,
     procedure: Procedure,
 }
@@ -73,24 +72,37 @@ fn answer_of(outcome: Outcome) -> Answer {
     }
 }
 
-/// The procedure that the world shows of a node.
-fn shown(node: &Node) -> Procedure {
-    let (up, coordinator) = match node.point {
-        Point::Halting(_) | Point::Announcing(_) | Point::Planning => (node.up, None),
-        Point::Inquiring => (0, node.coordinator),
-        _ => (0, None),
-    };
-    Procedure {
-        generation: node.generation,
-        point: node.point,
-        up,
-        coordinator,
-        awaits: node.slot.phase != Phase::Empty && !node.has_orphan(),
+/// Whether a live call of the node is under way.
+fn awaits(node: &Node) -> bool {
+    node.slot.phase != Phase::Empty && !node.has_orphan()
+}
+
+impl Procedure {
+    /// Whether it is the one that the world shows of the node.
+    fn is_in_step(&self, node: &Node) -> bool {
+        let holds = match self.point {
+            Point::Halting(_) | Point::Announcing(_) | Point::Planning => self.up == node.up,
+            Point::Inquiring => self.coordinator == node.coordinator,
+            _ => true,
+        };
+        holds && self.generation == node.generation && self.awaits == awaits(node) && self.point == node.point
+    }
+
+    /// Becomes the one that the world shows of the node.
+    fn follow(&mut self, node: &Node) {
+        self.generation = node.generation;
+        self.point = node.point;
+        self.awaits = awaits(node);
+        match self.point {
+            Point::Halting(_) | Point::Announcing(_) | Point::Planning => self.up = node.up,
+            Point::Inquiring => self.coordinator = node.coordinator,
+            _ => {}
+        }
     }
 }
 
 impl Locked {
-    fn record(&mut self, seat: &mut Seat, action: Action, node: u8, answer: Answer, owners: Option<Box<[u8]>>) {
+    fn record(&mut self, seat: &mut Seat, action: Action, node: u16, answer: Answer, owners: Option<Box<[u16]>>) {
         let entry = Entry {
             actor: seat.actor,
             action,
@@ -105,7 +117,7 @@ impl Locked {
     }
 
     /// The operator's step, or an idle node's own; one that can't be is passed over.
-    fn step(&mut self, seat: &mut Seat, action: Action, number: u8) {
+    fn step(&mut self, seat: &mut Seat, action: Action, number: u16) {
         let Setup { nodes, keeps, .. } = self.world.setup;
         let node = self.world.node_mut(number);
         match action {
@@ -124,7 +136,7 @@ impl Locked {
         if self.world.node(me).is_down() {
             return false;
         }
-        let waits = |&caller: &u8| {
+        let waits = |&caller: &u16| {
             let slot = &self.world.node(caller).slot;
             slot.phase == Phase::Sent && slot.callee == me
         };
@@ -139,17 +151,19 @@ impl Locked {
     /// The turn of the seat's node, with the procedure that it holds.
     fn turn(&mut self, seat: &mut Seat, procedure: &mut Procedure) {
         let me = seat.actor;
-        if *procedure != shown(self.world.node(me)) {
-            *procedure = shown(self.world.node(me));
-            return;
+        if procedure.is_in_step(self.world.node(me)) {
+            self.take_step(seat);
         }
-        match self.world.node(me).slot.phase {
+        procedure.follow(self.world.node(me));
+    }
+
+    fn take_step(&mut self, seat: &mut Seat) {
+        match self.world.node(seat.actor).slot.phase {
             Phase::Empty => self.go(seat),
             Phase::Sent => self.give_up(seat),
             Phase::Ran(outcome) => self.take_back(seat, outcome),
             Phase::Failed => self.take_back(seat, Outcome::Failed),
         }
-        *procedure = shown(self.world.node(me));
     }
 
     /// A sent call is lost where its callee is down; else it is dropped where it is an orphan.
@@ -193,7 +207,7 @@ impl Locked {
             Offer::Plan => {
                 let node = self.world.node(me);
                 let old = node.has_task.then_some(node.task.as_slice());
-                let owners = plan(&self.world.setup, node.up | bit(me), old);
+                let owners = plan(&self.world.setup, &node.up.with(me), old);
                 self.world.node_mut(me).adopt(&owners);
                 self.record(seat, Action::Plan, me, Answer::Done, Some(owners));
             }
@@ -202,11 +216,11 @@ impl Locked {
 }
 
 impl Player {
-    fn new(node: u8) -> Player {
+    fn new(node: u16) -> Player {
         let procedure = Procedure {
             generation: 0,
             point: Point::Idle,
-            up: 0,
+            up: NodeSet::EMPTY,
             coordinator: None,
             awaits: false,
         };
@@ -234,7 +248,7 @@ impl Player {
 
 /// The operator's turn: all recover in the first round; the last node crashes once in a period, and recovers half way
 /// between.
-fn operate(group: &Mutex<Locked>, nodes: u8, round: u32, seat: &mut Seat) {
+fn operate(group: &Mutex<Locked>, nodes: u16, round: u32, seat: &mut Seat) {
     if round == 1 {
         for node in 1..=nodes {
             group.lock().unwrap().step(seat, Action::Recover, node);
@@ -248,7 +262,7 @@ fn operate(group: &Mutex<Locked>, nodes: u8, round: u32, seat: &mut Seat) {
 
 impl Group {
     /// A new group with four partitions for each node.
-    pub fn new(nodes: u8) -> Group {
+    pub fn new(nodes: u16) -> Group {
         let setup = Setup::even(nodes, 4 * nodes as usize);
         let locked = Mutex::new(Locked {
             world: World::new(setup),
@@ -264,7 +278,7 @@ impl Group {
     }
 
     /// Takes the turn of this number, from 0 on, of one node after the other; the operator comes before node 1. The node.
-    pub fn turn(&mut self, turn: u32) -> u8 {
+    pub fn turn(&mut self, turn: u32) -> u16 {
         let nodes = self.setup.nodes;
         let round = turn / u32::from(nodes) + 1;
         let place = turn % u32::from(nodes);
@@ -272,7 +286,7 @@ impl Group {
             operate(&self.locked, nodes, round, &mut self.operator);
         }
         self.players[place as usize].turn(&self.locked, round);
-        place as u8 + 1
+        place as u16 + 1
     }
 
     /// How many events there were.

@@ -1,6 +1,6 @@
 //! The checker: it judges each row as it comes, and goes on reading for faults of form.
 
-use crate::rows::{read_header, read_row, Row};
+use crate::rows::{read_header, read_row, Row, Version};
 use crate::world::{Node, Refusal, Setup, Status, World};
 use std::io::{self, BufRead, Write};
 
@@ -58,14 +58,15 @@ pub fn check<R: BufRead>(input: R) -> Result<Verdict, Fault> {
         line: Vec::new(),
         number: 0,
     };
-    let setup = match lines.next()? {
+    let header = match lines.next()? {
         Some((_, line)) => read_header(line),
         None => None,
     };
-    check_rows(setup.ok_or(Fault::Form(1, "BadHeader"))?, &mut lines)
+    let (version, setup) = header.ok_or(Fault::Form(1, "BadHeader"))?;
+    check_rows(version, setup, &mut lines)
 }
 
-fn check_rows<R: BufRead>(setup: Setup, lines: &mut Lines<R>) -> Result<Verdict, Fault> {
+fn check_rows<R: BufRead>(version: Version, setup: Setup, lines: &mut Lines<R>) -> Result<Verdict, Fault> {
     let mut world = World::new(setup);
     let mut owners = vec![0; setup.partitions];
     let mut verdict = None;
@@ -73,7 +74,7 @@ fn check_rows<R: BufRead>(setup: Setup, lines: &mut Lines<R>) -> Result<Verdict,
         if number > ROWS_MAX + 1 {
             return Err(Fault::Form(number, "TooManyRows"));
         }
-        let row = read_row(line, &setup, &mut owners).ok_or(Fault::Form(number, "BadRow"))?;
+        let row = read_row(line, version, &setup, &mut owners).ok_or(Fault::Form(number, "BadRow"))?;
         if verdict.is_none() {
             verdict = judge(&mut world, &row, &owners, number);
         }
@@ -82,7 +83,7 @@ fn check_rows<R: BufRead>(setup: Setup, lines: &mut Lines<R>) -> Result<Verdict,
 }
 
 /// The verdict that this row decides, if it does.
-fn judge(world: &mut World, row: &Row, owners: &[u8], number: u32) -> Option<Verdict> {
+fn judge(world: &mut World, row: &Row, owners: &[u16], number: u32) -> Option<Verdict> {
     match *row {
         Row::Event(action, node) => match world.apply(action, node, owners) {
             Ok(()) => None,
@@ -98,7 +99,7 @@ fn judge(world: &mut World, row: &Row, owners: &[u8], number: u32) -> Option<Ver
     }
 }
 
-fn is_true(world: &World, number: u8, status: Status, coordinator: Option<u8>) -> bool {
+fn is_true(world: &World, number: u16, status: Status, coordinator: Option<u16>) -> bool {
     if number > world.setup.nodes {
         return false;
     }
@@ -124,7 +125,7 @@ fn write_world<W: Write>(output: &mut W, world: &World) -> io::Result<()> {
     Ok(())
 }
 
-fn write_node<W: Write>(output: &mut W, number: u8, node: &Node) -> io::Result<()> {
+fn write_node<W: Write>(output: &mut W, number: u16, node: &Node) -> io::Result<()> {
     write!(output, "{number} {} ", status_word(node.status))?;
     write!(output, "{} {} ", or_dash(node.coordinator), or_dash(node.halter))?;
     if !node.has_task {
@@ -146,7 +147,7 @@ pub fn status_word(status: Status) -> &'static str {
     }
 }
 
-pub fn or_dash(node: Option<u8>) -> String {
+pub fn or_dash(node: Option<u16>) -> String {
     match node {
         None => "-".to_string(),
         Some(number) => number.to_string(),

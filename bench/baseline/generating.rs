@@ -2,8 +2,8 @@
 
 use crate::checking::{or_dash, status_word};
 use crate::random::Random;
-use crate::rows::header;
-use crate::world::{action_word, bit, Action, CallKind, Node, Offer, Phase, Point, Setup, World};
+use crate::rows::{header, Version};
+use crate::world::{action_word, Action, CallKind, Node, Offer, Phase, Point, Setup, World};
 use std::fmt;
 use std::io::{self, Write};
 
@@ -36,13 +36,13 @@ impl fmt::Display for Tally {
 struct Generator<W> {
     world: World,
     random: Random,
-    owners: Vec<u8>,
+    owners: Vec<u16>,
     output: W,
     tally: Tally,
 }
 
 /// Writes a header of this version and so many rows, and tells what is in them.
-pub fn generate<W: Write>(setup: Setup, version: u8, rows: u32, seed: u64, output: W) -> io::Result<Tally> {
+pub fn generate<W: Write>(setup: Setup, version: Version, rows: u32, seed: u64, output: W) -> io::Result<Tally> {
     let mut generator = Generator {
         world: World::new(setup),
         random: Random(seed | 1 << 63),
@@ -83,7 +83,7 @@ impl<W: Write> Generator<W> {
         writeln!(self.output, "saw,{number},{},{coordinator}", status_word(node.status))
     }
 
-    fn write_event(&mut self, action: Action, node: u8) -> io::Result<()> {
+    fn write_event(&mut self, action: Action, node: u16) -> io::Result<()> {
         write!(self.output, "{},{node}", action_word(action))?;
         if let Action::Plan = action {
             for (place, owner) in self.owners.iter().enumerate() {
@@ -94,15 +94,15 @@ impl<W: Write> Generator<W> {
         writeln!(self.output)
     }
 
-    fn any_node(&mut self) -> u8 {
-        1 + self.random.below(self.world.setup.nodes as u32) as u8
+    fn any_node(&mut self) -> u16 {
+        1 + self.random.below(self.world.setup.nodes.into()) as u16
     }
 
     /// An event that is possible. Mostly the highest node that has something to do takes a step, so that elections
     /// get on; else any node does, so that lower nodes have calls under way when they are halted.
-    fn choose(&mut self) -> (Action, u8) {
+    fn choose(&mut self) -> (Action, u16) {
         let nodes = self.world.setup.nodes;
-        if self.random.once_in(4 * nodes as u32) {
+        if self.random.once_in(4 * u32::from(nodes)) {
             if let Some(event) = self.fail_or_recover() {
                 return event;
             }
@@ -118,7 +118,7 @@ impl<W: Write> Generator<W> {
     }
 
     /// A node that is down recovers; one that is up crashes now and then.
-    fn fail_or_recover(&mut self) -> Option<(Action, u8)> {
+    fn fail_or_recover(&mut self) -> Option<(Action, u16)> {
         let node = self.any_node();
         if self.world.node(node).is_down() {
             Some((Action::Recover, node))
@@ -130,7 +130,7 @@ impl<W: Write> Generator<W> {
     }
 
     /// A step of any node that is up, a check or a timeout where it has none; a node recovers where all are down.
-    fn act_anywhere(&mut self, gives_up: bool) -> (Action, u8) {
+    fn act_anywhere(&mut self, gives_up: bool) -> (Action, u16) {
         let start = self.any_node();
         let nodes = self.world.setup.nodes;
         let from_start = (start..=nodes).chain(1..start);
@@ -143,7 +143,7 @@ impl<W: Write> Generator<W> {
     }
 
     /// A node that was stopped may begin anew while its orphan is under way.
-    fn act_of(&mut self, number: u8, gives_up: bool) -> Action {
+    fn act_of(&mut self, number: u16, gives_up: bool) -> Action {
         let node = self.world.node(number);
         let was_stopped = node.has_orphan() && node.point == Point::Idle;
         if was_stopped && self.random.once_in(2) {
@@ -162,7 +162,7 @@ impl<W: Write> Generator<W> {
 
     /// The step that brings a node on, if it has one. A node that gives up drops its orphan, and finds that the reply of a
     /// callee that is down by now failed.
-    fn step_of(&self, number: u8, gives_up: bool) -> Option<Action> {
+    fn step_of(&self, number: u16, gives_up: bool) -> Option<Action> {
         let node = self.world.node(number);
         if node.is_down() {
             return None;
@@ -184,13 +184,13 @@ impl<W: Write> Generator<W> {
 
     /// A balanced table over the node and its up set: the members in turn, from any of them on, until each has its quota.
     /// One more than their bases have the first ones.
-    fn plan_owners(&mut self, number: u8) {
+    fn plan_owners(&mut self, number: u16) {
         let setup = &self.world.setup;
-        let set = self.world.node(number).up | bit(number);
-        let mut members: Vec<u8> = (1..=setup.nodes).filter(|&node| set & bit(node) != 0).collect();
+        let set = self.world.node(number).up.with(number);
+        let mut members: Vec<u16> = setup.members(&set).collect();
         let first = self.random.below(members.len() as u32) as usize;
         members.rotate_left(first);
-        let mut room = setup.bases(set);
+        let mut room = setup.bases(&set);
         let rest = setup.partitions - room.iter().sum::<usize>();
         members[..rest].iter().for_each(|&node| room[node as usize] += 1);
         let mut takers = members.iter().cycle();
@@ -201,7 +201,7 @@ impl<W: Write> Generator<W> {
     }
 
     /// Counts an event before it is applied.
-    fn count(&mut self, action: Action, number: u8) {
+    fn count(&mut self, action: Action, number: u16) {
         let node = self.world.node(number);
         let tally = &mut self.tally;
         match action {

@@ -23,6 +23,7 @@ use checking::{check, write_verdict, Fault, Verdict};
 use csv_text::plain_lines;
 use generating::generate;
 use random::Random;
+use rows::Version;
 use spoiling::spoiled_trace;
 use std::fs;
 use std::io::{self, stderr, stdin, stdout, BufRead, BufReader, BufWriter, Write};
@@ -123,7 +124,7 @@ fn setup_of(nodes: &str, partitions: &str) -> Option<Setup> {
     let nodes: u16 = nodes.parse().ok()?;
     let partitions: u16 = partitions.parse().ok()?;
     let in_range = (1..=NODES_MAX).contains(&nodes) && (1..=PARTITIONS_MAX).contains(&partitions);
-    in_range.then_some(Setup::even(nodes as u8, partitions as usize))
+    in_range.then_some(Setup::even(nodes, partitions as usize))
 }
 
 /// Writes a trace to standard output, and what it has in it to standard error.
@@ -132,7 +133,8 @@ fn generate_output(nodes: &str, partitions: &str, rows: &str, seed: &str) -> Exi
         (Some(setup), Ok(rows), Ok(seed)) => (setup, rows, seed),
         _ => return refuse_words(),
     };
-    match generate(setup, 1, rows, seed, BufWriter::with_capacity(BUFFER, stdout().lock())) {
+    let output = BufWriter::with_capacity(BUFFER, stdout().lock());
+    match generate(setup, Version::of(&setup), rows, seed, output) {
         Ok(tally) => {
             eprintln!("{tally}");
             ExitCode::SUCCESS

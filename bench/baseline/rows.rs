@@ -2,49 +2,100 @@
 
 use crate::world::{Action, Setup, Status, NODES_MAX, PARTITIONS_MAX, WEIGHT_MAX};
 
-pub enum Row {
-    Event(Action, u8),
-    Claim(u8, Status, Option<u8>),
+/// A version of traces. The first one takes weights of 1 and no kept tasks for granted, and has limits of its own.
+#[derive(Clone, Copy, PartialEq, Eq)]
+pub enum Version {
+    One,
+    Two,
 }
 
-/// The setup that the first line tells; none where it is no header.
-pub fn read_header(line: &[u8]) -> Option<Setup> {
+pub enum Row {
+    Event(Action, u16),
+    Claim(u16, Status, Option<u16>),
+}
+
+impl Version {
+    /// The lowest version that can tell the setup.
+    pub fn of(setup: &Setup) -> Version {
+        let weights = &setup.weights[..setup.nodes as usize];
+        let fits = setup.nodes <= Version::One.nodes_max() && setup.partitions <= Version::One.partitions_max() as usize;
+        if fits && !setup.keeps && weights.iter().all(|&weight| weight == 1) {
+            Version::One
+        } else {
+            Version::Two
+        }
+    }
+
+    fn nodes_max(self) -> u16 {
+        match self {
+            Version::One => 64,
+            Version::Two => NODES_MAX,
+        }
+    }
+
+    fn partitions_max(self) -> u16 {
+        match self {
+            Version::One => 256,
+            Version::Two => PARTITIONS_MAX,
+        }
+    }
+}
+
+/// The version and the setup that the first line tells; none where it is no header.
+pub fn read_header(line: &[u8]) -> Option<(Version, Setup)> {
     let fields: Vec<&[u8]> = line.split(|&byte| byte == b',').collect();
     match fields.as_slice() {
-        [b"bully", b"1", nodes, partitions] => read_limits(nodes, partitions),
-        [b"bully", b"2", nodes, partitions, weights, b"keep"] => {
-            read_weights(read_limits(nodes, partitions)?, weights, true)
+        [b"bully", b"1", nodes, partitions] => {
+            let version = Version::One;
+            Some((version, read_size(version, nodes, partitions)?))
         }
-        [b"bully", b"2", nodes, partitions, weights, b"clear"] => {
-            read_weights(read_limits(nodes, partitions)?, weights, false)
+        [b"bully", b"2", nodes, partitions, weights, keeps] => {
+            let version = Version::Two;
+            let mut setup = read_size(version, nodes, partitions)?;
+            read_weights(weights, &mut setup)?;
+            setup.keeps = read_keeps(keeps)?;
+            Some((version, setup))
         }
         _ => None,
     }
 }
 
-fn read_limits(nodes: &[u8], partitions: &[u8]) -> Option<Setup> {
-    let nodes = number(nodes, NODES_MAX)?;
-    let partitions = number(partitions, PARTITIONS_MAX)?;
-    Some(Setup::even(nodes as u8, partitions as usize))
+fn read_size(version: Version, nodes: &[u8], partitions: &[u8]) -> Option<Setup> {
+    let nodes = number(nodes, version.nodes_max())?;
+    let partitions = number(partitions, version.partitions_max())?;
+    Some(Setup::even(nodes, partitions as usize))
 }
 
-/// The setup with these weights, which have a single space between each two, one for each node.
-fn read_weights(mut setup: Setup, text: &[u8], keeps: bool) -> Option<Setup> {
-    let mut pieces = text.split(|&byte| byte == b' ');
-    for weight in &mut setup.weights[..setup.nodes as usize] {
-        *weight = number(pieces.next()?, WEIGHT_MAX)?;
+fn read_keeps(word: &[u8]) -> Option<bool> {
+    match word {
+        b"keep" => Some(true),
+        b"clear" => Some(false),
+        _ => None,
     }
-    setup.keeps = keeps;
+}
+
+/// Weights with a single space between each two, one for each node.
+fn read_weights(text: &[u8], setup: &mut Setup) -> Option<()> {
+    let weights = &mut setup.weights[..setup.nodes as usize];
+    read_numbers(text, WEIGHT_MAX, weights)
+}
+
+/// Numbers with a single space between each two, one for each place.
+fn read_numbers(text: &[u8], limit: u16, places: &mut [u16]) -> Option<()> {
+    let mut pieces = text.split(|&byte| byte == b' ');
+    for place in places {
+        *place = number(pieces.next()?, limit)?;
+    }
     match pieces.next() {
         Some(_) => None,
-        None => Some(setup),
+        None => Some(()),
     }
 }
 
-/// The header of a trace of version 1, which takes weights of 1 and no kept tasks for granted, or of version 2.
-pub fn header(setup: &Setup, version: u8) -> String {
+/// The header of a trace of this version, which can tell the setup.
+pub fn header(setup: &Setup, version: Version) -> String {
     let Setup { nodes, partitions, .. } = setup;
-    if version == 1 {
+    if version == Version::One {
         return format!("bully,1,{nodes},{partitions}");
     }
     let weights: Vec<String> = (1..=*nodes).map(|node| setup.weight(node).to_string()).collect();
@@ -53,16 +104,17 @@ pub fn header(setup: &Setup, version: u8) -> String {
 }
 
 /// The row that a later line tells; none where it has no form. The owners of a plan are put into the room for them.
-pub fn read_row(line: &[u8], setup: &Setup, owners: &mut [u8]) -> Option<Row> {
+pub fn read_row(line: &[u8], version: Version, setup: &Setup, owners: &mut [u16]) -> Option<Row> {
     let mut fields = line.split(|&byte| byte == b',');
     let word = fields.next()?;
-    let node = node(fields.next()?)?;
+    let limit = version.nodes_max();
+    let node = number(fields.next()?, limit)?;
     let row = match word {
         b"plan" => {
-            read_owners(fields.next()?, setup, owners)?;
+            read_numbers(fields.next()?, setup.nodes, owners)?;
             Row::Event(Action::Plan, node)
         }
-        b"saw" => Row::Claim(node, status(fields.next()?)?, coordinator(fields.next()?)?),
+        b"saw" => Row::Claim(node, status(fields.next()?)?, coordinator(fields.next()?, limit)?),
         _ => Row::Event(action(word)?, node),
     };
     match fields.next() {
@@ -97,27 +149,11 @@ fn status(word: &[u8]) -> Option<Status> {
     }
 }
 
-fn coordinator(text: &[u8]) -> Option<Option<u8>> {
+fn coordinator(text: &[u8], limit: u16) -> Option<Option<u16>> {
     if text == b"-" {
         return Some(None);
     }
-    node(text).map(Some)
-}
-
-fn node(text: &[u8]) -> Option<u8> {
-    number(text, NODES_MAX).map(|number| number as u8)
-}
-
-/// Owners with a single space between each two, one for each partition.
-fn read_owners(text: &[u8], setup: &Setup, owners: &mut [u8]) -> Option<()> {
-    let mut pieces = text.split(|&byte| byte == b' ');
-    for owner in owners.iter_mut() {
-        *owner = number(pieces.next()?, setup.nodes as u16)? as u8;
-    }
-    match pieces.next() {
-        Some(_) => None,
-        None => Some(()),
-    }
+    number(text, limit).map(Some)
 }
 
 /// A number from 1 to the limit, which is below 6,000, without a leading zero.

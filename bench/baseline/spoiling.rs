@@ -2,7 +2,7 @@
 
 use crate::generating::generate;
 use crate::random::Random;
-use crate::rows::header;
+use crate::rows::{header, Version};
 use crate::world::{Setup, WEIGHT_MAX};
 use std::io::{self, Write};
 
@@ -60,17 +60,17 @@ fn changed_rows(random: &mut Random) -> io::Result<Vec<u8>> {
 }
 
 /// A setup, and the version of a trace that has it.
-fn any_setup(random: &mut Random) -> (Setup, u8) {
-    let nodes = 1 + random.below(5) as u8;
+fn any_setup(random: &mut Random) -> (Setup, Version) {
+    let nodes = 1 + random.below(5) as u16;
     let mut setup = Setup::even(nodes, 1 + random.below(7) as usize);
     if random.once_in(2) {
-        return (setup, 1);
+        return (setup, Version::One);
     }
     for weight in &mut setup.weights[..nodes as usize] {
         *weight = any_weight(random);
     }
     setup.keeps = random.once_in(2);
-    (setup, 2)
+    (setup, Version::Two)
 }
 
 /// Mostly a small one.

@@ -1,13 +1,18 @@
 //! The world under events, as plain structs. It is written for speed and for reading, and nothing of it is proved.
 
-pub const NODES_MAX: u16 = 64;
-pub const PARTITIONS_MAX: u16 = 256;
+#[path = "node_set.rs"]
+mod node_set;
+
+pub use node_set::NodeSet;
+
+pub const NODES_MAX: u16 = 1_024;
+pub const PARTITIONS_MAX: u16 = 4_096;
 pub const WEIGHT_MAX: u16 = 1_000;
 
 /// The weights are those of all nodes, that of node 1 first. With `keeps` a node keeps its task over a crash.
 #[derive(Clone, Copy)]
 pub struct Setup {
-    pub nodes: u8,
+    pub nodes: u16,
     pub partitions: usize,
     pub keeps: bool,
     pub weights: [u16; NODES_MAX as usize],
@@ -30,23 +35,22 @@ pub enum CallKind {
     Ready,
 }
 
-/// Sets of nodes are words: the bit of node 1 is the lowest.
 #[derive(Clone, Copy, PartialEq, Eq)]
 pub enum Point {
     Idle,
-    Asking(u8),
-    Halting(u8),
-    Announcing(u64),
+    Asking(u16),
+    Halting(u16),
+    Announcing(NodeSet),
     Planning,
-    Readying(u64),
-    Checking(u8),
+    Readying(NodeSet),
+    Checking(u16),
     Inquiring,
 }
 
 #[derive(Clone, Copy)]
 pub enum Offer {
     Nothing,
-    Call(u8, CallKind),
+    Call(u16, CallKind),
     Move,
     Plan,
 }
@@ -98,19 +102,19 @@ pub enum Refusal {
 
 pub struct Slot {
     pub phase: Phase,
-    pub callee: u8,
+    pub callee: u16,
     pub kind: CallKind,
     pub generation: u32,
-    table: Vec<u8>,
+    table: Vec<u16>,
 }
 
 pub struct Node {
     pub status: Status,
-    pub coordinator: Option<u8>,
-    pub halter: Option<u8>,
-    pub up: u64,
+    pub coordinator: Option<u16>,
+    pub halter: Option<u16>,
+    pub up: NodeSet,
     pub has_task: bool,
-    pub task: Vec<u8>,
+    pub task: Vec<u16>,
     pub point: Point,
     pub slot: Slot,
     pub generation: u32,
@@ -139,18 +143,9 @@ pub fn action_word(action: Action) -> &'static str {
     }
 }
 
-pub fn bit(node: u8) -> u64 {
-    1 << (node - 1)
-}
-
-/// The highest node of a set that isn't empty.
-pub fn highest(set: u64) -> u8 {
-    64 - set.leading_zeros() as u8
-}
-
 impl Setup {
     /// All nodes weigh the same, and none keeps its task.
-    pub fn even(nodes: u8, partitions: usize) -> Setup {
+    pub fn even(nodes: u16, partitions: usize) -> Setup {
         Setup {
             nodes,
             partitions,
@@ -159,17 +154,26 @@ impl Setup {
         }
     }
 
-    pub fn weight(&self, node: u8) -> usize {
+    pub fn weight(&self, node: u16) -> usize {
         self.weights[node as usize - 1] as usize
+    }
+
+    /// The members in rising order.
+    pub fn members<'a>(&self, members: &'a NodeSet) -> impl Iterator<Item = u16> + 'a {
+        (1..=self.nodes).filter(|&node| members.has(node))
+    }
+
+    /// A count of 0 for each node, which stands at the node's number.
+    pub fn counts(&self) -> Vec<usize> {
+        vec![0; self.nodes as usize + 1]
     }
 
     /// How many partitions each member owns at least, by node: its part of them all by weight, rounded down. Who is no
     /// member has 0.
-    pub fn bases(&self, members: u64) -> [usize; NODES_MAX as usize + 1] {
-        let is_member = |node: &u8| members & bit(*node) != 0;
-        let total: usize = (1..=self.nodes).filter(is_member).map(|node| self.weight(node)).sum();
-        let mut bases = [0; NODES_MAX as usize + 1];
-        for node in (1..=self.nodes).filter(is_member) {
+    pub fn bases(&self, members: &NodeSet) -> Vec<usize> {
+        let total: usize = self.members(members).map(|node| self.weight(node)).sum();
+        let mut bases = self.counts();
+        for node in self.members(members) {
             bases[node as usize] = self.partitions * self.weight(node) / total;
         }
         bases
@@ -189,7 +193,7 @@ impl Node {
             status: Status::Down,
             coordinator: None,
             halter: None,
-            up: 0,
+            up: NodeSet::EMPTY,
             has_task: false,
             task: vec![0; partitions],
             point: Point::Idle,
@@ -211,11 +215,11 @@ impl Node {
         self.status = status;
         self.coordinator = None;
         self.halter = None;
-        self.up = 0;
+        self.up = NodeSet::EMPTY;
         self.has_task &= keeps;
     }
 
-    pub fn recover(&mut self, me: u8, keeps: bool) {
+    pub fn recover(&mut self, me: u16, keeps: bool) {
         self.empty_vector(Status::Election, keeps);
         self.point = Point::Asking(me + 1);
     }
@@ -227,13 +231,13 @@ impl Node {
         self.generation += 1;
     }
 
-    pub fn check(&mut self, me: u8, nodes: u8) {
+    pub fn check(&mut self, me: u16, nodes: u16) {
         if self.status == Status::Normal && self.coordinator == Some(me) && nodes > 1 {
             self.point = Point::Checking(if me == 1 { 2 } else { 1 });
         }
     }
 
-    pub fn time_out(&mut self, me: u8) {
+    pub fn time_out(&mut self, me: u16) {
         match self.status {
             Status::Down => {}
             Status::Election => self.point = Point::Asking(me + 1),
@@ -246,15 +250,15 @@ impl Node {
     }
 
     /// What the node's point offers.
-    pub fn offer(&self, nodes: u8) -> Offer {
+    pub fn offer(&self, nodes: u16) -> Offer {
         match self.point {
             Point::Idle => Offer::Nothing,
             Point::Asking(callee) if callee <= nodes => Offer::Call(callee, CallKind::AreYouUp),
-            Point::Asking(_) | Point::Halting(0) | Point::Announcing(0) | Point::Readying(0) => Offer::Move,
+            Point::Asking(_) | Point::Halting(0) => Offer::Move,
             Point::Halting(callee) => Offer::Call(callee, CallKind::Halt),
-            Point::Announcing(rest) => Offer::Call(highest(rest), CallKind::NewCoordinator),
+            Point::Announcing(ref rest) => offer_to(rest, CallKind::NewCoordinator),
             Point::Planning => Offer::Plan,
-            Point::Readying(rest) => Offer::Call(highest(rest), CallKind::Ready),
+            Point::Readying(ref rest) => offer_to(rest, CallKind::Ready),
             Point::Checking(callee) => Offer::Call(callee, CallKind::AreYouNormal),
             Point::Inquiring => match self.coordinator {
                 Some(callee) => Offer::Call(callee, CallKind::AreYouUp),
@@ -263,7 +267,7 @@ impl Node {
         }
     }
 
-    fn start(&mut self, nodes: u8) -> Result<(), Refusal> {
+    fn start(&mut self, nodes: u16) -> Result<(), Refusal> {
         let (callee, kind) = match self.offer(nodes) {
             Offer::Call(callee, kind) => (callee, kind),
             _ => return Err(Refusal::NoStep),
@@ -276,7 +280,7 @@ impl Node {
     }
 
     /// The node starts this call.
-    pub fn open(&mut self, callee: u8, kind: CallKind) {
+    pub fn open(&mut self, callee: u16, kind: CallKind) {
         self.slot.phase = Phase::Sent;
         self.slot.callee = callee;
         self.slot.kind = kind;
@@ -286,7 +290,7 @@ impl Node {
         }
     }
 
-    fn take_back(&mut self, me: u8, nodes: u8) -> Result<(), Refusal> {
+    fn take_back(&mut self, me: u16, nodes: u16) -> Result<(), Refusal> {
         let outcome = match self.slot.phase {
             Phase::Empty | Phase::Sent => return Err(Refusal::NoCall),
             Phase::Ran(outcome) => outcome,
@@ -297,7 +301,7 @@ impl Node {
     }
 
     /// The call returns, and the point moves where it isn't an orphan.
-    pub fn close(&mut self, me: u8, nodes: u8, outcome: Outcome) {
+    pub fn close(&mut self, me: u16, nodes: u16, outcome: Outcome) {
         let is_orphan = self.has_orphan();
         self.slot.phase = Phase::Empty;
         if !is_orphan {
@@ -317,25 +321,24 @@ impl Node {
     }
 
     /// The point moves by the outcome of its call.
-    fn proceed(&mut self, me: u8, nodes: u8, outcome: Outcome) {
+    fn proceed(&mut self, me: u16, nodes: u16, outcome: Outcome) {
         let answered = outcome == Outcome::Yes;
-        self.point = match self.point {
-            Point::Asking(_) | Point::Inquiring if answered => Point::Idle,
-            Point::Asking(callee) => Point::Asking(callee + 1),
+        match &mut self.point {
+            Point::Asking(_) | Point::Inquiring if answered => self.point = Point::Idle,
+            Point::Asking(callee) => *callee += 1,
             Point::Halting(callee) => {
                 if answered {
-                    self.up |= bit(callee);
+                    self.up.insert(*callee);
                 }
-                Point::Halting(callee - 1)
+                *callee -= 1;
             }
-            Point::Announcing(rest) if answered => Point::Announcing(rest & !bit(highest(rest))),
-            Point::Readying(rest) if answered => Point::Readying(rest & !bit(highest(rest))),
-            Point::Checking(callee) if outcome != Outcome::No => next_checked(me, nodes, callee),
-            _ => Point::Asking(me + 1),
-        };
+            Point::Announcing(rest) | Point::Readying(rest) if answered => rest.remove(self.slot.callee),
+            Point::Checking(callee) if outcome != Outcome::No => self.point = next_checked(me, nodes, *callee),
+            _ => self.point = Point::Asking(me + 1),
+        }
     }
 
-    fn move_on(&mut self, me: u8, nodes: u8) -> Result<(), Refusal> {
+    fn move_on(&mut self, me: u16, nodes: u16) -> Result<(), Refusal> {
         if !matches!(self.offer(nodes), Offer::Move) {
             return Err(Refusal::NoStep);
         }
@@ -347,7 +350,7 @@ impl Node {
     }
 
     /// The point moves on without a call.
-    pub fn advance(&mut self, me: u8) {
+    pub fn advance(&mut self, me: u16) {
         match self.point {
             Point::Asking(_) => self.stand(me),
             Point::Halting(_) => self.lead(me),
@@ -359,27 +362,27 @@ impl Node {
         }
     }
 
-    fn stand(&mut self, me: u8) {
+    fn stand(&mut self, me: u16) {
         self.status = Status::Election;
         self.halter = Some(me);
-        self.up = 0;
+        self.up = NodeSet::EMPTY;
         self.point = Point::Halting(me - 1);
     }
 
-    fn lead(&mut self, me: u8) {
+    fn lead(&mut self, me: u16) {
         self.coordinator = Some(me);
         self.status = Status::Reorganization;
         self.point = Point::Announcing(self.up);
     }
 
-    fn plan(&mut self, me: u8, setup: &Setup, owners: &[u8]) -> Result<(), Refusal> {
+    fn plan(&mut self, me: u16, setup: &Setup, owners: &[u16]) -> Result<(), Refusal> {
         if self.point != Point::Planning {
             return Err(Refusal::NoStep);
         }
         if self.slot.phase != Phase::Empty {
             return Err(Refusal::SlotBusy);
         }
-        if !is_balanced(setup, owners, self.up | bit(me)) {
+        if !is_balanced(setup, owners, &self.up.with(me)) {
             return Err(Refusal::BadTable);
         }
         self.adopt(owners);
@@ -387,27 +390,27 @@ impl Node {
     }
 
     /// The node has planned a table with these owners.
-    pub fn adopt(&mut self, owners: &[u8]) {
+    pub fn adopt(&mut self, owners: &[u16]) {
         self.task.copy_from_slice(owners);
         self.has_task = true;
         self.point = Point::Readying(self.up);
     }
 
-    fn halt(&mut self, caller: u8) {
+    fn halt(&mut self, caller: u16) {
         self.point = Point::Idle;
         self.generation += 1;
         self.status = Status::Election;
         self.halter = Some(caller);
     }
 
-    fn hear_coordinator(&mut self, caller: u8) {
+    fn hear_coordinator(&mut self, caller: u16) {
         if self.status == Status::Election && self.halter == Some(caller) {
             self.coordinator = Some(caller);
             self.status = Status::Reorganization;
         }
     }
 
-    fn hear_ready(&mut self, caller: u8, table: &[u8]) {
+    fn hear_ready(&mut self, caller: u16, table: &[u16]) {
         if self.status == Status::Reorganization && self.coordinator == Some(caller) {
             self.task.copy_from_slice(table);
             self.has_task = true;
@@ -416,7 +419,7 @@ impl Node {
     }
 
     /// The call of the caller runs at this node.
-    fn hear(&mut self, caller: u8, slot: &Slot) -> Outcome {
+    fn hear(&mut self, caller: u16, slot: &Slot) -> Outcome {
         match slot.kind {
             CallKind::AreYouUp => {}
             CallKind::AreYouNormal if self.status == Status::Normal => {}
@@ -430,7 +433,7 @@ impl Node {
 }
 
 /// Where a check stands after this node: at the next node that isn't the checker itself.
-fn next_checked(me: u8, nodes: u8, callee: u8) -> Point {
+fn next_checked(me: u16, nodes: u16, callee: u16) -> Point {
     let next = if callee + 1 == me { callee + 2 } else { callee + 1 };
     if next > nodes {
         Point::Idle
@@ -439,19 +442,27 @@ fn next_checked(me: u8, nodes: u8, callee: u8) -> Point {
     }
 }
 
+/// The call of the highest of the nodes that are left, or a move.
+fn offer_to(rest: &NodeSet, kind: CallKind) -> Offer {
+    match rest.highest() {
+        Some(callee) => Offer::Call(callee, kind),
+        None => Offer::Move,
+    }
+}
+
 /// Whether each owner is a member and each member has its base or one more.
-fn is_balanced(setup: &Setup, owners: &[u8], members: u64) -> bool {
-    let mut counts = [0; NODES_MAX as usize + 1];
+fn is_balanced(setup: &Setup, owners: &[u16], members: &NodeSet) -> bool {
+    let mut counts = setup.counts();
     for &owner in owners {
         counts[owner as usize] += 1;
     }
     let bases = setup.bases(members);
     (1..=setup.nodes).all(|node| {
         let (count, base) = (counts[node as usize], bases[node as usize]);
-        if members & bit(node) == 0 {
-            count == 0
-        } else {
+        if members.has(node) {
             base <= count && count <= base + 1
+        } else {
+            count == 0
         }
     })
 }
@@ -465,16 +476,16 @@ impl World {
         }
     }
 
-    pub fn node(&self, number: u8) -> &Node {
+    pub fn node(&self, number: u16) -> &Node {
         &self.nodes[number as usize - 1]
     }
 
-    pub fn node_mut(&mut self, number: u8) -> &mut Node {
+    pub fn node_mut(&mut self, number: u16) -> &mut Node {
         &mut self.nodes[number as usize - 1]
     }
 
     /// Applies an event, or tells the first refusal and changes nothing. The owners are those of a Plan.
-    pub fn apply(&mut self, action: Action, me: u8, owners: &[u8]) -> Result<(), Refusal> {
+    pub fn apply(&mut self, action: Action, me: u16, owners: &[u16]) -> Result<(), Refusal> {
         let Setup { nodes, keeps, .. } = self.setup;
         if me > nodes {
             return Err(Refusal::BadNode);
@@ -500,7 +511,7 @@ impl World {
         Ok(())
     }
 
-    fn run(&mut self, caller: u8) -> Result<(), Refusal> {
+    fn run(&mut self, caller: u16) -> Result<(), Refusal> {
         if self.node(caller).slot.phase != Phase::Sent {
             return Err(Refusal::NoCall);
         }
@@ -513,14 +524,14 @@ impl World {
     }
 
     /// The caller's call runs at its callee, which answers so.
-    pub fn exchange(&mut self, caller: u8, callee: u8) -> Outcome {
+    pub fn exchange(&mut self, caller: u16, callee: u16) -> Outcome {
         let (calling, called) = self.pair(caller, callee);
         let outcome = called.hear(caller, &calling.slot);
         calling.slot.phase = Phase::Ran(outcome);
         outcome
     }
 
-    fn lose(&mut self, caller: u8) -> Result<(), Refusal> {
+    fn lose(&mut self, caller: u16) -> Result<(), Refusal> {
         let slot = &self.node(caller).slot;
         if !matches!(slot.phase, Phase::Sent | Phase::Ran(_)) {
             return Err(Refusal::NoCall);
@@ -533,7 +544,7 @@ impl World {
     }
 
     /// Two nodes at once. They are never the same, since no node calls itself.
-    fn pair(&mut self, one: u8, other: u8) -> (&mut Node, &mut Node) {
+    fn pair(&mut self, one: u16, other: u16) -> (&mut Node, &mut Node) {
         let (one, other) = (one as usize - 1, other as usize - 1);
         if one < other {
             let (low, high) = self.nodes.split_at_mut(other);

@@ -35,8 +35,8 @@ const ROUNDS: u32 = 1000;
 #[derive(Clone)]
 struct Shown {
     status: Status,
-    coordinator: Option<u8>,
-    task: Option<Vec<u8>>,
+    coordinator: Option<u16>,
+    task: Option<Vec<u16>>,
 }
 
 /// How many events were applied, and what is shown of each node.
@@ -92,7 +92,7 @@ fn look(shown: &RwLock<View>, looks: u32) -> View {
 }
 
 /// Goes on with the turns, and publishes after each, until told to stop; how often it did.
-fn publish(group: &mut Group, nodes: u8, shown: &RwLock<View>, stop: &AtomicBool) -> u64 {
+fn publish(group: &mut Group, nodes: u16, shown: &RwLock<View>, stop: &AtomicBool) -> u64 {
     let mut turn = ROUNDS * u32::from(nodes);
     let mut publishes = 0;
     while !stop.load(Ordering::SeqCst) {
@@ -115,7 +115,7 @@ fn main() {
     let [task, nodes, looks] = words.as_slice() else {
         exit(2);
     };
-    let (nodes, looks): (u8, u32) = (nodes.parse().unwrap(), looks.parse().unwrap());
+    let (nodes, looks): (u16, u32) = (nodes.parse().unwrap(), looks.parse().unwrap());
     let mut group = Group::new(nodes);
     for turn in 0..ROUNDS * u32::from(nodes) {
         group.turn(turn);

@@ -15,24 +15,29 @@
 #[allow(dead_code)]
 #[path = "../baseline/world.rs"]
 mod world;
+// Only headers are written: reading is the checker's.
+#[allow(dead_code)]
+#[path = "../baseline/rows.rs"]
+mod rows;
 #[path = "../planning.rs"]
 mod planning;
 
 use planning::plan;
+use rows::{header, Version};
 use std::env;
 use std::fs;
 use std::io::{self, stdout, BufWriter, Write};
 use std::process::ExitCode;
 use std::sync::Mutex;
 use std::thread;
-use world::{action_word, bit, Action, Node, Offer, Phase, Point, Setup, World};
+use world::{action_word, Action, Node, NodeSet, Offer, Phase, Point, Setup, World};
 
 const EVENTS_MAX: u32 = 1_000_000;
 
 struct Entry {
     action: Action,
-    node: u8,
-    owners: Vec<u8>,
+    node: u16,
+    owners: Vec<u16>,
 }
 
 struct Group {
@@ -57,20 +62,20 @@ impl Hold for &Mutex<Group> {
     }
 }
 
-/// What a node holds between its turns: its procedure, and the table that it planned.
+/// What a node holds between its turns: its procedure, with what that needs at its point, and the table that it planned.
 struct Procedure {
-    me: u8,
+    me: u16,
     point: Point,
     generation: u32,
     awaits: bool,
-    up: u64,
-    coordinator: Option<u8>,
-    table: Option<Vec<u8>>,
+    up: NodeSet,
+    coordinator: Option<u16>,
+    table: Option<Vec<u16>>,
 }
 
 impl Group {
     /// Applies the event and records it, if it is possible.
-    fn step(&mut self, action: Action, node: u8, owners: &[u8]) -> bool {
+    fn step(&mut self, action: Action, node: u16, owners: &[u16]) -> bool {
         if self.world.events == EVENTS_MAX || self.world.apply(action, node, owners).is_err() {
             return false;
         }
@@ -80,12 +85,12 @@ impl Group {
     }
 
     /// Runs the lowest call that waits for the node, if there is one.
-    fn serve(&mut self, me: u8) -> bool {
+    fn serve(&mut self, me: u16) -> bool {
         if self.world.node(me).is_down() {
             return false;
         }
         let nodes = self.world.setup.nodes;
-        let waits = |&caller: &u8| {
+        let waits = |&caller: &u16| {
             let slot = &self.world.node(caller).slot;
             slot.phase == Phase::Sent && slot.callee == me
         };
@@ -116,7 +121,7 @@ impl Group {
     fn proceed(&mut self, procedure: &mut Procedure) -> bool {
         let me = procedure.me;
         if !procedure.is_in_step(self.world.node(me)) {
-            *procedure = Procedure::of(me, self.world.node(me));
+            procedure.follow(self.world.node(me));
             return false;
         }
         let Some(action) = self.next(procedure) else {
@@ -124,21 +129,21 @@ impl Group {
         };
         let taken = self.step(action, me, procedure.table.as_deref().unwrap_or_default());
         if taken {
-            *procedure = Procedure::of(me, self.world.node(me));
+            procedure.follow(self.world.node(me));
         }
         taken
     }
 }
 
 impl Procedure {
-    fn of(me: u8, node: &Node) -> Procedure {
+    fn idle(me: u16) -> Procedure {
         Procedure {
             me,
-            point: node.point,
-            generation: node.generation,
-            awaits: awaits(node),
-            up: node.up,
-            coordinator: node.coordinator,
+            point: Point::Idle,
+            generation: 0,
+            awaits: false,
+            up: NodeSet::EMPTY,
+            coordinator: None,
             table: None,
         }
     }
@@ -149,7 +154,20 @@ impl Procedure {
             Point::Inquiring => self.coordinator == node.coordinator,
             _ => true,
         };
-        holds && self.point == node.point && self.generation == node.generation && self.awaits == awaits(node)
+        holds && self.generation == node.generation && self.awaits == awaits(node) && self.point == node.point
+    }
+
+    /// Becomes the one that the world shows of the node.
+    fn follow(&mut self, node: &Node) {
+        self.generation = node.generation;
+        self.point = node.point;
+        self.awaits = awaits(node);
+        self.table = None;
+        match self.point {
+            Point::Halting(_) | Point::Announcing(_) | Point::Planning => self.up = node.up,
+            Point::Inquiring => self.coordinator = node.coordinator,
+            _ => {}
+        }
     }
 }
 
@@ -159,12 +177,12 @@ fn awaits(node: &Node) -> bool {
 }
 
 /// The table that the node plans, from its own task.
-fn planned(setup: &Setup, group: &mut impl Hold, procedure: &Procedure) -> Vec<u8> {
+fn planned(setup: &Setup, group: &mut impl Hold, procedure: &Procedure) -> Vec<u16> {
     let old = group.hold(|group| {
         let node = group.world.node(procedure.me);
         node.has_task.then(|| node.task.clone())
     });
-    plan(setup, procedure.up | bit(procedure.me), old.as_deref()).into_vec()
+    plan(setup, &procedure.up.with(procedure.me), old.as_deref()).into_vec()
 }
 
 /// One turn of a node; whether there was an event.
@@ -176,9 +194,10 @@ fn take_turn(setup: &Setup, group: &mut impl Hold, turn: u32, procedure: &mut Pr
     if group.hold(|group| group.serve(me)) {
         return true;
     }
-    group.hold(|group| match (procedure.point, turn % 16) {
-        (Point::Idle, 0) => group.step(Action::Check, me, &[]),
-        (Point::Idle, 8) => group.step(Action::Timeout, me, &[]),
+    let idle = procedure.point == Point::Idle;
+    group.hold(|group| match turn % 16 {
+        0 if idle => group.step(Action::Check, me, &[]),
+        8 if idle => group.step(Action::Timeout, me, &[]),
         _ => group.proceed(procedure),
     })
 }
@@ -190,8 +209,8 @@ fn recover_all(setup: &Setup, group: &mut impl Hold) {
     }
 }
 
-fn run_node(setup: &Setup, mut group: &Mutex<Group>, turns: u32, me: u8) {
-    let mut procedure = Procedure::of(me, World::new(*setup).node(me));
+fn run_node(setup: &Setup, mut group: &Mutex<Group>, turns: u32, me: u16) {
+    let mut procedure = Procedure::idle(me);
     for turn in 1..=turns {
         if !take_turn(setup, &mut group, turn, &mut procedure) {
             thread::yield_now();
@@ -227,8 +246,7 @@ fn run(setup: &Setup, turns: u32) -> Group {
 
 fn play(setup: &Setup, turns: u32) -> Group {
     let mut group = opening(setup);
-    let idle = |me| Procedure::of(me, World::new(*setup).node(me));
-    let mut procedures: Vec<Procedure> = (1..=setup.nodes).map(idle).collect();
+    let mut procedures: Vec<Procedure> = (1..=setup.nodes).map(Procedure::idle).collect();
     recover_all(setup, &mut group);
     for turn in 1..=turns {
         for procedure in &mut procedures {
@@ -240,7 +258,7 @@ fn play(setup: &Setup, turns: u32) -> Group {
 
 fn write(setup: &Setup, history: &[Entry]) -> io::Result<()> {
     let mut output = BufWriter::new(stdout().lock());
-    writeln!(output, "bully,1,{},{}", setup.nodes, setup.partitions)?;
+    writeln!(output, "{}", header(setup, Version::of(setup)))?;
     for entry in history {
         write!(output, "{},{}", action_word(entry.action), entry.node)?;
         for (place, owner) in entry.owners.iter().enumerate() {
@@ -265,7 +283,7 @@ fn asked() -> Option<(Setup, u32, bool)> {
     };
     let config = fs::read_to_string(path).ok()?;
     let (nodes, partitions) = (number_at("nodes", &config)?, number_at("partitions", &config)?);
-    let setup = Setup::even(nodes as u8, partitions as usize);
+    let setup = Setup::even(nodes as u16, partitions as usize);
     Some((setup, number_at("turns", &config)?, command == "run"))
 }
 

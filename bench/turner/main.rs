@@ -40,7 +40,7 @@ fn main() {
     let &[nodes, count] = words.as_slice() else {
         panic!("the numbers of nodes and of turns");
     };
-    let mut group = Group::new(nodes as u8);
+    let mut group = Group::new(nodes as u16);
     for turn in 0..count {
         group.turn(turn);
     }
