@@ -41,19 +41,28 @@ struct Generator<W> {
     tally: Tally,
 }
 
-/// Writes a header of this version and so many rows, and tells what is in them.
-pub fn generate<W: Write>(setup: Setup, version: Version, rows: u32, seed: u64, output: W) -> io::Result<Tally> {
+/// What is written: a header of this version, a recovery of each node from this one on, and so many rows.
+pub struct Order {
+    pub setup: Setup,
+    pub version: Version,
+    pub recovers_from: u16,
+    pub rows: u32,
+    pub seed: u64,
+}
+
+/// Writes a lawful trace, and tells what is in it.
+pub fn generate<W: Write>(order: &Order, output: W) -> io::Result<Tally> {
+    let setup = order.setup;
     let mut generator = Generator {
         world: World::new(setup),
-        random: Random(seed | 1 << 63),
+        random: Random(order.seed | 1 << 63),
         owners: vec![0; setup.partitions],
         output,
         tally: Tally::default(),
     };
-    writeln!(generator.output, "{}", header(&setup, version))?;
-    for _ in 0..rows {
-        generator.write_row()?;
-    }
+    writeln!(generator.output, "{}", header(&setup, order.version))?;
+    (order.recovers_from..=setup.nodes).try_for_each(|node| generator.take(Action::Recover, node))?;
+    (0..order.rows).try_for_each(|_| generator.write_row())?;
     generator.output.flush()?;
     Ok(generator.tally)
 }
@@ -64,6 +73,11 @@ impl<W: Write> Generator<W> {
             return self.write_claim();
         }
         let (action, node) = self.choose();
+        self.take(action, node)
+    }
+
+    /// Applies an event that is possible, and writes it.
+    fn take(&mut self, action: Action, node: u16) -> io::Result<()> {
         if let Action::Plan = action {
             self.plan_owners(node);
         }

@@ -6,6 +6,7 @@
 //!     baseline spoil FOLDER COUNT SEED
 //!
 //! `check` answers as `bully check` does. It takes rows as lines without quotes, as traces are written.
+//! `generate` writes a lawful trace, of version 1 where that can tell the setup.
 //! `answers` does so for each file of the folder, in the order of their names, and takes the text as csv does: standard
 //! output has the file's name behind `== `, its verdict if it has one, and the status behind `= `; standard error has the
 //! lines of the faults. `spoil` writes so many traces into the folder, most of which aren't lawful.
@@ -21,7 +22,7 @@ mod world;
 
 use checking::{check, write_verdict, Fault, Verdict};
 use csv_text::plain_lines;
-use generating::generate;
+use generating::{generate, Order};
 use random::Random;
 use rows::Version;
 use spoiling::spoiled_trace;
@@ -133,8 +134,14 @@ fn generate_output(nodes: &str, partitions: &str, rows: &str, seed: &str) -> Exi
         (Some(setup), Ok(rows), Ok(seed)) => (setup, rows, seed),
         _ => return refuse_words(),
     };
-    let output = BufWriter::with_capacity(BUFFER, stdout().lock());
-    match generate(setup, Version::of(&setup), rows, seed, output) {
+    let order = Order {
+        setup,
+        version: Version::of(&setup),
+        recovers_from: setup.nodes + 1,
+        rows,
+        seed,
+    };
+    match generate(&order, BufWriter::with_capacity(BUFFER, stdout().lock())) {
         Ok(tally) => {
             eprintln!("{tally}");
             ExitCode::SUCCESS

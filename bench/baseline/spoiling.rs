@@ -1,6 +1,6 @@
 //! Makes traces that are mostly not lawful: random rows, random bytes, and lawful traces that were changed.
 
-use crate::generating::generate;
+use crate::generating::{generate, Order};
 use crate::random::Random;
 use crate::rows::{header, Version};
 use crate::world::{Setup, WEIGHT_MAX};
@@ -11,6 +11,9 @@ const WORDS: [&str; 15] = [
     "plan", "saw", "halt",
 ];
 const STATUSES: [&str; 5] = ["down", "election", "reorganization", "normal", "up"];
+/// The limits of both versions, and what is one above them.
+const NODES_EDGES: [u16; 4] = [64, 65, 1024, 1025];
+const PARTITIONS_EDGES: [u16; 4] = [256, 257, 4096, 4097];
 /// What is put into a header.
 const ODD_PARTS: [&[u8]; 8] = [b"", b"0", b"01", b"2", b"1000", b"1001", b"keep", b"clear"];
 /// The bytes of traces, and some that are near to them.
@@ -49,28 +52,40 @@ fn changed_rows(random: &mut Random) -> io::Result<Vec<u8>> {
         .split_inclusive(|&byte| byte == b'\n')
         .map(<[u8]>::to_vec)
         .collect();
-    match random.below(7) {
+    match random.below(8) {
         0 | 1 => swap_rows(random, &mut lines),
         2 => cut_rows(random, &mut lines),
         3 => dress(random, &mut lines),
         4 => change_header(random, &mut lines[0]),
+        5 => put_edge(random, &mut lines),
         _ => change_number(random, &mut lines),
     }
     Ok(lines.concat())
 }
 
-/// A setup, and the version of a trace that has it.
+/// A setup, and a version of traces that can tell it.
 fn any_setup(random: &mut Random) -> (Setup, Version) {
-    let nodes = 1 + random.below(5) as u16;
-    let mut setup = Setup::even(nodes, 1 + random.below(7) as usize);
+    let mut setup = any_size(random);
     if random.once_in(2) {
-        return (setup, Version::One);
+        return (setup, Version::of(&setup));
     }
-    for weight in &mut setup.weights[..nodes as usize] {
+    for weight in &mut setup.weights[..setup.nodes as usize] {
         *weight = any_weight(random);
     }
     setup.keeps = random.once_in(2);
     (setup, Version::Two)
+}
+
+/// Mostly a small one; now and then one with more nodes or more partitions than version 1 has, or with as many.
+fn any_size(random: &mut Random) -> Setup {
+    let mut nodes = 1 + random.below(5);
+    let mut partitions = 1 + random.below(7);
+    match random.below(24) {
+        0 => nodes = 64 + random.below(17),
+        1 => partitions = 256 + random.below(45),
+        _ => {}
+    }
+    Setup::even(nodes as u16, partitions as usize)
 }
 
 /// Mostly a small one.
@@ -93,8 +108,12 @@ fn number(random: &mut Random, limit: u32) -> String {
         2 => "-".to_string(),
         3 => String::new(),
         4 => (limit + 1).to_string(),
-        _ => (60 + random.below(10)).to_string(),
+        _ => any_edge(random, NODES_EDGES),
     }
+}
+
+fn any_edge(random: &mut Random, edges: [u16; 4]) -> String {
+    edges[random.below(4) as usize].to_string()
 }
 
 fn random_rows(random: &mut Random) -> io::Result<Vec<u8>> {
@@ -150,12 +169,20 @@ fn random_bytes(random: &mut Random) -> Vec<u8> {
     text
 }
 
-/// A lawful trace of any setup, with up to so many rows behind its header.
+/// A lawful trace of any setup, with up to so many rows. Where there are many nodes, the highest ones recover first, and
+/// there are more rows, since an election takes longer.
 fn lawful_trace(random: &mut Random, most: u32) -> io::Result<Vec<u8>> {
     let mut text = Vec::new();
-    let rows = 1 + random.below(most);
     let (setup, version) = any_setup(random);
-    generate(setup, version, rows, random.next(), &mut text)?;
+    let highest = setup.nodes / 16;
+    let order = Order {
+        setup,
+        version,
+        recovers_from: setup.nodes - highest + 1,
+        rows: 1 + random.below(most * u32::from(highest + 1)),
+        seed: random.next(),
+    };
+    generate(&order, &mut text)?;
     Ok(text)
 }
 
@@ -187,13 +214,15 @@ fn cut_rows(random: &mut Random, lines: &mut Vec<Vec<u8>>) {
 }
 
 /// A field of the header becomes another one, is left out or stands there twice; or a weight does so; or the version is
-/// another one.
+/// another one, or the number of nodes or of partitions is near a limit.
 fn change_header(random: &mut Random, line: &mut Vec<u8>) {
     line.pop();
     let mut fields: Vec<Vec<u8>> = line.split(|&byte| byte == b',').map(<[u8]>::to_vec).collect();
-    match random.below(3) {
+    match random.below(5) {
         0 => fields[1] = vec![b'0' + random.below(5) as u8],
-        1 if fields.len() > 4 => fields[4] = changed_parts(random, &fields[4], b' '),
+        1 => fields[2] = any_edge(random, NODES_EDGES).into_bytes(),
+        2 => fields[3] = any_edge(random, PARTITIONS_EDGES).into_bytes(),
+        3 if fields.len() > 4 => fields[4] = changed_parts(random, &fields[4], b' '),
         _ => fields = vec![changed_parts(random, line, b',')],
     }
     *line = fields.join(&b',');
@@ -214,8 +243,26 @@ fn changed_parts(random: &mut Random, text: &[u8], between: u8) -> Vec<u8> {
     parts.join(&between)
 }
 
-/// A digit of a row becomes another one: half of the time in an owner of a plan or in a claim, if there is one.
+/// A digit of a row becomes another one.
 fn change_number(random: &mut Random, lines: &mut [Vec<u8>]) {
+    if let Some((row, place)) = any_digit(random, lines) {
+        lines[row][place] = b'1' + random.below(5) as u8;
+    }
+}
+
+/// A number of a row becomes one near a limit on nodes.
+fn put_edge(random: &mut Random, lines: &mut [Vec<u8>]) {
+    if let Some((row, place)) = any_digit(random, lines) {
+        let line = &mut lines[row];
+        let ends = |byte: &u8| !byte.is_ascii_digit();
+        let first = line[..place].iter().rposition(ends).map_or(0, |before| before + 1);
+        let last = line[place..].iter().position(ends).map_or(line.len(), |behind| place + behind);
+        line.splice(first..last, any_edge(random, NODES_EDGES).into_bytes());
+    }
+}
+
+/// A row, and the place of a digit in it: half of the time in an owner of a plan or in a claim, if there is one.
+fn any_digit(random: &mut Random, lines: &[Vec<u8>]) -> Option<(usize, usize)> {
     let word: &[u8] = if random.once_in(4) { b"saw" } else { b"plan" };
     let rows: Vec<usize> = (1..lines.len()).filter(|&row| lines[row].starts_with(word)).collect();
     let (row, first) = if rows.is_empty() || random.once_in(2) {
@@ -223,13 +270,14 @@ fn change_number(random: &mut Random, lines: &mut [Vec<u8>]) {
     } else {
         (rows[random.below(rows.len() as u32) as usize], word.len() + 2)
     };
-    let line = &mut lines[row];
+    let line = &lines[row];
     let digits: Vec<usize> = (first..line.len())
         .filter(|&place| line[place].is_ascii_digit())
         .collect();
-    if !digits.is_empty() {
-        line[digits[random.below(digits.len() as u32) as usize]] = b'1' + random.below(5) as u8;
+    if digits.is_empty() {
+        return None;
     }
+    Some((row, digits[random.below(digits.len() as u32) as usize]))
 }
 
 /// Rows get quotes, other line ends or blank lines, by which `csv` reads on as before.
