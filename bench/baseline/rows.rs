@@ -17,10 +17,11 @@ pub enum Row {
 impl Version {
     /// The lowest version that can tell the setup.
     pub fn of(setup: &Setup) -> Version {
+        let one = Version::One;
+        let fits = setup.nodes <= one.nodes_max() && setup.partitions <= one.partitions_max() as usize;
         let weights = &setup.weights[..setup.nodes as usize];
-        let fits = setup.nodes <= Version::One.nodes_max() && setup.partitions <= Version::One.partitions_max() as usize;
         if fits && !setup.keeps && weights.iter().all(|&weight| weight == 1) {
-            Version::One
+            one
         } else {
             Version::Two
         }
