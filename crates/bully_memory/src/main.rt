@@ -26,7 +26,8 @@ use std::process::ExitCode;
 use std::sync::Wait;
 use std::thread::Threads;
 
-/// The calls, from the lowest crate's on; `/2` stands behind one that is tried with a trace of version 2, too.
+/// The calls, from the lowest crate's on; `/2` stands behind one that is tried with a trace of version 2, too. (Two more,
+/// `World::new/full` and `view/full`, are for the largest group, and take minutes: they are asked for by name.)
 /// `Setup::weighted` and `Walk::apply` take no memory: the latter is tried with all events of an election.
 const CALLS: &str = "Setup::weighted
 Table::read
@@ -127,7 +128,7 @@ enum Kind {
 }
 
 // Each call that isn't one on a group that nobody watches.
-const KINDS: [(&str, Kind); 38] = [
+const KINDS: [(&str, Kind); 40] = [
     ("Setup::weighted", Kind::Table),
     ("Table::read", Kind::Table),
     ("Table::read_in", Kind::Table),
@@ -140,6 +141,8 @@ const KINDS: [(&str, Kind); 38] = [
     ("Waiting::new", Kind::New),
     ("Vector::new", Kind::New),
     ("World::new", Kind::New),
+    ("World::new/full", Kind::New),
+    ("view/full", Kind::New),
     ("Walk::new", Kind::New),
     ("Planning::prepare", Kind::Event),
     ("Procedure::prepare", Kind::Event),

@@ -1,8 +1,8 @@
 ghost use Rattle.std.specs.Prelude.{◌≡◌, ◌≤◌, All, length};
 
 use crate::trying::{Outcome, Trial};
-use bully_agree::Walk;
-use bully_base::{EVENTS_MAX, Node, NodeSet, OutOfMemory, Setup};
+use bully_agree::{Walk, view};
+use bully_base::{EVENTS_MAX, NODES_MAX, Node, NodeSet, OutOfMemory, PARTITIONS_MAX, Setup};
 use bully_calls::{Slot, Waiting};
 use bully_handlers::Vector;
 use bully_table::{Table, TableRoom, plan, plan_in, push_owners};
@@ -12,6 +12,11 @@ use std::alloc::Global;
 /// The group: three nodes and four partitions.
 pub fn setup() -> Option<Setup> {
     Setup::new(3, 4, EVENTS_MAX).ok()
+}
+
+// The largest group.
+fn largest() -> Option<Setup> {
+    Setup::new(NODES_MAX, PARTITIONS_MAX, EVENTS_MAX).ok()
 }
 
 /// A table of the group.
@@ -51,6 +56,8 @@ pub fn new_call<R: Print>(trial: &Trial<R>, name: &str) -> Option<Outcome> {
         "Waiting::new" => waiting_call(trial, setup),
         "Vector::new" => vector_call(trial, setup),
         "World::new" => world_call(trial, setup),
+        "World::new/full" => world_call(trial, largest()?),
+        "view/full" => full_view_call(trial, largest()?),
         "Walk::new" => walk_call(trial, setup),
         _ => None,
     }
@@ -173,6 +180,14 @@ fn vector_call<R: Print>(trial: &Trial<R>, setup: Setup) -> Option<Outcome> {
 fn world_call<R: Print>(trial: &Trial<R>, setup: Setup) -> Option<Outcome> {
     trial.begin();
     let answer = World::new(trial.alloc, setup);
+    trial.outcome(&answer, "AllocError")
+}
+
+// A view of the first world.
+fn full_view_call<R: Print>(trial: &Trial<R>, setup: Setup) -> Option<Outcome> {
+    let world = World::new(trial.alloc, setup).ok()?;
+    trial.begin();
+    let answer = view(trial.alloc, &world);
     trial.outcome(&answer, "AllocError")
 }
 
