@@ -150,7 +150,10 @@ const TRACES: [(&str, &str); 54] = [
     ("bully,1,2,2\nsaw,3,down,-\n", "differs 2\n"),
     ("bully,1,2,2\nsaw,2,down,64\n", "differs 2\n"),
     // nodes beyond version 1
-    ("bully,2,2,1,1 1,clear\nrecover,1024\n", "refused 2 BadNode\n"),
+    (
+        "bully,2,2,1,1 1,clear\nrecover,1024\n",
+        "refused 2 BadNode\n",
+    ),
     ("bully,2,2,1,1 1,clear\nrecover,1025\n", "fault 2 BadRow"),
     ("bully,2,2,1,1 1,clear\nsaw,2,down,1024\n", "differs 2\n"),
     ("bully,1,2,2\nsaw,2,down,65\n", "fault 2 BadRow"),
@@ -250,25 +253,33 @@ fn scripts(rt: HostRuntime) {
     }
 }
 
-// The header of a trace of 65 nodes and 257 partitions, which version 2 alone can tell.
-fn large_header(alloc: Global) -> Result<String, Fail> {
-    let mut text = String::from_str(alloc, "bully,2,65,257,1")?;
+// A header of 65 nodes and 257 partitions.
+// (where there is no memory for it, the text is another one)
+fn large_header(alloc: Global) -> String {
+    let mut text = String::new(alloc);
+    let _ = text.push_str("bully,2,65,257,1");
     for _ in 1..65 {
-        text.push_str(" 1")?;
+        let _ = text.push_str(" 1");
     }
-    text.push_str(",clear\n")?;
-    Ok(text)
+    let _ = text.push_str(",clear\n");
+    text
+}
+
+// What the checker writes of a trace of 65 nodes without a row.
+fn large_first_world(alloc: Global) -> String {
+    let mut text = String::new(alloc);
+    let _ = text.push_str("lawful 0\n");
+    for number in 1..=65 {
+        let _ = writeln!(text, "{number} down - - -");
+    }
+    text
 }
 
 #[test]
-fn a_header_beyond_version_1(rt: HostRuntime) -> Result<(), Fail> {
-    let mut expected = String::from_str(rt.alloc(), "lawful 0\n")?;
-    for number in 1..=65 {
-        writeln!(expected, "{number} down - - -")?;
-    }
-    let trace = large_header(rt.alloc())?;
+fn a_header_beyond_version_1(rt: HostRuntime) {
+    let trace = large_header(rt.alloc());
+    let expected = large_first_world(rt.alloc());
     assert!(rt; tells(rt.alloc(), trace.as_bytes(), expected.as_str()));
-    Ok(())
 }
 
 #[test]
