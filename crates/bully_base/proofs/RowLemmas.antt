@@ -18,7 +18,7 @@ use Rattle.bully_base.specs.NodeSet.{members_among, members_of, words_of, word_o
 use Rattle.bully_base.specs.NodeSetLaws.{number_of-lt, word_of-members_of, words_of-members_of}
 use Rattle.bully_base.proofs.WordLemmas.{members-none, members-agree, members-cut, members-insert, members-remove, members-below, members-Has, no-members, highest-below, lowest-above, ones-members, or_same, or_other, and_not_same, and_not_other, mod_bit, mod_fits, has-bit}
 
-order : (a b : ℕ) → (a ≡ b) ⊎ ((a < b) ⊎ (b < a))
+pub order : (a b : ℕ) → (a ≡ b) ⊎ ((a < b) ⊎ (b < a))
 order a b = grind arith
 
 -- Words of a row.
@@ -61,7 +61,7 @@ take-past (suc q) [] p l = refl
 take-past (suc q) (w ∷ ws) zero l = absurd (omega arith)
 take-past (suc q) (w ∷ ws) (suc p) l = take-past q ws p (omega arith)
 
-row-past : (ws : List ℕ) (p : ℕ) → length ws ≤ p → slice_index_or ws p 0 ≡ 0
+pub row-past : (ws : List ℕ) (p : ℕ) → length ws ≤ p → slice_index_or ws p 0 ≡ 0
 row-past [] p l = refl
 row-past (w ∷ ws) zero l = absurd (omega arith)
 row-past (w ∷ ws) (suc p) l = row-past ws p (omega arith)

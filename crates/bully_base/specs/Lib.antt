@@ -4,5 +4,6 @@ pub mod SetupView
 pub mod SetupEq
 pub mod NodeSet
 pub mod NodeSetLaws
+pub mod UsedWords
 pub mod NodeSetView
 pub mod NodeSetEq

@@ -1,5 +1,6 @@
 ghost use Rattle.std.specs.Prelude.{◌≡◌, ◌≢◌, ◌↔◌, ◌⊎◌, ◌+◌, ◌-◌, ◌*◌, ◌/◌, ◌%◌, ◌^◌, ◌<◌, ◌≤◌, ℕ, [], Some, length, All, Contains, IfSome, IsTrue};
 ghost use Rattle.bully_base.specs.NodeSet.{members_of, with_node, without_node, below_node, highest_of, lowest_of, IsFallingBelow, IsHighestBit, IsLowestBit};
+ghost use Rattle.bully_base.specs.UsedWords.{used_of, used_words};
 ghost use Rattle.bully_base.specs.Setup.{IsNodeNumber};
 ghost use Rattle.bully_base.specs.declared.TheConstants.{NODES_MAX};
 ghost use Rattle.bully_base.specs.declared.node_set.TheConstants.{WORDS};
@@ -14,20 +15,21 @@ const WORDS: usize = NODES_MAX as usize / 64;
 #[derive(Clone, Copy, Debug)]
 pub struct NodeSet {
     words: [u64; WORDS], // a bit for each node, the lowest of the first word for node 1
+    used: usize, // how many words there are up to the last that isn't 0, so that a small set is a quick one
 }
 
 impl Model for NodeSet {
-    ghost use Rattle.std.specs.Prelude.{◌≡◌, List, ℕ, length};
-    ghost use Rattle.bully_base.specs.NodeSet.{members_of, words_of, AreWords};
-    ghost use Rattle.bully_base.specs.declared.node_set.TheConstants.{WORDS};
+    ghost use Rattle.std.specs.Prelude.{List, ℕ};
+    ghost use Rattle.bully_base.specs.NodeSet.{members_of, words_of};
+    ghost use Rattle.bully_base.specs.UsedWords.{used_of, IsRow};
 
     ghost Value = { List ℕ };
 
     ghost view = { λ s. members_of s.words };
 
-    ghost invariant = { λ s. (length s.words ≡ WORDS) × AreWords s.words };
+    ghost invariant = { λ s. IsRow s.words s.used };
 
-    ghost inverse = { λ ms. record { words = words_of ms } };
+    ghost inverse = { λ ms. record { words = words_of ms; used = used_of (words_of ms) } };
 
     ghost use Rattle.bully_base.specs.NodeSetView.{inverse_of_view};
 
@@ -44,7 +46,7 @@ impl PartialEq for NodeSet {
     ghost laws = { partial_equiv_from_equiv same_set_equiv };
 
     fn eq(&self, other: &NodeSet) -> bool {
-        self.words == other.words
+        self.used_words() == other.used_words()
     }
 }
 
@@ -59,7 +61,10 @@ impl NodeSet {
     pub fn new() -> Self
         ensures { result ≡ [] }
     {
-        NodeSet { words: [0; WORDS] }
+        NodeSet {
+            words: [0; WORDS],
+            used: 0,
+        }
     }
 
     /// Puts the node in.
@@ -67,7 +72,9 @@ impl NodeSet {
         ensures after { self.new ≡ with_node node self.old }
         ensures members { (j : ℕ) → Contains self.new j ↔ ((j ≡ node) ⊎ Contains self.old j) }
     {
-        self.words[place_of(node)] |= bit_of(node);
+        let place = place_of(node);
+        self.words[place] |= bit_of(node);
+        self.used = self.used.max(place + 1);
     }
 
     /// Takes the node out.
@@ -75,7 +82,9 @@ impl NodeSet {
         ensures after { self.new ≡ without_node node self.old }
         ensures members { (j : ℕ) → Contains self.new j ↔ (Contains self.old j × (j ≢ node)) }
     {
-        self.words[place_of(node)] &= !bit_of(node);
+        let place = place_of(node);
+        self.words[place] &= !bit_of(node);
+        self.used = count_used(&self.words[..self.used]);
     }
 
     /// Whether the node is a member.
@@ -91,7 +100,7 @@ impl NodeSet {
         ensures falling { IsFallingBelow (NODES_MAX + 1) self.now }
         ensures largest { IfSome result (λ m. (Contains self.now m) × All (λ j. j ≤ m) self.now) }
     {
-        highest_among(&self.words)
+        highest_among(self.used_words())
     }
 
     /// The lowest member.
@@ -99,7 +108,7 @@ impl NodeSet {
         ensures lowest { result ≡ lowest_of self.now }
         ensures least { IfSome result (λ m. (Contains self.now m) × All (λ j. m ≤ j) self.now) }
     {
-        lowest_among(&self.words)
+        lowest_among(self.used_words())
     }
 
     /// The highest member below the node.
@@ -120,7 +129,7 @@ impl NodeSet {
         ensures len { result ≡ length self.now }
         ensures falling { IsFallingBelow (NODES_MAX + 1) self.now }
     {
-        count_among(&self.words)
+        count_among(self.used_words())
     }
 
     /// Whether there is no member.
@@ -129,6 +138,31 @@ impl NodeSet {
     {
         self.lowest().is_none()
     }
+
+    // The words up to the last that isn't 0, in which all members are.
+    fn used_words(&self) -> &[u64]
+        ensures words { result.now ≡ used_words self.now }
+        ensures members { members_of result.now ≡ self.now }
+        ensures within { length result.now ≤ WORDS }
+    {
+        &self.words[..self.used]
+    }
+}
+
+// How many words there are up to the last that isn't 0.
+fn count_used(words: &[u64]) -> usize
+    ensures used { result ≡ used_of words.now }
+    ensures within { result ≤ length words.now }
+{
+    let mut place = words.len();
+    while place > 0 {
+        place -= 1;
+        let word = words[place];
+        if word != 0 {
+            return place + 1;
+        }
+    }
+    0
 }
 
 // The highest node of these words, the first of which begins with node 1.
@@ -136,15 +170,12 @@ fn highest_among(words: &[u64]) -> Option<Node>
     requires { length words.now ≤ WORDS }
     ensures { result ≡ highest_of (members_of words.now) }
 {
-    let mut place = words.len();
-    while place > 0 {
-        place -= 1;
-        let word = words[place];
-        if word != 0 {
-            return node_at(place, highest_bit(word));
-        }
+    let used = count_used(words);
+    if used == 0 {
+        return None;
     }
-    None
+    let place = used - 1;
+    node_at(place, highest_bit(words[place]))
 }
 
 // The lowest node of these words.

@@ -7,8 +7,8 @@ use Rattle.bully_base.proofs.node_set.NodeSet.highest.Goals as goal
 
 pub returns : goal.returns
 returns c =
-    let same : c.highest_among.result ≡ highest_of c.args.self.now = c.highest_among.ensures ∙ ap highest_of c.self.view_is in
-    let falling : IsFallingBelow (NODES_MAX + 1) c.args.self.now = rw (← c.self.view_is) (members-falling (number_of c.self.inside.words) NODES_MAX) in
+    let same : c.highest_among.result ≡ highest_of c.args.self.now = c.highest_among.ensures ∙ ap highest_of c.used_words.ensures.members in
+    let falling : IsFallingBelow (NODES_MAX + 1) c.args.self.now = rw (← c.used_words.ensures.members) (members-falling (number_of c.used_words.result.now) NODES_MAX) in
     record {
       highest = same;
       falling = falling;

@@ -5,7 +5,7 @@ use Rattle.bully_base.proofs.WordLemmas.{members-falling}
 use Rattle.bully_base.proofs.node_set.NodeSet.len.Goals as goal
 
 pub returns-clause-len : goal.returns-clause-len
-returns-clause-len c = c.count_among.ensures ∙ ap length c.self.view_is
+returns-clause-len c = c.count_among.ensures ∙ ap length c.used_words.ensures.members
 
 pub returns-clause-falling : goal.returns-clause-falling
-returns-clause-falling c = rw (← c.self.view_is) (members-falling (number_of c.self.inside.words) NODES_MAX)
+returns-clause-falling c = rw (← c.used_words.ensures.members) (members-falling (number_of c.used_words.result.now) NODES_MAX)
