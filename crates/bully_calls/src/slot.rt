@@ -40,7 +40,7 @@ impl Slot {
     {
         Ok(Slot {
             content: None,
-            carried: TableRoom::new(alloc, setup)?,
+            carried: TableRoom::new(alloc, &setup)?,
         })
     }
 

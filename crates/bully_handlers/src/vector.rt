@@ -43,7 +43,7 @@ impl Vector {
             coordinator: None,
             halter: None,
             up: NodeSet::new(),
-            task: TableRoom::new(alloc, setup)?,
+            task: TableRoom::new(alloc, &setup)?,
         })
     }
 

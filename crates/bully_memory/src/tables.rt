@@ -94,7 +94,7 @@ fn copy_call<R: Print>(trial: &Trial<R>, table: &Table) -> Option<Outcome> {
 
 fn room_call<R: Print>(trial: &Trial<R>, setup: Setup) -> Option<Outcome> {
     trial.begin();
-    let answer = TableRoom::new(trial.alloc, setup);
+    let answer = TableRoom::new(trial.alloc, &setup);
     trial.outcome(&answer, "AllocError")
 }
 

@@ -2,34 +2,43 @@ ghost use Rattle.std.specs.Prelude.{◌≡◌, length, IfOk, Some, None};
 ghost use Rattle.std.specs.Option.{option_copied};
 
 use crate::table::Table;
-use bully_base::{OutOfMemory, Setup};
+use bully_base::{Node, OutOfMemory, Setup};
 use std::alloc::Global;
 use std::marker::Model;
+use std::mem;
 
 /// Room that is reserved for one table, and the table in it, if any.
 #[derive(Drop, Debug)]
 pub struct TableRoom {
-    table: Table,
+    /// What was put in last, also where the room was emptied since.
+    table: Option<Table>,
+    /// The memory of the first table, until that is put in: so memory that is never used is never touched.
+    reserved: Vec<Node>,
+    size: usize,
     is_full: bool,
 }
 
 impl Model for TableRoom {
-    ghost use Rattle.std.specs.Prelude.{Some, None, length, if◌then◌else◌};
-    ghost use Rattle.bully_table.specs.Room.{Room};
+    ghost use Rattle.std.specs.Prelude.{None, vec_capacity, if◌then◌else◌};
+    ghost use Rattle.bully_table.specs.Room.{Room, IsRoom};
 
     ghost Value = { Room };
 
-    ghost view = { λ r. record { table = if r.is_full then Some r.table else None; size = length r.table } };
+    ghost view = { λ r. record { table = if r.is_full then r.table else None; size = r.size } };
+
+    ghost invariant = { λ r. IsRoom r.table r.reserved.items (vec_capacity r.reserved) r.size r.is_full };
 }
 
 impl TableRoom {
     /// Empty room for a table of the setup's partitions. Refused where an allocation fails.
-    pub fn new(alloc: Global, setup: Setup) -> Result<TableRoom, OutOfMemory>
-        ensures { IfOk result (λ r. r ≡ record { table = None; size = setup.partitions }) }
+    pub fn new(alloc: Global, setup: &Setup) -> Result<TableRoom, OutOfMemory>
+        ensures { IfOk result (λ r. r ≡ record { table = None; size = setup.now.partitions }) }
     {
-        let table = Table::all_owned(alloc, &setup)?;
+        let size = usize::from(setup.partitions());
         Ok(TableRoom {
-            table,
+            table: None,
+            reserved: Vec::with_capacity(alloc, size)?,
+            size,
             is_full: false,
         })
     }
@@ -39,8 +48,14 @@ impl TableRoom {
         requires { length table.now ≡ self.old.size }
         ensures { self.new ≡ record self.old { table = Some table.now } }
     {
-        self.table.assign(table);
         self.is_full = true;
+        if let Some(own) = &mut self.table {
+            own.assign(table);
+            return;
+        }
+        let alloc = *self.reserved.allocator();
+        let reserved = mem::replace(&mut self.reserved, Vec::new(alloc));
+        self.table = Some(table.copy_into(reserved));
     }
 
     /// Empties the room, which stays reserved.
@@ -55,7 +70,7 @@ impl TableRoom {
         ensures { option_copied result ≡ self.now.table }
     {
         if self.is_full {
-            Some(&self.table)
+            self.table.as_ref()
         } else {
             None
         }

@@ -1,4 +1,4 @@
-ghost use Rattle.std.specs.Prelude.{◌≡◌, ◌↔◌, ◌<◌, ◌≤◌, length, slice_get, bytes_eq, All, IsTrue, IfOk, IfErr, Ok, Some};
+ghost use Rattle.std.specs.Prelude.{◌≡◌, ◌↔◌, ◌<◌, ◌≤◌, [], length, slice_get, vec_capacity, bytes_eq, All, IsTrue, IfOk, IfErr, Ok, Some};
 ghost use Rattle.std.specs.Cmp.{partial_equiv_from_equiv};
 ghost use Rattle.std.specs.Cmp.Lexicographic.{nat_list_eq_equiv};
 ghost use Rattle.bully_base.specs.declared.TheConstants.{PARTITIONS_MAX};
@@ -119,15 +119,6 @@ impl Table {
         Ok(Table { owners })
     }
 
-    // A table of the setup's partitions, each owned by node 1.
-    pub(crate) fn all_owned(alloc: Global, setup: &Setup) -> Result<Table, OutOfMemory>
-        ensures { IfOk result (λ t. length t ≡ setup.now.partitions) }
-    {
-        let first = Node::new(1).unwrap();
-        let owners = vec![in alloc; first; usize::from(setup.partitions())]?;
-        Ok(Table { owners })
-    }
-
     // The table of these owners.
     pub(crate) fn of(owners: Vec<Node>) -> Table
         requires { length owners.items ≤ PARTITIONS_MAX }
@@ -164,6 +155,17 @@ impl Table {
     {
         let owners = Vec::from_slice(*self.owners.allocator(), &self.owners)?;
         Ok(Table { owners })
+    }
+
+    // A table of the same owners, in memory that is reserved for them.
+    pub(crate) fn copy_into(&self, reserved: Vec<Node>) -> Table
+        requires empty { reserved.items ≡ [] }
+        requires room { length self.now ≤ vec_capacity reserved }
+        ensures { result ≡ self.now }
+    {
+        let mut owners = reserved;
+        owners.extend_from_slice(&self.owners).unwrap();
+        Table { owners }
     }
 
     /// Takes over the owners of a table of the same length.

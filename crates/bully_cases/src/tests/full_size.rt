@@ -73,7 +73,7 @@ fn is_copied(table: &Table) -> bool {
 fn is_kept_in_room(alloc: Global, group: Setup, table: &Table) -> bool
     requires { length table.now ≡ group.partitions }
 {
-    match TableRoom::new(alloc, group) {
+    match TableRoom::new(alloc, &group) {
         Ok(mut room) => {
             room.put(table);
             room.table() == Some(table)
