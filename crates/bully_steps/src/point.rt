@@ -48,18 +48,18 @@ impl Point {
     /// What the point offers at a node that has this coordinator. The rule: docs/ALGORITHM.md.
     // (inlined, so that a point that was just read stays in registers)
     #[inline(always)]
-    pub fn offers(self, setup: &Setup, node: Node, coordinator: Option<Node>) -> Want
-        requires { IsPointOf setup.now node self }
-        ensures { result ≡ offered setup.now coordinator self }
+    pub fn offers(&self, setup: &Setup, node: Node, coordinator: Option<Node>) -> Want
+        requires { IsPointOf setup.now node self.now }
+        ensures { result ≡ offered setup.now coordinator self.now }
     {
         match self {
             Point::Idle => Want::Nothing,
-            Point::Asking(number) => start_or_move(next_asked(setup, number), CallKind::AreYouUp),
-            Point::Halting(number) => start_or_move(Node::new(number), CallKind::Halt),
+            Point::Asking(number) => start_or_move(next_asked(setup, *number), CallKind::AreYouUp),
+            Point::Halting(number) => start_or_move(Node::new(*number), CallKind::Halt),
             Point::Announcing(rest) => start_or_move(rest.highest(), CallKind::NewCoordinator),
             Point::Planning => Want::Plan,
             Point::Readying(rest) => start_or_move(rest.highest(), CallKind::Ready),
-            Point::Checking(callee) => start_or_move(Some(callee), CallKind::AreYouNormal),
+            Point::Checking(callee) => start_or_move(Some(*callee), CallKind::AreYouNormal),
             Point::Inquiring => match coordinator {
                 Some(callee) => start_or_move(Some(callee), CallKind::AreYouUp),
                 None => Want::Nothing,
@@ -75,23 +75,29 @@ impl Point {
         self.next_in(&setup, node, up, outcome)
     }
 
-    /// [`Point::next`], with the setup by reference.
+    /// [`Point::next`], with point and setup by reference.
     // (inlined, so that a point that was just read stays in registers)
     #[inline(always)]
-    pub fn next_in(self, setup: &Setup, node: Node, up: &NodeSet, outcome: Outcome) -> Option<Point>
-        ensures { result ≡ next_point setup.now node up.now self outcome }
+    pub fn next_in(
+        &self,
+        setup: &Setup,
+        node: Node,
+        up: &NodeSet,
+        outcome: Outcome,
+    ) -> Option<Point>
+        ensures { result ≡ next_point setup.now node up.now self.now outcome }
     {
         match self {
             Point::Idle => None,
-            Point::Asking(number) => after_asking(setup, node, number, outcome),
-            Point::Halting(number) => after_halting(number, up, outcome),
+            Point::Asking(number) => after_asking(setup, node, *number, outcome),
+            Point::Halting(number) => after_halting(*number, up, outcome),
             Point::Announcing(rest) => after_announcing(node, rest, outcome),
             Point::Planning => match outcome {
                 Outcome::Planned => Some(Point::Readying(*up)),
                 _ => None,
             },
             Point::Readying(rest) => after_readying(node, rest, outcome),
-            Point::Checking(callee) => after_checking(setup, node, callee, outcome),
+            Point::Checking(callee) => after_checking(setup, node, *callee, outcome),
             Point::Inquiring => match outcome {
                 Outcome::Started => Some(Point::Inquiring),
                 Outcome::Yes => Some(Point::Idle),
@@ -225,12 +231,12 @@ fn after_halting(number: u16, up: &NodeSet, outcome: Outcome) -> Option<Point>
     }
 }
 
-fn after_announcing(node: Node, rest: NodeSet, outcome: Outcome) -> Option<Point>
-    ensures { (setup : SetupState) (up : List ℕ) → result ≡ next_point setup node up (Point.Announcing rest) outcome }
+fn after_announcing(node: Node, rest: &NodeSet, outcome: Outcome) -> Option<Point>
+    ensures { (setup : SetupState) (up : List ℕ) → result ≡ next_point setup node up (Point.Announcing rest.now) outcome }
 {
-    let next = without_highest(&rest);
+    let next = without_highest(rest);
     match outcome {
-        Outcome::Started if next.is_some() => Some(Point::Announcing(rest)),
+        Outcome::Started if next.is_some() => Some(Point::Announcing(*rest)),
         Outcome::Yes => next.map(Point::Announcing),
         Outcome::Failed if next.is_some() => Some(election_of(node)),
         Outcome::Moved if next.is_none() => Some(Point::Planning),
@@ -238,12 +244,12 @@ fn after_announcing(node: Node, rest: NodeSet, outcome: Outcome) -> Option<Point
     }
 }
 
-fn after_readying(node: Node, rest: NodeSet, outcome: Outcome) -> Option<Point>
-    ensures { (setup : SetupState) (up : List ℕ) → result ≡ next_point setup node up (Point.Readying rest) outcome }
+fn after_readying(node: Node, rest: &NodeSet, outcome: Outcome) -> Option<Point>
+    ensures { (setup : SetupState) (up : List ℕ) → result ≡ next_point setup node up (Point.Readying rest.now) outcome }
 {
-    let next = without_highest(&rest);
+    let next = without_highest(rest);
     match outcome {
-        Outcome::Started if next.is_some() => Some(Point::Readying(rest)),
+        Outcome::Started if next.is_some() => Some(Point::Readying(*rest)),
         Outcome::Yes => next.map(Point::Readying),
         Outcome::Failed if next.is_some() => Some(election_of(node)),
         Outcome::Moved if next.is_none() => Some(Point::Idle),

@@ -145,14 +145,14 @@ impl Procedure {
     }
 
     /// The lower nodes that are up, at Halting, Announcing and Planning.
-    pub fn up(&self) -> Option<NodeSet>
-        ensures { result ≡ (state_of self.now).up }
+    pub fn up(&self) -> Option<&NodeSet>
+        ensures { option_copied result ≡ (state_of self.now).up }
     {
         match self {
-            Procedure::Halting(halting) => Some(halting.up),
-            Procedure::Announcing(announcing) => Some(announcing.up),
-            Procedure::Planning(planning) => Some(planning.up),
-            Procedure::Planned(planned) => Some(planned.up),
+            Procedure::Halting(halting) => Some(&halting.up),
+            Procedure::Announcing(announcing) => Some(&announcing.up),
+            Procedure::Planning(planning) => Some(&planning.up),
+            Procedure::Planned(planned) => Some(&planned.up),
             _ => None,
         }
     }
@@ -222,10 +222,11 @@ impl Procedure {
         ensures state { state_of self.new ≡ resumed (state_of self.old) outcome }
         ensures point { next_of (state_of self.old) outcome ≡ Some (state_of self.new).point }
     {
-        let up = self.up().unwrap_or(NodeSet::new());
+        let nobody = NodeSet::new();
+        let up = self.up().unwrap_or(&nobody);
         let next = self
             .point()
-            .next_in(self.setup(), self.node(), &up, outcome)
+            .next_in(self.setup(), self.node(), up, outcome)
             .unwrap();
         let next_up = self.up_after(outcome);
         self.go_to(next, &next_up, is_started(outcome));
@@ -317,7 +318,7 @@ impl Procedure {
     {
         match self {
             Procedure::Halting(halting) if outcome == Outcome::Yes => halting.joined(),
-            _ => self.up().unwrap_or(NodeSet::new()),
+            _ => *self.up().unwrap_or(&NodeSet::new()),
         }
     }
 

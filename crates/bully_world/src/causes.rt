@@ -67,8 +67,8 @@ fn later_cause(setup: &Setup, members: &[Member], named: &Member, event: &Event)
     }
 }
 
-fn is_at_rest(point: Point) -> bool
-    ensures { result ≡ is_idle point }
+fn is_at_rest(point: &Point) -> bool
+    ensures { result ≡ is_idle point.now }
 {
     matches!(point, Point::Idle)
 }

@@ -59,10 +59,10 @@ impl Member {
     }
 
     /// Where its procedure stands.
-    pub fn point(&self) -> Point
-        ensures { result ≡ self.now.point }
+    pub fn point(&self) -> &Point
+        ensures { result.now ≡ self.now.point }
     {
-        self.point
+        &self.point
     }
 
     /// Its call slot.

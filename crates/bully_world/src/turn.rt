@@ -1,4 +1,5 @@
 ghost use Rattle.std.specs.Prelude.{◌≡◌, ◌≤◌, true, IsSome, bytes_eq};
+ghost use Rattle.std.specs.Option.{option_copied};
 ghost use Rattle.bully_calls.specs.Slot.{pending_in};
 ghost use Rattle.bully_steps.specs.ProcedureState.{HasSameNode, IsProcedureState, want_of, up_at, coordinator_at};
 ghost use Rattle.bully_steps.specs.Procedure.{state_of};
@@ -74,7 +75,7 @@ impl World {
             self.setup(),
             node,
             generation,
-            member.point(),
+            *member.point(),
             vector.up(),
             vector.coordinator(),
             holds_live_call(member.slot(), generation),
@@ -162,21 +163,21 @@ fn agrees_with(procedure: &Procedure, member: &Member) -> bool
     let point = member.point();
     let vector = member.vector();
     procedure.generation() == member.generation()
-        && is_same_point(&procedure.point(), &point)
+        && is_same_point(&procedure.point(), point)
         && procedure.awaits() == holds_live_call(member.slot(), member.generation())
-        && is_same_set(procedure.up(), up_at(&point, vector.up()))
+        && is_same_set(procedure.up(), up_at(point, vector.up()))
         && is_same_node(
             procedure.coordinator(),
-            coordinator_at(&point, vector.coordinator()),
+            coordinator_at(point, vector.coordinator()),
         )
 }
 
 // The up set, where a procedure holds it at this point.
-fn up_at(point: &Point, up: &NodeSet) -> Option<NodeSet>
-    ensures { result ≡ up_at point.now up.now }
+fn up_at<'a>(point: &Point, up: &'a NodeSet) -> Option<&'a NodeSet>
+    ensures { option_copied result ≡ up_at point.now up.now }
 {
     match point {
-        Point::Halting(_) | Point::Announcing(_) | Point::Planning => Some(*up),
+        Point::Halting(_) | Point::Announcing(_) | Point::Planning => Some(up),
         _ => None,
     }
 }
@@ -209,11 +210,11 @@ fn is_same_point(point: &Point, shown: &Point) -> bool
 }
 
 // Whether both hold a set, and the same, or neither does.
-fn is_same_set(up: Option<NodeSet>, shown: Option<NodeSet>) -> bool
-    ensures { result ≡ same_set up shown }
+fn is_same_set(up: Option<&NodeSet>, shown: Option<&NodeSet>) -> bool
+    ensures { result ≡ same_set (option_copied up.entry) (option_copied shown.entry) }
 {
     match (up, shown) {
-        (Some(up), Some(shown)) => are_same_nodes(&up, &shown),
+        (Some(up), Some(shown)) => are_same_nodes(up, shown),
         (None, None) => true,
         _ => false,
     }
