@@ -18,7 +18,7 @@ use Rattle.bully_trace.specs.declared.TheConstants.{FIRST_NODES_MAX, FIRST_PARTI
 use Rattle.bully_trace.specs.declared.header.Header.{Header}
 use Rattle.bully_trace.specs.declared.header.Version.{Version}
 use Rattle.bully_trace.specs.declared.trace.TraceFault.{TraceFault}
-use Rattle.bully_trace.specs.Headers.{IsVersionFor, Record, first_header, header_of, is_first, node_in, partitions_in, second_header, setup_in, version_for, weight_in, weighted_in, weights_from, weights_in, within}
+use Rattle.bully_trace.specs.Headers.{IsVersionFor, Record, first_header, header_of, fits_first, node_in, partitions_in, second_header, setup_in, version_for, weight_in, weighted_in, weights_from, weights_in, within}
 use Rattle.bully_trace.specs.Words.{keeps_named}
 
 -- ---- what is read is within the limits
@@ -37,7 +37,7 @@ first_if true e = refl
 first_if false e = absurd (cc e)
 
 pub version_fits : (setup : Setup) → IsVersionFor (version_for setup) setup
-version_fits setup e = first_if (is_first setup) e
+version_fits setup e = first_if (fits_first setup) e
 
 -- version 2 goes with every setup
 pub two_fits : (setup : Setup) → IsVersionFor Version.Two setup
@@ -45,21 +45,21 @@ two_fits setup one = absurd (cc one)
 
 -- numbers within the limits of version 1, and weights of 1
 numbers-first : (n p : Option ℕ) (setup : Setup) → ((i : ℕ) → n ≡ Some i → i ≤ FIRST_NODES_MAX) → ((k : ℕ) → p ≡ Some k → k ≤ FIRST_PARTITIONS_MAX)
-    → option_and_then (λ i. option_map (λ k. even_setup i k EVENTS_MAX) p) n ≡ Some setup → is_first setup ≡ true
+    → option_and_then (λ i. option_map (λ k. even_setup i k EVENTS_MAX) p) n ≡ Some setup → fits_first setup ≡ true
 numbers-first None p setup few_nodes few_partitions e = absurd (cc e)
 numbers-first (Some i) None setup few_nodes few_partitions e = absurd (cc e)
 numbers-first (Some i) (Some k) setup few_nodes few_partitions e =
     let even = even-is_even i k EVENTS_MAX in
     let nodes : nat_le i FIRST_NODES_MAX ≡ true = grind (arith, nat_tests, few_nodes i refl) in
     let partitions : nat_le k FIRST_PARTITIONS_MAX ≡ true = grind (arith, nat_tests, few_partitions k refl) in
-    subst (λ s. is_first s ≡ true) (same_Some _ _ e) (rw (even, nodes, partitions) refl)
+    subst (λ s. fits_first s ≡ true) (same_Some _ _ e) (rw (even, nodes, partitions) refl)
 
-first-setup : (nodes partitions : List ℕ) (setup : Setup) → setup_in nodes partitions ≡ Some setup → is_first setup ≡ true
+first-setup : (nodes partitions : List ℕ) (setup : Setup) → setup_in nodes partitions ≡ Some setup → fits_first setup ≡ true
 first-setup nodes partitions setup e =
     numbers-first (node_in Version.One nodes) (partitions_in Version.One partitions) setup
     (λ i at_i. (told-within FIRST_NODES_MAX (number_of nodes) i at_i).1) (λ k at_k. (told-within FIRST_PARTITIONS_MAX (number_of partitions) k at_k).1) e
 
-first-fits : (test : Bool) (o : Option Setup) (header : Header) → ((setup : Setup) → o ≡ Some setup → is_first setup ≡ true)
+first-fits : (test : Bool) (o : Option Setup) (header : Header) → ((setup : Setup) → o ≡ Some setup → fits_first setup ≡ true)
     → (if test then option_map first_header o else None) ≡ Some header → IsVersionFor header.version header.setup
 first-fits true (Some s) header first e = subst (λ (h : Header). IsVersionFor h.version h.setup) (same_Some _ _ e) (λ _. first s refl)
 first-fits true None header first e = absurd (cc e)

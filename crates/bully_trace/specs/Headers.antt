@@ -25,16 +25,16 @@ partitions_max Version.One = FIRST_PARTITIONS_MAX
 partitions_max Version.Two = PARTITIONS_MAX
 
 -- version 1 can tell the setup: all nodes weigh 1, no task is kept, and there are no more nodes and partitions than it has
-abbrev pub is_first : Setup → Bool
-is_first setup = is_even setup && (nat_le setup.nodes FIRST_NODES_MAX && nat_le setup.partitions FIRST_PARTITIONS_MAX)
+abbrev pub fits_first : Setup → Bool
+fits_first setup = is_even setup && (nat_le setup.nodes FIRST_NODES_MAX && nat_le setup.partitions FIRST_PARTITIONS_MAX)
 
 -- the version of a trace of this setup: the first that can tell it
 abbrev pub version_for : Setup → Version
-version_for setup = if is_first setup then Version.One else Version.Two
+version_for setup = if fits_first setup then Version.One else Version.Two
 
 -- version 1 goes only with a setup that it can tell
 abbrev pub IsVersionFor : Version → Setup → Type 0
-IsVersionFor version setup = version ≡ Version.One → is_first setup ≡ true
+IsVersionFor version setup = version ≡ Version.One → fits_first setup ≡ true
 
 -- the number, where it is from 1 to the limit
 abbrev pub within : ℕ → ℕ → Option ℕ
