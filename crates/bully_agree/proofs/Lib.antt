@@ -12,6 +12,7 @@ pub mod Moving
 pub mod Planning
 pub mod Running
 pub mod Law
+pub mod KeptLemmas
 pub mod ViewLemmas
 pub mod RunLemmas
 pub mod WholeLemmas

@@ -1,4 +1,5 @@
 pub mod Agreement
+pub mod KeptSetup
 pub mod Runs
 pub mod Stages
 pub mod View

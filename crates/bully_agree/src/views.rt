@@ -2,10 +2,12 @@ ghost use Rattle.std.specs.Prelude.{◌≡◌, ◌≤◌};
 ghost use Rattle.std.specs.Option.{option_copied};
 ghost use Rattle.bully_agree.specs.View.{ViewAgrees, IsViewed, shown};
 
+mod kept_setup;
 pub mod making;
 
 use bully_base::{Node, Setup, Status};
 use bully_table::Table;
+use kept_setup::KeptSetup;
 use std::marker::Model;
 
 /// What is shown of one node.
@@ -28,7 +30,7 @@ impl Model for Shown {
 /// Its type keeps that the nodes agree, and that a lawful list of so many events leads to such a world.
 #[derive(Drop, Debug)]
 pub struct View {
-    setup: Setup,
+    setup: KeptSetup,
     events: u32,
     nodes: Vec<Shown>,
 }
@@ -45,10 +47,10 @@ impl Model for View {
 
 impl View {
     /// What the group was set up with.
-    pub fn setup(&self) -> &Setup
-        ensures { result.now ≡ self.now.setup }
+    pub fn setup(&self) -> Setup
+        ensures { result ≡ self.now.setup }
     {
-        &self.setup
+        self.setup.setup()
     }
 
     /// How many events were applied, from 0 to the setup's bound. Every view agrees, and is of a world that a lawful

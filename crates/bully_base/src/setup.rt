@@ -282,9 +282,10 @@ impl Setup {
         !self.keeps && are_ones(self.weights())
     }
 
-    // The weights of the group's nodes, that of node 1 first.
-    fn weights(&self) -> &[u16]
-        ensures { result.now ≡ self.now.weights }
+    /// The weights of the group's nodes, that of node 1 first.
+    pub fn weights(&self) -> &[u16]
+        ensures weights { result.now ≡ self.now.weights }
+        ensures within { IsSetup self.now }
     {
         &self.weights[..usize::from(self.nodes())]
     }

@@ -28,8 +28,8 @@ impl Model for Closed {
 
 impl Closed {
     /// What the group was set up with.
-    pub fn setup(&self) -> &Setup
-        ensures { result.now ≡ self.now.view.setup }
+    pub fn setup(&self) -> Setup
+        ensures { result ≡ self.now.view.setup }
     {
         self.view.setup()
     }

@@ -35,7 +35,7 @@ fn setup_of_run<R: Print + Threads + Wait + Sync>(
     let answer = run_nodes(trial.rt, trial.alloc, config, &OpenGate);
     trial.end();
     let closed = answer?;
-    let setup = *closed.setup();
+    let setup = closed.setup();
     closed.end(trial.rt);
     Ok(setup)
 }

@@ -329,7 +329,7 @@ fn crash_call<L: Naming, R: Print + Wait>(
 
 /// A publish of this history by a publisher alone.
 pub fn publish_history<R: Print + Wait>(trial: &Trial<R>, closed: &Closed) -> Option<Outcome> {
-    let (mut publisher, mut observer) = publisher_for(trial.rt, trial.alloc, *closed.setup())?;
+    let (mut publisher, mut observer) = publisher_for(trial.rt, trial.alloc, closed.setup())?;
     let outcome = shown_by(trial, &mut publisher, &mut observer, closed.history());
     publisher.end(trial.rt);
     outcome

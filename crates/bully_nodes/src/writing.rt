@@ -37,7 +37,7 @@ fn trace_of(alloc: Global, closed: &Closed) -> Result<Trace, OutOfMemory>
     // Its limits show the proof that there are no more entries than a trace has rows.
     let _ = setup.events_max();
     let rows = rows_of(alloc, closed.history())?;
-    Ok(trace_with(setup, rows))
+    Ok(trace_with(&setup, rows))
 }
 
 // A row for the event of each entry.

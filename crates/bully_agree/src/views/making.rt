@@ -3,6 +3,7 @@ ghost use Rattle.std.specs.Option.{option_copied};
 ghost use Rattle.bully_agree.specs.View.{IsViewed, ViewAgrees, shown_by, shown_of, view_of};
 ghost use Rattle.bully_world.specs.State.{IsReached, world_of};
 
+use super::kept_setup::KeptSetup;
 use super::{Shown, View};
 use bully_base::{Node, OutOfMemory};
 use bully_handlers::Vector;
@@ -19,7 +20,7 @@ pub fn view(alloc: Global, world: &World) -> Result<View, OutOfMemory>
 {
     let events = world.events();
     Ok(View {
-        setup: *world.setup(),
+        setup: KeptSetup::of(alloc, world.setup())?,
         events,
         nodes: shown_nodes(alloc, world)?,
     })

@@ -159,7 +159,7 @@ fn runs_of_scripts(rt: HostRuntime) {
 // Whether the world's view has this setup, and shows this.
 fn world_shows(alloc: Global, world: &World, setup: &Setup, expected: &str) -> bool {
     match view(alloc, world) {
-        Ok(view) => *view.setup() == *setup && shows(alloc, &view, expected),
+        Ok(view) => view.setup() == *setup && shows(alloc, &view, expected),
         Err(_) => false,
     }
 }

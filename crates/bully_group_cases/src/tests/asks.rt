@@ -453,7 +453,7 @@ fn is_entry(
     let Some(entry) = closed.history().get(place) else {
         return false;
     };
-    match event_of(alloc, closed.setup(), wanted.1, wanted.2) {
+    match event_of(alloc, &closed.setup(), wanted.1, wanted.2) {
         Some(event) => {
             entry.actor == wanted.0 && entry.answer == wanted.3 && entry.event.is_same(&event)
         }
