@@ -1,10 +1,7 @@
-use crate::groups::Asked;
 use crate::opened::Opened;
-use crate::texts::output;
 use crate::trying::{Outcome, Trial, ended, is_same, text_of, with};
 use crate::watched::publish_history;
 use bully_group::{Closed, FinishFault, Naming};
-use bully_nodes::write_history;
 use std::alloc::Global;
 use std::sync::Wait;
 
@@ -78,24 +75,13 @@ fn closed_text(alloc: Global, closed: &Closed) -> Option<String> {
     with(text_of(alloc, closed.view())?, &closed.history())
 }
 
-/// A call on the history of a finished group, which is ended then.
-pub fn history_call<L: Naming, R: Print + Wait>(
+/// A publish of the history of a finished group, which is ended then.
+pub fn publish_call<L: Naming, R: Print + Wait>(
     trial: &Trial<R>,
-    asked: Asked,
     opened: Opened<L>,
 ) -> Option<Outcome> {
     let closed = closed_of(trial, opened)?;
-    let outcome = match asked {
-        Asked::WriteHistory => write_call(trial, &closed),
-        _ => publish_history(trial, &closed),
-    };
+    let outcome = publish_history(trial, &closed);
     closed.end(trial.rt);
     outcome
-}
-
-fn write_call<R: Print>(trial: &Trial<R>, closed: &Closed) -> Option<Outcome> {
-    let mut output = output(trial.alloc)?;
-    trial.begin();
-    let answer = write_history(trial.alloc, &mut output, closed);
-    trial.written(&answer, "OutOfMemory", output.as_slice())
 }

@@ -1,6 +1,6 @@
 ghost use Rattle.std.specs.Prelude.{◌≡◌, ◌+◌, IfErr, None};
 
-use crate::finished::{finish_call, history_call};
+use crate::finished::{finish_call, publish_call};
 use crate::opened::{OPERATOR, Opened, SECOND, THIRD};
 use crate::tables::setup;
 use crate::trying::{Outcome, Trial, ended, is_same, with};
@@ -26,7 +26,6 @@ pub enum Asked {
     NodeTurn,
     View,
     Finish,
-    WriteHistory,
     PublishHistory,
 }
 
@@ -42,7 +41,6 @@ pub fn group_call<R: Print + Wait>(trial: &Trial<R>, name: &str) -> Option<Outco
         "Locked::serve_or_turn" => Asked::NodeTurn,
         "Locked::view" => Asked::View,
         "Locked::finish" => Asked::Finish,
-        "write_history" => Asked::WriteHistory,
         "Publisher::publish" => Asked::PublishHistory,
         _ => return None,
     };
@@ -148,7 +146,7 @@ fn opened_call<L: Naming, R: Print + Wait>(
     }
     match asked {
         Asked::Finish => finish_call(trial, opened),
-        Asked::WriteHistory | Asked::PublishHistory => history_call(trial, asked, opened),
+        Asked::PublishHistory => publish_call(trial, opened),
         _ => {
             let outcome = held_call(trial, asked, &mut opened);
             opened.end(trial.rt);

@@ -1,12 +1,12 @@
 //! Each public call that takes memory, in a program of its own: `hostile/memory` refuses it each request in turn.
 //!
-//! It stands on all libraries. Nothing stands on it.
+//! It stands on all libraries but those that need a configuration, words or threads: what these make of refused memory is
+//! tried with the program itself. Nothing stands on it.
 #![tactic(auto)]
 
 mod finished;
 mod groups;
 mod opened;
-mod running;
 mod tables;
 mod texts;
 mod trying;
@@ -14,7 +14,6 @@ mod watched;
 mod worlds;
 
 use crate::groups::group_call;
-use crate::running::run_nodes_call;
 use crate::tables::{new_call, table_call};
 use crate::texts::text_call;
 use crate::trying::{Outcome, Trial};
@@ -24,10 +23,9 @@ use std::alloc::Global;
 use std::env;
 use std::process::ExitCode;
 use std::sync::Wait;
-use std::thread::Threads;
 
 /// The calls, from the lowest crate's on; `/2` stands behind one that is tried with a trace of version 2, too. (Two more,
-/// `World::new/full` and `view/full`, are for the largest group, and take minutes: they are asked for by name.)
+/// `World::new/full` and `view/full`, are for the largest group, and take a minute or two: they are asked for by name.)
 /// `Setup::weighted` and `Walk::apply` take no memory: the latter is tried with all events of an election.
 const CALLS: &str = "Setup::weighted
 Table::read
@@ -72,12 +70,7 @@ write_trace/2
 check
 check/2
 upgrade
-upgrade/2
-Config::read
-play
-write_history
-run_nodes
-action_of";
+upgrade/2";
 
 fn main(rt: HostRuntime) -> ExitCode {
     let Some(name) = word(&rt) else {
@@ -100,7 +93,7 @@ fn word(rt: &HostRuntime) -> Option<String> {
 
 // Makes the call, and again where it was refused memory and is still to be made. Prints whether it was refused, and then
 // what it answered in the end and what it left.
-fn try_call<R: Print + Threads + Wait + Sync>(rt: &R, alloc: Global, name: &str) -> Option<()> {
+fn try_call<R: Print + Wait>(rt: &R, alloc: Global, name: &str) -> Option<()> {
     let trial = Trial { rt, alloc };
     match outcome_of(&trial, name)? {
         Outcome::Answered(text) => tell(rt, "ample", &text),
@@ -124,11 +117,10 @@ enum Kind {
     Event,
     Watched,
     Text,
-    Threads,
 }
 
 // Each call that isn't one on a group that nobody watches.
-const KINDS: [(&str, Kind); 40] = [
+const KINDS: [(&str, Kind); 36] = [
     ("Setup::weighted", Kind::Table),
     ("Table::read", Kind::Table),
     ("Table::read_in", Kind::Table),
@@ -165,10 +157,6 @@ const KINDS: [(&str, Kind); 40] = [
     ("check/2", Kind::Text),
     ("upgrade", Kind::Text),
     ("upgrade/2", Kind::Text),
-    ("Config::read", Kind::Text),
-    ("play", Kind::Text),
-    ("action_of", Kind::Text),
-    ("run_nodes", Kind::Threads),
 ];
 
 fn kind_of(name: &str) -> Option<Kind> {
@@ -181,14 +169,13 @@ fn kind_of(name: &str) -> Option<Kind> {
 }
 
 // What becomes of the call of this name.
-fn outcome_of<R: Print + Threads + Wait + Sync>(trial: &Trial<R>, name: &str) -> Option<Outcome> {
+fn outcome_of<R: Print + Wait>(trial: &Trial<R>, name: &str) -> Option<Outcome> {
     match kind_of(name) {
         Some(Kind::Table) => table_call(trial, name),
         Some(Kind::New) => new_call(trial, name),
         Some(Kind::Event) => event_call(trial, name),
         Some(Kind::Watched) => watched_call(trial, name),
         Some(Kind::Text) => text_call(trial, name),
-        Some(Kind::Threads) => run_nodes_call(trial),
         None => group_call(trial, name),
     }
 }

@@ -1,33 +1,7 @@
-use crate::trying::{Outcome, Trial, ended, text_of, with};
+use crate::trying::{Outcome, Trial};
 use crate::worlds::ELECTION;
-use bully_config::Config;
-use bully_play::play;
 use bully_trace::{check, read_trace, upgrade, write_trace};
-use bully_words::{Action, action_of};
-use clap::error::ErrorKind;
 use std::alloc::Global;
-
-/// A configuration of two nodes that keep their tasks, in which both recover, and the higher one crashes.
-pub const CONFIG: &str = "nodes = 2
-partitions = 3
-events = 100
-turns = 30
-names = [\"a\", \"b\"]
-weights = [2, 1]
-keep = true
-[[fault]]
-at = 1
-node = \"a\"
-kind = \"recover\"
-[[fault]]
-at = 1
-node = \"b\"
-kind = \"recover\"
-[[fault]]
-at = 12
-node = \"b\"
-kind = \"crash\"
-";
 
 // A trace of version 2: node 2 leads itself alone, and its task is kept over a crash.
 const KEPT: &str = "bully,2,2,3,2 1,keep
@@ -49,23 +23,13 @@ const ROOM: usize = 4096;
 // How the want of memory reads of a trace.
 const OF_TRACE: &str = "TraceFault { row: 0, cause: OutOfMemory }";
 
-/// A writer that needs no memory.
-pub fn output(alloc: Global) -> Option<Vec<u8>> {
+// A writer that needs no memory.
+fn output(alloc: Global) -> Option<Vec<u8>> {
     Vec::with_capacity(alloc, ROOM).ok()
 }
 
-/// A call that reads or writes a text.
+/// A call that reads or writes a trace.
 pub fn text_call<R: Print>(trial: &Trial<R>, name: &str) -> Option<Outcome> {
-    match name {
-        "Config::read" => config_call(trial),
-        "action_of" => words_call(trial),
-        "play" => play_call(trial),
-        _ => trace_call(trial, name),
-    }
-}
-
-// One that reads or writes a trace.
-fn trace_call<R: Print>(trial: &Trial<R>, name: &str) -> Option<Outcome> {
     match name {
         "read_trace" => read_call(trial, ELECTION),
         "read_trace/2" => read_call(trial, KEPT),
@@ -105,44 +69,4 @@ fn upgrade_call<R: Print>(trial: &Trial<R>, text: &str) -> Option<Outcome> {
     trial.begin();
     let answer = upgrade(trial.alloc, text.as_bytes(), &mut output);
     trial.written(&answer, OF_TRACE, output.as_slice())
-}
-
-fn config_call<R: Print>(trial: &Trial<R>) -> Option<Outcome> {
-    trial.begin();
-    let answer = Config::read(trial.alloc, CONFIG);
-    trial.outcome(&answer, "OutOfMemory")
-}
-
-fn play_call<R: Print>(trial: &Trial<R>) -> Option<Outcome> {
-    let config = Config::read(trial.alloc, CONFIG).ok()?;
-    let mut output = output(trial.alloc)?;
-    trial.begin();
-    let answer = play(trial.alloc, &config, &mut output);
-    trial.written(&answer, "OutOfMemory", output.as_slice())
-}
-
-fn words_call<R: Print>(trial: &Trial<R>) -> Option<Outcome> {
-    let words = ["table", "group.toml", "a", "b", "--old", "1 2 1"];
-    trial.begin();
-    let answer = action_of(trial.alloc, &words);
-    trial.end();
-    match answer {
-        Ok(action) => words_outcome(trial.alloc, &action),
-        Err(error) => {
-            if error.kind() == ErrorKind::OutOfMemory {
-                Some(Outcome::Refused)
-            } else {
-                None
-            }
-        }
-    }
-}
-
-// What the words ask for, as a text.
-fn words_outcome<'a>(alloc: Global, action: &Action<'a>) -> Option<Outcome> {
-    let Action::Table(words) = action else {
-        return None;
-    };
-    let text = with(text_of(alloc, &words.config)?, &words.members.as_slice())?;
-    ended(false, with(text, &words.old))
 }
