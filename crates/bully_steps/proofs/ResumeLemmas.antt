@@ -1,15 +1,18 @@
 -- Where a procedure goes on: to one of its node's points, with an up set of lower nodes.
 use Rattle.std.proofs.Common.{◌≡◌, ◌⊎◌, inl, inr, ℕ, zero, suc, Bool, List, [], ◌∷◌, Option, Some, None, arith, refl}
-use Rattle.std.specs.Prelude.{unwrap_or, ◌<◌, IfSome}
+use Rattle.std.specs.Prelude.{unwrap_or, option_map, true, ◌<◌, IfSome, IsSome, if◌then◌else◌}
 use Rattle.bully_base.proofs.NodeSetLemmas.{with_node-falling, IsFallingBelow-more}
 use Rattle.bully_base.specs.NodeSet.{IsFallingBelow, with_node}
 use Rattle.bully_base.specs.Setup.{Setup, IsNode}
 use Rattle.bully_calls.specs.declared.call.Outcome.{Outcome}
 use Rattle.bully_steps.specs.declared.point.Point.{Point}
 use Rattle.bully_steps.specs.declared.point.Point.TheVariants.{Idle, Asking, Halting, Announcing, Planning, Readying, Checking, Inquiring}
-use Rattle.bully_steps.specs.ProcedureState.{ProcedureState, IsProcedureState, procedure_state, next_of, next_up, is_started, resumed, resumed_point, resumed_up}
+use Rattle.bully_steps.specs.declared.point.Want.TheVariants.{Await}
+use Rattle.bully_steps.specs.ProcedureState.{ProcedureState, IsProcedureState, IsCall, CanCome, CanResume, SuitsInquiry, up_at, coordinator_at, procedure_state, next_of, next_up, is_started, resumed, resumed_point, resumed_up}
 use Rattle.bully_steps.specs.NextPoint.{next_point, election}
-use Rattle.bully_steps.specs.Point.{IsPointOf}
+use Rattle.bully_steps.specs.Point.{IsPointOf, offered}
+use Rattle.bully_steps.specs.PointKind.{kind_of}
+use Rattle.bully_steps.specs.declared.point_kind.PointKind.{PointKind}
 
 -- what is left of a falling set falls
 rest_falls : (b k : ℕ) (rest : List ℕ) → IsFallingBelow b (k ∷ rest) → IsFallingBelow b rest
@@ -59,6 +62,62 @@ next_is_point h o q is next = point_follows h.setup h.node (unwrap_or h.up []) h
 -- and its next up set has lower nodes alone
 pub resumed_up_falls : (h : ProcedureState) (o : Outcome) → IsProcedureState h → IsFallingBelow h.node (resumed_up h o)
 resumed_up_falls h o is = up_follows h.setup h.node (unwrap_or h.up []) h.point o (held_falls h.node h.up is.up) is.point
+
+-- where an outcome can come, a point follows
+comes : (setup : Setup) (i : ℕ) (up : List ℕ) (p : Point) (coordinator : Option ℕ) (awaits : Bool) (o : Outcome) → (awaits ≡ true → IsCall (offered setup coordinator p)) → CanCome (if awaits then Await else offered setup coordinator p) p o → IsSome (next_point setup i up p o)
+comes setup i up p coordinator awaits o call can = grind (arith, call, can)
+
+pub next_comes : (h : ProcedureState) (o : Outcome) → IsProcedureState h → CanResume h o → IsSome (next_of h o)
+next_comes h o is can = comes h.setup h.node (unwrap_or h.up []) h.point h.coordinator h.awaits o is.call can
+
+some_is : (r : Option Point) (p : Point) → IsSome r → r ≡ Some (unwrap_or r p)
+some_is None p is = absurd (grind (arith, is))
+some_is (Some q) p is = refl
+
+pub next_stands : (h : ProcedureState) (o : Outcome) → IsProcedureState h → CanResume h o → next_of h o ≡ Some (resumed_point h o)
+next_stands h o is can = some_is (next_of h o) h.point (next_comes h o is can)
+
+-- a point is held with the up set and the coordinator that are held there
+holds_up : (p : Point) (up : List ℕ) → up_at p up ≡ up_at p (unwrap_or (up_at p up) [])
+holds_up p up = grind arith
+
+holds_coordinator : (p : Point) (k : Option ℕ) → coordinator_at p k ≡ coordinator_at p (coordinator_at p k)
+holds_coordinator p k = grind arith
+
+held_up_falls : (i : ℕ) (p : Point) (up : List ℕ) → IsFallingBelow i up → IfSome (up_at p up) (IsFallingBelow i)
+held_up_falls i p up falls = grind (arith, falls)
+
+-- an inquiry goes on with the coordinator that it has
+inquiry_follows : (setup : Setup) (i : ℕ) (up : List ℕ) (p : Point) (o : Outcome) (q : Point) (k : Option ℕ) → SuitsInquiry setup i k p → next_point setup i up p o ≡ Some q → SuitsInquiry setup i (coordinator_at q k) q
+inquiry_follows setup i up p o q k suits next = grind (arith, suits, next)
+
+-- a call that is started is one that the next point offers
+call_follows : (setup : Setup) (i : ℕ) (up : List ℕ) (p : Point) (o : Outcome) (q : Point) (k : Option ℕ) (awaits : Bool) → CanCome (if awaits then Await else offered setup k p) p o → next_point setup i up p o ≡ Some q → is_started o ≡ true → IsCall (offered setup (coordinator_at q k) q)
+call_follows setup i up p o q k awaits can next started = grind (arith, can, next, started)
+
+-- the procedure that the outcome makes is one of the node's
+pub resumed_is_state : (h : ProcedureState) (o : Outcome) (q : Point) → IsProcedureState h → CanResume h o → next_of h o ≡ Some q → IsProcedureState (resumed h o)
+resumed_is_state h o q is can next =
+    let at : resumed_point h o ≡ q = grind (arith, next) in
+    rw at record {
+      setup = is.setup;
+      node = is.node;
+      point = next_is_point h o q is next;
+      has_up = holds_up q (resumed_up h o);
+      up = held_up_falls h.node q (resumed_up h o) (resumed_up_falls h o is);
+      has_coordinator = holds_coordinator q h.coordinator;
+      inquiry = inquiry_follows h.setup h.node (unwrap_or h.up []) h.point o q h.coordinator is.inquiry next;
+      call = call_follows h.setup h.node (unwrap_or h.up []) h.point o q h.coordinator h.awaits can next;
+      plan = tt;
+    }
+
+-- so is one that is the same, where it is known of which kind the next point is
+pub goes_on : (h s : ProcedureState) (o : Outcome) (kind : PointKind) → IsProcedureState h → CanResume h o → option_map kind_of (next_of h o) ≡ Some kind → s ≡ resumed h o → IsProcedureState s
+goes_on h s o kind is can next same = rw same (follows (next_of h o) refl next)
+  where
+    follows : (r : Option Point) → next_of h o ≡ r → option_map kind_of r ≡ Some kind → IsProcedureState (resumed h o)
+    follows None e k = absurd (grind (arith, k))
+    follows (Some q) e k = resumed_is_state h o q is can e
 
 -- what is made of these is the procedure that the outcome makes
 pub resumed_is : (h s : ProcedureState) (o : Outcome) (q : Point) (up : List ℕ) (k : Option ℕ) (b : Bool) → s ≡ procedure_state h.setup h.node h.generation q up k b

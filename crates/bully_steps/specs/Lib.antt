@@ -1,4 +1,5 @@
 pub mod Point
+pub mod PointKind
 pub mod NextPoint
 pub mod ProcedureState
 pub mod States

@@ -2,7 +2,7 @@ ghost use Rattle.std.specs.Prelude.{◌≡◌, ◌<◌};
 ghost use Rattle.bully_steps.specs.Driver.{chosen, chosen_every};
 ghost use Rattle.bully_steps.specs.Procedure.{state_of};
 
-use crate::{Point, Procedure};
+use crate::{PointKind, Procedure};
 
 /// How often an idle node checks: once in so many turns. The profile's period.
 const PERIOD: u32 = 16;
@@ -37,9 +37,9 @@ impl Driver {
         requires { 0 < period }
         ensures { result ≡ chosen_every period turn (state_of procedure.now).point }
     {
-        match procedure.point() {
-            Point::Idle if turn % period == 0 => Choice::Check,
-            Point::Idle if turn % period == period / 2 => Choice::Timeout,
+        match procedure.kind() {
+            PointKind::Idle if turn % period == 0 => Choice::Check,
+            PointKind::Idle if turn % period == period / 2 => Choice::Timeout,
             _ => Choice::Proceed,
         }
     }

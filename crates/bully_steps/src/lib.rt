@@ -8,15 +8,16 @@
 mod driver;
 mod plan_taking;
 mod point;
+mod point_kind;
 mod procedure;
+mod standing;
 mod states;
 
 pub use driver::{Choice, Driver};
-pub use point::{
-    Point, Want, begin_check, begin_check_in, begin_recovery, begin_timeout, election_of,
-    timeout_of,
-};
+pub use point::{Point, Want, begin_check, begin_recovery, begin_timeout};
+pub use point_kind::PointKind;
 pub use procedure::Procedure;
+pub use standing::Standing;
 pub use states::{
     Announcing, Asking, Checking, Halting, Idle, Inquiring, Planned, Planning, Readying,
 };

@@ -1,14 +1,16 @@
 ghost use Rattle.std.specs.Prelude.{◌≡◌, ◌≤◌, [], None, Some, true, false};
 ghost use Rattle.std.specs.Option.{option_copied};
 ghost use Rattle.bully_base.specs.NodeSet.{IsFallingBelow};
-ghost use Rattle.bully_steps.specs.ProcedureState.{IsProcedureState, IsCall, SuitsInquiry, CanResume, procedure_state, want_of, next_of, resumed, resumed_up, is_started as started};
+ghost use Rattle.bully_steps.specs.ProcedureState.{IsProcedureState, IsCall, SuitsInquiry, CanResume, procedure_state, want_of, next_of, resumed, resumed_point, resumed_up, is_started as started};
 ghost use Rattle.bully_steps.specs.Point.{offered, IsPointOf};
+ghost use Rattle.bully_steps.specs.PointKind.{kind_of, point_at, nodes_in};
 ghost use Rattle.bully_steps.specs.Procedure.{state_of};
 
+use crate::point_kind::{leave_answered, nodes_in};
 use crate::states::{
     Announcing, Asking, Checking, Halting, Identity, Idle, Inquiring, Planned, Planning, Readying,
 };
-use crate::{Point, Want};
+use crate::{Point, PointKind, Want};
 use bully_base::{Node, NodeSet, Setup};
 use bully_calls::Outcome;
 use bully_table::Table;
@@ -87,22 +89,9 @@ impl Procedure {
         requires call { awaits ≡ true → IsCall (offered setup.now coordinator point) }
         ensures { state_of result ≡ procedure_state setup.now node generation point up.now coordinator awaits }
     {
-        match point {
-            Point::Idle => Procedure::idle_in(setup, node, generation),
-            Point::Asking(next) => Asking::procedure(setup, node, generation, next, awaits),
-            Point::Halting(next) => Halting::procedure(setup, node, generation, next, up, awaits),
-            Point::Announcing(rest) => {
-                Announcing::procedure(setup, node, generation, rest, up, awaits)
-            }
-            Point::Planning => Planning::procedure(setup, node, generation, up),
-            Point::Readying(rest) => Readying::procedure(setup, node, generation, rest, awaits),
-            Point::Checking(callee) => {
-                Checking::procedure(setup, node, generation, callee, awaits)
-            }
-            Point::Inquiring => {
-                Inquiring::procedure(setup, node, generation, coordinator.unwrap(), awaits)
-            }
-        }
+        let mut procedure = Procedure::idle_in(setup, node, generation);
+        procedure.go_to(&point, up, coordinator, awaits);
+        procedure
     }
 
     /// The setup of the node's group.
@@ -132,15 +121,33 @@ impl Procedure {
     pub fn point(&self) -> Point
         ensures { result ≡ (state_of self.now).point }
     {
+        self.kind().point(&nodes_in(self.left()))
+    }
+
+    /// The kind of the point where it stands.
+    pub fn kind(&self) -> PointKind
+        ensures { result ≡ kind_of (state_of self.now).point }
+    {
         match self {
-            Procedure::Idle(_) => Point::Idle,
-            Procedure::Asking(asking) => Point::Asking(asking.next),
-            Procedure::Halting(halting) => Point::Halting(halting.next),
-            Procedure::Announcing(announcing) => Point::Announcing(announcing.rest),
-            Procedure::Planning(_) | Procedure::Planned(_) => Point::Planning,
-            Procedure::Readying(readying) => Point::Readying(readying.rest),
-            Procedure::Checking(checking) => Point::Checking(checking.callee),
-            Procedure::Inquiring(_) => Point::Inquiring,
+            Procedure::Idle(_) => PointKind::Idle,
+            Procedure::Asking(asking) => PointKind::Asking(asking.next),
+            Procedure::Halting(halting) => PointKind::Halting(halting.next),
+            Procedure::Announcing(_) => PointKind::Announcing,
+            Procedure::Planning(_) | Procedure::Planned(_) => PointKind::Planning,
+            Procedure::Readying(_) => PointKind::Readying,
+            Procedure::Checking(checking) => PointKind::Checking(checking.callee),
+            Procedure::Inquiring(_) => PointKind::Inquiring,
+        }
+    }
+
+    /// The nodes that are left, at Announcing and Readying.
+    pub fn left(&self) -> Option<&NodeSet>
+        ensures { (state_of self.now).point ≡ point_at (kind_of (state_of self.now).point) (nodes_in (option_copied result)) }
+    {
+        match self {
+            Procedure::Announcing(announcing) => Some(&announcing.rest),
+            Procedure::Readying(readying) => Some(&readying.rest),
+            _ => None,
         }
     }
 
@@ -199,8 +206,8 @@ impl Procedure {
         if self.awaits() {
             Want::Await
         } else {
-            self.point()
-                .offers(self.setup(), self.node(), self.coordinator())
+            self.kind()
+                .offers(self.left(), self.setup(), self.node(), self.coordinator())
         }
     }
 
@@ -222,68 +229,50 @@ impl Procedure {
         ensures state { state_of self.new ≡ resumed (state_of self.old) outcome }
         ensures point { next_of (state_of self.old) outcome ≡ Some (state_of self.new).point }
     {
-        let nobody = NodeSet::new();
-        let up = self.up().unwrap_or(&nobody);
-        let next = self
-            .point()
-            .next_in(self.setup(), self.node(), up, outcome)
-            .unwrap();
-        let next_up = self.up_after(outcome);
-        self.go_to(next, &next_up, is_started(outcome));
-    }
-
-    // Goes to the point, with this up set.
-    fn go_to(&mut self, point: Point, up: &NodeSet, awaits: bool)
-        requires up { IsFallingBelow (state_of self.old).node up.now }
-        requires point { IsPointOf (state_of self.old).setup (state_of self.old).node point }
-        requires inquiry { SuitsInquiry (state_of self.old).setup (state_of self.old).node (state_of self.old).coordinator point }
-        requires call { awaits ≡ true → IsCall (offered (state_of self.old).setup (state_of self.old).coordinator point) }
-        ensures { state_of self.new ≡ procedure_state (state_of self.old).setup (state_of self.old).node (state_of self.old).generation point up.now (state_of self.old).coordinator awaits }
-    {
-        if !self.stay(&point, up, awaits) {
-            self.change_to(point, up, awaits);
+        if !self.stay(outcome) {
+            self.change(outcome);
         }
     }
 
-    // Goes to the point, where it is one of the same state, and tells whether it is. Whose procedure it is stays where it
-    // lies.
-    fn stay(&mut self, point: &Point, up: &NodeSet, awaits: bool) -> bool
-        requires up { IsFallingBelow (state_of self.old).node up.now }
-        requires point { IsPointOf (state_of self.old).setup (state_of self.old).node point.now }
-        requires inquiry { SuitsInquiry (state_of self.old).setup (state_of self.old).node (state_of self.old).coordinator point.now }
-        requires call { awaits ≡ true → IsCall (offered (state_of self.old).setup (state_of self.old).coordinator point.now) }
-        ensures stays { result ≡ true → state_of self.new ≡ procedure_state (state_of self.old).setup (state_of self.old).node (state_of self.old).generation point.now up.now (state_of self.old).coordinator awaits }
+    // Goes on by the outcome, where that leads to a point of the same state, and tells whether it does. Whose procedure it
+    // is stays where it lies, and no set is copied.
+    fn stay(&mut self, outcome: Outcome) -> bool
+        requires { CanResume (state_of self.old) outcome }
+        ensures stays { result ≡ true → state_of self.new ≡ resumed (state_of self.old) outcome }
         ensures same { result ≡ false → state_of self.new ≡ state_of self.old }
+        ensures point { next_of (state_of self.old) outcome ≡ Some (resumed_point (state_of self.old) outcome) }
     {
-        match (self, point) {
-            (Procedure::Asking(asking), Point::Asking(next)) => {
-                asking.next = *next;
+        let next = self
+            .kind()
+            .next(self.left(), self.setup(), self.node(), outcome)
+            .unwrap();
+        let awaits = is_started(outcome);
+        match (self, next) {
+            (Procedure::Asking(asking), PointKind::Asking(number)) => {
+                asking.next = number;
                 asking.awaits = awaits;
                 true
             }
-            (Procedure::Halting(halting), Point::Halting(next)) => {
-                halting.next = *next;
-                halting.up = *up;
-                halting.awaits = awaits;
+            (Procedure::Halting(halting), PointKind::Halting(number)) => {
+                halting.go_on(number, outcome);
                 true
             }
-            (Procedure::Announcing(announcing), Point::Announcing(rest)) => {
-                announcing.rest = *rest;
-                announcing.up = *up;
+            (Procedure::Announcing(announcing), PointKind::Announcing) => {
+                leave_answered(&mut announcing.rest, outcome);
                 announcing.awaits = awaits;
                 true
             }
-            (Procedure::Readying(readying), Point::Readying(rest)) => {
-                readying.rest = *rest;
+            (Procedure::Readying(readying), PointKind::Readying) => {
+                leave_answered(&mut readying.rest, outcome);
                 readying.awaits = awaits;
                 true
             }
-            (Procedure::Checking(checking), Point::Checking(callee)) => {
-                checking.callee = *callee;
+            (Procedure::Checking(checking), PointKind::Checking(callee)) => {
+                checking.callee = callee;
                 checking.awaits = awaits;
                 true
             }
-            (Procedure::Inquiring(inquiring), Point::Inquiring) => {
+            (Procedure::Inquiring(inquiring), PointKind::Inquiring) => {
                 inquiring.awaits = awaits;
                 true
             }
@@ -291,24 +280,76 @@ impl Procedure {
         }
     }
 
-    // Goes to the point, in whichever state.
+    // Goes on by the outcome, to whichever state.
     #[inline(never)]
-    fn change_to(&mut self, point: Point, up: &NodeSet, awaits: bool)
-        requires up { IsFallingBelow (state_of self.old).node up.now }
-        requires point { IsPointOf (state_of self.old).setup (state_of self.old).node point }
-        requires inquiry { SuitsInquiry (state_of self.old).setup (state_of self.old).node (state_of self.old).coordinator point }
-        requires call { awaits ≡ true → IsCall (offered (state_of self.old).setup (state_of self.old).coordinator point) }
-        ensures { state_of self.new ≡ procedure_state (state_of self.old).setup (state_of self.old).node (state_of self.old).generation point up.now (state_of self.old).coordinator awaits }
+    fn change(&mut self, outcome: Outcome)
+        requires { CanResume (state_of self.old) outcome }
+        ensures { state_of self.new ≡ resumed (state_of self.old) outcome }
     {
-        *self = Procedure::at_in(
-            self.setup(),
-            self.node(),
-            self.generation(),
-            point,
-            up,
-            self.coordinator(),
-            awaits,
-        );
+        let next = self
+            .point()
+            .next_in(self.setup(), self.node(), &nodes_in(self.up()), outcome)
+            .unwrap();
+        let next_up = self.up_after(outcome);
+        let coordinator = self.coordinator();
+        self.go_to(&next, &next_up, coordinator, is_started(outcome));
+    }
+
+    /// Becomes the procedure of its node that [`Procedure::at`] makes at this point, in this of the node's generations;
+    /// what that asks of its arguments has to hold here, too.
+    pub fn restart(
+        &mut self,
+        generation: u32,
+        point: &Point,
+        up: &NodeSet,
+        coordinator: Option<Node>,
+        awaits: bool,
+    )
+        requires up { IsFallingBelow (state_of self.old).node up.now }
+        requires point { IsPointOf (state_of self.old).setup (state_of self.old).node point.now }
+        requires inquiry { SuitsInquiry (state_of self.old).setup (state_of self.old).node coordinator point.now }
+        requires call { awaits ≡ true → IsCall (offered (state_of self.old).setup coordinator point.now) }
+        ensures { state_of self.new ≡ procedure_state (state_of self.old).setup (state_of self.old).node generation point.now up.now coordinator awaits }
+    {
+        self.set_generation(generation);
+        self.go_to(point, up, coordinator, awaits);
+    }
+
+    // Becomes the same in this of the node's generations.
+    fn set_generation(&mut self, generation: u32)
+        ensures { state_of self.new ≡ record (state_of self.old) { generation = generation } }
+    {
+        match self {
+            Procedure::Idle(idle) => idle.identity.generation = generation,
+            Procedure::Asking(asking) => asking.identity.generation = generation,
+            Procedure::Halting(halting) => halting.identity.generation = generation,
+            Procedure::Announcing(announcing) => announcing.identity.generation = generation,
+            Procedure::Planning(planning) => planning.identity.generation = generation,
+            Procedure::Planned(planned) => planned.identity.generation = generation,
+            Procedure::Readying(readying) => readying.identity.generation = generation,
+            Procedure::Checking(checking) => checking.identity.generation = generation,
+            Procedure::Inquiring(inquiring) => inquiring.identity.generation = generation,
+        }
+    }
+
+    // Goes to the point, with this up set and this coordinator. Whose procedure it is stays.
+    fn go_to(&mut self, point: &Point, up: &NodeSet, coordinator: Option<Node>, awaits: bool)
+        requires up { IsFallingBelow (state_of self.old).node up.now }
+        requires point { IsPointOf (state_of self.old).setup (state_of self.old).node point.now }
+        requires inquiry { SuitsInquiry (state_of self.old).setup (state_of self.old).node coordinator point.now }
+        requires call { awaits ≡ true → IsCall (offered (state_of self.old).setup coordinator point.now) }
+        ensures { state_of self.new ≡ procedure_state (state_of self.old).setup (state_of self.old).node (state_of self.old).generation point.now up.now coordinator awaits }
+    {
+        match point {
+            Point::Idle => Idle::begin(self),
+            Point::Asking(next) => Asking::begin(self, *next, awaits),
+            Point::Halting(next) => Halting::begin(self, *next, up, awaits),
+            Point::Announcing(rest) => Announcing::begin(self, rest, up, awaits),
+            Point::Planning => Planning::begin(self, up),
+            Point::Readying(rest) => Readying::begin(self, rest, awaits),
+            Point::Checking(callee) => Checking::begin(self, *callee, awaits),
+            Point::Inquiring => Inquiring::begin(self, coordinator.unwrap(), awaits),
+        }
     }
 
     // The up set that goes with the point to which the outcome leads: a node that answered its halt joins it.
@@ -318,12 +359,12 @@ impl Procedure {
     {
         match self {
             Procedure::Halting(halting) if outcome == Outcome::Yes => halting.joined(),
-            _ => *self.up().unwrap_or(&NodeSet::new()),
+            _ => nodes_in(self.up()),
         }
     }
 
     // Whose procedure it is.
-    fn identity(&self) -> &Identity
+    pub(crate) fn identity(&self) -> &Identity
         ensures setup { result.now.setup ≡ (state_of self.now).setup }
         ensures node { result.now.node ≡ (state_of self.now).node }
         ensures generation { result.now.generation ≡ (state_of self.now).generation }

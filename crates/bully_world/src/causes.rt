@@ -12,7 +12,7 @@ use crate::event::{Event, Refused};
 use crate::member::Member;
 use bully_base::{Node, Setup};
 use bully_calls::Phase;
-use bully_steps::{Point, Want};
+use bully_steps::{PointKind, Standing, Want};
 use bully_table::Table;
 
 /// Where the node's member stands in a list of all nodes' members.
@@ -55,8 +55,8 @@ fn later_cause(setup: &Setup, members: &[Member], named: &Member, event: &Event)
 {
     match event {
         Event::Recover(_) | Event::Crash(_) => None,
-        Event::Check(_) => refused_if(!is_at_rest(named.point()), Refused::Busy),
-        Event::Timeout(_) => refused_if(!is_at_rest(named.point()), Refused::Busy),
+        Event::Check(_) => refused_if(!is_at_rest(named.standing()), Refused::Busy),
+        Event::Timeout(_) => refused_if(!is_at_rest(named.standing()), Refused::Busy),
         Event::Start(node) => step_cause(named, offers_call(named.offer(setup, *node))),
         Event::Move(node) => step_cause(named, offers_move(named.offer(setup, *node))),
         Event::Plan(node, table) => plan_cause(setup, named, *node, table),
@@ -67,10 +67,10 @@ fn later_cause(setup: &Setup, members: &[Member], named: &Member, event: &Event)
     }
 }
 
-fn is_at_rest(point: &Point) -> bool
-    ensures { result ≡ is_idle point.now }
+fn is_at_rest(standing: &Standing) -> bool
+    ensures { result ≡ is_idle standing.now }
 {
-    matches!(point, Point::Idle)
+    matches!(standing.kind(), PointKind::Idle)
 }
 
 fn offers_call(want: Want) -> bool

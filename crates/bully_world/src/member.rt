@@ -10,13 +10,13 @@ ghost use Rattle.bully_world.specs.Cause.{node_of};
 ghost use Rattle.bully_world.specs.State.{empty_state};
 ghost use Rattle.bully_world.specs.Step.{carried};
 ghost use Rattle.bully_world.specs.Waiting.{sent_in};
-ghost use Rattle.bully_world.specs.StateAfter.{with_vector, with_content, halted_number, is_readied, recovered_state, crashed_state, begun_state, opened_state, phased_state, callee_state_after, proceeded_state, node_after_return, return_answer, planned_state, started_state, node_after, node_answer, MayApply};
+ghost use Rattle.bully_world.specs.StateAfter.{with_vector, with_content, halted_number, recovered_state, crashed_state, opened_state, phased_state, callee_state_after, proceeded_state, node_after_return, return_answer, planned_state, started_state, node_after, node_answer, MayApply};
 
 use crate::event::Event;
 use bully_base::{Node, OutOfMemory, Setup, Status};
 use bully_calls::{Answer, Call, CallKind, Outcome, Phase, Slot, Tag};
 use bully_handlers::Vector;
-use bully_steps::{Point, Want, begin_check_in, election_of, timeout_of};
+use bully_steps::{Point, PointKind, Standing, Want};
 use bully_table::Table;
 use std::alloc::Global;
 use std::marker::Model;
@@ -25,7 +25,7 @@ use std::marker::Model;
 #[derive(Drop, Debug)]
 pub struct Member {
     vector: Vector,
-    point: Point,
+    standing: Standing,
     slot: Slot,
     generation: u32,
 }
@@ -35,7 +35,7 @@ impl Model for Member {
 
     ghost Value = { MemberState };
 
-    ghost view = { λ m. record { vector = m.vector; point = m.point; slot = m.slot; generation = m.generation } };
+    ghost view = { λ m. record { vector = m.vector; point = m.standing; slot = m.slot; generation = m.generation } };
 }
 
 impl Member {
@@ -45,7 +45,7 @@ impl Member {
     {
         Ok(Member {
             vector: Vector::new(alloc, *setup)?,
-            point: Point::Idle,
+            standing: Standing::idle(),
             slot: Slot::new(alloc, *setup)?,
             generation: 0,
         })
@@ -59,10 +59,17 @@ impl Member {
     }
 
     /// Where its procedure stands.
-    pub fn point(&self) -> &Point
+    pub fn point(&self) -> Point
+        ensures { result ≡ self.now.point }
+    {
+        self.standing.point()
+    }
+
+    /// The same, where it is kept.
+    pub fn standing(&self) -> &Standing
         ensures { result.now ≡ self.now.point }
     {
-        &self.point
+        &self.standing
     }
 
     /// Its call slot.
@@ -103,7 +110,7 @@ impl Member {
         requires { IsPointOf setup.now node self.now.point }
         ensures { result ≡ offered setup.now self.now.vector.vector.coordinator self.now.point }
     {
-        self.point.offers(setup, node, self.vector.coordinator())
+        self.standing.offers(setup, node, self.vector.coordinator())
     }
 
     /// The node recovers. Its task stays as it is where the setup keeps.
@@ -111,7 +118,7 @@ impl Member {
         ensures { self.new ≡ recovered_state setup.now node self.old }
     {
         self.vector.recover(setup.keeps());
-        self.point = election_of(node);
+        self.standing.begin_election(node);
     }
 
     /// The node crashes: its vector, point and slot are emptied. Its task stays as it is where the setup keeps.
@@ -120,16 +127,9 @@ impl Member {
         ensures { self.new ≡ crashed_state setup.now self.old }
     {
         self.vector.crash(setup.keeps());
-        self.point = Point::Idle;
+        self.standing.stop();
         self.discard();
         self.generation += 1;
-    }
-
-    /// A procedure begins at this point.
-    pub fn begin(&mut self, point: Point)
-        ensures { self.new ≡ begun_state point self.old }
-    {
-        self.point = point;
     }
 
     /// The node starts this call. A Ready carries its task.
@@ -177,7 +177,7 @@ impl Member {
             CallKind::AreYouUp => self.vector.are_you_up(),
             CallKind::AreYouNormal => self.vector.are_you_normal(),
             CallKind::Halt => {
-                self.point = Point::Idle;
+                self.standing.stop();
                 self.generation += 1;
                 self.vector.halt(caller)
             }
@@ -226,26 +226,24 @@ impl Member {
         requires { IsPointOf setup.now node self.old.point }
         ensures { self.new ≡ proceeded_state setup.now node outcome self.old }
     {
-        let next = self.point.next_in(setup, node, self.vector.up(), outcome);
         match outcome {
             Outcome::Moved => self.move_vector(node),
             Outcome::Yes => self.join_halted(),
             _ => {}
         }
-        if let Some(point) = next {
-            self.point = point;
-        }
+        self.standing
+            .advance(setup, node, self.vector.up(), outcome);
     }
 
     // The node's vector, where its procedure moves without a call.
     fn move_vector(&mut self, node: Node)
         ensures { self.new ≡ with_vector (next_vector node self.old.point Outcome.Moved self.old.vector.vector) self.old }
     {
-        match self.point {
-            Point::Asking(_) => self.vector.become_candidate(node),
-            Point::Halting(0) => self.vector.become_coordinator(node),
-            Point::Readying(_) => {
-                if has_readied_all(&self.point) {
+        match self.standing.kind() {
+            PointKind::Asking(_) => self.vector.become_candidate(node),
+            PointKind::Halting(0) => self.vector.become_coordinator(node),
+            PointKind::Readying => {
+                if self.standing.left().is_empty() {
                     self.vector.finish();
                 }
             }
@@ -258,7 +256,7 @@ impl Member {
         requires small { halted_number self.old.point ≤ NODES_MAX }
         ensures { (node : ℕ) → self.new ≡ with_vector (next_vector node self.old.point Outcome.Yes self.old.vector.vector) self.old }
     {
-        if let Point::Halting(number) = self.point {
+        if let PointKind::Halting(number) = self.standing.kind() {
             if let Some(callee) = Node::new(number) {
                 self.vector.add_up(callee);
             }
@@ -280,8 +278,10 @@ impl Member {
         match event {
             Event::Recover(node) => self.recover(setup, *node),
             Event::Crash(_) => self.crash(setup),
-            Event::Check(node) => self.begin(begin_check_in(setup, *node, status, coordinator)),
-            Event::Timeout(node) => self.begin(timeout_of(*node, status, coordinator)),
+            Event::Check(node) => {
+                self.standing.begin_check(setup, *node, status, coordinator);
+            }
+            Event::Timeout(node) => self.standing.begin_timeout(*node, status, coordinator),
             Event::Start(node) => self.start_offered(setup, *node),
             Event::Run(_) => unreachable!(),
             Event::Lose(_) => self.lose(),
@@ -315,7 +315,7 @@ impl Member {
         ensures { self.new ≡ planned_state table.now self.old }
     {
         self.vector.plan(table);
-        self.point = Point::Readying(*self.vector.up());
+        self.standing.begin_readying(self.vector.up());
     }
 }
 
@@ -326,15 +326,5 @@ fn table_of(vector: &Vector, kind: CallKind) -> Option<&Table>
     match kind {
         CallKind::Ready => vector.task(),
         _ => None,
-    }
-}
-
-// Whether the point is the end of a reorganization: nobody is left to be readied.
-fn has_readied_all(point: &Point) -> bool
-    ensures { result ≡ is_readied point.now }
-{
-    match point {
-        Point::Readying(rest) => rest.is_empty(),
-        _ => false,
     }
 }

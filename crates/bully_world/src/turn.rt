@@ -1,8 +1,9 @@
-ghost use Rattle.std.specs.Prelude.{◌≡◌, ◌≤◌, true, IsSome, bytes_eq};
+ghost use Rattle.std.specs.Prelude.{◌≡◌, ◌≤◌, ℕ, List, true, IsSome, bytes_eq};
 ghost use Rattle.std.specs.Option.{option_copied};
 ghost use Rattle.bully_calls.specs.Slot.{pending_in};
 ghost use Rattle.bully_steps.specs.ProcedureState.{HasSameNode, IsProcedureState, want_of, up_at, coordinator_at};
 ghost use Rattle.bully_steps.specs.Procedure.{state_of};
+ghost use Rattle.bully_steps.specs.PointKind.{point_at, nodes_in};
 ghost use Rattle.bully_world.specs.Cause.{is_live_in};
 ghost use Rattle.bully_world.specs.Turn.{event_at, procedure_by, procedure_in, is_in_step, agree, same_point, same_set, same_node, turn, turn_of_call, turn_of_want, has_table};
 ghost use Rattle.bully_world.specs.declared.turn.StepKind.{StepKind};
@@ -12,7 +13,7 @@ use crate::event::Event;
 use crate::member::Member;
 use bully_base::{Node, NodeSet, Status};
 use bully_calls::{Phase, Slot};
-use bully_steps::{Point, Procedure, Want};
+use bully_steps::{PointKind, Procedure, Want};
 use bully_table::Table;
 
 /// A step of a node by its procedure, which the turn rule offers.
@@ -68,18 +69,9 @@ impl World {
         ensures state { state_of result ≡ procedure_in self.now node }
         ensures in_step { is_in_step self.now (state_of result) ≡ true }
     {
-        let member = self.member(node);
-        let vector = member.vector();
-        let generation = member.generation();
-        Procedure::at_in(
-            self.setup(),
-            node,
-            generation,
-            *member.point(),
-            vector.up(),
-            vector.coordinator(),
-            holds_live_call(member.slot(), generation),
-        )
+        let mut procedure = Procedure::idle_in(self.setup(), node, 0);
+        self.resync(&mut procedure);
+        procedure
     }
 
     /// Gives the procedure, whose setup is the world's, up for the one that the world shows of its node.
@@ -90,7 +82,16 @@ impl World {
         ensures in_step { is_in_step self.now (state_of procedure.new) ≡ true }
         ensures same_node { HasSameNode (state_of procedure.old) (state_of procedure.new) }
     {
-        *procedure = self.procedure(procedure.node());
+        let member = self.member(procedure.node());
+        let vector = member.vector();
+        let generation = member.generation();
+        procedure.restart(
+            generation,
+            &member.point(),
+            vector.up(),
+            vector.coordinator(),
+            holds_live_call(member.slot(), generation),
+        );
     }
 
     /// What the turn rule says of the procedure, whose setup is the world's. Resync where it isn't in step. Where
@@ -160,52 +161,68 @@ fn next_of_want(procedure: &Procedure) -> Next
 fn agrees_with(procedure: &Procedure, member: &Member) -> bool
     ensures { result ≡ agree (state_of procedure.now) (procedure_by (state_of procedure.now).setup (state_of procedure.now).node member.now) }
 {
-    let point = member.point();
+    let standing = member.standing();
+    let kind = standing.kind();
     let vector = member.vector();
     procedure.generation() == member.generation()
-        && is_same_point(&procedure.point(), point)
+        && is_same_point(&procedure.kind(), procedure.left(), &kind, standing.left())
         && procedure.awaits() == holds_live_call(member.slot(), member.generation())
-        && is_same_set(procedure.up(), up_at(point, vector.up()))
+        && is_same_set(procedure.up(), up_at(&kind, vector.up()))
         && is_same_node(
             procedure.coordinator(),
-            coordinator_at(point, vector.coordinator()),
+            coordinator_at(&kind, vector.coordinator()),
         )
 }
 
-// The up set, where a procedure holds it at this point.
-fn up_at<'a>(point: &Point, up: &'a NodeSet) -> Option<&'a NodeSet>
-    ensures { option_copied result ≡ up_at point.now up.now }
+// The up set, where a procedure holds it at a point of this kind.
+fn up_at<'a>(kind: &PointKind, up: &'a NodeSet) -> Option<&'a NodeSet>
+    ensures { (left : List ℕ) → option_copied result ≡ up_at (point_at kind.now left) up.now }
 {
-    match point {
-        Point::Halting(_) | Point::Announcing(_) | Point::Planning => Some(up),
+    match kind {
+        PointKind::Halting(_) | PointKind::Announcing | PointKind::Planning => Some(up),
         _ => None,
     }
 }
 
-// The coordinator, where a procedure holds it at this point.
-fn coordinator_at(point: &Point, coordinator: Option<Node>) -> Option<Node>
-    ensures { result ≡ coordinator_at point.now coordinator }
+// The coordinator, where a procedure holds it at a point of this kind.
+fn coordinator_at(kind: &PointKind, coordinator: Option<Node>) -> Option<Node>
+    ensures { (left : List ℕ) → result ≡ coordinator_at (point_at kind.now left) coordinator }
 {
-    match point {
-        Point::Inquiring => coordinator,
+    match kind {
+        PointKind::Inquiring => coordinator,
         _ => None,
     }
 }
 
-// Whether the points are the same, with the same sets.
-fn is_same_point(point: &Point, shown: &Point) -> bool
-    ensures { result ≡ same_point point.now shown.now }
+// Whether the points of these kinds are the same, with the same nodes left.
+fn is_same_point(
+    kind: &PointKind,
+    left: Option<&NodeSet>,
+    shown: &PointKind,
+    shown_left: &NodeSet,
+) -> bool
+    ensures { result ≡ same_point (point_at kind.now (nodes_in (option_copied left.entry))) (point_at shown.now shown_left.now) }
 {
-    match (point, shown) {
-        (Point::Asking(next), Point::Asking(other)) => next == other,
-        (Point::Halting(next), Point::Halting(other)) => next == other,
-        (Point::Announcing(rest), Point::Announcing(other)) => are_same_nodes(rest, other),
-        (Point::Readying(rest), Point::Readying(other)) => are_same_nodes(rest, other),
-        (Point::Checking(callee), Point::Checking(other)) => callee == other,
-        (Point::Idle, Point::Idle) => true,
-        (Point::Planning, Point::Planning) => true,
-        (Point::Inquiring, Point::Inquiring) => true,
+    match (kind, shown) {
+        (PointKind::Asking(next), PointKind::Asking(other)) => next == other,
+        (PointKind::Halting(next), PointKind::Halting(other)) => next == other,
+        (PointKind::Announcing, PointKind::Announcing) => is_left(left, shown_left),
+        (PointKind::Readying, PointKind::Readying) => is_left(left, shown_left),
+        (PointKind::Checking(callee), PointKind::Checking(other)) => callee == other,
+        (PointKind::Idle, PointKind::Idle) => true,
+        (PointKind::Planning, PointKind::Planning) => true,
+        (PointKind::Inquiring, PointKind::Inquiring) => true,
         _ => false,
+    }
+}
+
+// Whether these nodes are left, nobody without a set.
+fn is_left(left: Option<&NodeSet>, shown: &NodeSet) -> bool
+    ensures { result ≡ bytes_eq (nodes_in (option_copied left.entry)) shown.now }
+{
+    match left {
+        Some(nodes) => are_same_nodes(nodes, shown),
+        None => shown.is_empty(),
     }
 }
 

@@ -130,7 +130,7 @@ impl World {
         requires { node ≤ self.now.setup.nodes }
         ensures { result ≡ (state_at self.now node).point }
     {
-        *self.member(node).point()
+        self.member(node).point()
     }
 
     /// The node's call slot. A call in it is tagged with the node as its caller. The node is at most the setup's

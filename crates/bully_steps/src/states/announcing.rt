@@ -1,4 +1,4 @@
-ghost use Rattle.std.specs.Prelude.{◌≡◌, ◌≤◌, true, None};
+ghost use Rattle.std.specs.Prelude.{◌≡◌, true, None};
 ghost use Rattle.bully_base.specs.NodeSet.{IsFallingBelow};
 ghost use Rattle.bully_steps.specs.declared.point.Point.{Point};
 ghost use Rattle.bully_steps.specs.Point.{offered, IsPointOf};
@@ -7,7 +7,7 @@ ghost use Rattle.bully_steps.specs.ProcedureState.{IsCall, procedure_state};
 
 use crate::Procedure;
 use crate::states::Identity;
-use bully_base::{Node, NodeSet, Setup};
+use bully_base::NodeSet;
 use std::marker::Model;
 
 /// The lower nodes that are up were halted, and the node announces itself to them as their coordinator, as in
@@ -32,27 +32,20 @@ impl Model for Announcing {
 }
 
 impl Announcing {
-    /// The procedure of the node that announces itself to these next.
+    /// Makes the procedure its node's that announces itself to these next.
     #[inline(never)]
-    pub(crate) fn procedure(
-        setup: &Setup,
-        node: Node,
-        generation: u32,
-        rest: NodeSet,
-        up: &NodeSet,
-        awaits: bool,
-    ) -> Procedure
-        requires node { node ≤ setup.now.nodes }
-        requires up { IsFallingBelow node up.now }
-        requires point { IsPointOf setup.now node (Point.Announcing rest) }
-        requires call { awaits ≡ true → IsCall (offered setup.now None (Point.Announcing rest)) }
-        ensures { state_of result ≡ procedure_state setup.now node generation (Point.Announcing rest) up.now None awaits }
+    pub(crate) fn begin(procedure: &mut Procedure, rest: &NodeSet, up: &NodeSet, awaits: bool)
+        requires up { IsFallingBelow (state_of procedure.old).node up.now }
+        requires point { IsPointOf (state_of procedure.old).setup (state_of procedure.old).node (Point.Announcing rest.now) }
+        requires call { awaits ≡ true → IsCall (offered (state_of procedure.old).setup None (Point.Announcing rest.now)) }
+        ensures { state_of procedure.new ≡ procedure_state (state_of procedure.old).setup (state_of procedure.old).node (state_of procedure.old).generation (Point.Announcing rest.now) up.now None awaits }
     {
-        Procedure::Announcing(Announcing {
-            identity: Identity::new(setup, node, generation),
-            rest,
+        let identity = *procedure.identity();
+        *procedure = Procedure::Announcing(Announcing {
+            identity,
+            rest: *rest,
             up: *up,
             awaits,
-        })
+        });
     }
 }

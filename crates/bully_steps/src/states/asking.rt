@@ -1,4 +1,4 @@
-ghost use Rattle.std.specs.Prelude.{◌≡◌, ◌≤◌, [], true, None};
+ghost use Rattle.std.specs.Prelude.{◌≡◌, [], true, None};
 ghost use Rattle.bully_steps.specs.declared.point.Point.{Point};
 ghost use Rattle.bully_steps.specs.Point.{offered, IsPointOf};
 ghost use Rattle.bully_steps.specs.Procedure.{state_of};
@@ -6,7 +6,6 @@ ghost use Rattle.bully_steps.specs.ProcedureState.{IsCall, procedure_state};
 
 use crate::Procedure;
 use crate::states::Identity;
-use bully_base::{Node, Setup};
 use std::marker::Model;
 
 /// An election has begun, as in the 1982 paper: the node asks each higher node in rising order whether it is up.
@@ -30,24 +29,18 @@ impl Model for Asking {
 }
 
 impl Asking {
-    /// The procedure of the node that asks this one next.
+    /// Makes the procedure its node's that asks this one next.
     #[inline(never)]
-    pub(crate) fn procedure(
-        setup: &Setup,
-        node: Node,
-        generation: u32,
-        next: u16,
-        awaits: bool,
-    ) -> Procedure
-        requires node { node ≤ setup.now.nodes }
-        requires point { IsPointOf setup.now node (Point.Asking next) }
-        requires call { awaits ≡ true → IsCall (offered setup.now None (Point.Asking next)) }
-        ensures { state_of result ≡ procedure_state setup.now node generation (Point.Asking next) [] None awaits }
+    pub(crate) fn begin(procedure: &mut Procedure, next: u16, awaits: bool)
+        requires point { IsPointOf (state_of procedure.old).setup (state_of procedure.old).node (Point.Asking next) }
+        requires call { awaits ≡ true → IsCall (offered (state_of procedure.old).setup None (Point.Asking next)) }
+        ensures { state_of procedure.new ≡ procedure_state (state_of procedure.old).setup (state_of procedure.old).node (state_of procedure.old).generation (Point.Asking next) [] None awaits }
     {
-        Procedure::Asking(Asking {
-            identity: Identity::new(setup, node, generation),
+        let identity = *procedure.identity();
+        *procedure = Procedure::Asking(Asking {
+            identity,
             next,
             awaits,
-        })
+        });
     }
 }

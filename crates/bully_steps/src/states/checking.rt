@@ -1,4 +1,4 @@
-ghost use Rattle.std.specs.Prelude.{◌≡◌, ◌≤◌, [], true, None};
+ghost use Rattle.std.specs.Prelude.{◌≡◌, [], true, None};
 ghost use Rattle.bully_steps.specs.declared.point.Point.{Point};
 ghost use Rattle.bully_steps.specs.Point.{offered, IsPointOf};
 ghost use Rattle.bully_steps.specs.Procedure.{state_of};
@@ -6,7 +6,7 @@ ghost use Rattle.bully_steps.specs.ProcedureState.{IsCall, procedure_state};
 
 use crate::Procedure;
 use crate::states::Identity;
-use bully_base::{Node, Setup};
+use bully_base::Node;
 use std::marker::Model;
 
 /// The coordinator asks each other node in rising order whether it is normal, as in the 1982 paper's check.
@@ -30,24 +30,18 @@ impl Model for Checking {
 }
 
 impl Checking {
-    /// The procedure of the node that asks this one next.
+    /// Makes the procedure its node's that asks this one next.
     #[inline(never)]
-    pub(crate) fn procedure(
-        setup: &Setup,
-        node: Node,
-        generation: u32,
-        callee: Node,
-        awaits: bool,
-    ) -> Procedure
-        requires node { node ≤ setup.now.nodes }
-        requires point { IsPointOf setup.now node (Point.Checking callee) }
-        requires call { awaits ≡ true → IsCall (offered setup.now None (Point.Checking callee)) }
-        ensures { state_of result ≡ procedure_state setup.now node generation (Point.Checking callee) [] None awaits }
+    pub(crate) fn begin(procedure: &mut Procedure, callee: Node, awaits: bool)
+        requires point { IsPointOf (state_of procedure.old).setup (state_of procedure.old).node (Point.Checking callee) }
+        requires call { awaits ≡ true → IsCall (offered (state_of procedure.old).setup None (Point.Checking callee)) }
+        ensures { state_of procedure.new ≡ procedure_state (state_of procedure.old).setup (state_of procedure.old).node (state_of procedure.old).generation (Point.Checking callee) [] None awaits }
     {
-        Procedure::Checking(Checking {
-            identity: Identity::new(setup, node, generation),
+        let identity = *procedure.identity();
+        *procedure = Procedure::Checking(Checking {
+            identity,
             callee,
             awaits,
-        })
+        });
     }
 }

@@ -1,3 +1,9 @@
+ghost use Rattle.std.specs.Prelude.{◌≡◌, [], None, false};
+ghost use Rattle.bully_steps.specs.declared.point.Point.{Point};
+ghost use Rattle.bully_steps.specs.Procedure.{state_of};
+ghost use Rattle.bully_steps.specs.ProcedureState.{procedure_state};
+
+use crate::Procedure;
 use crate::states::Identity;
 use std::marker::Model;
 
@@ -16,4 +22,15 @@ impl Model for Idle {
     ghost view = { λ s. record { identity = s.identity } };
 
     ghost invariant = { λ s. IsProcedureState (idle (record { identity = s.identity })) };
+}
+
+impl Idle {
+    /// Makes the procedure its node's idle one.
+    #[inline(never)]
+    pub(crate) fn begin(procedure: &mut Procedure)
+        ensures { state_of procedure.new ≡ procedure_state (state_of procedure.old).setup (state_of procedure.old).node (state_of procedure.old).generation Point.Idle [] None false }
+    {
+        let identity = *procedure.identity();
+        *procedure = Procedure::Idle(Idle { identity });
+    }
 }

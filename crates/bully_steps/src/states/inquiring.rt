@@ -1,4 +1,4 @@
-ghost use Rattle.std.specs.Prelude.{◌≡◌, ◌≤◌, [], true, Some};
+ghost use Rattle.std.specs.Prelude.{◌≡◌, [], true, Some};
 ghost use Rattle.bully_steps.specs.declared.point.Point.{Point};
 ghost use Rattle.bully_steps.specs.Point.{offered};
 ghost use Rattle.bully_steps.specs.Procedure.{state_of};
@@ -6,7 +6,7 @@ ghost use Rattle.bully_steps.specs.ProcedureState.{IsCall, SuitsInquiry, procedu
 
 use crate::Procedure;
 use crate::states::Identity;
-use bully_base::{Node, Setup};
+use bully_base::Node;
 use std::marker::Model;
 
 /// After a timeout the node asks its coordinator, which is another node, whether it is up, as in the 1982 paper.
@@ -29,24 +29,18 @@ impl Model for Inquiring {
 }
 
 impl Inquiring {
-    /// The procedure of the node that inquires of this one.
+    /// Makes the procedure its node's that inquires of this one.
     #[inline(never)]
-    pub(crate) fn procedure(
-        setup: &Setup,
-        node: Node,
-        generation: u32,
-        coordinator: Node,
-        awaits: bool,
-    ) -> Procedure
-        requires node { node ≤ setup.now.nodes }
-        requires inquiry { SuitsInquiry setup.now node (Some coordinator) Point.Inquiring }
-        requires call { awaits ≡ true → IsCall (offered setup.now (Some coordinator) Point.Inquiring) }
-        ensures { state_of result ≡ procedure_state setup.now node generation Point.Inquiring [] (Some coordinator) awaits }
+    pub(crate) fn begin(procedure: &mut Procedure, coordinator: Node, awaits: bool)
+        requires inquiry { SuitsInquiry (state_of procedure.old).setup (state_of procedure.old).node (Some coordinator) Point.Inquiring }
+        requires call { awaits ≡ true → IsCall (offered (state_of procedure.old).setup (Some coordinator) (Point.Inquiring)) }
+        ensures { state_of procedure.new ≡ procedure_state (state_of procedure.old).setup (state_of procedure.old).node (state_of procedure.old).generation Point.Inquiring [] (Some coordinator) awaits }
     {
-        Procedure::Inquiring(Inquiring {
-            identity: Identity::new(setup, node, generation),
+        let identity = *procedure.identity();
+        *procedure = Procedure::Inquiring(Inquiring {
+            identity,
             coordinator,
             awaits,
-        })
+        });
     }
 }

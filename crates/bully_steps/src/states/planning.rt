@@ -1,4 +1,4 @@
-ghost use Rattle.std.specs.Prelude.{◌≡◌, ◌≤◌, length, false, IfOk, IfErr, IfSome, Some, None};
+ghost use Rattle.std.specs.Prelude.{◌≡◌, length, false, IfOk, IfErr, IfSome, Some, None};
 ghost use Rattle.std.specs.Option.{option_copied};
 ghost use Rattle.bully_base.specs.NodeSet.{with_node, IsFallingBelow};
 ghost use Rattle.bully_steps.specs.declared.point.Point.{Point};
@@ -9,7 +9,7 @@ ghost use Rattle.bully_table.specs.Planning.{planned as planned_table};
 
 use crate::Procedure;
 use crate::states::Identity;
-use bully_base::{Node, NodeSet, Setup};
+use bully_base::NodeSet;
 use bully_table::{PlanFault, Table, TablePlan, plan_in};
 use std::alloc::Global;
 use std::marker::Model;
@@ -54,17 +54,14 @@ impl Model for Planned {
 }
 
 impl Planning {
-    /// The procedure of the node that plans for itself and these.
+    /// Makes the procedure its node's that plans for itself and these.
     #[inline(never)]
-    pub(crate) fn procedure(setup: &Setup, node: Node, generation: u32, up: &NodeSet) -> Procedure
-        requires node { node ≤ setup.now.nodes }
-        requires up { IsFallingBelow node up.now }
-        ensures { state_of result ≡ procedure_state setup.now node generation Point.Planning up.now None false }
+    pub(crate) fn begin(procedure: &mut Procedure, up: &NodeSet)
+        requires up { IsFallingBelow (state_of procedure.old).node up.now }
+        ensures { state_of procedure.new ≡ procedure_state (state_of procedure.old).setup (state_of procedure.old).node (state_of procedure.old).generation Point.Planning up.now None false }
     {
-        Procedure::Planning(Planning {
-            identity: Identity::new(setup, node, generation),
-            up: *up,
-        })
+        let identity = *procedure.identity();
+        *procedure = Procedure::Planning(Planning { identity, up: *up });
     }
 
     /// Plans the table over the node and those that are up, with the fewest moves from the old table, which has

@@ -1,4 +1,4 @@
-ghost use Rattle.std.specs.Prelude.{◌≡◌, ◌≤◌, [], true, None};
+ghost use Rattle.std.specs.Prelude.{◌≡◌, [], true, None};
 ghost use Rattle.bully_steps.specs.declared.point.Point.{Point};
 ghost use Rattle.bully_steps.specs.Point.{offered, IsPointOf};
 ghost use Rattle.bully_steps.specs.Procedure.{state_of};
@@ -6,7 +6,7 @@ ghost use Rattle.bully_steps.specs.ProcedureState.{IsCall, procedure_state};
 
 use crate::Procedure;
 use crate::states::Identity;
-use bully_base::{Node, NodeSet, Setup};
+use bully_base::NodeSet;
 use std::marker::Model;
 
 /// The node has taken a new table as its task, and hands it to the nodes that are up, as in the 1982 paper.
@@ -30,24 +30,18 @@ impl Model for Readying {
 }
 
 impl Readying {
-    /// The procedure of the node that hands its table to these next.
+    /// Makes the procedure its node's that hands its table to these next.
     #[inline(never)]
-    pub(crate) fn procedure(
-        setup: &Setup,
-        node: Node,
-        generation: u32,
-        rest: NodeSet,
-        awaits: bool,
-    ) -> Procedure
-        requires node { node ≤ setup.now.nodes }
-        requires point { IsPointOf setup.now node (Point.Readying rest) }
-        requires call { awaits ≡ true → IsCall (offered setup.now None (Point.Readying rest)) }
-        ensures { state_of result ≡ procedure_state setup.now node generation (Point.Readying rest) [] None awaits }
+    pub(crate) fn begin(procedure: &mut Procedure, rest: &NodeSet, awaits: bool)
+        requires point { IsPointOf (state_of procedure.old).setup (state_of procedure.old).node (Point.Readying rest.now) }
+        requires call { awaits ≡ true → IsCall (offered (state_of procedure.old).setup None (Point.Readying rest.now)) }
+        ensures { state_of procedure.new ≡ procedure_state (state_of procedure.old).setup (state_of procedure.old).node (state_of procedure.old).generation (Point.Readying rest.now) [] None awaits }
     {
-        Procedure::Readying(Readying {
-            identity: Identity::new(setup, node, generation),
-            rest,
+        let identity = *procedure.identity();
+        *procedure = Procedure::Readying(Readying {
+            identity,
+            rest: *rest,
             awaits,
-        })
+        });
     }
 }

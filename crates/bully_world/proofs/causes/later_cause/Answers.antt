@@ -83,9 +83,9 @@ returns-in-Drop c =
 pub returns-in-Check : goal.returns-in-Check
 returns-in-Check c =
     let here = named_is (members_of c.args.members.now) (member_of c.args.named.now) c.args.event.now (Event.Check c.in-Check.field-0) c.in-Check.is c.requires.named in
-    λ count. at_event c.args.setup.now (members_of c.args.members.now) count c.args.event.now (Event.Check c.in-Check.field-0) _ c.in-Check.is (grind (arith, check-cause c.args.setup.now (members_of c.args.members.now) count c.in-Check.field-0 (member_of c.args.named.now) here, c.refused_if.ensures, c.is_at_rest.ensures, c.point.ensures))
+    λ count. at_event c.args.setup.now (members_of c.args.members.now) count c.args.event.now (Event.Check c.in-Check.field-0) _ c.in-Check.is (grind (arith, check-cause c.args.setup.now (members_of c.args.members.now) count c.in-Check.field-0 (member_of c.args.named.now) here, c.refused_if.ensures, c.is_at_rest.ensures, c.standing.ensures))
 
 pub returns-in-Timeout : goal.returns-in-Timeout
 returns-in-Timeout c =
     let here = named_is (members_of c.args.members.now) (member_of c.args.named.now) c.args.event.now (Event.Timeout c.in-Timeout.field-0) c.in-Timeout.is c.requires.named in
-    λ count. at_event c.args.setup.now (members_of c.args.members.now) count c.args.event.now (Event.Timeout c.in-Timeout.field-0) _ c.in-Timeout.is (grind (arith, timeout-cause c.args.setup.now (members_of c.args.members.now) count c.in-Timeout.field-0 (member_of c.args.named.now) here, c.refused_if-in-Timeout.ensures, c.is_at_rest-in-Timeout.ensures, c.point-in-Timeout.ensures))
+    λ count. at_event c.args.setup.now (members_of c.args.members.now) count c.args.event.now (Event.Timeout c.in-Timeout.field-0) _ c.in-Timeout.is (grind (arith, timeout-cause c.args.setup.now (members_of c.args.members.now) count c.in-Timeout.field-0 (member_of c.args.named.now) here, c.refused_if-in-Timeout.ensures, c.is_at_rest-in-Timeout.ensures, c.standing-in-Timeout.ensures))
