@@ -374,12 +374,21 @@ fn turned<L: Naming>(
 fn tell_turn(text: &mut String, answer: Result<NodeTurn, StepFault>, procedure: &Procedure) {
     let _ = match answer {
         Ok(turn) => {
-            let (word, point) = (word_of(turn), procedure.point());
-            let generation = procedure.generation();
-            writeln!(text, "{word} {point:?} {generation}")
+            let (word, kind) = (word_of(turn), procedure.kind());
+            let (left, generation) = (left_by(procedure), procedure.generation());
+            writeln!(text, "{word} {kind:?}{left} {generation}")
         }
         Err(fault) => writeln!(text, "{fault:?}"),
     };
+}
+
+// Whether nobody is left to be announced to or readied, where the procedure does that.
+fn left_by(procedure: &Procedure) -> &'static str {
+    match procedure.left() {
+        Some(left) if left.is_empty() => " to nobody",
+        Some(_) => " to some",
+        None => "",
+    }
 }
 
 fn word_of(turn: NodeTurn) -> &'static str {

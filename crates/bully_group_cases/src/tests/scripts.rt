@@ -78,11 +78,11 @@ const ALONE_BY_TURNS: Case = Case {
     told: "Ok(())
 resynced Asking(2) 0
 went Halting(0) 0
-went Announcing(NodeSet { word: 0 }) 0
+went Announcing to nobody 0
 went Planning 0
 waits Planning 0
 prepared
-went Readying(NodeSet { word: 0 }) 0
+went Readying to nobody 0
 went Idle 0
 waits Idle 0
 a seat less: SeatCount
@@ -159,7 +159,7 @@ went Asking(2) 0
 went Asking(2) 0
 went Asking(3) 0
 went Halting(0) 0
-went Announcing(NodeSet { word: 0 }) 0
+went Announcing to nobody 0
 went Planning 0
 prepared
 Ok(())
@@ -372,7 +372,7 @@ went Halting(1) 0
 went Halting(1) 0
 went Halting(1) 0
 went Halting(0) 0
-went Announcing(NodeSet { word: 0 }) 0
+went Announcing to nobody 0
 went Planning 0
 prepared
 Ok(())
