@@ -1,8 +1,7 @@
-//! Worked cases of groups, of observers, and of nodes at work.
+//! Worked cases of groups and of observers.
 
 mod asks;
 mod held;
-mod nodes;
 mod observers;
 mod races;
 mod scenes;
