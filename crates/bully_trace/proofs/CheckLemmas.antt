@@ -6,15 +6,13 @@ use Rattle.bully_world.specs.State.{world_of}
 use Rattle.bully_world.specs.World.{first_world}
 use Rattle.bully_trace.specs.declared.TheConstants.{ROWS_MAX}
 use Rattle.bully_trace.specs.declared.header.Header.{Header}
-use Rattle.bully_trace.specs.declared.header.Version.{Version}
 use Rattle.bully_trace.specs.declared.trace.Row.{Row}
 use Rattle.bully_trace.specs.declared.verdict.Verdict.{Verdict}
 use Rattle.bully_trace.specs.Headers.{Record}
-use Rattle.bully_trace.specs.Judging.{AreAllJudged, AreJudged, Begins, HasJudged, IsJudgedSoFar, IsNoStart, JudgeState, header_with}
+use Rattle.bully_trace.specs.Judging.{AreAllJudged, AreJudged, Begins, HasJudged, IsJudgedSoFar, IsNoRow, IsNoStart, JudgeState, TakesRow, header_with}
 use Rattle.bully_trace.specs.RecordsLeft.{EndsReading, HasRead, IsUnread, ReadSoFar, Takes, rows_left}
-use Rattle.bully_trace.specs.Rows.{HasNoFault, OfTrace, fault_at, row_of}
+use Rattle.bully_trace.specs.Rows.{HasNoFault, OfTrace}
 use Rattle.bully_trace.specs.Trace.{Trace}
-use Rattle.bully_trace.specs.declared.trace.TraceCause.{TraceCause}
 use Rattle.bully_trace.specs.declared.trace.TraceFault.{TraceFault}
 use Rattle.bully_trace.proofs.TraceLemmas.{header-bad, header-read, memory-ends, read-bad, read-end, read-more}
 use Rattle.bully_trace.specs.Verdict.{IsJudged, IsVerdict}
@@ -44,19 +42,18 @@ judged-unbegun known reader now state found fault takes is none (inl (unheaded, 
 judged-unbegun known reader now state found fault takes is none (inr same) so_far = rw same (memory-ends known)
 
 -- behind one more row
-pub judged-row : (known : Option (List ℕ)) (reader now : ReadSoFar) (state : Option JudgeState) (judge after : JudgeState) (found : Bool) (version : Version) (setup : Setup) (row : Row) (number : ℕ)
+pub judged-row : (known : Option (List ℕ)) (reader now : ReadSoFar) (state : Option JudgeState) (judge after : JudgeState) (found : Bool)
     → Takes reader.records now.records found now.fields → found ≡ true → (found ≡ true → (reader.number ≤ ROWS_MAX) × (now.number ≡ reader.number + 1))
-    → state ≡ Some judge → version ≡ judge.version → setup ≡ judge.world.setup → row_of version setup now.fields ≡ Some row → number ≡ now.number → after.version ≡ judge.version
-    → ((setup : Setup) (rows : List Row) → length rows + 2 ≡ number → HasJudged setup rows judge → HasJudged setup (rows ++ (row ∷ [])) after)
+    → state ≡ Some judge → TakesRow now judge after
     → IsJudgedSoFar known reader state → AreJudged known now after
-judged-row known reader now state judge after found version setup row number takes is counted at_judge at_version same told numbered stays judges so_far =
+judged-row known reader now state judge after found takes is counted at_judge (row, told, stays, judges) so_far =
     let s = judge.world.setup in
     let (low, next) = counted is in
     let (rows, read, judged) : AreJudged known reader judge = rw at_judge at so_far in
     let header = header_with judge.version s in
     let more : HasRead known (rows ++ (row ∷ [])) (rows_left header now) =
-    read-more known rows (rows_left header reader) (rows_left header now) found now.fields row read takes is (omega (arith, low)) (rw (at_version, same) at told) refl next in
-    let at_number : length rows + 2 ≡ number = omega (arith, read.number, next, numbered) in
+    read-more known rows (rows_left header reader) (rows_left header now) found now.fields row read takes is (omega (arith, low)) told refl next in
+    let at_number : length rows + 2 ≡ now.number = omega (arith, read.number, next) in
     let all = judges s rows at_number judged in (
       rows ++ (row ∷ []),
       subst (λ v. HasRead known (rows ++ (row ∷ [])) (rows_left (header_with v after.world.setup) now)) (sym stays) (
@@ -64,16 +61,17 @@ judged-row known reader now state judge after found version setup row number tak
       subst (λ s. HasJudged s (rows ++ (row ∷ [])) after) (sym all.same) all,
     )
 
--- at a row of no form
-pub judged-bad : (known : Option (List ℕ)) (reader now : ReadSoFar) (state : Option JudgeState) (judge : JudgeState) (found : Bool) (version : Version) (setup : Setup)
+-- at a row that can't be taken
+pub judged-bad : (known : Option (List ℕ)) (reader now : ReadSoFar) (state : Option JudgeState) (judge : JudgeState) (found : Bool) (fault : TraceFault)
     → Takes reader.records now.records found now.fields → found ≡ true → (found ≡ true → (reader.number ≤ ROWS_MAX) × (now.number ≡ reader.number + 1))
-    → state ≡ Some judge → version ≡ judge.version → setup ≡ judge.world.setup → row_of version setup now.fields ≡ None
-    → IsJudgedSoFar known reader state → EndsReading known (fault_at now.number TraceCause.BadRow)
-judged-bad known reader now state judge found version setup takes is counted at_judge at_version same none so_far =
+    → state ≡ Some judge → IsNoRow now judge fault
+    → IsJudgedSoFar known reader state → EndsReading known fault
+judged-bad known reader now state judge found fault takes is counted at_judge (inl (none, same)) so_far =
     let s = judge.world.setup in
     let (low, next) = counted is in
     let (rows, read, judged) : AreJudged known reader judge = rw at_judge at so_far in
-    rw next (read-bad known rows (rows_left (header_with judge.version s) reader) now.records found now.fields read takes is (omega (arith, low)) (rw (at_version, same) at none))
+    rw (same, next) (read-bad known rows (rows_left (header_with judge.version s) reader) now.records found now.fields read takes is (omega (arith, low)) none)
+judged-bad known reader now state judge found fault takes is counted at_judge (inr same) so_far = rw same (memory-ends known)
 
 -- behind the last row
 pub judged-end : (known : Option (List ℕ)) (reader : ReadSoFar) (after : Option (List Record)) (found : Bool) (fields : Record) (judge : JudgeState)

@@ -1,5 +1,5 @@
 -- The fields of a record of known length.
-use Rattle.std.proofs.Common.{Bor, ◌≡◌, ◌<◌, ℕ, zero, suc, List, [], ◌∷◌, length, Option, Some, None, arith, refl}
+use Rattle.std.proofs.Common.{Bor, ◌≡◌, ◌<◌, ℕ, zero, suc, List, [], ◌∷◌, length, Option, Some, None, IfSome, arith, refl, sym}
 use Rattle.std.specs.Option.{IsSome, option_map}
 use Rattle.csv.specs.Records.{field_at}
 
@@ -46,3 +46,8 @@ fields-six (g ∷ k ∷ l ∷ m ∷ []) a b c d e f h x y z w u v = absurd (omeg
 fields-six (g ∷ k ∷ l ∷ m ∷ n ∷ []) a b c d e f h x y z w u v = absurd (omega arith)
 fields-six (g ∷ k ∷ l ∷ m ∷ n ∷ o ∷ []) a b c d e f h x y z w u v = cc (x, y, z, w, u, v)
 fields-six (g ∷ k ∷ l ∷ m ∷ n ∷ o ∷ p ∷ rest) a b c d e f h x y z w u v = absurd (omega arith)
+
+-- what a mapped value comes to, where there is one
+pub some-mapped : {A B : Type 0} (f : A → B) (o : Option A) (mapped : Option B) → option_map f o ≡ mapped → IfSome o (λ x. mapped ≡ Some (f x))
+some-mapped f None mapped same = tt
+some-mapped f (Some x) mapped same = sym same

@@ -10,7 +10,7 @@ use Rattle.std.specs.Prelude.{nat_le}
 use Rattle.std.proofs.lemmas.Bool.Decides.{nat_tests}
 use Rattle.bully_base.specs.declared.TheConstants.{EVENTS_MAX, WEIGHT_MAX}
 use Rattle.bully_base.specs.declared.setup.SetupFault.{SetupFault}
-use Rattle.bully_base.specs.Setup.{AreWeights, IsWeight, Setup, even_setup, is_even}
+use Rattle.bully_base.specs.Setup.{AreWeights, IsWeight, Setup, even_setup}
 use Rattle.bully_base.proofs.SetupLemmas.{even-is_even}
 use Rattle.bully_table.specs.Numeral.{number_of}
 use Rattle.bully_table.specs.TableText.{pieces_of}

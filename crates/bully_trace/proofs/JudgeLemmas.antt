@@ -1,7 +1,7 @@
 -- The verdict on rows that were judged one by one, and what it says of their events.
-use Rattle.std.proofs.Common.{◌≡◌, ℕ, zero, suc, ◌+◌, ◌≤◌, ◌++◌, take, drop, Bool, true, false, List, [], ◌∷◌, Option, Some, None, MatchOption, length, refl, ap, subst, arith}
+use Rattle.std.proofs.Common.{◌≡◌, ℕ, zero, suc, ◌+◌, ◌≤◌, ◌++◌, take, drop, Bool, true, false, List, [], ◌∷◌, Option, Some, None, MatchOption, length, ◌∙◌, refl, sym, ap, subst, arith}
 use Rattle.std.specs.Bool.{MatchBool}
-use Rattle.std.proofs.lemmas.List.{append-nil, length-append}
+use Rattle.std.proofs.lemmas.List.{append_assoc, append-nil, length-append}
 use Rattle.bully_base.specs.Setup.{Setup}
 use Rattle.bully_calls.specs.declared.call.Answer.{Answer}
 use Rattle.bully_world.specs.declared.event.Event.{Event}
@@ -9,6 +9,7 @@ use Rattle.bully_world.specs.declared.event.Refused.{Refused}
 use Rattle.bully_world.specs.Cause.{cause}
 use Rattle.bully_world.specs.Lawful.{IsLawful, LeadTo}
 use Rattle.bully_world.specs.Step.{Step}
+use Rattle.bully_world.specs.State.{world_of}
 use Rattle.bully_world.specs.World.{World, first_world}
 use Rattle.bully_world.proofs.LawfulLemmas.{lead_split}
 use Rattle.bully_world.proofs.ApplyLemmas.{room_of}
@@ -25,6 +26,21 @@ pub judged-all : (setup : Setup) (rows : List Row) (judge : JudgeState) (verdict
     → HasJudged setup rows judge → IsJudged setup (first_world setup) 0 2 rows verdict w
 judged-all setup rows judge verdict w is judged =
     subst (λ all. IsJudged setup (first_world setup) 0 2 all verdict w) (append-nil rows) (judged.judged [] verdict w is)
+
+-- behind one more row, where no row before it decided
+pub judged-more : (setup : Setup) (rows : List Row) (number : ℕ) (row : Row) (before after : JudgeState)
+    → before.stopped ≡ None → after.world.setup ≡ before.world.setup → length rows + 2 ≡ number
+    → ((more : List Row) (verdict : Verdict) (w : World) → IsJudgedOn after.world after.stopped (number + 1) more verdict w
+    → IsJudged before.world.setup (world_of before.world) before.world.events number (row ∷ more) verdict w)
+    → HasJudged setup rows before → HasJudged setup (rows ++ (row ∷ [])) after
+judged-more setup rows number row before after going same at takes judged = record {
+  same = same ∙ judged.same;
+  judged = λ more verdict w on.
+      let behind : length (rows ++ (row ∷ [])) + 2 ≡ number + 1 = omega (arith, length-append rows (row ∷ []), at) in
+      let here = takes more verdict w (subst (λ n. IsJudgedOn after.world after.stopped n more verdict w) behind on) in
+      subst (λ all. IsJudged setup (first_world setup) 0 2 all verdict w) (sym (append_assoc rows (row ∷ []) more))
+      (judged.judged (row ∷ more) verdict w (rw (going, at) here));
+}
 
 -- rows that are judged lawful mean events that lead from the world to the last one
 pub record Leads (setup : Setup) (w : World) (before : ℕ) (rows : List Row) (after : ℕ) (w' : World) : Type 0 where

@@ -1,5 +1,5 @@
 -- A judge of rows that come one by one.
-use Rattle.std.specs.Prelude.{◌≡◌, ◌⊎◌, ℕ, ◌+◌, List, [], ◌++◌, length, Option, None, Some, MatchOption}
+use Rattle.std.specs.Prelude.{◌≡◌, ◌⊎◌, ℕ, ◌+◌, List, [], ◌∷◌, ◌++◌, length, Option, None, Some, MatchOption}
 use Rattle.bully_base.specs.Setup.{Setup}
 use Rattle.bully_world.specs.State.{WorldState, world_of}
 use Rattle.bully_world.specs.World.{World, first_world}
@@ -11,7 +11,7 @@ use Rattle.bully_trace.specs.declared.trace.TraceCause.{TraceCause}
 use Rattle.bully_trace.specs.declared.trace.TraceFault.{TraceFault}
 use Rattle.bully_trace.specs.Headers.{Record, header_of}
 use Rattle.bully_trace.specs.RecordsLeft.{EndsReading, HasRead, IsUnread, ReadSoFar, rows_left}
-use Rattle.bully_trace.specs.Rows.{IsTraceOf, fault_at, no_memory}
+use Rattle.bully_trace.specs.Rows.{IsTraceOf, fault_at, no_memory, row_of}
 use Rattle.bully_trace.specs.Verdict.{IsJudged}
 
 -- the version of the trace, the world that its rows were taken to, and the first verdict that isn't lawful
@@ -41,6 +41,17 @@ Begins fields judge = (header : Header) × (header_of fields ≡ Some header) ×
 -- why it doesn't begin: the fields are no header, or there is no memory
 abbrev pub IsNoStart : Record → TraceFault → Type 0
 IsNoStart fields fault = ((header_of fields ≡ None) × (fault ≡ fault_at 1 TraceCause.BadHeader)) ⊎ (fault ≡ no_memory)
+
+-- the judge takes the row that was read last
+abbrev pub TakesRow : ReadSoFar → JudgeState → JudgeState → Type 0
+TakesRow reader judge after =
+    (row : Row) × (row_of judge.version judge.world.setup reader.fields ≡ Some row) × (after.version ≡ judge.version)
+    × ((setup : Setup) (rows : List Row) → length rows + 2 ≡ reader.number → HasJudged setup rows judge → HasJudged setup (rows ++ (row ∷ [])) after)
+
+-- why it doesn't: the row has no form, or there is no memory
+abbrev pub IsNoRow : ReadSoFar → JudgeState → TraceFault → Type 0
+IsNoRow reader judge fault =
+    ((row_of judge.version judge.world.setup reader.fields ≡ None) × (fault ≡ fault_at reader.number TraceCause.BadRow)) ⊎ (fault ≡ no_memory)
 
 -- a header of this version and this setup
 abbrev pub header_with : Version → Setup → Header

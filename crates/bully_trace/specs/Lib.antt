@@ -7,3 +7,4 @@ pub mod Verdict
 pub mod VerdictText
 pub mod TraceText
 pub mod Judging
+pub mod NodeEvents

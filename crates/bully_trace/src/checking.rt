@@ -1,10 +1,10 @@
-ghost use Rattle.std.specs.Prelude.{◌≡◌, ◌≢◌, ◌⊎◌, ◌++◌, ℕ, List, Option, None, MatchOption, IfOk, IfErr, OnOk};
+ghost use Rattle.std.specs.Prelude.{◌≡◌, ◌≢◌, ◌⊎◌, ◌++◌, ℕ, List, length, Option, None, MatchOption, IfOk, IfErr, OnOk};
 ghost use Rattle.std.specs.Io.KnownBytes.{Appends};
 ghost use Rattle.std.specs.String.{string_bytes};
-ghost use Rattle.bully_trace.specs.Rows.{HasNoFault, IsFirstFault, IsOfWriting, IsReadAtItsRow, OfTrace};
+ghost use Rattle.bully_trace.specs.Rows.{HasNoFault, IsFirstFault, IsOfWriting, IsReadAtItsRow, OfTrace, row_of};
 ghost use Rattle.bully_base.specs.Setup.{Setup as SetupState};
 ghost use Rattle.bully_trace.specs.declared.trace.Row.{Row as RowState};
-ghost use Rattle.bully_trace.specs.Judging.{AreAllJudged, Begins, HasJudged, IsJudgedToEnd, IsNoStart};
+ghost use Rattle.bully_trace.specs.Judging.{AreAllJudged, Begins, HasJudged, IsJudgedToEnd, IsNoRow, IsNoStart, TakesRow};
 ghost use Rattle.bully_trace.specs.RecordsLeft.{EndsReading, IsUnread};
 ghost use Rattle.bully_trace.specs.Verdict.{IsJudged, IsLawfulCount, AgreesAfterEachRow};
 ghost use Rattle.bully_trace.specs.VerdictText.{IsJudgedAs, verdict_text, node_lines};
@@ -72,8 +72,8 @@ fn judge_rows<R: Read + Drop>(alloc: Global, rows: &mut RowReader<R>) -> Result<
 }
 
 // Has each row judged that is still to be read.
-// (in one loop, and by a reference to each row: so the reading and the judging are built into it. What has to be dropped
-// is owned by the functions above, one each: an exit with such a value is dear to prove)
+// (in one loop: so the reading and the judging are built into it. What has to be dropped is owned by the functions above, one
+// each: an exit with such a value is dear to prove)
 fn judge_each<R: Read + Drop>(
     alloc: Global,
     rows: &mut RowReader<R>,
@@ -85,13 +85,47 @@ fn judge_each<R: Read + Drop>(
 {
     while rows.advance()? {
         if let Some(judge) = judge {
-            match &rows.row(alloc, judge.version(), judge.world().setup())? {
-                Some(row) => judge.take_row(rows.number(), row),
-                None => return Err(rows.bad_row()),
-            }
+            take_row(alloc, rows, judge)?;
         } else {
             begin(alloc, rows, judge)?;
         }
+    }
+    Ok(())
+}
+
+// Has the row read last judged.
+// (an event that names a node and no more, as most rows do, is never a `Row`, which would be moved at each step)
+fn take_row<R: Read + Drop>(
+    alloc: Global,
+    rows: &RowReader<R>,
+    judge: &mut Judge,
+) -> Result<(), TraceFault>
+    ensures taken { OnOk result (TakesRow rows.now judge.old judge.new) }
+    ensures fault { IfErr result (IsNoRow rows.now judge.old) }
+{
+    match rows.node_event(judge.version()) {
+        Some(event) => {
+            judge.take_node_event(rows.number(), event);
+            Ok(())
+        }
+        None => take_longer_row(alloc, rows, judge),
+    }
+}
+
+// Has the row read last judged, where it is no event that names a node and no more.
+#[inline(never)]
+fn take_longer_row<R: Read + Drop>(
+    alloc: Global,
+    rows: &RowReader<R>,
+    judge: &mut Judge,
+) -> Result<(), TraceFault>
+    requires { length rows.now.fields ≡ 2 → row_of judge.old.version judge.old.world.setup rows.now.fields ≡ None }
+    ensures taken { OnOk result (TakesRow rows.now judge.old judge.new) }
+    ensures fault { IfErr result (IsNoRow rows.now judge.old) }
+{
+    match &rows.longer_row(alloc, judge.version(), judge.world().setup())? {
+        Some(row) => judge.take_row(rows.number(), row),
+        None => return Err(rows.bad_row()),
     }
     Ok(())
 }

@@ -3,11 +3,13 @@ ghost use Rattle.bully_base.specs.Setup.{Setup as SetupState};
 ghost use Rattle.bully_trace.specs.declared.trace.Row.{Row as RowState};
 ghost use Rattle.bully_trace.specs.declared.verdict.Verdict.{Verdict as VerdictState};
 ghost use Rattle.bully_trace.specs.Judging.{HasJudged, IsJudgedOn};
+ghost use Rattle.bully_trace.specs.NodeEvents.{event_at};
 ghost use Rattle.bully_trace.specs.Verdict.{IsJudged, is_true};
 ghost use Rattle.bully_world.specs.State.{world_of};
 ghost use Rattle.bully_world.specs.World.{World as WorldOf, first_world};
 
 use crate::header::{Header, Version};
+use crate::node_event::{EventKind, NodeEvent};
 use crate::{Claim, Row, Verdict};
 use bully_agree::Walk;
 use bully_base::OutOfMemory;
@@ -54,35 +56,61 @@ impl Judge {
 
     /// Takes the row of this number. The first event that the world refuses, or the first claim that is false of it,
     /// decides, and no later row changes anything.
-    // (the eight arms are alike, and are kept apart for speed: each has a copy of the call of its own, in which the kind is
-    // known, so what reads a word goes on right to what its event needs, and none of it chooses by the kind once more)
     pub fn take_row(&mut self, number: u32, row: &Row)
         ensures version { self.new.version ≡ self.old.version }
         ensures judged { (setup : SetupState) (rows : List RowState) → length rows + 2 ≡ number → HasJudged setup rows self.old → HasJudged setup (rows ++ row.now ∷ []) self.new }
     {
         match row {
-            Row::Event(Event::Check(_)) => self.judge_row(number, row),
-            Row::Event(Event::Timeout(_)) => self.judge_row(number, row),
-            Row::Event(Event::Start(_)) => self.judge_row(number, row),
-            Row::Event(Event::Run(_)) => self.judge_row(number, row),
-            Row::Event(Event::Lose(_)) => self.judge_row(number, row),
-            Row::Event(Event::Return(_)) => self.judge_row(number, row),
-            Row::Event(Event::Move(_)) => self.judge_row(number, row),
-            _ => self.judge_row(number, row),
+            Row::Event(event) => self.judge_event(number, event),
+            Row::Claim(claim) => self.judge_claim(number, claim),
         }
     }
 
-    // Judges the row, where none before it decided.
-    // (inlined, as `take_row` says)
-    #[inline(always)]
-    fn judge_row(&mut self, number: u32, row: &Row)
+    /// Takes the row of this number, which tells this event, as `take_row` does.
+    // (the arms are alike, and those of the kinds that come most are kept apart for speed: each has a copy of the step of its
+    // own, in which the kind is known, so what reads a word goes on right to what its event needs, and none of it chooses by
+    // the kind once more)
+    pub fn take_node_event(&mut self, number: u32, event: NodeEvent)
         ensures version { self.new.version ≡ self.old.version }
-        ensures judged { (setup : SetupState) (rows : List RowState) → length rows + 2 ≡ number → HasJudged setup rows self.old → HasJudged setup (rows ++ row.now ∷ []) self.new }
+        ensures judged { (setup : SetupState) (rows : List RowState) → length rows + 2 ≡ number → HasJudged setup rows self.old
+            → HasJudged setup (rows ++ Row.Event (event_at event.kind event.node) ∷ []) self.new }
+    {
+        let node = event.node;
+        match event.kind {
+            EventKind::Check => self.judge_event(number, &Event::Check(node)),
+            EventKind::Timeout => self.judge_event(number, &Event::Timeout(node)),
+            EventKind::Start => self.judge_event(number, &Event::Start(node)),
+            EventKind::Run => self.judge_event(number, &Event::Run(node)),
+            EventKind::Lose => self.judge_event(number, &Event::Lose(node)),
+            EventKind::Return => self.judge_event(number, &Event::Return(node)),
+            EventKind::Move => self.judge_event(number, &Event::Move(node)),
+            _ => self.judge_event(number, &event.event()),
+        }
+    }
+
+    // Judges the event of this row, where no row before it decided.
+    // (inlined, as `take_node_event` says)
+    #[inline(always)]
+    fn judge_event(&mut self, number: u32, event: &Event)
+        ensures version { self.new.version ≡ self.old.version }
+        ensures judged { (setup : SetupState) (rows : List RowState) → length rows + 2 ≡ number → HasJudged setup rows self.old
+            → HasJudged setup (rows ++ Row.Event event.now ∷ []) self.new }
     {
         if self.stopped.is_none() {
-            if let Some(verdict) = stopping_verdict(&mut self.walk, number, row) {
+            if let Some(verdict) = refusal(&mut self.walk, number, event) {
                 self.stopped = Some(verdict);
             }
+        }
+    }
+
+    // Judges the claim of this row, where no row before it decided.
+    fn judge_claim(&mut self, number: u32, claim: &Claim)
+        ensures version { self.new.version ≡ self.old.version }
+        ensures judged { (setup : SetupState) (rows : List RowState) → length rows + 2 ≡ number → HasJudged setup rows self.old
+            → HasJudged setup (rows ++ Row.Claim claim.now ∷ []) self.new }
+    {
+        if self.stopped.is_none() && !holds(self.walk.world(), claim) {
+            self.stopped = Some(Verdict::Differs(number));
         }
     }
 
@@ -104,26 +132,17 @@ impl Judge {
     }
 }
 
-// Takes the row of this number to the world: the verdict, where that isn't lawful.
-// (inlined, as `take_row` says)
+// Takes the event of the row of this number to the world: the verdict, where that isn't lawful.
+// (inlined, as `take_node_event` says)
 #[inline(always)]
-fn stopping_verdict(walk: &mut Walk, number: u32, row: &Row) -> Option<Verdict>
+fn refusal(walk: &mut Walk, number: u32, event: &Event) -> Option<Verdict>
     ensures judged { (more : List RowState) (verdict : VerdictState) (w : WorldOf) → IsJudgedOn walk.new result (number + 1) more verdict w
-        → IsJudged walk.old.setup (world_of walk.old) walk.old.events number (row.now ∷ more) verdict w }
+        → IsJudged walk.old.setup (world_of walk.old) walk.old.events number (Row.Event event.now ∷ more) verdict w }
     ensures setup { walk.new.setup ≡ walk.old.setup }
 {
-    match row {
-        Row::Event(event) => match walk.apply(event) {
-            Ok(_) => None,
-            Err(why) => Some(Verdict::Refused(number, why)),
-        },
-        Row::Claim(claim) => {
-            if holds(walk.world(), claim) {
-                None
-            } else {
-                Some(Verdict::Differs(number))
-            }
-        }
+    match walk.apply(event) {
+        Ok(_) => None,
+        Err(why) => Some(Verdict::Refused(number, why)),
     }
 }
 

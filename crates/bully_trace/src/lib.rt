@@ -15,6 +15,7 @@ ghost use Rattle.bully_world.specs.World.{World};
 mod checking;
 mod header;
 mod judging;
+mod node_event;
 mod reading;
 mod row;
 mod row_reader;

@@ -22,7 +22,10 @@ pub fn read_trace<R: Read + Drop>(alloc: Global, reader: R) -> Result<Trace, Tra
     ensures other { IfErr result (λ f. f.cause ≢ TraceCause.Write) }
     ensures memory { IfErr result (λ f. f.cause ≡ TraceCause.OutOfMemory → f.row ≡ 0) }
 {
-    let mut rows = RowReader::open(alloc, reader);
+    // (by a reference, so that a program that also checks has a reader of rows of its own type for each: with one for both, it
+    // would be built into neither loop)
+    let mut reader = reader;
+    let mut rows = RowReader::open(alloc, &mut reader);
     read_all(alloc, &mut rows)
 }
 

@@ -1,33 +1,35 @@
-ghost use Rattle.std.specs.Prelude.{◌≡◌, ◌<◌, ◌∷◌, [], length, Some, IfOk};
+ghost use Rattle.std.specs.Prelude.{◌≡◌, ◌≢◌, ◌<◌, ◌∷◌, [], length, None, Some, IfOk, IfSome};
 ghost use Rattle.std.specs.Option.{option_and_then, option_map};
 ghost use Rattle.csv.specs.Records.{fields_of, field_at};
 ghost use Rattle.bully_base.specs.Setup.{Setup as SetupState};
 ghost use Rattle.bully_table.specs.Numeral.{number_of};
 ghost use Rattle.bully_trace.specs.declared.trace.Row.{Row};
 ghost use Rattle.bully_trace.specs.Headers.{node_in, within};
+ghost use Rattle.bully_trace.specs.NodeEvents.{event_at};
 ghost use Rattle.bully_trace.specs.Rows.{claim_in, coordinator_in, row_of};
 
 use crate::header::Version;
+use crate::node_event::NodeEvent;
 use crate::trace::{Claim, Row};
-use crate::words::{PLAN, event_named, is_word, status_named};
+use crate::words::{PLAN, is_word, kind_named, status_named};
 use bully_base::{Node, OutOfMemory, Setup};
 use bully_table::{Table, TableFault, read_number};
 use bully_world::Event;
 use csv::ByteRecord;
 use std::alloc::{AllocError, Global};
 
-/// The row that its record tells in a trace of this version and this setup; none where it has no form that the profile
-/// lists. Refused where an allocation fails.
-pub fn read_row(
+/// The row that its record of other than two fields tells in a trace of this version and this setup; none where it has two, or
+/// no form that the profile lists. Refused where an allocation fails.
+pub fn read_longer_row(
     alloc: Global,
     version: Version,
     setup: &Setup,
     fields: &ByteRecord,
 ) -> Result<Option<Row>, OutOfMemory>
-    ensures { IfOk result (λ row. row ≡ row_of version setup.now (fields_of fields.now)) }
+    ensures two { length (fields_of fields.now) ≡ 2 → IfOk result (λ row. row ≡ None) }
+    ensures other { length (fields_of fields.now) ≢ 2 → IfOk result (λ row. row ≡ row_of version setup.now (fields_of fields.now)) }
 {
     match fields.len() {
-        2 => Ok(event_row(version, field(fields, 0), field(fields, 1))),
         3 => {
             let word = field(fields, 0);
             plan_row(
@@ -48,6 +50,20 @@ pub fn read_row(
     }
 }
 
+/// The event that its record of two fields tells in a trace of this version; none where it has others, or no form that the
+/// profile lists.
+// (inlined, so that each reader of rows has a copy of its own, which is built into the loop that calls it)
+#[inline(always)]
+pub fn read_node_event(version: Version, fields: &ByteRecord) -> Option<NodeEvent>
+    ensures event { (setup : SetupState) → IfSome result (λ e. row_of version setup (fields_of fields.now) ≡ Some (Row.Event (event_at e.kind e.node))) }
+    ensures none { (setup : SetupState) → result ≡ None → length (fields_of fields.now) ≡ 2 → row_of version setup (fields_of fields.now) ≡ None }
+{
+    if fields.len() != 2 {
+        return None;
+    }
+    node_event(version, field(fields, 0), field(fields, 1))
+}
+
 /// The field at a place that the record has.
 pub fn field(row: &ByteRecord, place: usize) -> &[u8]
     requires { place < length (fields_of row.now) }
@@ -56,12 +72,14 @@ pub fn field(row: &ByteRecord, place: usize) -> &[u8]
     row.get(place).unwrap()
 }
 
-// What two fields mean.
-fn event_row(version: Version, word: &[u8], node: &[u8]) -> Option<Row>
-    ensures { (setup : SetupState) → result ≡ row_of version setup (word.now ∷ node.now ∷ []) }
+// The event that two fields mean.
+#[inline(always)]
+fn node_event(version: Version, word: &[u8], node: &[u8]) -> Option<NodeEvent>
+    ensures { (setup : SetupState) → option_map (λ e. Row.Event (event_at e.kind e.node)) result ≡ row_of version setup (word.now ∷ node.now ∷ []) }
 {
     let node = read_node(version, node)?;
-    Some(Row::Event(event_named(word, node)?))
+    let kind = kind_named(word)?;
+    Some(NodeEvent { kind, node })
 }
 
 // What three fields mean.

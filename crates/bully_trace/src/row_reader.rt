@@ -1,15 +1,18 @@
-ghost use Rattle.std.specs.Prelude.{◌≡◌, ◌+◌, ◌≤◌, ℕ, List, [], Option, None, Some, true, IfErr, IfOk};
+ghost use Rattle.std.specs.Prelude.{◌≡◌, ◌≢◌, ◌+◌, ◌≤◌, ℕ, List, [], Option, None, Some, true, length, IfErr, IfOk, IfSome};
 ghost use Rattle.csv.specs.Records.{fields_of};
+ghost use Rattle.bully_base.specs.Setup.{Setup as SetupState};
 ghost use Rattle.bully_trace.specs.Headers.{header_of};
+ghost use Rattle.bully_trace.specs.NodeEvents.{event_at};
 ghost use Rattle.bully_trace.specs.Rows.{fault_at, row_of};
 ghost use Rattle.bully_trace.specs.declared.TheConstants.{ROWS_MAX};
 ghost use Rattle.bully_trace.specs.declared.header.Header.{Header as HeaderState};
-ghost use Rattle.bully_trace.specs.declared.trace.Row.{Row};
+ghost use Rattle.bully_trace.specs.declared.trace.Row.{Row as RowState};
 ghost use Rattle.bully_trace.specs.RecordsLeft.{EndsReading, HasRead, IsOutside, IsUnread, ReadsPlain, Takes, records_left, rows_left};
 
 use crate::ROWS_MAX;
 use crate::header::{Header, Version, read_header};
-use crate::row::read_row;
+use crate::node_event::NodeEvent;
+use crate::row::{read_longer_row, read_node_event};
 use crate::trace::{Row, TraceCause, TraceFault};
 use bully_base::{OutOfMemory, Setup};
 use csv::{ByteRecord, ErrorKind, Reader, ReaderBuilder};
@@ -68,7 +71,7 @@ impl<R: Read + Drop> RowReader<R> {
         ensures takes { IfOk result (λ found. Takes self.old.records self.new.records found self.new.fields) }
         ensures counted { IfOk result (λ found. found ≡ true → (self.old.number ≤ ROWS_MAX) × (self.new.number ≡ self.old.number + 1)) }
         ensures first { (known : Option (List ℕ)) → IsUnread known self.old → IfErr result (EndsReading known) }
-        ensures fault { (known : Option (List ℕ)) (rows : List Row) (header : HeaderState) → HasRead known rows (rows_left header self.old) → IfErr result (EndsReading known) }
+        ensures fault { (known : Option (List ℕ)) (rows : List RowState) (header : HeaderState) → HasRead known rows (rows_left header self.old) → IfErr result (EndsReading known) }
     {
         let number = self.number + 1;
         if !next_record(&mut self.records, &mut self.fields, number)? {
@@ -99,7 +102,32 @@ impl<R: Read + Drop> RowReader<R> {
     ) -> Result<Option<Row>, OutOfMemory>
         ensures { IfOk result (λ row. row ≡ row_of version setup.now self.now.fields) }
     {
-        read_row(alloc, version, setup, &self.fields)
+        match self.node_event(version) {
+            Some(event) => Ok(Some(Row::Event(event.event()))),
+            None => self.longer_row(alloc, version, setup),
+        }
+    }
+
+    /// The event that the row read last tells in a trace of this version, where it has two fields; none where it has others, or
+    /// no form that the profile lists.
+    pub fn node_event(&self, version: Version) -> Option<NodeEvent>
+        ensures event { (setup : SetupState) → IfSome result (λ e. row_of version setup self.now.fields ≡ Some (RowState.Event (event_at e.kind e.node))) }
+        ensures none { (setup : SetupState) → result ≡ None → length self.now.fields ≡ 2 → row_of version setup self.now.fields ≡ None }
+    {
+        read_node_event(version, &self.fields)
+    }
+
+    /// What the row read last means where it has other than two fields; none where it has two. Else as [`RowReader::row`].
+    pub fn longer_row(
+        &self,
+        alloc: Global,
+        version: Version,
+        setup: &Setup,
+    ) -> Result<Option<Row>, OutOfMemory>
+        ensures two { length self.now.fields ≡ 2 → IfOk result (λ row. row ≡ None) }
+        ensures other { length self.now.fields ≢ 2 → IfOk result (λ row. row ≡ row_of version setup.now self.now.fields) }
+    {
+        read_longer_row(alloc, version, setup, &self.fields)
     }
 
     /// The fault of a row of no form, at the one read last.

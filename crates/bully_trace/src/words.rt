@@ -1,10 +1,13 @@
 //! The words of a trace and of a verdict, each once: for reading and for writing.
-ghost use Rattle.std.specs.Prelude.{◌≡◌};
+ghost use Rattle.std.specs.Prelude.{◌≡◌, ℕ};
+ghost use Rattle.std.specs.Option.{option_map};
 ghost use Rattle.std.specs.Str.{bytes_eq};
+ghost use Rattle.bully_trace.specs.NodeEvents.{event_at};
 ghost use Rattle.bully_trace.specs.Words.{cause_word, event_named, keeps_named, keeps_word, status_named, status_word};
 
-use bully_base::{Node, Status};
-use bully_world::{Event, Refused};
+use crate::node_event::EventKind;
+use bully_base::Status;
+use bully_world::Refused;
 
 /// The words of the events.
 pub const RECOVER: &str = "recover";
@@ -68,31 +71,32 @@ pub fn cause_word(cause: Refused) -> &'static str
     }
 }
 
-/// The event of this word at the node, where it is one that names a node and no more.
-// (the words that come most are tried first)
-pub fn event_named(word: &[u8], node: Node) -> Option<Event>
-    ensures { result ≡ event_named word.now node }
+/// The kind of this word.
+// (the words that come most are tried first; inlined as `read_node_event` of `row` is)
+#[inline(always)]
+pub fn kind_named(word: &[u8]) -> Option<EventKind>
+    ensures { (i : ℕ) → event_named word.now i ≡ option_map (λ kind. event_at kind i) result }
 {
     if is_word(word, START) {
-        Some(Event::Start(node))
+        Some(EventKind::Start)
     } else if is_word(word, RUN) {
-        Some(Event::Run(node))
+        Some(EventKind::Run)
     } else if is_word(word, RETURN) {
-        Some(Event::Return(node))
+        Some(EventKind::Return)
     } else if is_word(word, CHECK) {
-        Some(Event::Check(node))
+        Some(EventKind::Check)
     } else if is_word(word, TIMEOUT) {
-        Some(Event::Timeout(node))
+        Some(EventKind::Timeout)
     } else if is_word(word, MOVE) {
-        Some(Event::Move(node))
+        Some(EventKind::Move)
     } else if is_word(word, LOSE) {
-        Some(Event::Lose(node))
+        Some(EventKind::Lose)
     } else if is_word(word, DROP) {
-        Some(Event::Drop(node))
+        Some(EventKind::Drop)
     } else if is_word(word, CRASH) {
-        Some(Event::Crash(node))
+        Some(EventKind::Crash)
     } else if is_word(word, RECOVER) {
-        Some(Event::Recover(node))
+        Some(EventKind::Recover)
     } else {
         None
     }

@@ -1,30 +1,18 @@
-use Rattle.std.proofs.Common.{◌≡◌, ◌∙◌, Err, sym, arith, rules}
+use Rattle.std.proofs.Common.{◌≡◌, Err, arith, rules}
 use Rattle.bully_trace.proofs.CheckLemmas.{judged-bad, judged-row, judged-start, judged-unbegun}
 use Rattle.bully_trace.proofs.checking.judge_each.Goals as goal
 
-pub returns-in-None-clause-fault : goal.returns-in-None-clause-fault
-returns-in-None-clause-fault g c = λ known unread. rw c.bad_row.ensures (
-    judged-bad known c.loop-judge.rows c.advance.new.self c.loop-judge.judge c.in-Some.judge c.in_ok-advance.field-0 c.version.result c.setup.result.now
-    c.in_ok-advance.ensures.takes (search rules) c.in_ok-advance.ensures.counted c.in-Some.is (search rules) (search rules) (sym c.in_ok-row.ensures ∙ c.in-None.is)
-    (c.loop-judge.invariant known unread))
+pub loop-judge-preserved-in-Continue-branch-2 : goal.loop-judge-preserved-in-Continue-branch-2
+loop-judge-preserved-in-Continue-branch-2 g c = λ known unread.
+    judged-row known c.loop-judge.rows c.advance.new.self c.loop-judge.judge c.in-Some.judge c.take_row.new.judge c.in_ok-advance.field-0
+    c.in_ok-advance.ensures.takes (search rules) c.in_ok-advance.ensures.counted c.in-Some.is c.in_ok-take_row.ensures.taken
+    (c.loop-judge.invariant known unread)
 
-pub loop-judge-preserved-in-Some-2 : goal.loop-judge-preserved-in-Some-2
-loop-judge-preserved-in-Some-2 g c = λ known unread.
-    judged-row known c.loop-judge.rows c.advance.new.self c.loop-judge.judge c.in-Some.judge c.take_row.new.self c.in_ok-advance.field-0 c.version.result c.setup.result.now c.in-Some-2.row c.number.result
-    c.in_ok-advance.ensures.takes (search rules) c.in_ok-advance.ensures.counted c.in-Some.is (search rules) (search rules) (sym c.in_ok-row.ensures ∙ c.in-Some-2.is)
-    c.number.ensures c.take_row.ensures.version c.take_row.ensures.judged (c.loop-judge.invariant known unread)
-
-pub loop-judge-preserved-in-Some-2-2 : goal.loop-judge-preserved-in-Some-2-2
-loop-judge-preserved-in-Some-2-2 g c = λ known unread.
-    judged-row known c.loop-judge.rows c.advance.new.self c.loop-judge.judge c.in-Some.judge c.take_row.new.self c.in_ok-advance.field-0 c.version.result c.setup.result.now c.in-Some-2.row c.number.result
-    c.in_ok-advance.ensures.takes (search rules) c.in_ok-advance.ensures.counted c.in-Some.is (search rules) (search rules) (sym c.in_ok-row.ensures ∙ c.in-Some-2.is)
-    c.number.ensures c.take_row.ensures.version c.take_row.ensures.judged (c.loop-judge.invariant known unread)
-
-pub loop-judge-preserved-in-Some-2-3 : goal.loop-judge-preserved-in-Some-2-3
-loop-judge-preserved-in-Some-2-3 g c = λ known unread.
-    judged-row known c.loop-judge.rows c.advance.new.self c.loop-judge.judge c.in-Some.judge c.take_row.new.self c.in_ok-advance.field-0 c.version.result c.setup.result.now c.in-Some-2.row c.number.result
-    c.in_ok-advance.ensures.takes (search rules) c.in_ok-advance.ensures.counted c.in-Some.is (search rules) (search rules) (sym c.in_ok-row.ensures ∙ c.in-Some-2.is)
-    c.number.ensures c.take_row.ensures.version c.take_row.ensures.judged (c.loop-judge.invariant known unread)
+pub returns-in_err-take_row-clause-fault : goal.returns-in_err-take_row-clause-fault
+returns-in_err-take_row-clause-fault g c = λ known unread.
+    let fails : c.from_residual-in_err-take_row.result ≡ Err c.in_err-take_row.field-0.0 = grind (arith, c.from_residual-in_err-take_row.ensures, c.in_err-take_row.is) in
+    rw fails (judged-bad known c.loop-judge.rows c.advance.new.self c.loop-judge.judge c.in-Some.judge c.in_ok-advance.field-0 c.in_err-take_row.field-0.0
+    c.in_ok-advance.ensures.takes (search rules) c.in_ok-advance.ensures.counted c.in-Some.is c.in_err-take_row.ensures.fault (c.loop-judge.invariant known unread))
 
 pub loop-judge-preserved : goal.loop-judge-preserved
 loop-judge-preserved g c = λ known unread.
