@@ -1,5 +1,5 @@
 -- A point in two parts: its kind, and the nodes that it has left.
-use Rattle.std.specs.Prelude.{ℕ, List, [], ◌∷◌, Option, unwrap_or}
+use Rattle.std.specs.Prelude.{ℕ, List, [], ◌∷◌, Option, Some, None, unwrap_or}
 use Rattle.bully_calls.specs.declared.call.Outcome.{Outcome}
 use Rattle.bully_calls.specs.declared.call.Outcome.TheVariants.{Moved, Yes}
 use Rattle.bully_steps.specs.declared.point.Point.{Point}
@@ -26,6 +26,12 @@ point_at Planning left = Point.Planning
 point_at Readying left = Point.Readying left
 point_at (Checking k) left = Point.Checking k
 point_at Inquiring left = Point.Inquiring
+
+-- the nodes that a point has left, where it keeps them
+abbrev pub left_at : Point → Option (List ℕ)
+left_at (Point.Announcing left) = Some left
+left_at (Point.Readying left) = Some left
+left_at point = None
 
 -- nobody, where no set is held
 abbrev pub nodes_in : Option (List ℕ) → List ℕ

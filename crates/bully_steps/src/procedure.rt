@@ -3,7 +3,7 @@ ghost use Rattle.std.specs.Option.{option_copied};
 ghost use Rattle.bully_base.specs.NodeSet.{IsFallingBelow};
 ghost use Rattle.bully_steps.specs.ProcedureState.{IsProcedureState, IsCall, SuitsInquiry, CanResume, procedure_state, want_of, next_of, resumed, resumed_point, resumed_up, is_started as started};
 ghost use Rattle.bully_steps.specs.Point.{offered, IsPointOf};
-ghost use Rattle.bully_steps.specs.PointKind.{kind_of, point_at, nodes_in};
+ghost use Rattle.bully_steps.specs.PointKind.{kind_of, left_at, point_at, nodes_in};
 ghost use Rattle.bully_steps.specs.Procedure.{state_of};
 
 use crate::point_kind::{leave_answered, nodes_in};
@@ -140,9 +140,10 @@ impl Procedure {
         }
     }
 
-    /// The nodes that are left, at Announcing and Readying.
+    /// The nodes that are left, at Announcing and Readying; none elsewhere.
     pub fn left(&self) -> Option<&NodeSet>
-        ensures { (state_of self.now).point ≡ point_at (kind_of (state_of self.now).point) (nodes_in (option_copied result)) }
+        ensures left { option_copied result ≡ left_at (state_of self.now).point }
+        ensures point { (state_of self.now).point ≡ point_at (kind_of (state_of self.now).point) (nodes_in (option_copied result)) }
     {
         match self {
             Procedure::Announcing(announcing) => Some(&announcing.rest),

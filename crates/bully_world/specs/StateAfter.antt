@@ -1,5 +1,5 @@
 -- What an event that nothing refuses makes of what is kept of each node, and its answer.
-use Rattle.std.specs.Prelude.{◌≡◌, ◌≢◌, ℕ, ◌+◌, ◌<◌, ◌≤◌, ◌^◌, ◌==◌, IsTrue, IsSome, IfSome, length, not, Bool, true, false, List, [], Option, Some, None, option_map, unwrap_or, if◌then◌else◌}
+use Rattle.std.specs.Prelude.{◌≡◌, ◌≢◌, ℕ, ◌+◌, ◌<◌, ◌≤◌, ◌^◌, ◌==◌, IsTrue, IsSome, IfSome, length, not, List, Option, Some, None, option_map, unwrap_or, if◌then◌else◌}
 use Rattle.std.specs.Option.{option_map_or}
 use Rattle.bully_base.specs.declared.node.Status.TheVariants.{Down}
 use Rattle.bully_base.specs.Places.{put_node}
@@ -76,11 +76,6 @@ callee_state_after i p m = stopped_state_by p.call.kind (with_vector (callee_aft
 abbrev pub halted_number : Point → ℕ
 halted_number (Halting k) = k
 halted_number _ = 0
-
--- nobody is left to be readied
-abbrev pub is_readied : Point → Bool
-is_readied (Readying []) = true
-is_readied _ = false
 
 -- node i goes on by this outcome
 abbrev pub proceeded_state : Setup → ℕ → Outcome → MemberState → MemberState

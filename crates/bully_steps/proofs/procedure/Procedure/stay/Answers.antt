@@ -9,40 +9,40 @@ use Rattle.bully_steps.proofs.ResumeLemmas.{next_comes, next_stands, goes_on}
 use Rattle.bully_steps.proofs.procedure.Procedure.stay.Goals as goal
 
 pub unwrap-next-requires : goal.unwrap-next-requires
-unwrap-next-requires c = grind (arith, next_comes (state_of c.args.self.now) c.args.outcome c.node.ensures.state c.requires, c.next.ensures, c.kind.ensures, c.left.ensures)
+unwrap-next-requires c = grind (arith, next_comes (state_of c.args.self.now) c.args.outcome c.node.ensures.state c.requires, c.next.ensures, c.kind.ensures, c.left.ensures.point)
 
 pub invariant_of-asking : goal.invariant_of-asking
 invariant_of-asking c =
     let next : option_map kind_of (next_of (state_of c.args.self.now) c.args.outcome) ≡ Some c.unwrap-next.result =
-    grind (arith, c.next.ensures (unwrap_or (state_of c.args.self.now).up []), c.kind.ensures, c.left.ensures, c.unwrap-next.ensures, c.setup.ensures.setup, c.node.ensures.node) in
+    grind (arith, c.next.ensures (unwrap_or (state_of c.args.self.now).up []), c.kind.ensures, c.left.ensures.point, c.unwrap-next.ensures, c.setup.ensures.setup, c.node.ensures.node) in
     let same : asking (record { identity = c.asking.inside.identity; next = c.in-Asking-Asking.number; awaits = c.is_started-awaits.result }) ≡ resumed (state_of c.args.self.now) c.args.outcome = grind (arith, next, c.is_started-awaits.ensures, c.in-Asking-Asking.is-0, c.in-Asking-Asking.is-1, c.asking.view_is) in
     goes_on (state_of c.args.self.now) (asking (record { identity = c.asking.inside.identity; next = c.in-Asking-Asking.number; awaits = c.is_started-awaits.result })) c.args.outcome c.unwrap-next.result c.node.ensures.state c.requires next same
 
 pub invariant_of-announcing : goal.invariant_of-announcing
 invariant_of-announcing c =
     let next : option_map kind_of (next_of (state_of c.args.self.now) c.args.outcome) ≡ Some c.unwrap-next.result =
-    grind (arith, c.next.ensures (unwrap_or (state_of c.args.self.now).up []), c.kind.ensures, c.left.ensures, c.unwrap-next.ensures, c.setup.ensures.setup, c.node.ensures.node) in
+    grind (arith, c.next.ensures (unwrap_or (state_of c.args.self.now).up []), c.kind.ensures, c.left.ensures.point, c.unwrap-next.ensures, c.setup.ensures.setup, c.node.ensures.node) in
     let same : announcing (record { identity = c.announcing.inside.identity; rest = c.leave_answered.new.left; up = c.announcing.inside.up; awaits = c.is_started-awaits.result }) ≡ resumed (state_of c.args.self.now) c.args.outcome = grind (arith, next, c.is_started-awaits.ensures, c.in-Announcing-Announcing.is-0, c.in-Announcing-Announcing.is-1, c.announcing.view_is, c.leave_answered.ensures) in
     goes_on (state_of c.args.self.now) (announcing (record { identity = c.announcing.inside.identity; rest = c.leave_answered.new.left; up = c.announcing.inside.up; awaits = c.is_started-awaits.result })) c.args.outcome c.unwrap-next.result c.node.ensures.state c.requires next same
 
 pub invariant_of-readying : goal.invariant_of-readying
 invariant_of-readying c =
     let next : option_map kind_of (next_of (state_of c.args.self.now) c.args.outcome) ≡ Some c.unwrap-next.result =
-    grind (arith, c.next.ensures (unwrap_or (state_of c.args.self.now).up []), c.kind.ensures, c.left.ensures, c.unwrap-next.ensures, c.setup.ensures.setup, c.node.ensures.node) in
+    grind (arith, c.next.ensures (unwrap_or (state_of c.args.self.now).up []), c.kind.ensures, c.left.ensures.point, c.unwrap-next.ensures, c.setup.ensures.setup, c.node.ensures.node) in
     let same : readying (record { identity = c.readying.inside.identity; rest = c.leave_answered-in-Readying-Readying.new.left; awaits = c.is_started-awaits.result }) ≡ resumed (state_of c.args.self.now) c.args.outcome = grind (arith, next, c.is_started-awaits.ensures, c.in-Readying-Readying.is-0, c.in-Readying-Readying.is-1, c.readying.view_is, c.leave_answered-in-Readying-Readying.ensures) in
     goes_on (state_of c.args.self.now) (readying (record { identity = c.readying.inside.identity; rest = c.leave_answered-in-Readying-Readying.new.left; awaits = c.is_started-awaits.result })) c.args.outcome c.unwrap-next.result c.node.ensures.state c.requires next same
 
 pub invariant_of-checking : goal.invariant_of-checking
 invariant_of-checking c =
     let next : option_map kind_of (next_of (state_of c.args.self.now) c.args.outcome) ≡ Some c.unwrap-next.result =
-    grind (arith, c.next.ensures (unwrap_or (state_of c.args.self.now).up []), c.kind.ensures, c.left.ensures, c.unwrap-next.ensures, c.setup.ensures.setup, c.node.ensures.node) in
+    grind (arith, c.next.ensures (unwrap_or (state_of c.args.self.now).up []), c.kind.ensures, c.left.ensures.point, c.unwrap-next.ensures, c.setup.ensures.setup, c.node.ensures.node) in
     let same : checking (record { identity = c.checking.inside.identity; callee = c.in-Checking-Checking.callee; awaits = c.is_started-awaits.result }) ≡ resumed (state_of c.args.self.now) c.args.outcome = grind (arith, next, c.is_started-awaits.ensures, c.in-Checking-Checking.is-0, c.in-Checking-Checking.is-1, c.checking.view_is) in
     goes_on (state_of c.args.self.now) (checking (record { identity = c.checking.inside.identity; callee = c.in-Checking-Checking.callee; awaits = c.is_started-awaits.result })) c.args.outcome c.unwrap-next.result c.node.ensures.state c.requires next same
 
 pub go_on-requires-clause-next : goal.go_on-requires-clause-next
 go_on-requires-clause-next c =
     let next : option_map kind_of (next_of (state_of c.args.self.now) c.args.outcome) ≡ Some c.unwrap-next.result =
-    grind (arith, c.next.ensures (unwrap_or (state_of c.args.self.now).up []), c.kind.ensures, c.left.ensures, c.unwrap-next.ensures, c.setup.ensures.setup, c.node.ensures.node) in
+    grind (arith, c.next.ensures (unwrap_or (state_of c.args.self.now).up []), c.kind.ensures, c.left.ensures.point, c.unwrap-next.ensures, c.setup.ensures.setup, c.node.ensures.node) in
     grind (arith, next, c.in-Halting-Halting.is-0, c.in-Halting-Halting.is-1)
 
 pub returns-clause-point : goal.returns-clause-point
