@@ -4,7 +4,9 @@ use Rattle.std.specs.Option.{option_or, unwrap_or}
 use Rattle.std.specs.List.{list_all, list_any}
 use Rattle.std.specs.Str.{bytes_eq}
 use Rattle.toml.specs.Data.{Data, Members, no_members, member, as_str, as_integer, as_bool, as_array, as_table}
+use Rattle.bully_base.specs.declared.TheConstants.{NODES_MAX}
 use Rattle.bully_config.specs.declared.TheConstants.{FAULTS_MAX}
+use Rattle.bully_config.specs.declared.fault.ConfigFault.{ConfigFault}
 use Rattle.bully_config.specs.declared.fault.Key.{Key}
 use Rattle.bully_config.specs.Configuration.{has_double, is_empty}
 use Rattle.bully_config.specs.Document.{list_of, value_at, items_at}
@@ -115,6 +117,21 @@ out_of_range_in ms =
     else if not (are_weights (or_zero (nodes_in ms)) ms) then Some Key.Weights
     else if nat_lt FAULTS_MAX (length faults) then Some Key.Fault
     else first_in (fault_out_of_range (or_zero (turns_in ms)) names) faults
+
+-- ---- which key of a fault breaks the rule of a refusal
+
+-- out of its range, where the turns are in theirs and the names aren't too many
+abbrev pub range_key_in : Members → Members → Option Key
+range_key_in ms fault =
+    if nat_lt NODES_MAX (length (items_at Key.Names ms)) then None
+    else option_and_then (λ turns. fault_out_of_range turns (names_of (items_at Key.Names ms)) fault) (turns_in ms)
+
+-- of a refusal that tells no key there is none
+abbrev pub key_in_fault : Members → Members → ConfigFault → Option Key
+key_in_fault ms fault (ConfigFault.Missing key) = first_absent fault_keys fault
+key_in_fault ms fault (ConfigFault.Kind key) = first_misfit fault_keys fault
+key_in_fault ms fault (ConfigFault.Range key) = range_key_in ms fault
+key_in_fault ms fault _ = None
 
 -- ---- two names are equal
 

@@ -16,6 +16,8 @@ mod refusal;
 
 pub use config::{Config, Fault, FaultKind};
 pub use fault::{ConfigFault, Key};
+pub use lookup::{items_at, text_of, value_at};
+pub use refusal::{first_refusal, key_in_fault, unlisted_key};
 
 /// The most turns of a configuration. The profile's limit.
 pub const TURNS_MAX: u32 = 1_000_000;

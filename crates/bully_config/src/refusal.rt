@@ -9,7 +9,7 @@ ghost use Rattle.std.specs.Str.{bytes_eq};
 ghost use Rattle.bully_config.specs.Configuration.{has_double, is_empty};
 ghost use Rattle.bully_config.specs.Document.{value_at};
 ghost use Rattle.bully_config.specs.Keys.{fault_keys};
-ghost use Rattle.bully_config.specs.Refusals.{first_failing, first_in, first_absent, missing_in, is_table, is_string, is_integer, is_weight, has_kind, first_misfit, misfit_in, are_names, are_weights, fault_out_of_range, out_of_range_in, is_listed, has_unlisted, fault_has_unlisted, has_unlisted_in, fits};
+ghost use Rattle.bully_config.specs.Refusals.{first_failing, first_in, first_absent, missing_in, is_table, is_string, is_integer, is_weight, has_kind, first_misfit, key_in_fault, misfit_in, range_key_in, are_names, are_weights, fault_out_of_range, out_of_range_in, is_listed, has_unlisted, fault_has_unlisted, has_unlisted_in, fits};
 ghost use Rattle.bully_config.specs.Searches.{Computes};
 ghost use Rattle.bully_config.specs.Values.{names_of};
 
@@ -64,6 +64,42 @@ pub fn first_refusal(document: &Table) -> Option<ConfigFault>
     }
     if has_unknown_key(document) {
         return Some(ConfigFault::UnknownKey);
+    }
+    None
+}
+
+/// The key at which a fault of the document breaks the rule of a refusal: the first that isn't there, whose value has another
+/// kind, or whose value is out of its range. None where it breaks that rule nowhere, and of a refusal that tells no key.
+pub fn key_in_fault(document: &Table, fault: &Table, refusal: ConfigFault) -> Option<Key>
+    ensures { result ≡ key_in_fault (table_view document.now) (table_view fault.now) refusal }
+{
+    match refusal {
+        ConfigFault::Missing(_) => first_absent(fault, &FAULT_KEYS),
+        ConfigFault::Kind(_) => first_misfit(fault, &FAULT_KEYS),
+        ConfigFault::Range(_) => key_out_of_range_in(document, fault),
+        _ => None,
+    }
+}
+
+// The first key of the fault whose value is out of its range, by the turns and the names of the document.
+fn key_out_of_range_in(document: &Table, fault: &Table) -> Option<Key>
+    ensures { result ≡ range_key_in (table_view document.now) (table_view fault.now) }
+{
+    let turns = number_at(document, Key::Turns, TURNS_MAX)?;
+    let names = items_at(document, Key::Names);
+    if names.len() > usize::from(NODES_MAX) {
+        return None;
+    }
+    key_of_fault_out_of_range(fault, turns, names)
+}
+
+/// The first key of the table, in the order of their texts, that isn't listed: of those of a fault, or of those at the top.
+pub fn unlisted_key(table: &Table, is_fault: bool) -> Option<&str> {
+    let keys: &[Key] = if is_fault { &FAULT_KEYS } else { &TOP_KEYS };
+    for (word, _value) in table.iter() {
+        if !is_listed(word.as_str(), keys) {
+            return Some(word.as_str());
+        }
     }
     None
 }

@@ -150,8 +150,9 @@ fn weighted_in(nodes: &[u8], partitions: &[u8], weights: &[u8], keeps: &[u8]) ->
     Setup::weighted(nodes, partitions, EVENTS_MAX, each, keeps).ok()
 }
 
-// Reads the weights of a text, as many as there are places for them, and tells whether it is such a text.
-fn read_weights(text: &[u8], weights: &mut [u16]) -> bool
+/// Reads the weights of a text, as many as there are places for them, parted by single spaces and each from 1 to
+/// [`WEIGHT_MAX`], and tells whether it is such a text. Where it isn't, no place says anything.
+pub fn read_weights(text: &[u8], weights: &mut [u16]) -> bool
     ensures read { IsTrue result → weights_in (length weights.old) text.now ≡ Some weights.new }
     ensures other { result ≡ false → weights_in (length weights.old) text.now ≡ None }
 {

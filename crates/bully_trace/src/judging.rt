@@ -114,6 +114,13 @@ impl Judge {
         }
     }
 
+    /// The first verdict that isn't lawful; none where no row so far decided.
+    pub fn stopped(&self) -> Option<Verdict>
+        ensures { result ≡ self.now.stopped }
+    {
+        self.stopped
+    }
+
     /// The verdict on the rows that were taken: lawful with the number of their events, where no other one came first.
     pub fn verdict(&self) -> Verdict
         ensures { (setup : SetupState) (rows : List RowState) → HasJudged setup rows self.now → IsJudged setup (first_world setup) 0 2 rows result (world_of self.now.world) }

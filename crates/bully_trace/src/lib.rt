@@ -2,7 +2,8 @@
 //!
 //! It stands on bully_world, bully_agree, the crates below them and csv. The crates above rely on the verdict
 //! being that of the rows that the text means, on the nodes agreeing after each row of a lawful trace, and on an upgraded
-//! trace having the same setup and the same rows.
+//! trace having the same setup and the same rows. What reads and judges row by row is public too ([`RowReader`], [`Judge`]
+//! and the readers of fields), so that whoever explains a verdict has it by the same rules.
 #![tactic(auto)]
 
 ghost use Rattle.std.specs.Prelude.{◌≡◌, ◌↔◌};
@@ -27,11 +28,20 @@ mod words;
 mod writing;
 
 pub use checking::check;
-pub use header::Version;
+pub use header::{Header, Version, read_weights};
+pub use judging::Judge;
+pub use node_event::{EventKind, NodeEvent};
 pub use reading::read_trace;
+pub use row::{number_within, read_node};
+pub use row_reader::{RowReader, no_header};
+pub use text::{push_node, push_row};
 pub use trace::{Claim, Row, Rows, Trace, TraceCause, TraceFault};
 pub use upgrading::upgrade;
 pub use verdict::Verdict;
+pub use words::{
+    CHECK, CRASH, DROP, LOSE, MOVE, PLAN, RECOVER, RETURN, RUN, SAW, START, TIMEOUT, cause_word,
+    is_word, kind_named, status_named, status_word,
+};
 pub use writing::write_trace;
 
 /// The most rows of a trace after its header. The profile's limit.

@@ -11,7 +11,7 @@ ghost use Rattle.bully_trace.specs.Rows.{claim_in, coordinator_in, row_of};
 use crate::header::Version;
 use crate::node_event::NodeEvent;
 use crate::trace::{Claim, Row};
-use crate::words::{PLAN, is_word, kind_named, status_named};
+use crate::words::{PLAN, SAW, is_word, kind_named, status_named};
 use bully_base::{Node, OutOfMemory, Setup};
 use bully_table::{Table, TableFault, read_number};
 use bully_world::Event;
@@ -116,7 +116,7 @@ fn claim_row(
 ) -> Option<Row>
     ensures { (setup : SetupState) → result ≡ row_of version setup (word.now ∷ node.now ∷ status.now ∷ coordinator.now ∷ []) }
 {
-    if !is_word(word, "saw") {
+    if !is_word(word, SAW) {
         return None;
     }
     Some(Row::Claim(claim_of(version, node, status, coordinator)?))
@@ -146,8 +146,8 @@ fn read_coordinator(version: Version, text: &[u8]) -> Option<Option<Node>>
     Some(Some(read_node(version, text)?))
 }
 
-// The node of this number, which a trace of this version may name.
-fn read_node(version: Version, text: &[u8]) -> Option<Node>
+/// The node of this number, from 1 to the highest that a trace of this version may name.
+pub fn read_node(version: Version, text: &[u8]) -> Option<Node>
     ensures { result ≡ node_in version text.now }
 {
     Node::new(number_within(text, version.nodes_max())?)

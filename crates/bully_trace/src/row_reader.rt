@@ -15,7 +15,7 @@ use crate::node_event::NodeEvent;
 use crate::row::{read_longer_row, read_node_event};
 use crate::trace::{Row, TraceCause, TraceFault};
 use bully_base::{OutOfMemory, Setup};
-use csv::{ByteRecord, ErrorKind, Reader, ReaderBuilder};
+use csv::{ByteRecord, ErrorKind, Position, Reader, ReaderBuilder};
 use std::alloc::{AllocError, Global};
 use std::io::Read;
 use std::marker::Model;
@@ -63,6 +63,24 @@ impl<R: Read + Drop> RowReader<R> {
         ensures { result ≡ self.now.number }
     {
         self.number
+    }
+
+    /// The fields of the row that was read last; none before the first.
+    pub fn fields(&self) -> &ByteRecord
+        ensures { fields_of result.now ≡ self.now.fields }
+    {
+        &self.fields
+    }
+
+    /// The reader that the text comes from. It may have given more than the rows that were read.
+    pub fn source(&self) -> &R {
+        self.records.get_ref()
+    }
+
+    /// Where the row that was read last ends, behind its line end: how many bytes come before, and the line from 1, which
+    /// `csv` counts by line feeds.
+    pub fn end(&self) -> Position {
+        self.records.position()
     }
 
     /// Reads the next row, and tells whether there is one. Refused as [`crate::read_trace`] refuses it there, but for

@@ -32,6 +32,9 @@ pub const MOVE: &str = "move";
 
 pub const PLAN: &str = "plan";
 
+/// The word of a claim.
+pub const SAW: &str = "saw";
+
 /// The status as a trace and a verdict spell it.
 pub fn status_word(status: Status) -> &'static str
     ensures { result.now ≡ status_word status }
