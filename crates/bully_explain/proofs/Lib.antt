@@ -1,0 +1,5 @@
+pub mod MemoryLemmas
+pub mod PossibleLemmas
+pub mod ShownLemmas
+pub mod ExplainLemmas
+pub mod ConfigLemmas

@@ -1,0 +1,58 @@
+ghost use Rattle.std.specs.Prelude.{◌≡◌, Some, None, IfOk};
+ghost use Rattle.bully_config.specs.Answers.{refusal_of};
+ghost use Rattle.bully_explain.specs.ConfigTold.{IsConfigTold};
+ghost use Rattle.toml.specs.Errors.{IsMemory};
+ghost use Rattle.toml.specs.View.{table_view};
+
+use crate::config_text::push_fault;
+use bully_base::OutOfMemory;
+use bully_config::{ConfigFault, first_refusal};
+use std::alloc::{AllocError, Global};
+use toml::Table;
+
+/// What is told of a configuration, its first fault, if any, and the text that explains it.
+#[derive(Drop, Debug)]
+pub struct ConfigSheet {
+    pub told: Option<ConfigFault>,
+    pub text: String,
+}
+
+/// Explains the first fault of a configuration's text, the one that [`bully_config::Config::read`] answers: the place, the key,
+/// its value, and what may stand there. Refused where an allocation fails. The rule: docs/FORMATS.md.
+pub fn explain_config(alloc: Global, text: &str) -> Result<ConfigSheet, OutOfMemory>
+    ensures { IfOk result (λ sheet. IsConfigTold text.now sheet.told) }
+{
+    match toml::table_from_str(alloc, text) {
+        Ok(document) => document_sheet(alloc, &document),
+        Err(error) => toml_sheet(alloc, &error),
+    }
+}
+
+// The sheet of a text that is no TOML document, which has the line, the column and what the reader found there.
+fn toml_sheet(alloc: Global, error: &toml::de::Error) -> Result<ConfigSheet, OutOfMemory>
+    ensures told { IfOk result (λ sheet. sheet.told ≡ Some ConfigFault.Toml) }
+    ensures form { IfOk result (λ sheet. ¬ (IsMemory error.now)) }
+{
+    if error.is_memory() {
+        return Err(AllocError);
+    }
+    let mut text = String::new(alloc);
+    write!(text, "{error}")?;
+    Ok(ConfigSheet {
+        told: Some(ConfigFault::Toml),
+        text,
+    })
+}
+
+// The sheet of a document.
+fn document_sheet(alloc: Global, document: &Table) -> Result<ConfigSheet, OutOfMemory>
+    ensures { IfOk result (λ sheet. sheet.told ≡ refusal_of (table_view document.now)) }
+{
+    let told = first_refusal(document);
+    let mut text = String::new(alloc);
+    match told {
+        Some(fault) => push_fault(&mut text, document, fault)?,
+        None => text.push_str("the configuration has no fault\n")?,
+    }
+    Ok(ConfigSheet { told, text })
+}

@@ -1,0 +1,273 @@
+//! Why a row decided, in a sentence for each of the causes.
+ghost use Rattle.std.specs.Prelude.{◌<◌, length, IfSome};
+
+use crate::words::{push_held, push_offer, push_point};
+use crate::{NodeSheet, Shown};
+use bully_base::{NODES_MAX, Node, NodeSet, OutOfMemory, Setup, Status};
+use bully_table::Table;
+use bully_trace::{Claim, Verdict, cause_word, push_node, status_word};
+use bully_world::{Event, Refused};
+
+/// Appends why the event was refused, as the verdict says: the cause, and a sentence with what it speaks of. A line. Its node
+/// has this sheet, where the group has it.
+pub fn push_refused(
+    text: &mut String,
+    setup: &Setup,
+    event: &Event,
+    verdict: Verdict,
+    sheet: Option<&NodeSheet>,
+) -> Result<(), OutOfMemory> {
+    let Verdict::Refused(_, cause) = verdict else {
+        return Ok(());
+    };
+    let word = cause_word(cause);
+    write!(text, "refused, {word}: ")?;
+    match sheet {
+        Some(sheet) => push_cause(text, setup, event, cause, &sheet.shown)?,
+        None => push_no_node(text, setup, event.node())?,
+    }
+    text.push('\n')
+}
+
+// Appends that the group has no such node.
+fn push_no_node(text: &mut String, setup: &Setup, node: Node) -> Result<(), OutOfMemory> {
+    let nodes = setup.nodes();
+    let number = node.number();
+    write!(text, "the group has {nodes} nodes, and no node {number}")
+}
+
+// Appends the sentence of a cause at a node of which this is shown.
+fn push_cause(
+    text: &mut String,
+    setup: &Setup,
+    event: &Event,
+    cause: Refused,
+    shown: &Shown,
+) -> Result<(), OutOfMemory> {
+    let number = event.node().number();
+    match cause {
+        Refused::Full => push_full(text, setup),
+        Refused::BadNode => push_no_node(text, setup, event.node()),
+        Refused::IsDown => write!(text, "node {number} is down"),
+        Refused::IsUp => push_up(text, number, shown),
+        Refused::Busy => push_busy(text, number, shown),
+        Refused::NoStep => push_no_step(text, event, shown),
+        Refused::SlotBusy => write!(text, "the slot of node {number} still holds a call"),
+        Refused::NoCall => push_no_call(text, event, shown),
+        Refused::CalleeDown => push_callee(text, number, shown, "down"),
+        Refused::CalleeUp => push_callee(text, number, shown, "up"),
+        Refused::BadTable => push_bad_table(text, setup, event, shown),
+        Refused::NotOrphan => write!(text, "the call of node {number} is live, and no orphan"),
+    }
+}
+
+// Appends that the bound on events is reached.
+fn push_full(text: &mut String, setup: &Setup) -> Result<(), OutOfMemory> {
+    let most = setup.events_max();
+    write!(text, "{most} events were applied, and no more are allowed")
+}
+
+// Appends that the node is up.
+fn push_up(text: &mut String, number: u16, shown: &Shown) -> Result<(), OutOfMemory> {
+    let status = status_word(shown.status);
+    write!(text, "node {number} is up, with the status {status}")
+}
+
+// Appends that a procedure runs at the node.
+fn push_busy(text: &mut String, number: u16, shown: &Shown) -> Result<(), OutOfMemory> {
+    write!(text, "node {number} isn't Idle: it stands at ")?;
+    push_point(text, &shown.point)
+}
+
+// Appends what the point offers in place of what the event takes.
+fn push_no_step(text: &mut String, event: &Event, shown: &Shown) -> Result<(), OutOfMemory> {
+    let number = event.node().number();
+    let wanted = match event {
+        Event::Start(_) => "no call",
+        Event::Move(_) => "no move",
+        _ => "no plan",
+    };
+    write!(text, "node {number} stands at ")?;
+    push_point(text, &shown.point)?;
+    text.push_str(", which offers ")?;
+    push_offer(text, shown.offer)?;
+    write!(text, ", and {wanted}")
+}
+
+// Appends what the slot holds in place of the call that the event takes.
+fn push_no_call(text: &mut String, event: &Event, shown: &Shown) -> Result<(), OutOfMemory> {
+    let number = event.node().number();
+    let wanted = match event {
+        Event::Run(_) => "no call that was sent and didn't run",
+        Event::Lose(_) => "no call that was sent or ran",
+        Event::Return(_) => "no call that ran or failed",
+        _ => "no call",
+    };
+    write!(text, "the slot of node {number} holds {wanted}: ")?;
+    match shown.call {
+        Some(held) => push_held(text, held),
+        None => text.push_str("it is empty"),
+    }
+}
+
+// Appends whom the call goes to, and how that node is.
+fn push_callee(
+    text: &mut String,
+    number: u16,
+    shown: &Shown,
+    state: &str,
+) -> Result<(), OutOfMemory> {
+    let Some(held) = shown.call else {
+        return Ok(());
+    };
+    let callee = held.call.callee.number();
+    write!(
+        text,
+        "the call of node {number} goes to node {callee}, which is {state}"
+    )
+}
+
+// Appends what is wrong with the table of a plan.
+fn push_bad_table(
+    text: &mut String,
+    setup: &Setup,
+    event: &Event,
+    shown: &Shown,
+) -> Result<(), OutOfMemory> {
+    let Event::Plan(node, table) = event else {
+        return Ok(());
+    };
+    let mut members = shown.up;
+    members.insert(*node);
+    let owners = table.len();
+    let partitions = setup.partitions();
+    if owners != usize::from(partitions) {
+        return write!(
+            text,
+            "the table has {owners} owners, and there are {partitions} partitions"
+        );
+    }
+    match first_stranger(table, &members) {
+        Some(place) => push_stranger(text, table, place, *node),
+        None => push_counts(text, table, &members),
+    }
+}
+
+// The first partition whose owner is no member.
+fn first_stranger(table: &Table, members: &NodeSet) -> Option<usize>
+    ensures { IfSome result (λ place. place < length table.now) }
+{
+    for place in 0..table.len() {
+        if !members.has(table.owner(place)) {
+            return Some(place);
+        }
+    }
+    None
+}
+
+// Appends the partition whose owner is neither the node nor in its up set.
+fn push_stranger(
+    text: &mut String,
+    table: &Table,
+    place: usize,
+    node: Node,
+) -> Result<(), OutOfMemory>
+    requires { place < length table.now }
+{
+    let owner = table.owner(place).number();
+    let number = node.number();
+    write!(
+        text,
+        "partition {place} is owned by node {owner}, which is neither node {number} nor in its up set"
+    )
+}
+
+// Appends how many partitions each member owns, which isn't its share.
+fn push_counts(text: &mut String, table: &Table, members: &NodeSet) -> Result<(), OutOfMemory> {
+    text.push_str("the partitions aren't shared out evenly by weight:")?;
+    let mut gap = "";
+    for before in 0..NODES_MAX {
+        match Node::new(before + 1) {
+            Some(member) if members.has(member) => {
+                push_count(text, gap, table, member)?;
+                gap = ",";
+            }
+            _ => {}
+        }
+    }
+    Ok(())
+}
+
+// Appends how many partitions the member owns.
+fn push_count(
+    text: &mut String,
+    gap: &str,
+    table: &Table,
+    member: Node,
+) -> Result<(), OutOfMemory> {
+    let number = member.number();
+    let count = owned_by(table, member);
+    write!(text, "{gap} node {number} owns {count}")
+}
+
+// How many partitions the node owns.
+fn owned_by(table: &Table, node: Node) -> usize {
+    let mut count = 0usize;
+    for place in 0..table.len() {
+        if table.owner(place) == node {
+            count = count.saturating_add(1);
+        }
+    }
+    count
+}
+
+/// Appends why the claim is false: what it says of the node and what the group shows, side by side. The node has this sheet,
+/// where the group has it.
+pub fn push_claimed(
+    text: &mut String,
+    setup: &Setup,
+    claim: Claim,
+    sheet: Option<&NodeSheet>,
+) -> Result<(), OutOfMemory> {
+    text.push_str("differs: ")?;
+    match sheet {
+        Some(sheet) => push_sides(text, claim, &sheet.shown),
+        None => {
+            push_no_node(text, setup, claim.node)?;
+            text.push('\n')
+        }
+    }
+}
+
+// Appends what is claimed of the node, and beside it what the group shows.
+fn push_sides(text: &mut String, claim: Claim, shown: &Shown) -> Result<(), OutOfMemory> {
+    let number = claim.node.number();
+    writeln!(text, "node {number} isn't as it is claimed")?;
+    text.push_str("\n                claimed         shown\n")?;
+    push_statuses(text, claim.status, shown.status)?;
+    push_coordinators(text, claim.coordinator, shown.coordinator)
+}
+
+// Appends the status that is claimed and the one that is shown.
+fn push_statuses(text: &mut String, claimed: Status, shown: Status) -> Result<(), OutOfMemory> {
+    let claimed = status_word(claimed);
+    let shown = status_word(shown);
+    writeln!(text, "  status        {claimed:<16}{shown}")
+}
+
+// Appends the coordinator that is claimed and the one that is shown; a dash for none.
+fn push_coordinators(
+    text: &mut String,
+    claimed: Option<Node>,
+    shown: Option<Node>,
+) -> Result<(), OutOfMemory> {
+    match claimed {
+        Some(node) => {
+            let number = node.number();
+            write!(text, "  coordinator   {number:<16}")?;
+        }
+        None => text.push_str("  coordinator   -               ")?,
+    }
+    push_node(text, shown)?;
+    text.push('\n')
+}

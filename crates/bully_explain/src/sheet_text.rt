@@ -1,0 +1,311 @@
+use crate::sentences::{push_claimed, push_refused};
+use crate::words::{push_held, push_note, push_offer, push_point, push_vector};
+use crate::{Account, Deed, Memory, NodeSheet, Note, Shown, ShownCall, Stop};
+use bully_base::{NODES_MAX, Node, OutOfMemory, Status};
+use bully_steps::Point;
+use bully_trace::{Row, push_row};
+use std::alloc::Global;
+
+/// The sheet of the account's verdict as text, with what it shows of each node, from node 1 on.
+pub fn sheet_text(
+    alloc: Global,
+    account: &Account,
+    nodes: &[NodeSheet],
+) -> Result<String, OutOfMemory> {
+    let mut text = String::new(alloc);
+    match account.stop() {
+        Some(stop) => push_stopped(&mut text, account, stop, nodes)?,
+        None => push_lawful(&mut text, account, nodes)?,
+    }
+    Ok(text)
+}
+
+// The sheet of the node; none of a node that the group doesn't have.
+fn sheet_of(nodes: &[NodeSheet], node: Node) -> Option<&NodeSheet> {
+    nodes.get(usize::from(node.number() - 1))
+}
+
+// Appends the sheet of the row that decided: what it says, why it decided, its node, and the others.
+fn push_stopped(
+    text: &mut String,
+    account: &Account,
+    stop: &Stop,
+    nodes: &[NodeSheet],
+) -> Result<(), OutOfMemory> {
+    push_start(text, stop)?;
+    let node = node_of(&stop.row);
+    push_reason(text, account, stop, sheet_of(nodes, node))?;
+    if let Some(sheet) = sheet_of(nodes, node) {
+        text.push('\n')?;
+        push_node(text, node, sheet, account.memory(node))?;
+    }
+    push_others(text, nodes, node)
+}
+
+// The node that the row names.
+fn node_of(row: &Row) -> Node {
+    match row {
+        Row::Event(event) => event.node(),
+        Row::Claim(claim) => claim.node,
+    }
+}
+
+// Appends why the row decided, whose node has this sheet.
+fn push_reason(
+    text: &mut String,
+    account: &Account,
+    stop: &Stop,
+    sheet: Option<&NodeSheet>,
+) -> Result<(), OutOfMemory> {
+    let setup = account.world().setup();
+    match &stop.row {
+        Row::Event(event) => push_refused(text, setup, event, account.verdict(), sheet),
+        Row::Claim(claim) => push_claimed(text, setup, *claim, sheet),
+    }
+}
+
+// Appends the row: its number, the line at which it starts, and its text.
+fn push_start(text: &mut String, stop: &Stop) -> Result<(), OutOfMemory> {
+    let number = stop.number;
+    let line = stop.line;
+    write!(text, "row {number} (line {line}): ")?;
+    push_row(text, &stop.row)
+}
+
+// Appends the sheet of a lawful trace: each node as the group stands at the end, and which of them aren't at rest.
+fn push_lawful(
+    text: &mut String,
+    account: &Account,
+    nodes: &[NodeSheet],
+) -> Result<(), OutOfMemory> {
+    let count = account.world().events();
+    writeln!(text, "lawful {count}")?;
+    for (place, sheet) in nodes.iter().enumerate() {
+        if let Some(node) = node_at(place) {
+            text.push('\n')?;
+            push_node(text, node, sheet, account.memory(node))?;
+        }
+    }
+    push_rest(text, nodes)
+}
+
+// The node at this place of a list of all nodes.
+fn node_at(place: usize) -> Option<Node> {
+    if place < usize::from(NODES_MAX) {
+        Node::new(place as u16 + 1)
+    } else {
+        None
+    }
+}
+
+// Appends which nodes aren't at rest: those that are up, and not Normal under the highest node that is up.
+fn push_rest(text: &mut String, nodes: &[NodeSheet]) -> Result<(), OutOfMemory> {
+    let highest = highest_up(nodes);
+    let mut is_resting = true;
+    text.push('\n')?;
+    for (place, sheet) in nodes.iter().enumerate() {
+        if !rests(&sheet.shown, &highest) {
+            push_restless(text, place + 1, is_resting)?;
+            is_resting = false;
+        }
+    }
+    text.push_str(if is_resting { "at rest\n" } else { "\n" })
+}
+
+// Appends the number of a node that isn't at rest, the first one or another.
+fn push_restless(text: &mut String, number: usize, is_first: bool) -> Result<(), OutOfMemory> {
+    let title = if is_first { "not at rest:" } else { "," };
+    write!(text, "{title} node {number}")
+}
+
+// The highest node that is up.
+fn highest_up(nodes: &[NodeSheet]) -> Option<Node> {
+    let mut highest = None;
+    for (place, sheet) in nodes.iter().enumerate() {
+        if sheet.shown.status != Status::Down {
+            highest = node_at(place);
+        }
+    }
+    highest
+}
+
+// Whether the node is at rest, where this is the highest node that is up.
+fn rests(shown: &Shown, highest: &Option<Node>) -> bool {
+    match shown.status {
+        Status::Down => true,
+        Status::Normal => shown.coordinator == *highest,
+        Status::Election | Status::Reorganization => false,
+    }
+}
+
+// Appends the lines of a node of the group.
+fn push_node(
+    text: &mut String,
+    node: Node,
+    sheet: &NodeSheet,
+    memory: Option<&Memory>,
+) -> Result<(), OutOfMemory> {
+    push_vector_line(text, node, &sheet.shown)?;
+    push_point_line(text, &sheet.shown, memory)?;
+    push_slot_line(text, sheet.shown.call, memory)?;
+    push_possible_line(text, node, sheet.possible.as_slice())?;
+    push_rows_line(text, memory)
+}
+
+// Appends the line of the node's vector.
+fn push_vector_line(text: &mut String, node: Node, shown: &Shown) -> Result<(), OutOfMemory> {
+    let number = node.number();
+    let generation = shown.generation;
+    write!(text, "  node {number:<9}")?;
+    push_vector(text, shown)?;
+    writeln!(text, ", generation {generation}")
+}
+
+// Appends the line of the node's point: since when it stands there, and what that offers.
+fn push_point_line(
+    text: &mut String,
+    shown: &Shown,
+    memory: Option<&Memory>,
+) -> Result<(), OutOfMemory> {
+    text.push_str("  point         ")?;
+    push_point(text, &shown.point)?;
+    if let Some(memory) = memory {
+        push_since(text, memory)?;
+    }
+    text.push_str("; it offers ")?;
+    push_offer(text, shown.offer)?;
+    text.push('\n')
+}
+
+// Appends since which row the node stands at its point: the last one that it remembers to have moved it, or else one before
+// all that it remembers.
+fn push_since(text: &mut String, memory: &Memory) -> Result<(), OutOfMemory> {
+    let notes = memory.notes();
+    if let Some(row) = last_move(notes) {
+        return write!(text, " since row {row}");
+    }
+    match notes.first() {
+        Some(note) => {
+            let row = note.row;
+            write!(text, " since before row {row}")
+        }
+        None => Ok(()),
+    }
+}
+
+// The last of these rows that moved the node to another point.
+fn last_move(notes: &[Note]) -> Option<u32> {
+    let mut last = None;
+    for note in notes {
+        if note.moved {
+            last = Some(note.row);
+        }
+    }
+    last
+}
+
+// Appends the line of the node's slot.
+fn push_slot_line(
+    text: &mut String,
+    call: Option<ShownCall>,
+    memory: Option<&Memory>,
+) -> Result<(), OutOfMemory> {
+    text.push_str("  slot          ")?;
+    match call {
+        Some(held) => {
+            push_held(text, held)?;
+            push_started(text, memory)?;
+        }
+        None => text.push_str("empty")?,
+    }
+    text.push('\n')
+}
+
+// Appends in which row the call in the slot was started.
+fn push_started(text: &mut String, memory: Option<&Memory>) -> Result<(), OutOfMemory> {
+    let Some(memory) = memory else {
+        return Ok(());
+    };
+    match memory.started() {
+        Some(row) => write!(text, ", started in row {row}"),
+        None => Ok(()),
+    }
+}
+
+// Appends the line of the deeds that nothing refuses now, two spaces before each. A plan is its word alone.
+fn push_possible_line(text: &mut String, node: Node, deeds: &[Deed]) -> Result<(), OutOfMemory> {
+    let number = node.number();
+    text.push_str("  possible now")?;
+    for deed in deeds {
+        let word = deed.word();
+        write!(text, "  {word}")?;
+        if *deed != Deed::Plan {
+            write!(text, ",{number}")?;
+        }
+    }
+    text.push('\n')
+}
+
+// Appends the line of the rows that the node remembers.
+fn push_rows_line(text: &mut String, memory: Option<&Memory>) -> Result<(), OutOfMemory> {
+    text.push_str("  its last rows")?;
+    if let Some(memory) = memory {
+        push_notes(text, memory)?;
+    }
+    text.push('\n')
+}
+
+// Appends the rows that the node remembers: a space before the first, and two before each other one.
+fn push_notes(text: &mut String, memory: &Memory) -> Result<(), OutOfMemory> {
+    let mut gap = " ";
+    for note in memory.notes() {
+        text.push_str(gap)?;
+        push_note(text, memory, note)?;
+        gap = "  ";
+    }
+    Ok(())
+}
+
+// Appends a line for each node but this one, behind a title; nothing where there is no other one.
+fn push_others(text: &mut String, nodes: &[NodeSheet], node: Node) -> Result<(), OutOfMemory> {
+    if nodes.len() > 1 || sheet_of(nodes, node).is_none() {
+        text.push_str("\nthe others\n")?;
+    }
+    for (place, sheet) in nodes.iter().enumerate() {
+        match node_at(place) {
+            Some(other) if other != node => push_other(text, other, &sheet.shown)?,
+            _ => {}
+        }
+    }
+    Ok(())
+}
+
+// Appends the line of a node beside the one at hand.
+fn push_other(text: &mut String, node: Node, shown: &Shown) -> Result<(), OutOfMemory> {
+    let number = node.number();
+    write!(text, "  node {number:<9}")?;
+    if shown.status == Status::Down {
+        return text.push_str("down\n");
+    }
+    push_vector(text, shown)?;
+    push_place(text, &shown.point)?;
+    match shown.call {
+        Some(held) => {
+            text.push_str("; its slot holds ")?;
+            push_held(text, held)?;
+        }
+        None => text.push_str("; its slot is empty")?,
+    }
+    text.push('\n')
+}
+
+// Appends where a node stands.
+fn push_place(text: &mut String, point: &Point) -> Result<(), OutOfMemory> {
+    match point {
+        Point::Idle => text.push_str("; idle"),
+        _ => {
+            text.push_str("; at ")?;
+            push_point(text, point)
+        }
+    }
+}
