@@ -68,6 +68,7 @@ answer-asked (Err e) x y what same asked is (inr none) =
 -- only `check` asks to judge
 checked : (a : Action) → texts_of a ≡ checking → a ≡ Action.Check
 checked Action.Check e = refl
+checked (Action.Explain path) e = absurd (grind (arith, e))
 checked Action.Upgrade e = absurd (grind (arith, e))
 checked (Action.Play path) e = absurd (grind (arith, e))
 checked (Action.Run path) e = absurd (grind (arith, e))

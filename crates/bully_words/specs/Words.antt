@@ -11,9 +11,9 @@ use Rattle.clap.specs.declared.error.kind.ErrorKind.{ErrorKind}
 use Rattle.clap.specs.declared.error.kind.ErrorKind.TheVariants as kind
 use Rattle.bully_words.specs.declared.action.Action.{Action}
 
--- the program before its commands, of which one is required; its words come without its name
+-- the program before its commands, of which one is required; its words come without its name, and it tells its version
 abbrev pub bare : App
-bare = record (new_app (codes "bully")) { top = record (new_app (codes "bully")).top { no_binary_name = true; subcommand_required = true } }
+bare = record (new_app (codes "bully")) { top = record (new_app (codes "bully")).top { no_binary_name = true; subcommand_required = true; has_version = true } }
 
 -- the path of a configuration
 abbrev pub config_rule : Rule
@@ -27,8 +27,15 @@ member_rule = record (new_rule (codes "MEMBER")) { required = true; action = Som
 abbrev pub old_rule : Rule
 old_rule = record (new_rule (codes "old")) { long = Some (codes "old"); value_names = 1; action = Some Set }
 
+-- the path of a configuration that is to be explained, where there is one
+abbrev pub explained_rule : Rule
+explained_rule = record (new_rule (codes "config")) { long = Some (codes "config"); value_names = 1; action = Some Set }
+
 abbrev pub check_app : App
 check_app = new_app (codes "check")
+
+abbrev pub explain_app : App
+explain_app = with_rule (new_app (codes "explain")) explained_rule
 
 abbrev pub upgrade_app : App
 upgrade_app = new_app (codes "upgrade")
@@ -45,7 +52,8 @@ table_app = with_rule (with_rule (with_rule (new_app (codes "table")) config_rul
 -- the program with all of its commands
 abbrev pub program : App
 program =
-    with_subcommand (with_subcommand (with_subcommand (with_subcommand (with_subcommand bare check_app.top) upgrade_app.top) play_app.top) run_app.top) table_app.top
+    with_subcommand (with_subcommand (with_subcommand (with_subcommand (with_subcommand (with_subcommand bare check_app.top) explain_app.top) upgrade_app.top)
+    play_app.top) run_app.top) table_app.top
 
 -- where the command was made, it reads words as this
 abbrev pub ReadsAs : App → Result Command AllocError → Type 0
@@ -59,10 +67,12 @@ IsLocalCommand app made = IfOk made (λ command. (app_of command ≡ app) × ((f
 abbrev pub command_named : List Text → Option Text
 command_named words = option_map (λ p. p.0) (subcommand_of program words)
 
--- what words ask for: to judge the input, or to upgrade it; to play the configuration at a path, or to run its node
--- threads; or to plan a table for the configuration at a path, members by name, and the owners in an old table
+-- what words ask for: to judge the input; to explain the verdict on it, or the configuration at a path; to upgrade the
+-- input; to play the configuration at a path, or to run its node threads; or to plan a table for the configuration at a
+-- path, members by name, and the owners in an old table
 pub data Asked : Type 0 where
   checking : Asked
+  explaining : Option Text → Asked
   upgrading : Asked
   playing : Text → Asked
   running : Text → Asked
@@ -80,6 +90,7 @@ planning_in rows = planning_of (first_of (codes "CONFIG") rows) (all_of (codes "
 abbrev pub asked_by : Text → List Row → Option Asked
 asked_by name rows =
     if bytes_eq name (codes "check") then Some checking
+    else if bytes_eq name (codes "explain") then Some (explaining (first_of (codes "config") rows))
     else if bytes_eq name (codes "upgrade") then Some upgrading
     else if bytes_eq name (codes "play") then option_map playing (first_of (codes "CONFIG") rows)
     else if bytes_eq name (codes "run") then option_map running (first_of (codes "CONFIG") rows)
@@ -96,6 +107,7 @@ asked_for words = asked_in (subcommand_of program words)
 -- an action, with its texts
 abbrev pub texts_of : Action → Asked
 texts_of Action.Check = checking
+texts_of (Action.Explain path) = explaining (option_map (λ s. s.now) path)
 texts_of Action.Upgrade = upgrading
 texts_of (Action.Play path) = playing path.now
 texts_of (Action.Run path) = running path.now
@@ -104,6 +116,10 @@ texts_of (Action.Table words) = planning words.config.now (map (λ s. s.now) wor
 -- the words are good, and they are those of `check`
 abbrev pub ParsesAsCheck : List Text → Type 0
 ParsesAsCheck words = (takes program words ≡ true) × (command_named words ≡ Some (codes "check"))
+
+-- the words are good, and they are those of `explain` with this `--config`, if any
+abbrev pub ParsesAsExplain : List Text → Option Text → Type 0
+ParsesAsExplain words path = (takes program words ≡ true) × (asked_for words ≡ Some (explaining path))
 
 -- the words are good, and they are those of `upgrade`
 abbrev pub ParsesAsUpgrade : List Text → Type 0

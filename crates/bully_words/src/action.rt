@@ -1,6 +1,6 @@
 ghost use Rattle.std.specs.Prelude.{◌≡◌, ◌≢◌, ◌⊎◌, [], codes, true, None, Some, map, option_map, IfOk, IfErr, IsErrAnd, MatchResult};
 ghost use Rattle.clap.specs.Words.{fault_of, first_of, found_of, kind_of, rows_of, subcommand_of, subcommand_rows_of, takes, FailsBy, HasKind};
-ghost use Rattle.bully_words.specs.Words.{asked_by, asked_for, asked_in, playing, planning, planning_in, program, running, texts_of, upgrading, ParsesAsCheck, ParsesAsPlay, ParsesAsRun, ParsesAsTable, ParsesAsUpgrade};
+ghost use Rattle.bully_words.specs.Words.{asked_by, asked_for, asked_in, explaining, playing, planning, planning_in, program, running, texts_of, upgrading, ParsesAsCheck, ParsesAsExplain, ParsesAsPlay, ParsesAsRun, ParsesAsTable, ParsesAsUpgrade};
 
 use crate::command::command_line;
 use clap::error::ErrorKind;
@@ -13,6 +13,8 @@ use std::convert::AsStr;
 pub enum Action<'a> {
     /// Judge the trace on the input.
     Check,
+    /// Explain the verdict on the trace on the input; or, where there is a path, the configuration there.
+    Explain(Option<&'a str>),
     /// Write the trace on the input as one of version 2.
     Upgrade,
     /// Play the group of the configuration at this path.
@@ -37,6 +39,7 @@ pub struct TableWords<'a> {
 pub fn action_of<'a, S: AsStr>(alloc: Global, words: &'a [S]) -> Result<Action<'a>, Error>
     ensures asked { IfOk result (λ action. asked_for (map S.text words.now) ≡ Some (texts_of action)) }
     ensures check { ParsesAsCheck (map S.text words.now) → MatchResult result (λ action. action ≡ Action.Check) (λ error. kind_of error ≡ ErrorKind.OutOfMemory) }
+    ensures explain { (path : _) → ParsesAsExplain (map S.text words.now) path → MatchResult result (λ action. texts_of action ≡ explaining path) (λ error. kind_of error ≡ ErrorKind.OutOfMemory) }
     ensures upgrade { ParsesAsUpgrade (map S.text words.now) → MatchResult result (λ action. texts_of action ≡ upgrading) (λ error. kind_of error ≡ ErrorKind.OutOfMemory) }
     ensures play { (path : _) → ParsesAsPlay (map S.text words.now) path → MatchResult result (λ action. texts_of action ≡ playing path) (λ error. kind_of error ≡ ErrorKind.OutOfMemory) }
     ensures run { (path : _) → ParsesAsRun (map S.text words.now) path → MatchResult result (λ action. texts_of action ≡ running path) (λ error. kind_of error ≡ ErrorKind.OutOfMemory) }
@@ -94,6 +97,7 @@ fn named<'a>(
 {
     match name {
         "check" => Ok(Some(Action::Check)),
+        "explain" => Ok(Some(Action::Explain(explained_path(found)))),
         "upgrade" => Ok(Some(Action::Upgrade)),
         "play" => Ok(config_path(found).map(Action::Play)),
         "run" => Ok(config_path(found).map(Action::Run)),
@@ -107,6 +111,13 @@ fn config_path<'a>(found: &ArgMatches<'a>) -> Option<&'a str>
     ensures { option_map (λ s. s.now) result ≡ first_of (codes "CONFIG") (rows_of (found_of found.now)) }
 {
     found.get_str("CONFIG")
+}
+
+// The path of a configuration that is to be explained.
+fn explained_path<'a>(found: &ArgMatches<'a>) -> Option<&'a str>
+    ensures { option_map (λ s. s.now) result ≡ first_of (codes "config") (rows_of (found_of found.now)) }
+{
+    found.get_str("config")
 }
 
 // The words of `table`.

@@ -1,7 +1,8 @@
 ghost use Rattle.std.specs.Prelude.{◌≡◌, false, IfOk, IsOkAnd, Ok};
 ghost use Rattle.clap.specs.Words.{new_app, rule_of, with_rule};
-ghost use Rattle.bully_words.specs.Words.{bare, config_rule, member_rule, old_rule, play_app, program, run_app, table_app, IsLocalCommand, ReadsAs};
+ghost use Rattle.bully_words.specs.Words.{bare, config_rule, explain_app, explained_rule, member_rule, old_rule, play_app, program, run_app, table_app, IsLocalCommand, ReadsAs};
 
+use crate::help;
 use clap::{Arg, ArgAction, Command};
 use std::alloc::{AllocError, Global};
 
@@ -9,11 +10,14 @@ use std::alloc::{AllocError, Global};
 pub fn command_line<'a>(alloc: Global) -> Result<Command<'a>, AllocError>
     ensures { ReadsAs program result }
 {
-    let check = Command::new(alloc, "check").about("Judges the trace on the standard input");
-    let upgrade = Command::new(alloc, "upgrade").about(
-        "Writes the trace on the standard input as one of version 2",
-    );
+    let check = Command::new(alloc, "check")
+        .about("Judges the trace on the standard input")
+        .after_help(help::CHECK);
+    let upgrade = Command::new(alloc, "upgrade")
+        .about("Writes the trace on the standard input as one of version 2")
+        .after_help(help::UPGRADE);
     let command = joined(bare_command(alloc), Ok(check), Command::subcommand);
+    let command = joined(command, explain_command(alloc), Command::subcommand);
     let command = joined(command, Ok(upgrade), Command::subcommand);
     let command = joined(command, play_command(alloc), Command::subcommand);
     let command = joined(command, run_command(alloc), Command::subcommand);
@@ -41,16 +45,29 @@ fn bare_command<'a>(alloc: Global) -> Result<Command<'a>, AllocError>
 {
     Command::new(alloc, "bully")
         .about("Checks recorded runs of the Bully election algorithm")
+        .version(help::VERSION)
+        .after_help(help::PROGRAM)
         .no_binary_name(true)
         .subcommand_required(true)
         .bin_name("bully")
+}
+
+// The command that explains a verdict, or a configuration's fault.
+fn explain_command<'a>(alloc: Global) -> Result<Command<'a>, AllocError>
+    ensures { IsLocalCommand explain_app result }
+{
+    Command::new(alloc, "explain")
+        .about("Explains the verdict on the trace on the standard input")
+        .after_help(help::EXPLAIN)
+        .arg(explained_arg(alloc))
 }
 
 // The command that plays a group.
 fn play_command<'a>(alloc: Global) -> Result<Command<'a>, AllocError>
     ensures { IsLocalCommand play_app result }
 {
-    config_command(alloc, "play", "Plays a group and writes its trace")
+    let about = "Plays a group and writes its trace";
+    config_command(alloc, "play", about, help::PLAY)
 }
 
 // The command that runs a group in threads.
@@ -58,14 +75,15 @@ fn run_command<'a>(alloc: Global) -> Result<Command<'a>, AllocError>
     ensures { IsLocalCommand run_app result }
 {
     let about = "Runs a group in threads and writes its history as a trace";
-    config_command(alloc, "run", about)
+    config_command(alloc, "run", about, help::RUN)
 }
 
 // The command that plans a table.
 fn table_command<'a>(alloc: Global) -> Result<Command<'a>, AllocError>
     ensures { IsLocalCommand table_app result }
 {
-    let command = config_command(alloc, "table", "Plans a table with the fewest moves");
+    let about = "Plans a table with the fewest moves";
+    let command = config_command(alloc, "table", about, help::TABLE);
     let command = joined(command, Ok(member_arg(alloc)), Command::arg);
     joined(command, Ok(old_arg(alloc)), Command::arg)
 }
@@ -75,11 +93,13 @@ fn config_command<'a>(
     alloc: Global,
     name: &'a str,
     about: &'a str,
+    after_help: &'a str,
 ) -> Result<Command<'a>, AllocError>
     ensures { IsLocalCommand (with_rule (new_app name.entry.now) config_rule) result }
 {
     Command::new(alloc, name)
         .about(about)
+        .after_help(after_help)
         .arg(config_arg(alloc))
 }
 
@@ -90,6 +110,17 @@ fn config_arg<'a>(alloc: Global) -> Arg<'a>
     Arg::new(alloc, "CONFIG")
         .required(true)
         .help("The path of the configuration")
+}
+
+fn explained_arg<'a>(alloc: Global) -> Arg<'a>
+    ensures rule { rule_of result ≡ explained_rule }
+    ensures local { result.global ≡ false }
+{
+    Arg::new(alloc, "config")
+        .long("config")
+        .value_name("CONFIG")
+        .action(ArgAction::Set)
+        .help("The path of a configuration, to explain its first fault in place of a trace")
 }
 
 fn member_arg<'a>(alloc: Global) -> Arg<'a>

@@ -5,5 +5,6 @@
 
 mod action;
 mod command;
+mod help;
 
 pub use action::{Action, TableWords, action_of};

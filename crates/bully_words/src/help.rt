@@ -1,0 +1,84 @@
+//! What the program says of itself: its version, and what help tells of each command behind its usage.
+
+/// The version of the program, that the promises of its README were proved for it, and the kit that they were proved with,
+/// which `bin/test` compares with that of `rt version`. When the version rises: CONTRIBUTING.md.
+pub const VERSION: &str = "0.1.0\n\
+    Each promise of its README was proved for this version.\n\
+    Proved with rattle-kit-13f logic dac8208d650f15bf";
+
+/// What help tells of the program.
+pub const PROGRAM: &str = "\
+    A trace is read on standard input. What is asked for is written on standard\n\
+    output, and a fault as one line on standard error.\n\
+    \n\
+    Statuses: 0 done, 1 the trace is refused or differs, 2 bad words, 3 a fault of\n\
+    form in a trace or a configuration, 4 something failed: Read, Write, Spawn,\n\
+    Finish or OutOfMemory.\n\
+    \n\
+    Example: bully play examples/two_nodes.toml | bully check";
+
+/// What help tells of `check`.
+pub const CHECK: &str = "\
+    Reads a trace on standard input. Once all rows are read, writes its verdict on\n\
+    standard output: 'lawful', the number of events and a line for each node; or\n\
+    'refused', the row and the cause; or 'differs' and the row.\n\
+    \n\
+    Statuses: 0 lawful, 1 refused or differs, 3 a fault of the trace's form, 4 Read,\n\
+    Write or OutOfMemory.\n\
+    \n\
+    Example: bully check < examples/alone.csv";
+
+/// What help tells of `explain`.
+pub const EXPLAIN: &str = "\
+    Reads a trace on standard input as 'check' does, and writes on standard output\n\
+    what the rule saw at the row that decided: where the node stood, what was in its\n\
+    slot, what it could have done, and its last rows. Of a fault of form it says on\n\
+    standard error what may stand there. With --config it reads a configuration, and\n\
+    says so of its first fault.\n\
+    \n\
+    Statuses: 0 lawful, or no fault in the configuration, 1 refused or differs, 3 a\n\
+    fault of form, 4 Read, Write or OutOfMemory.\n\
+    \n\
+    Example: bully explain < examples/orphan_ready.csv";
+
+/// What help tells of `upgrade`.
+pub const UPGRADE: &str = "\
+    Reads a trace of version 1 or 2 on standard input, and writes it as one of\n\
+    version 2 on standard output, with the same rows and the same verdict. It judges\n\
+    nothing.\n\
+    \n\
+    Statuses: 0 written, 3 a fault of the trace's form, 4 Read, Write or OutOfMemory.\n\
+    \n\
+    Example: bully upgrade < examples/alone.csv | bully check";
+
+/// What help tells of `play`.
+pub const PLAY: &str = "\
+    Reads the configuration, plays its group turn by turn on one thread, and writes\n\
+    what happened as a trace on standard output, always the same one.\n\
+    \n\
+    Statuses: 0 written, 3 a fault in the configuration, 4 Read, Write or\n\
+    OutOfMemory.\n\
+    \n\
+    Example: bully play examples/three_nodes.toml";
+
+/// What help tells of `run`.
+pub const RUN: &str = "\
+    Reads the configuration, runs its group with a thread for the operator and one\n\
+    for each node, and writes its history as a trace on standard output. It may be\n\
+    another one each time, and is lawful.\n\
+    \n\
+    Statuses: 0 written, 3 a fault in the configuration, 4 Read, Write, Spawn, Finish\n\
+    or OutOfMemory.\n\
+    \n\
+    Example: bully run examples/three_nodes.toml | bully check";
+
+/// What help tells of `table`.
+pub const TABLE: &str = "\
+    Reads the configuration, and plans a table over the members that is balanced by\n\
+    their weights, with the fewest moves from the old one. Writes the owners, how\n\
+    many partitions move, and how many could stay, each on a line of standard output.\n\
+    \n\
+    Statuses: 0 written, 2 a member that is no name or owners that are no table, 3 a\n\
+    fault in the configuration, 4 Read, Write or OutOfMemory.\n\
+    \n\
+    Example: bully table examples/three_nodes.toml a b --old '1 2 2 2 3'";
