@@ -1,4 +1,5 @@
 pub mod KnownBytesLemmas
 pub mod AnswerLemmas
+pub mod ExplainLemmas
 mod MemberLemmas
 mod ConfigLemmas

@@ -1,4 +1,5 @@
 pub mod Answer
+pub mod ExplainAnswer
 pub mod PlanText
 pub mod RefusalText
 pub mod Wanted

@@ -23,8 +23,8 @@ pub fn answer_check<R: Read + Drop, W: Write, E: Write>(
     }
 }
 
-// The status of a verdict.
-fn verdict_status(verdict: Verdict) -> u8
+/// The status of a verdict.
+pub fn verdict_status(verdict: Verdict) -> u8
     ensures status { result ≡ verdict_status verdict }
     ensures range { result ≤ 1 }
 {

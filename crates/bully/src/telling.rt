@@ -127,8 +127,8 @@ fn stop_line(stop: Stop) -> &'static str
     }
 }
 
-// The line of a fault of form.
-fn row_line(alloc: Global, fault: TraceFault) -> Result<String, OutOfMemory>
+/// The line of a fault of form.
+pub fn row_line(alloc: Global, fault: TraceFault) -> Result<String, OutOfMemory>
     ensures { IfOk result (λ line. string_bytes line ≡ row_line fault) }
 {
     let mut line = String::new(alloc);

@@ -1,9 +1,10 @@
-use Rattle.std.proofs.Common.{◌⊎◌, inl, inr, [], ap, sym, subst, map, arith}
+use Rattle.std.proofs.Common.{◌⊎◌, inl, inr, [], None, Some, ap, sym, subst, map, arith}
 use Rattle.clap.specs.Words.{fault_of}
 use Rattle.bully_words.specs.Words.{ParsesAsCheck, program, texts_of}
 use Rattle.bully.specs.declared.telling.Stop.{Stop}
 use Rattle.bully.proofs.KnownBytesLemmas.{keeps-same}
 use Rattle.bully.proofs.AnswerLemmas.{none-judged, none-upgraded, stop-case}
+use Rattle.bully.proofs.ExplainLemmas.{unparsed-answer}
 use Rattle.bully_words.proofs.WordsLemmas.{check-parses, mistake-kind, help-kind}
 use Rattle.bully.proofs.answering.answer.Goals as goal
 
@@ -23,6 +24,16 @@ returns-in-Err-clause-parsed g c = λ parses.
     let stopped = c.answer_words.ensures.memory (c.in-Err.ensures.check parses) in
     none-judged (g.R.Read.remaining c.args.input) _ _ _ _ _
     (stop-case (g.R.Read.remaining c.args.input) Stop.OutOfMemory _ _ _ _ _ (λ _. keeps-same _ _ (ap g.W.Write.contents stopped.1)) (λ e. absurd (grind (arith, e))) (stopped.0, stopped.2))
+
+pub returns-in-Err-clause-explain : goal.returns-in-Err-clause-explain
+returns-in-Err-clause-explain g c = λ parses.
+    let stopped = c.answer_words.ensures.memory (c.in-Err.ensures.explain None parses) in
+    unparsed-answer (g.R.Read.remaining c.args.input) _ _ _ _ _ (keeps-same _ _ (ap g.W.Write.contents stopped.1)) (stopped.0, stopped.2)
+
+pub returns-in-Err-clause-explain_config : goal.returns-in-Err-clause-explain_config
+returns-in-Err-clause-explain_config g c = λ path parses.
+    let stopped = c.answer_words.ensures.memory (c.in-Err.ensures.explain (Some path) parses) in
+    ([], inr (inr (Stop.OutOfMemory, (λ _. keeps-same _ _ (ap g.W.Write.contents stopped.1)), stopped.2, stopped.0)))
 
 pub returns-in-Err-clause-upgrade : goal.returns-in-Err-clause-upgrade
 returns-in-Err-clause-upgrade g c = λ parses.

@@ -1,0 +1,94 @@
+-- From what `explain` of bully_explain ensures to what the program answers.
+use Rattle.std.proofs.Common.{◌≡◌, ◌⊎◌, ◌++◌, inl, inr, ℕ, true, List, Option, Some, None, Ok, Err, refl, ap, arith}
+use Rattle.std.specs.Prelude.{IfSome}
+use Rattle.std.specs.Io.KnownBytes.{Appends, Keeps}
+use Rattle.bully_world.specs.State.{world_of}
+use Rattle.bully_trace.specs.declared.trace.TraceCause.{TraceCause}
+use Rattle.bully_trace.specs.declared.trace.TraceFault.{TraceFault}
+use Rattle.bully_trace.specs.declared.verdict.Verdict.{Verdict}
+use Rattle.bully_trace.specs.RecordsLeft.{EndsReading}
+use Rattle.bully_trace.specs.Rows.{OfTrace, is_of_form}
+use Rattle.bully_config.specs.Configuration.{Configuration}
+use Rattle.bully_config.specs.declared.fault.ConfigFault.{ConfigFault}
+use Rattle.bully_explain.specs.declared.showing.NodeSheet.{NodeSheet}
+use Rattle.bully_explain.specs.Explained.{Explains, IsUntold}
+use Rattle.bully.specs.Answer.{KnownBytes, Tells, row_line, stop_line, stop_of, verdict_status}
+use Rattle.bully.specs.ExplainAnswer.{IsConfigExplainAnswer, IsExplainAnswer}
+use Rattle.bully.specs.RefusalText.{refusal_line}
+use Rattle.bully.specs.Wanted.{ReadsAs}
+use Rattle.bully.specs.declared.refusals.Refusal.{Refusal}
+use Rattle.bully.specs.declared.telling.Stop.{Stop}
+use Rattle.bully.proofs.KnownBytesLemmas.{keeps-refl, keeps-same}
+
+-- the sheet of the verdict was written
+pub explained-answer : {E : Type 0} (contents : E → KnownBytes) (remaining : KnownBytes) (verdict : Verdict) (sheets : List NodeSheet) (text : List ℕ) (output output' : KnownBytes) (errors errors' : E) (status : ℕ)
+    → OfTrace remaining (Explains verdict sheets)
+    → (((status ≡ verdict_status verdict) × Appends output output' text × (errors' ≡ errors)) ⊎ ((status ≡ 4) × Tells (contents errors) (contents errors') (stop_line Stop.Write)))
+    → IfSome remaining (λ bytes. IsExplainAnswer bytes output output' (contents errors) (contents errors') status)
+explained-answer contents None verdict sheets text output output' errors errors' status explained written = tt
+explained-answer contents (Some bytes) verdict sheets text output output' errors errors' status (trace, is, e) (inl (done, appended, same)) =
+    inl (trace, verdict, world_of e.world, text, is, e.judged, appended, keeps-same _ _ (ap contents same), done)
+explained-answer contents (Some bytes) verdict sheets text output output' errors errors' status (trace, is, e) (inr (stopped, told)) =
+    inr (inr (Stop.Write, (λ other. absurd (other refl)), (λ _. rw is refl), told, stopped))
+
+-- the first faulty row was told with its sheet, or there was no memory for that
+pub form-answer : (remaining : KnownBytes) (fault : TraceFault) (text : List ℕ) (output errors errors' : KnownBytes) (status : ℕ)
+    → EndsReading remaining fault → is_of_form fault.cause ≡ true
+    → (((status ≡ 3) × Tells errors errors' (row_line fault ++ text)) ⊎ ((status ≡ 4) × Tells errors errors' (stop_line Stop.OutOfMemory)))
+    → IfSome remaining (λ bytes. IsExplainAnswer bytes output output errors errors' status)
+form-answer None fault text output errors errors' status ends form told = tt
+form-answer (Some bytes) fault text output errors errors' status ends form (inl (done, told)) =
+    inr (inl (fault, text, ends.first form, keeps-same _ _ refl, told, done))
+form-answer (Some bytes) fault text output errors errors' status ends form (inr (done, told)) =
+    inr (inr (Stop.OutOfMemory, (λ _. keeps-same _ _ refl), (λ e. absurd (grind (arith, e))), told, done))
+
+-- the reader failed, or memory was short
+stopped-answer : (remaining : KnownBytes) (stop : Stop) (output errors errors' : KnownBytes) (status : ℕ) → (stop ≡ Stop.Write → ⊥)
+    → (status ≡ 4) × Tells errors errors' (stop_line stop) → IfSome remaining (λ bytes. IsExplainAnswer bytes output output errors errors' status)
+stopped-answer None stop output errors errors' status other told = tt
+stopped-answer (Some bytes) stop output errors errors' status other (done, told) =
+    inr (inr (stop, (λ _. keeps-same _ _ refl), (λ e. absurd (other e)), told, done))
+
+pub untold-answer : (cause : TraceCause) (remaining : KnownBytes) (fault : TraceFault) (output errors errors' : KnownBytes) (status : ℕ)
+    → fault.cause ≡ cause → EndsReading remaining fault → IsUntold fault
+    → ((stop : Stop) → stop_of fault.cause ≡ Some stop → (status ≡ 4) × Tells errors errors' (stop_line stop))
+    → IfSome remaining (λ bytes. IsExplainAnswer bytes output output errors errors' status)
+untold-answer TraceCause.BadHeader remaining fault output errors errors' status is ends untold other = absurd (cc (rw is at untold))
+untold-answer TraceCause.BadRow remaining fault output errors errors' status is ends untold other = absurd (cc (rw is at untold))
+untold-answer TraceCause.TooManyRows remaining fault output errors errors' status is ends untold other = absurd (cc (rw is at untold))
+untold-answer TraceCause.Read remaining fault output errors errors' status is ends untold other =
+    stopped-answer remaining Stop.Read output errors errors' status (λ e. absurd (grind (arith, e))) (other Stop.Read (rw is refl))
+untold-answer TraceCause.Write remaining fault output errors errors' status is ends untold other = absurd (ends.read is)
+untold-answer TraceCause.OutOfMemory remaining fault output errors errors' status is ends untold other =
+    stopped-answer remaining Stop.OutOfMemory output errors errors' status (λ e. absurd (grind (arith, e))) (other Stop.OutOfMemory (rw is refl))
+
+-- there was no memory for the words
+pub unparsed-answer : (remaining : KnownBytes) (output output' errors errors' : KnownBytes) (status : ℕ) → Keeps output output'
+    → (status ≡ 4) × Tells errors errors' (stop_line Stop.OutOfMemory) → IfSome remaining (λ bytes. IsExplainAnswer bytes output output' errors errors' status)
+unparsed-answer None output output' errors errors' status kept told = tt
+unparsed-answer (Some bytes) output output' errors errors' status kept (done, told) =
+    inr (inr (Stop.OutOfMemory, (λ _. kept), (λ e. absurd (grind (arith, e))), told, done))
+
+-- ---- the answers to `explain --config`
+
+-- that the configuration has no fault was written
+pub free-answer : {E : Type 0} (contents : E → KnownBytes) (bytes : List ℕ) (config : Configuration) (text : List ℕ) (output output' : KnownBytes) (errors errors' : E) (status : ℕ)
+    → ReadsAs bytes (Ok config)
+    → (((status ≡ 0) × Appends output output' text × (errors' ≡ errors)) ⊎ ((status ≡ 4) × Tells (contents errors) (contents errors') (stop_line Stop.Write)))
+    → IsConfigExplainAnswer bytes output output' (contents errors) (contents errors') status
+free-answer contents bytes config text output output' errors errors' status reads (inl (done, appended, same)) =
+    inl (config, text, reads, appended, keeps-same _ _ (ap contents same), done)
+free-answer contents bytes config text output output' errors errors' status reads (inr (stopped, told)) =
+    inr (inr (Stop.Write, (λ other. absurd (other refl)), told, stopped))
+
+-- memory was short
+pub short-answer : (bytes : List ℕ) (output errors errors' : KnownBytes) (status : ℕ) → (status ≡ 4) × Tells errors errors' (stop_line Stop.OutOfMemory)
+    → IsConfigExplainAnswer bytes output output errors errors' status
+short-answer bytes output errors errors' status (done, told) = inr (inr (Stop.OutOfMemory, (λ _. keeps-refl output), told, done))
+
+-- the fault was told with its sheet, or there was no memory for that
+pub config-answer : (bytes : List ℕ) (fault : ConfigFault) (text : List ℕ) (output errors errors' : KnownBytes) (status : ℕ) → ReadsAs bytes (Err fault)
+    → (((status ≡ 3) × Tells errors errors' (refusal_line (Refusal.Config fault) ++ text)) ⊎ ((status ≡ 4) × Tells errors errors' (stop_line Stop.OutOfMemory)))
+    → IsConfigExplainAnswer bytes output output errors errors' status
+config-answer bytes fault text output errors errors' status reads (inl (done, told)) = inr (inl (fault, text, reads, keeps-refl output, told, done))
+config-answer bytes fault text output errors errors' status reads (inr short) = short-answer bytes output errors errors' status short

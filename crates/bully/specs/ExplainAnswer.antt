@@ -1,0 +1,45 @@
+-- What the program answers to `explain`: the status, and what then stands on the output and on the errors.
+use Rattle.std.specs.Prelude.{◌≡◌, ◌⊎◌, ℕ, List, ◌++◌, Ok, Err}
+use Rattle.std.specs.Io.KnownBytes.{Appends, Keeps}
+use Rattle.bully_world.specs.World.{World}
+use Rattle.bully_trace.specs.declared.trace.TraceFault.{TraceFault}
+use Rattle.bully_trace.specs.declared.verdict.Verdict.{Verdict}
+use Rattle.bully_trace.specs.Rows.{records_of, trace_of}
+use Rattle.bully_trace.specs.Trace.{Trace}
+use Rattle.bully_trace.specs.Verdict.{IsVerdict}
+use Rattle.bully_config.specs.Configuration.{Configuration}
+use Rattle.bully_config.specs.declared.fault.ConfigFault.{ConfigFault}
+use Rattle.bully.specs.Answer.{IsStopAnswer, KnownBytes, Tells, row_line, verdict_status}
+use Rattle.bully.specs.ConfigAnswer.{IsStopped}
+use Rattle.bully.specs.RefusalText.{refusal_line}
+use Rattle.bully.specs.Wanted.{ReadsAs}
+use Rattle.bully.specs.declared.refusals.Refusal.{Refusal}
+
+-- the rows of the input have a verdict, that of `check`: its sheet stands on the output
+abbrev pub IsExplainedAnswer : List ℕ → KnownBytes → KnownBytes → KnownBytes → KnownBytes → ℕ → Type 0
+IsExplainedAnswer bytes output output' errors errors' status =
+    (trace : Trace) × (verdict : Verdict) × (w : World) × (sheet : List ℕ) × (trace_of (records_of bytes) ≡ Ok trace) × IsVerdict trace verdict w
+    × Appends output output' sheet × Keeps errors errors' × (status ≡ verdict_status verdict)
+
+-- a row of the input is faulty: the first such row is told on the errors, with its sheet behind the line, and nothing stands
+-- on the output
+abbrev pub IsUnexplainedAnswer : List ℕ → KnownBytes → KnownBytes → KnownBytes → KnownBytes → ℕ → Type 0
+IsUnexplainedAnswer bytes output output' errors errors' status =
+    (fault : TraceFault) × (sheet : List ℕ) × (trace_of (records_of bytes) ≡ Err fault) × Keeps output output'
+    × Tells errors errors' (row_line fault ++ sheet) × (status ≡ 3)
+
+-- the answer to `explain` with these bytes on the input; where a read fails, nothing stands on the output
+abbrev pub IsExplainAnswer : List ℕ → KnownBytes → KnownBytes → KnownBytes → KnownBytes → ℕ → Type 0
+IsExplainAnswer bytes output output' errors errors' status =
+    IsExplainedAnswer bytes output output' errors errors' status
+    ⊎ IsUnexplainedAnswer bytes output output' errors errors' status
+    ⊎ IsStopAnswer bytes output output' errors errors' status
+
+-- the answer to `explain --config` where the file holds these bytes: that they are a configuration stands on the output; or
+-- their first refusal is told on the errors, with its sheet behind the line, and nothing stands on the output
+abbrev pub IsConfigExplainAnswer : List ℕ → KnownBytes → KnownBytes → KnownBytes → KnownBytes → ℕ → Type 0
+IsConfigExplainAnswer bytes output output' errors errors' status =
+    ((config : Configuration) × (sheet : List ℕ) × ReadsAs bytes (Ok config) × Appends output output' sheet × Keeps errors errors' × (status ≡ 0))
+    ⊎ ((fault : ConfigFault) × (sheet : List ℕ) × ReadsAs bytes (Err fault) × Keeps output output'
+    × Tells errors errors' (refusal_line (Refusal.Config fault) ++ sheet) × (status ≡ 3))
+    ⊎ IsStopped output output' errors errors' status
