@@ -1,11 +1,11 @@
 use crate::lines::Lines;
 use crate::memory::Memories;
+use crate::moving::moves_point;
 use crate::showing::node_sheets;
 use crate::{Memory, NodeSheet};
 use bully_base::{Node, OutOfMemory};
-use bully_steps::Point;
 use bully_trace::{Header, Judge, Row, RowReader, Verdict, Version};
-use bully_world::{Event, World};
+use bully_world::World;
 use std::alloc::Global;
 use std::io::Read;
 use std::marker::Model;
@@ -65,12 +65,12 @@ impl Account {
         ensures judged { (setup : SetupState) (before : List RowState) → length before + 2 ≡ rows.now.number → HasJudged setup before self.old → HasJudged setup (before ++ row ∷ []) self.new }
     {
         let number = rows.number();
-        let before = point_before(self.judge.world(), &row);
+        let moves = moves_point_by(self.judge.world(), &row);
         self.judge.take_row(number, &row);
         if self.judge.stopped().is_some() {
             self.keep(rows, row);
         } else {
-            self.remember(number, &row, &before);
+            self.remember(number, &row, moves);
         }
     }
 
@@ -86,13 +86,12 @@ impl Account {
         self.stop = Some(Stop { number, line, row });
     }
 
-    // Remembers the row of this number, which the judge took; its node stood at this point before.
-    fn remember(&mut self, number: u32, row: &Row, before: &Point)
+    // Remembers the row of this number, which the judge took; whether it moved its node is told, where that was seen before.
+    fn remember(&mut self, number: u32, row: &Row, moves: Option<bool>)
         ensures { self.new ≡ self.old }
     {
         if let Row::Event(event) = row {
-            self.memories
-                .take(self.judge.world(), number, event, before);
+            self.memories.take(self.judge.world(), number, event, moves);
         }
     }
 
@@ -136,21 +135,12 @@ impl Account {
     }
 }
 
-// Where the node of the row's event stands; Idle where there is no such node or no event.
-fn point_before(world: &World, row: &Row) -> Point {
+// Whether the row takes its node to another point; none where that is seen behind it alone.
+fn moves_point_by(world: &World, row: &Row) -> Option<bool> {
     match row {
-        Row::Event(event) => point_at(world, event),
-        Row::Claim(_) => Point::Idle,
+        Row::Event(event) => moves_point(world, event),
+        Row::Claim(_) => Some(false),
     }
-}
-
-// Where the node of the event stands; Idle where there is no such node.
-fn point_at(world: &World, event: &Event) -> Point {
-    let node = event.node();
-    if node.number() > world.setup().nodes() {
-        return Point::Idle;
-    }
-    world.point(node)
 }
 
 /// The line at which the row that was read last starts, counted from 1 by line feeds.

@@ -16,6 +16,7 @@ mod form;
 mod form_text;
 mod lines;
 mod memory;
+mod moving;
 mod possible;
 mod reading;
 mod sentences;

@@ -1,10 +1,10 @@
 ghost use Rattle.std.specs.Prelude.{◌≡◌, ◌+◌, ◌<◌, ◌≤◌, remove, vec_capacity, vec_len};
 ghost use Rattle.bully_explain.specs.Remembered.{noted};
 
+use crate::moving::is_idle;
 use crate::{Deed, ROWS_KEPT};
 use bully_base::{Node, OutOfMemory, Setup};
 use bully_calls::{Call, CallKind};
-use bully_steps::Point;
 use bully_table::{Table, TableRoom};
 use bully_world::{Event, World};
 use std::alloc::Global;
@@ -180,14 +180,17 @@ impl Memories {
         self.nodes.get(usize::from(node.number() - 1))
     }
 
-    /// Remembers the event of this row, which led to the world, and at which its node stood at this point before. A Halt
-    /// that ran is remembered of the callee, too.
-    pub fn take(&mut self, world: &World, row: u32, event: &Event, before: &Point) {
+    /// Remembers the event of this row, which led to the world, and whether it took its node to another point; where that isn't
+    /// told, it did if the node isn't idle now. A Halt that ran is remembered of the callee, too.
+    pub fn take(&mut self, world: &World, row: u32, event: &Event, moves: Option<bool>) {
         let node = event.node();
         if node.number() > world.setup().nodes() {
             return;
         }
-        let moved = world.point(node) != *before;
+        let moved = match moves {
+            Some(moves) => moves,
+            None => !is_idle(world, node),
+        };
         let call = world.slot(node).call();
         let what = what_of(event, call);
         self.note(node, &Note { row, what, moved });
