@@ -11,7 +11,7 @@ use Rattle.bully_steps.specs.declared.point.Want.TheVariants.{Await}
 use Rattle.bully_steps.specs.ProcedureState.{ProcedureState, IsProcedureState, IsCall, CanCome, CanResume, SuitsInquiry, up_at, coordinator_at, procedure_state, next_of, next_up, is_started, resumed, resumed_point, resumed_up}
 use Rattle.bully_steps.specs.NextPoint.{next_point, election}
 use Rattle.bully_steps.specs.Point.{IsPointOf, offered}
-use Rattle.bully_steps.specs.PointKind.{kind_of}
+use Rattle.bully_steps.specs.PointKind.{kind_of, point_at, left_after}
 use Rattle.bully_steps.specs.declared.point_kind.PointKind.{PointKind}
 
 -- what is left of a falling set falls
@@ -130,3 +130,25 @@ resumed_is h s o q up k b is next joined same started =
 pub joined_is : (i n : ℕ) (up : List ℕ) → 0 < n → with_node n up ≡ next_up i (Halting n) Outcome.Yes up
 joined_is i zero up pos = absurd (omega arith)
 joined_is i (suc n) up pos = refl
+
+-- where it is known of which kind the next point is, it is the one with the nodes that are left behind this one
+pub lands : (h : ProcedureState) (left : List ℕ) (o : Outcome) (kind : PointKind) → h.point ≡ point_at (kind_of h.point) left → option_map kind_of (next_of h o) ≡ Some kind
+    → next_of h o ≡ Some (point_at kind (left_after (kind_of h.point) o (resumed_up h o) left))
+lands h left o kind at next = lands_at h.setup h.node (unwrap_or h.up []) left h.point o kind at next
+  where
+    lands_at : (setup : Setup) (i : ℕ) (up rest : List ℕ) (p : Point) (o : Outcome) (kind : PointKind) → p ≡ point_at (kind_of p) rest → option_map kind_of (next_point setup i up p o) ≡ Some kind
+        → next_point setup i up p o ≡ Some (point_at kind (left_after (kind_of p) o (next_up i p o up) rest))
+    lands_at setup i up rest p o kind at next = grind (arith, at, next)
+
+-- an inquiry goes on with the coordinator that it has, and a call that is started is one that the next point offers
+pub inquiry_goes_on : (h : ProcedureState) (o : Outcome) (q : Point) → IsProcedureState h → next_of h o ≡ Some q → SuitsInquiry h.setup h.node h.coordinator q
+inquiry_goes_on h o q is next = inquiry_at h.setup h.node (unwrap_or h.up []) h.point o q h.coordinator is.inquiry next
+  where
+    inquiry_at : (setup : Setup) (i : ℕ) (up : List ℕ) (p : Point) (o : Outcome) (q : Point) (k : Option ℕ) → SuitsInquiry setup i k p → next_point setup i up p o ≡ Some q → SuitsInquiry setup i k q
+    inquiry_at setup i up p o q k suits next = grind (arith, suits, next)
+
+pub call_goes_on : (h : ProcedureState) (o : Outcome) (q : Point) → IsProcedureState h → CanResume h o → next_of h o ≡ Some q → is_started o ≡ true → IsCall (offered h.setup h.coordinator q)
+call_goes_on h o q is can next started = call_at h.setup h.node (unwrap_or h.up []) h.point o q h.coordinator h.awaits can next started
+  where
+    call_at : (setup : Setup) (i : ℕ) (up : List ℕ) (p : Point) (o : Outcome) (q : Point) (k : Option ℕ) (awaits : Bool) → CanCome (if awaits then Await else offered setup k p) p o → next_point setup i up p o ≡ Some q → is_started o ≡ true → IsCall (offered setup k q)
+    call_at setup i up p o q k awaits can next started = grind (arith, can, next, started)

@@ -63,8 +63,8 @@ impl Point {
         }
     }
 
-    // The nodes that it has left, where it keeps them.
-    fn left(&self) -> Option<&NodeSet>
+    /// The nodes that it has left, where it keeps them.
+    pub(crate) fn left(&self) -> Option<&NodeSet>
         ensures { self.now ≡ point_at (kind_of self.now) (nodes_in (option_copied result)) }
     {
         match self {

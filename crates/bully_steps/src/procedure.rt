@@ -10,7 +10,7 @@ use crate::point_kind::{leave_answered, nodes_in};
 use crate::states::{
     Announcing, Asking, Checking, Halting, Identity, Idle, Inquiring, Planned, Planning, Readying,
 };
-use crate::{Point, PointKind, Want};
+use crate::{Point, PointKind, Standing, Want};
 use bully_base::{Node, NodeSet, Setup};
 use bully_calls::Outcome;
 use bully_table::Table;
@@ -90,7 +90,13 @@ impl Procedure {
         ensures { state_of result ≡ procedure_state setup.now node generation point up.now coordinator awaits }
     {
         let mut procedure = Procedure::idle_in(setup, node, generation);
-        procedure.go_to(&point, up, coordinator, awaits);
+        procedure.go_to(
+            point.kind(),
+            &nodes_in(point.left()),
+            up,
+            coordinator,
+            awaits,
+        );
         procedure
     }
 
@@ -287,33 +293,35 @@ impl Procedure {
         requires { CanResume (state_of self.old) outcome }
         ensures { state_of self.new ≡ resumed (state_of self.old) outcome }
     {
-        let next = self
-            .point()
-            .next_in(self.setup(), self.node(), &nodes_in(self.up()), outcome)
+        let kind = self.kind();
+        let next = kind
+            .next(self.left(), self.setup(), self.node(), outcome)
             .unwrap();
-        let next_up = self.up_after(outcome);
+        let up = self.up_after(outcome);
+        let mut left = nodes_in(self.left());
+        kind.change_left(&mut left, &up, outcome);
         let coordinator = self.coordinator();
-        self.go_to(&next, &next_up, coordinator, is_started(outcome));
+        self.go_to(next, &left, &up, coordinator, is_started(outcome));
     }
 
-    /// Becomes the procedure of its node that [`Procedure::at`] makes at this point, in this of the node's generations;
-    /// what that asks of its arguments has to hold here, too.
+    /// Becomes the procedure of its node that [`Procedure::at`] makes where this one stands, in this of the node's
+    /// generations; what that asks of its arguments has to hold here, too.
     pub fn restart(
         &mut self,
         generation: u32,
-        point: &Point,
+        standing: &Standing,
         up: &NodeSet,
         coordinator: Option<Node>,
         awaits: bool,
     )
         requires up { IsFallingBelow (state_of self.old).node up.now }
-        requires point { IsPointOf (state_of self.old).setup (state_of self.old).node point.now }
-        requires inquiry { SuitsInquiry (state_of self.old).setup (state_of self.old).node coordinator point.now }
-        requires call { awaits ≡ true → IsCall (offered (state_of self.old).setup coordinator point.now) }
-        ensures { state_of self.new ≡ procedure_state (state_of self.old).setup (state_of self.old).node generation point.now up.now coordinator awaits }
+        requires point { IsPointOf (state_of self.old).setup (state_of self.old).node standing.now }
+        requires inquiry { SuitsInquiry (state_of self.old).setup (state_of self.old).node coordinator standing.now }
+        requires call { awaits ≡ true → IsCall (offered (state_of self.old).setup coordinator standing.now) }
+        ensures { state_of self.new ≡ procedure_state (state_of self.old).setup (state_of self.old).node generation standing.now up.now coordinator awaits }
     {
         self.set_generation(generation);
-        self.go_to(point, up, coordinator, awaits);
+        self.go_to(standing.kind(), standing.left(), up, coordinator, awaits);
     }
 
     // Becomes the same in this of the node's generations.
@@ -333,23 +341,31 @@ impl Procedure {
         }
     }
 
-    // Goes to the point, with this up set and this coordinator. Whose procedure it is stays.
-    fn go_to(&mut self, point: &Point, up: &NodeSet, coordinator: Option<Node>, awaits: bool)
+    // Goes to the point of this kind with these nodes left, with this up set and this coordinator. Whose procedure it is
+    // stays.
+    fn go_to(
+        &mut self,
+        kind: PointKind,
+        left: &NodeSet,
+        up: &NodeSet,
+        coordinator: Option<Node>,
+        awaits: bool,
+    )
         requires up { IsFallingBelow (state_of self.old).node up.now }
-        requires point { IsPointOf (state_of self.old).setup (state_of self.old).node point.now }
-        requires inquiry { SuitsInquiry (state_of self.old).setup (state_of self.old).node coordinator point.now }
-        requires call { awaits ≡ true → IsCall (offered (state_of self.old).setup coordinator point.now) }
-        ensures { state_of self.new ≡ procedure_state (state_of self.old).setup (state_of self.old).node (state_of self.old).generation point.now up.now coordinator awaits }
+        requires point { IsPointOf (state_of self.old).setup (state_of self.old).node (point_at kind left.now) }
+        requires inquiry { SuitsInquiry (state_of self.old).setup (state_of self.old).node coordinator (point_at kind left.now) }
+        requires call { awaits ≡ true → IsCall (offered (state_of self.old).setup coordinator (point_at kind left.now)) }
+        ensures { state_of self.new ≡ procedure_state (state_of self.old).setup (state_of self.old).node (state_of self.old).generation (point_at kind left.now) up.now coordinator awaits }
     {
-        match point {
-            Point::Idle => Idle::begin(self),
-            Point::Asking(next) => Asking::begin(self, *next, awaits),
-            Point::Halting(next) => Halting::begin(self, *next, up, awaits),
-            Point::Announcing(rest) => Announcing::begin(self, rest, up, awaits),
-            Point::Planning => Planning::begin(self, up),
-            Point::Readying(rest) => Readying::begin(self, rest, awaits),
-            Point::Checking(callee) => Checking::begin(self, *callee, awaits),
-            Point::Inquiring => Inquiring::begin(self, coordinator.unwrap(), awaits),
+        match kind {
+            PointKind::Idle => Idle::begin(self),
+            PointKind::Asking(next) => Asking::begin(self, next, awaits),
+            PointKind::Halting(next) => Halting::begin(self, next, up, awaits),
+            PointKind::Announcing => Announcing::begin(self, left, up, awaits),
+            PointKind::Planning => Planning::begin(self, up),
+            PointKind::Readying => Readying::begin(self, left, awaits),
+            PointKind::Checking(callee) => Checking::begin(self, callee, awaits),
+            PointKind::Inquiring => Inquiring::begin(self, coordinator.unwrap(), awaits),
         }
     }
 

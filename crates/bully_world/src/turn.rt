@@ -87,7 +87,7 @@ impl World {
         let generation = member.generation();
         procedure.restart(
             generation,
-            &member.point(),
+            member.standing(),
             vector.up(),
             vector.coordinator(),
             holds_live_call(member.slot(), generation),

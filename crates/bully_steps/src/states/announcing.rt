@@ -40,9 +40,8 @@ impl Announcing {
         requires call { awaits ≡ true → IsCall (offered (state_of procedure.old).setup None (Point.Announcing rest.now)) }
         ensures { state_of procedure.new ≡ procedure_state (state_of procedure.old).setup (state_of procedure.old).node (state_of procedure.old).generation (Point.Announcing rest.now) up.now None awaits }
     {
-        let identity = *procedure.identity();
         *procedure = Procedure::Announcing(Announcing {
-            identity,
+            identity: *procedure.identity(),
             rest: *rest,
             up: *up,
             awaits,

@@ -36,9 +36,8 @@ impl Asking {
         requires call { awaits ≡ true → IsCall (offered (state_of procedure.old).setup None (Point.Asking next)) }
         ensures { state_of procedure.new ≡ procedure_state (state_of procedure.old).setup (state_of procedure.old).node (state_of procedure.old).generation (Point.Asking next) [] None awaits }
     {
-        let identity = *procedure.identity();
         *procedure = Procedure::Asking(Asking {
-            identity,
+            identity: *procedure.identity(),
             next,
             awaits,
         });

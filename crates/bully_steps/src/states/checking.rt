@@ -37,9 +37,8 @@ impl Checking {
         requires call { awaits ≡ true → IsCall (offered (state_of procedure.old).setup None (Point.Checking callee)) }
         ensures { state_of procedure.new ≡ procedure_state (state_of procedure.old).setup (state_of procedure.old).node (state_of procedure.old).generation (Point.Checking callee) [] None awaits }
     {
-        let identity = *procedure.identity();
         *procedure = Procedure::Checking(Checking {
-            identity,
+            identity: *procedure.identity(),
             callee,
             awaits,
         });

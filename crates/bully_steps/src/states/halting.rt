@@ -43,9 +43,8 @@ impl Halting {
         requires call { awaits ≡ true → IsCall (offered (state_of procedure.old).setup None (Point.Halting next)) }
         ensures { state_of procedure.new ≡ procedure_state (state_of procedure.old).setup (state_of procedure.old).node (state_of procedure.old).generation (Point.Halting next) up.now None awaits }
     {
-        let identity = *procedure.identity();
         *procedure = Procedure::Halting(Halting {
-            identity,
+            identity: *procedure.identity(),
             next,
             up: *up,
             awaits,

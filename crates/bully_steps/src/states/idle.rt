@@ -30,7 +30,8 @@ impl Idle {
     pub(crate) fn begin(procedure: &mut Procedure)
         ensures { state_of procedure.new ≡ procedure_state (state_of procedure.old).setup (state_of procedure.old).node (state_of procedure.old).generation Point.Idle [] None false }
     {
-        let identity = *procedure.identity();
-        *procedure = Procedure::Idle(Idle { identity });
+        *procedure = Procedure::Idle(Idle {
+            identity: *procedure.identity(),
+        });
     }
 }

@@ -36,9 +36,8 @@ impl Inquiring {
         requires call { awaits ≡ true → IsCall (offered (state_of procedure.old).setup (Some coordinator) (Point.Inquiring)) }
         ensures { state_of procedure.new ≡ procedure_state (state_of procedure.old).setup (state_of procedure.old).node (state_of procedure.old).generation Point.Inquiring [] (Some coordinator) awaits }
     {
-        let identity = *procedure.identity();
         *procedure = Procedure::Inquiring(Inquiring {
-            identity,
+            identity: *procedure.identity(),
             coordinator,
             awaits,
         });

@@ -60,8 +60,10 @@ impl Planning {
         requires up { IsFallingBelow (state_of procedure.old).node up.now }
         ensures { state_of procedure.new ≡ procedure_state (state_of procedure.old).setup (state_of procedure.old).node (state_of procedure.old).generation Point.Planning up.now None false }
     {
-        let identity = *procedure.identity();
-        *procedure = Procedure::Planning(Planning { identity, up: *up });
+        *procedure = Procedure::Planning(Planning {
+            identity: *procedure.identity(),
+            up: *up,
+        });
     }
 
     /// Plans the table over the node and those that are up, with the fewest moves from the old table, which has

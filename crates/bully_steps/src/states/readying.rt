@@ -37,9 +37,8 @@ impl Readying {
         requires call { awaits ≡ true → IsCall (offered (state_of procedure.old).setup None (Point.Readying rest.now)) }
         ensures { state_of procedure.new ≡ procedure_state (state_of procedure.old).setup (state_of procedure.old).node (state_of procedure.old).generation (Point.Readying rest.now) [] None awaits }
     {
-        let identity = *procedure.identity();
         *procedure = Procedure::Readying(Readying {
-            identity,
+            identity: *procedure.identity(),
             rest: *rest,
             awaits,
         });

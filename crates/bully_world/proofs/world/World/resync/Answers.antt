@@ -12,17 +12,17 @@ restart-requires-clause-up c =
 pub restart-requires-clause-point : goal.restart-requires-clause-point
 restart-requires-clause-point c =
     let fits = c.member-member.ensures.fits in
-    grind (arith, fits.is_point, c.point.ensures, c.requires, c.node.ensures.node)
+    grind (arith, fits.is_point, c.standing.ensures, c.requires, c.node.ensures.node)
 
 pub restart-requires-clause-inquiry : goal.restart-requires-clause-inquiry
 restart-requires-clause-inquiry c =
     let fits = c.member-member.ensures.fits in
     let m = member_of c.member-member.result.now in
-    grind (arith, suits_inquiry c.args.self.now.setup c.node.result m.vector m.point fits.by_setup fits.by_point, c.point.ensures, c.requires, c.node.ensures.node, c.coordinator.ensures, c.vector-vector.ensures)
+    grind (arith, suits_inquiry c.args.self.now.setup c.node.result m.vector m.point fits.by_setup fits.by_point, c.standing.ensures, c.requires, c.node.ensures.node, c.coordinator.ensures, c.vector-vector.ensures)
 
 pub restart-requires-clause-call : goal.restart-requires-clause-call
 restart-requires-clause-call c live =
     let fits = c.member-member.ensures.fits in
     let m = member_of c.member-member.result.now in
     let offers = live_offered c.args.self.now.setup c.node.result m.vector m.point m.pending fits.by_call (grind (arith, live, c.holds_live_call.ensures, c.slot.ensures, c.generation-generation.ensures)) in
-    grind (arith, offers, c.point.ensures, c.requires, c.node.ensures.node, c.coordinator.ensures, c.vector-vector.ensures)
+    grind (arith, offers, c.standing.ensures, c.requires, c.node.ensures.node, c.coordinator.ensures, c.vector-vector.ensures)
