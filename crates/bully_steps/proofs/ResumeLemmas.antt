@@ -87,13 +87,25 @@ holds_coordinator p k = grind arith
 held_up_falls : (i : ℕ) (p : Point) (up : List ℕ) → IsFallingBelow i up → IfSome (up_at p up) (IsFallingBelow i)
 held_up_falls i p up falls = grind (arith, falls)
 
--- an inquiry goes on with the coordinator that it has
-inquiry_follows : (setup : Setup) (i : ℕ) (up : List ℕ) (p : Point) (o : Outcome) (q : Point) (k : Option ℕ) → SuitsInquiry setup i k p → next_point setup i up p o ≡ Some q → SuitsInquiry setup i (coordinator_at q k) q
+-- an inquiry goes on with the coordinator that it has, and so does one that is held
+inquiry_follows : (setup : Setup) (i : ℕ) (up : List ℕ) (p : Point) (o : Outcome) (q : Point) (k : Option ℕ) → SuitsInquiry setup i k p → next_point setup i up p o ≡ Some q → SuitsInquiry setup i k q
 inquiry_follows setup i up p o q k suits next = grind (arith, suits, next)
 
--- a call that is started is one that the next point offers
-call_follows : (setup : Setup) (i : ℕ) (up : List ℕ) (p : Point) (o : Outcome) (q : Point) (k : Option ℕ) (awaits : Bool) → CanCome (if awaits then Await else offered setup k p) p o → next_point setup i up p o ≡ Some q → is_started o ≡ true → IsCall (offered setup (coordinator_at q k) q)
+held_inquiry : (setup : Setup) (i : ℕ) (q : Point) (k : Option ℕ) → SuitsInquiry setup i k q → SuitsInquiry setup i (coordinator_at q k) q
+held_inquiry setup i q k suits = grind (arith, suits)
+
+pub inquiry_goes_on : (h : ProcedureState) (o : Outcome) (q : Point) → IsProcedureState h → next_of h o ≡ Some q → SuitsInquiry h.setup h.node h.coordinator q
+inquiry_goes_on h o q is next = inquiry_follows h.setup h.node (unwrap_or h.up []) h.point o q h.coordinator is.inquiry next
+
+-- a call that is started is one that the next point offers, and so with the coordinator that is held
+call_follows : (setup : Setup) (i : ℕ) (up : List ℕ) (p : Point) (o : Outcome) (q : Point) (k : Option ℕ) (awaits : Bool) → CanCome (if awaits then Await else offered setup k p) p o → next_point setup i up p o ≡ Some q → is_started o ≡ true → IsCall (offered setup k q)
 call_follows setup i up p o q k awaits can next started = grind (arith, can, next, started)
+
+held_call : (setup : Setup) (q : Point) (k : Option ℕ) → IsCall (offered setup k q) → IsCall (offered setup (coordinator_at q k) q)
+held_call setup q k call = grind (arith, call)
+
+pub call_goes_on : (h : ProcedureState) (o : Outcome) (q : Point) → IsProcedureState h → CanResume h o → next_of h o ≡ Some q → is_started o ≡ true → IsCall (offered h.setup h.coordinator q)
+call_goes_on h o q is can next started = call_follows h.setup h.node (unwrap_or h.up []) h.point o q h.coordinator h.awaits can next started
 
 -- the procedure that the outcome makes is one of the node's
 pub resumed_is_state : (h : ProcedureState) (o : Outcome) (q : Point) → IsProcedureState h → CanResume h o → next_of h o ≡ Some q → IsProcedureState (resumed h o)
@@ -106,8 +118,8 @@ resumed_is_state h o q is can next =
       has_up = holds_up q (resumed_up h o);
       up = held_up_falls h.node q (resumed_up h o) (resumed_up_falls h o is);
       has_coordinator = holds_coordinator q h.coordinator;
-      inquiry = inquiry_follows h.setup h.node (unwrap_or h.up []) h.point o q h.coordinator is.inquiry next;
-      call = call_follows h.setup h.node (unwrap_or h.up []) h.point o q h.coordinator h.awaits can next;
+      inquiry = held_inquiry h.setup h.node q h.coordinator (inquiry_goes_on h o q is next);
+      call = λ started. held_call h.setup q h.coordinator (call_goes_on h o q is can next started);
       plan = tt;
     }
 
@@ -139,16 +151,3 @@ lands h left o kind at next = lands_at h.setup h.node (unwrap_or h.up []) left h
     lands_at : (setup : Setup) (i : ℕ) (up rest : List ℕ) (p : Point) (o : Outcome) (kind : PointKind) → p ≡ point_at (kind_of p) rest → option_map kind_of (next_point setup i up p o) ≡ Some kind
         → next_point setup i up p o ≡ Some (point_at kind (left_after (kind_of p) o (next_up i p o up) rest))
     lands_at setup i up rest p o kind at next = grind (arith, at, next)
-
--- an inquiry goes on with the coordinator that it has, and a call that is started is one that the next point offers
-pub inquiry_goes_on : (h : ProcedureState) (o : Outcome) (q : Point) → IsProcedureState h → next_of h o ≡ Some q → SuitsInquiry h.setup h.node h.coordinator q
-inquiry_goes_on h o q is next = inquiry_at h.setup h.node (unwrap_or h.up []) h.point o q h.coordinator is.inquiry next
-  where
-    inquiry_at : (setup : Setup) (i : ℕ) (up : List ℕ) (p : Point) (o : Outcome) (q : Point) (k : Option ℕ) → SuitsInquiry setup i k p → next_point setup i up p o ≡ Some q → SuitsInquiry setup i k q
-    inquiry_at setup i up p o q k suits next = grind (arith, suits, next)
-
-pub call_goes_on : (h : ProcedureState) (o : Outcome) (q : Point) → IsProcedureState h → CanResume h o → next_of h o ≡ Some q → is_started o ≡ true → IsCall (offered h.setup h.coordinator q)
-call_goes_on h o q is can next started = call_at h.setup h.node (unwrap_or h.up []) h.point o q h.coordinator h.awaits can next started
-  where
-    call_at : (setup : Setup) (i : ℕ) (up : List ℕ) (p : Point) (o : Outcome) (q : Point) (k : Option ℕ) (awaits : Bool) → CanCome (if awaits then Await else offered setup k p) p o → next_point setup i up p o ≡ Some q → is_started o ≡ true → IsCall (offered setup k q)
-    call_at setup i up p o q k awaits can next started = grind (arith, can, next, started)

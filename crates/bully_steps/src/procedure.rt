@@ -304,7 +304,7 @@ impl Procedure {
         self.go_to(next, &left, &up, coordinator, is_started(outcome));
     }
 
-    /// Becomes the procedure of its node that [`Procedure::at`] makes where this one stands, in this of the node's
+    /// Becomes the procedure of its node that [`Procedure::at`] makes at the point of this standing, in this of the node's
     /// generations; what that asks of its arguments has to hold here, too.
     pub fn restart(
         &mut self,
