@@ -11,3 +11,6 @@ counts_of-counts-requires g c =
     let same : c.deref.result.now ≡ history = search rules in
     let most : g.L.Naming.setup.nodes ≤ NODES_MAX = search rules in
     rw same (actors_at_most g.L.Naming.setup history (world_of c.self.inside.world) c.self.invariant.history most)
+
+pub returns-in_err-actor : goal.returns-in_err-actor
+returns-in_err-actor g c = search rules
