@@ -1,4 +1,5 @@
 -- What the rows were judged is the verdict on the trace that was read.
+use Rattle.std.proofs.Common.{rules}
 use Rattle.std.specs.Io.KnownBytes.{Appends}
 use Rattle.bully_world.specs.State.{world_of}
 use Rattle.bully_trace.specs.declared.verdict.Verdict.{Verdict}
@@ -25,3 +26,9 @@ returns-clause-agreement g c =
     let judge = c.in_ok-judge.judge in
     told-so (g.R.Read.remaining c.args.reader) judge.world.setup judge c.write_verdict.result (λ (verdict : Verdict) (trace : Trace). AgreesAfterEachRow trace verdict)
     c.write_verdict.ensures.verdict (λ verdict trace is. agrees_after trace verdict (world_of judge.world) is) c.in_ok-judge.ensures.judged
+
+pub returns-in_err-judge-clause-silent : goal.returns-in_err-judge-clause-silent
+returns-in_err-judge-clause-silent g c = search rules
+
+pub returns-clause-silent : goal.returns-clause-silent
+returns-clause-silent g c = search rules
