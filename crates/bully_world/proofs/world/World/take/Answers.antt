@@ -1,5 +1,5 @@
 -- A step that the turn rule offers isn't refused where there is room, and the procedure that goes on by it is in step.
-use Rattle.std.proofs.Common.{◌≡◌, ◌<◌, None, arith, ◌∙◌, ap}
+use Rattle.std.proofs.Common.{◌≡◌, ◌<◌, None, arith, rules, ◌∙◌, ap}
 use Rattle.std.proofs.lemmas.Bool.Decides.{nat_tests}
 use Rattle.bully_steps.specs.Procedure.{state_of}
 use Rattle.bully_world.specs.State.{cause_in}
@@ -36,3 +36,9 @@ returns-clause-same_node c =
     let owner = identity_after c.args.kind c.apply_allowed-answer.result (state_of c.args.procedure.now) in
     let goes = c.go_on.ensures ∙ gone_on c.args.kind c.apply_allowed-answer.result (state_of c.args.procedure.now) (state_of c.take_event-event.new.procedure) c.take_event-event.ensures.left in
     record { setup = grind (arith, goes, owner.0); node = grind (arith, goes, owner.1) }
+
+pub returns-clause-step : goal.returns-clause-step
+returns-clause-step c = search rules
+
+pub returns-clause-event : goal.returns-clause-event
+returns-clause-event c = search rules
