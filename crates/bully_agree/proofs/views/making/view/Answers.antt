@@ -1,4 +1,4 @@
-use Rattle.std.proofs.Common.{arith}
+use Rattle.std.proofs.Common.{arith, rules}
 use Rattle.bully_agree.proofs.ViewLemmas.{view_keeps}
 use Rattle.bully_agree.proofs.views.making.view.Goals as goal
 
@@ -7,3 +7,6 @@ invariant_of-result c = grind (arith, view_keeps c.args.world.now c.events-event
 
 pub returns-clause-agrees : goal.returns-clause-agrees
 returns-clause-agrees c = grind (arith, (view_keeps c.args.world.now c.events-events.ensures.reached).agrees, c.setup.ensures.setup, c.in_ok-of.ensures, c.events-events.ensures.events, c.in_ok-shown_nodes.ensures)
+
+pub returns-clause-view : goal.returns-clause-view
+returns-clause-view c = search rules
