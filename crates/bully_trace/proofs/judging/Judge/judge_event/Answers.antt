@@ -1,5 +1,4 @@
-use Rattle.std.proofs.Common.{◌≡◌, None, Some, refl, rules, arith}
-use Rattle.std.proofs.lemmas.Grind.{common_steps}
+use Rattle.std.proofs.Common.{◌≡◌, None, Some, refl, rules}
 use Rattle.bully_trace.specs.declared.trace.Row.{Row}
 use Rattle.bully_trace.proofs.JudgeLemmas.{judged-more}
 use Rattle.bully_trace.proofs.judging.Judge.judge_event.Goals as goal
@@ -22,6 +21,3 @@ returns-in_default-clause-judged c =
     judged-more setup rows c.args.number (Row.Event c.args.event.now) (record { version = version; world = c.self.inside.walk; stopped = None })
     (record { version = version; world = c.refusal.new.walk; stopped = None })
     refl c.refusal.ensures.setup at (rw lawful at c.refusal.ensures.judged))
-
-pub returns-else-is_none-clause-judged : goal.returns-else-is_none-clause-judged
-returns-else-is_none-clause-judged c = grind (arith, common_steps)
