@@ -8,8 +8,8 @@ use Rattle.bully_trace.specs.declared.TheConstants.{ROWS_MAX}
 use Rattle.bully_trace.specs.declared.header.Header.{Header}
 use Rattle.bully_trace.specs.declared.trace.Row.{Row}
 use Rattle.bully_trace.specs.declared.verdict.Verdict.{Verdict}
-use Rattle.bully_trace.specs.Headers.{Record}
-use Rattle.bully_trace.specs.Judging.{AreAllJudged, AreJudged, Begins, HasJudged, IsJudgedSoFar, IsNoRow, IsNoStart, JudgeState, TakesRow, header_with}
+use Rattle.bully_trace.specs.Headers.{Record, header_with}
+use Rattle.bully_trace.specs.Judging.{AreAllJudged, AreJudged, Begins, HasJudged, IsJudgedSoFar, IsNoRow, IsNoStart, JudgeState, TakesRow}
 use Rattle.bully_trace.specs.RecordsLeft.{EndsReading, HasRead, IsUnread, ReadSoFar, Takes, rows_left}
 use Rattle.bully_trace.specs.Rows.{HasNoFault, OfTrace}
 use Rattle.bully_trace.specs.Trace.{Trace}

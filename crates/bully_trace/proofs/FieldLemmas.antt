@@ -18,34 +18,39 @@ fields-two (f ∷ []) a b h x y = absurd (omega arith)
 fields-two (f ∷ g ∷ []) a b h x y = cc (x, y)
 fields-two (f ∷ g ∷ k ∷ rest) a b h x y = absurd (omega arith)
 
+-- one field more, behind which are the others
 pub fields-three : (fs : List (List ℕ)) (a b c : List ℕ) → length fs ≡ 3 → field_at fs 0 ≡ Some a → field_at fs 1 ≡ Some b → field_at fs 2 ≡ Some c → fs ≡ a ∷ b ∷ c ∷ []
 unfolding field_at
 fields-three [] a b c h x y z = absurd (omega arith)
-fields-three (f ∷ []) a b c h x y z = absurd (omega arith)
-fields-three (f ∷ g ∷ []) a b c h x y z = absurd (omega arith)
-fields-three (f ∷ g ∷ k ∷ []) a b c h x y z = cc (x, y, z)
-fields-three (f ∷ g ∷ k ∷ l ∷ rest) a b c h x y z = absurd (omega arith)
+fields-three (first ∷ rest) a b c h x y z =
+    let others = fields-two rest b c (omega (arith, h)) y z in cc (x, others)
 
 pub fields-four : (fs : List (List ℕ)) (a b c d : List ℕ) → length fs ≡ 4 → field_at fs 0 ≡ Some a → field_at fs 1 ≡ Some b → field_at fs 2 ≡ Some c → field_at fs 3 ≡ Some d → fs ≡ a ∷ b ∷ c ∷ d ∷ []
 unfolding field_at
 fields-four [] a b c d h x y z w = absurd (omega arith)
-fields-four (f ∷ []) a b c d h x y z w = absurd (omega arith)
-fields-four (f ∷ g ∷ []) a b c d h x y z w = absurd (omega arith)
-fields-four (f ∷ g ∷ k ∷ []) a b c d h x y z w = absurd (omega arith)
-fields-four (f ∷ g ∷ k ∷ l ∷ []) a b c d h x y z w = cc (x, y, z, w)
-fields-four (f ∷ g ∷ k ∷ l ∷ m ∷ rest) a b c d h x y z w = absurd (omega arith)
+fields-four (first ∷ rest) a b c d h x y z w =
+    let others = fields-three rest b c d (omega (arith, h)) y z w in cc (x, others)
+
+pub fields-five : (fs : List (List ℕ)) (a b c d e : List ℕ) → length fs ≡ 5 → field_at fs 0 ≡ Some a → field_at fs 1 ≡ Some b → field_at fs 2 ≡ Some c → field_at fs 3 ≡ Some d → field_at fs 4 ≡ Some e
+    → fs ≡ a ∷ b ∷ c ∷ d ∷ e ∷ []
+unfolding field_at
+fields-five [] a b c d e h x y z w u = absurd (omega arith)
+fields-five (first ∷ rest) a b c d e h x y z w u =
+    let others = fields-four rest b c d e (omega (arith, h)) y z w u in cc (x, others)
 
 pub fields-six : (fs : List (List ℕ)) (a b c d e f : List ℕ) → length fs ≡ 6 → field_at fs 0 ≡ Some a → field_at fs 1 ≡ Some b → field_at fs 2 ≡ Some c → field_at fs 3 ≡ Some d → field_at fs 4 ≡ Some e → field_at fs 5 ≡ Some f
     → fs ≡ a ∷ b ∷ c ∷ d ∷ e ∷ f ∷ []
 unfolding field_at
 fields-six [] a b c d e f h x y z w u v = absurd (omega arith)
-fields-six (g ∷ []) a b c d e f h x y z w u v = absurd (omega arith)
-fields-six (g ∷ k ∷ []) a b c d e f h x y z w u v = absurd (omega arith)
-fields-six (g ∷ k ∷ l ∷ []) a b c d e f h x y z w u v = absurd (omega arith)
-fields-six (g ∷ k ∷ l ∷ m ∷ []) a b c d e f h x y z w u v = absurd (omega arith)
-fields-six (g ∷ k ∷ l ∷ m ∷ n ∷ []) a b c d e f h x y z w u v = absurd (omega arith)
-fields-six (g ∷ k ∷ l ∷ m ∷ n ∷ o ∷ []) a b c d e f h x y z w u v = cc (x, y, z, w, u, v)
-fields-six (g ∷ k ∷ l ∷ m ∷ n ∷ o ∷ p ∷ rest) a b c d e f h x y z w u v = absurd (omega arith)
+fields-six (first ∷ rest) a b c d e f h x y z w u v =
+    let others = fields-five rest b c d e f (omega (arith, h)) y z w u v in cc (x, others)
+
+pub fields-seven : (fs : List (List ℕ)) (a b c d e f g : List ℕ) → length fs ≡ 7 → field_at fs 0 ≡ Some a → field_at fs 1 ≡ Some b → field_at fs 2 ≡ Some c → field_at fs 3 ≡ Some d → field_at fs 4 ≡ Some e → field_at fs 5 ≡ Some f → field_at fs 6 ≡ Some g
+    → fs ≡ a ∷ b ∷ c ∷ d ∷ e ∷ f ∷ g ∷ []
+unfolding field_at
+fields-seven [] a b c d e f g h x y z w u v t = absurd (omega arith)
+fields-seven (first ∷ rest) a b c d e f g h x y z w u v t =
+    let others = fields-six rest b c d e f g (omega (arith, h)) y z w u v t in cc (x, others)
 
 -- what a mapped value comes to, where there is one
 pub some-mapped : {A B : Type 0} (f : A → B) (o : Option A) (mapped : Option B) → option_map f o ≡ mapped → IfSome o (λ x. mapped ≡ Some (f x))

@@ -17,8 +17,10 @@ use Rattle.bully_table.specs.TableText.{pieces_of}
 use Rattle.bully_trace.specs.declared.TheConstants.{FIRST_NODES_MAX, FIRST_PARTITIONS_MAX}
 use Rattle.bully_trace.specs.declared.header.Header.{Header}
 use Rattle.bully_trace.specs.declared.header.Version.{Version}
+use Rattle.bully_trace.specs.declared.trace.Row.{Row}
 use Rattle.bully_trace.specs.declared.trace.TraceFault.{TraceFault}
-use Rattle.bully_trace.specs.Headers.{IsVersionFor, Record, first_header, header_of, fits_first, node_in, partitions_in, second_header, setup_in, version_for, weight_in, weighted_in, weights_from, weights_in, within}
+use Rattle.bully_trace.specs.Headers.{IsVersionFor, Record, header_of, header_with, fits_first, later_version, node_in, partitions_in, says_more, setup_in, version_for, weight_in, weighted_in, weights_from, weights_in, within}
+use Rattle.bully_trace.specs.Trace.{AreRowsFor, are_short, version_with}
 use Rattle.bully_trace.specs.Words.{keeps_named}
 
 -- ---- what is read is within the limits
@@ -36,12 +38,21 @@ first_if : (first : Bool) → (if first then Version.One else Version.Two) ≡ V
 first_if true e = refl
 first_if false e = absurd (cc e)
 
-pub version_fits : (setup : Setup) → IsVersionFor (version_for setup) setup
+version_fits : (setup : Setup) → IsVersionFor (version_for setup) setup
 version_fits setup e = first_if (fits_first setup) e
 
--- version 2 goes with every setup
-pub two_fits : (setup : Setup) → IsVersionFor Version.Two setup
-two_fits setup one = absurd (cc one)
+-- the version that rows ask for goes with each setup that the other one goes with, and with the rows
+with-rows : (short : Bool) (version : Version) (setup : Setup) → IsVersionFor version setup
+    → IsVersionFor (if short then version else Version.Three) setup × (says_more (if short then version else Version.Three) ≡ false → short ≡ true)
+with-rows true version setup fits = (fits, λ _. refl)
+with-rows false version setup fits = (λ one. absurd (cc one), λ short. absurd (cc short))
+
+pub version_fits_rows : (setup : Setup) (rows : List Row)
+    → IsVersionFor (version_with (version_for setup) rows) setup × AreRowsFor (version_with (version_for setup) rows) rows
+version_fits_rows setup rows = with-rows (are_short rows) (version_for setup) setup (version_fits setup)
+
+pub two_fits_rows : (setup : Setup) (rows : List Row) → IsVersionFor (version_with Version.Two rows) setup × AreRowsFor (version_with Version.Two rows) rows
+two_fits_rows setup rows = with-rows (are_short rows) Version.Two setup (λ one. absurd (cc one))
 
 -- numbers within the limits of version 1, and weights of 1
 numbers-first : (n p : Option ℕ) (setup : Setup) → ((i : ℕ) → n ≡ Some i → i ≤ FIRST_NODES_MAX) → ((k : ℕ) → p ≡ Some k → k ≤ FIRST_PARTITIONS_MAX)
@@ -60,15 +71,30 @@ first-setup nodes partitions setup e =
     (λ i at_i. (told-within FIRST_NODES_MAX (number_of nodes) i at_i).1) (λ k at_k. (told-within FIRST_PARTITIONS_MAX (number_of partitions) k at_k).1) e
 
 first-fits : (test : Bool) (o : Option Setup) (header : Header) → ((setup : Setup) → o ≡ Some setup → fits_first setup ≡ true)
-    → (if test then option_map first_header o else None) ≡ Some header → IsVersionFor header.version header.setup
+    → (if test then option_map (header_with Version.One) o else None) ≡ Some header → IsVersionFor header.version header.setup
 first-fits true (Some s) header first e = subst (λ (h : Header). IsVersionFor h.version h.setup) (same_Some _ _ e) (λ _. first s refl)
 first-fits true None header first e = absurd (cc e)
 first-fits false o header first e = absurd (cc e)
 
-second-fits : (test : Bool) (o : Option Setup) (header : Header) → (if test then option_map second_header o else None) ≡ Some header → IsVersionFor header.version header.setup
-second-fits true (Some s) header e = subst (λ (h : Header). IsVersionFor h.version h.setup) (same_Some _ _ e) (λ one. absurd (cc one))
-second-fits true None header e = absurd (cc e)
-second-fits false o header e = absurd (cc e)
+later-known : (text : List ℕ) (version : Version) → later_version text ≡ Some version → version ≢ Version.One
+later-known text version e one = by_test (bytes_eq text (codes "2")) (bytes_eq text (codes "3")) e
+  where
+    by_test : (two three : Bool) → (if two then Some Version.Two else if three then Some Version.Three else None) ≡ Some version → ⊥
+    by_test true three e = cc (e, one)
+    by_test false true e = cc (e, one)
+    by_test false false e = cc e
+
+later-fits : (test : Bool) (text : List ℕ) (o : Option Setup) (header : Header)
+    → (if test then option_and_then (λ v. option_map (header_with v) o) (later_version text) else None) ≡ Some header → IsVersionFor header.version header.setup
+later-fits false text o header e = absurd (cc e)
+later-fits true text o header e = by_version (later_version text) o refl e
+  where
+    by_version : (found : Option Version) (o : Option Setup) → later_version text ≡ found → option_and_then (λ v. option_map (header_with v) o) found ≡ Some header
+        → IsVersionFor header.version header.setup
+    by_version None o at e = absurd (cc e)
+    by_version (Some v) None at e = absurd (cc e)
+    by_version (Some v) (Some setup) at e =
+        subst (λ (h : Header). IsVersionFor h.version h.setup) (same_Some _ _ e) (λ one. absurd (later-known text v at one))
 
 -- what a header tells fits its version
 pub header-fits : (fields : Record) (header : Header) → header_of fields ≡ Some header → IsVersionFor header.version header.setup
@@ -80,7 +106,7 @@ header-fits (a ∷ b ∷ c ∷ d ∷ []) header e =
     first-fits (bytes_eq a (codes "bully") && bytes_eq b (codes "1")) (setup_in c d) header (first-setup c d) e
 header-fits (a ∷ b ∷ c ∷ d ∷ x ∷ []) header e = absurd (cc e)
 header-fits (a ∷ b ∷ c ∷ d ∷ x ∷ y ∷ []) header e =
-    second-fits (bytes_eq a (codes "bully") && bytes_eq b (codes "2")) (weighted_in c d x y) header e
+    later-fits (bytes_eq a (codes "bully")) b (weighted_in c d x y) header e
 header-fits (a ∷ b ∷ c ∷ d ∷ x ∷ y ∷ z ∷ rest) header e = absurd (cc e)
 
 pub made-fits : (fields : Record) (made : Result Header TraceFault) → IfOk made (λ header. header_of fields ≡ Some header) → IfOk made (λ header. IsVersionFor header.version header.setup)

@@ -4,6 +4,8 @@ pub mod RecordsLemmas
 pub mod RowsLemmas
 pub mod TraceLemmas
 pub mod TextLemmas
+pub mod SetTextLemmas
 pub mod JudgeLemmas
+pub mod RecordedLemmas
 pub mod CheckLemmas
 pub mod UpgradeLemmas

@@ -1,5 +1,5 @@
 -- The header of a trace: what its first record means.
-use Rattle.std.specs.Prelude.{◌≡◌, ℕ, length, Bool, true, List, [], ◌∷◌, Option, Some, None, ◌&&◌, ◌==◌, nat_lt, nat_le, codes, option_map, option_and_then, if◌then◌else◌}
+use Rattle.std.specs.Prelude.{◌≡◌, ℕ, length, Bool, true, false, List, [], ◌∷◌, Option, Some, None, ◌&&◌, ◌==◌, nat_lt, nat_le, codes, option_map, option_and_then, if◌then◌else◌}
 use Rattle.std.specs.Str.{bytes_eq}
 use Rattle.bully_base.specs.declared.TheConstants.{NODES_MAX, PARTITIONS_MAX, EVENTS_MAX, WEIGHT_MAX}
 use Rattle.bully_base.specs.Setup.{Setup, even_setup, is_even}
@@ -18,11 +18,19 @@ Record = List (List ℕ)
 abbrev pub nodes_max : Version → ℕ
 nodes_max Version.One = FIRST_NODES_MAX
 nodes_max Version.Two = NODES_MAX
+nodes_max Version.Three = NODES_MAX
 
 -- the most partitions of a trace of this version
 abbrev pub partitions_max : Version → ℕ
 partitions_max Version.One = FIRST_PARTITIONS_MAX
 partitions_max Version.Two = PARTITIONS_MAX
+partitions_max Version.Three = PARTITIONS_MAX
+
+-- rows of this version may say more
+abbrev pub says_more : Version → Bool
+says_more Version.One = false
+says_more Version.Two = false
+says_more Version.Three = true
 
 -- version 1 can tell the setup: all nodes weigh 1, no task is kept, and there are no more nodes and partitions than it has
 abbrev pub fits_first : Setup → Bool
@@ -71,11 +79,19 @@ weighted_in nodes partitions weights keeps =
     record { nodes = n; partitions = p; events_max = EVENTS_MAX; keeps = k; weights = each })
     (keeps_named keeps)) (weights_in n weights)) (partitions_in Version.Two partitions)) (node_in Version.Two nodes)
 
-abbrev pub first_header : Setup → Header
-first_header setup = record { version = Version.One; setup = setup }
+-- a header of this version and this setup
+abbrev pub header_with : Version → Setup → Header
+header_with version setup = record { version = version; setup = setup }
 
-abbrev pub second_header : Setup → Header
-second_header setup = record { version = Version.Two; setup = setup }
+-- the versions whose headers tell weights and what is kept
+abbrev pub later_version : List ℕ → Option Version
+later_version text =
+    if bytes_eq text (codes "2") then Some Version.Two
+    else if bytes_eq text (codes "3") then Some Version.Three else None
+
+abbrev pub later_header : List ℕ → List ℕ → List ℕ → List ℕ → List ℕ → Option Header
+later_header version nodes partitions weights keeps =
+    option_and_then (λ v. option_map (header_with v) (weighted_in nodes partitions weights keeps)) (later_version version)
 
 -- what the first record means
 abbrev pub header_of : Record → Option Header
@@ -84,8 +100,8 @@ header_of (a ∷ []) = None
 header_of (a ∷ b ∷ []) = None
 header_of (a ∷ b ∷ c ∷ []) = None
 header_of (word ∷ version ∷ nodes ∷ partitions ∷ []) =
-    if bytes_eq word (codes "bully") && bytes_eq version (codes "1") then option_map first_header (setup_in nodes partitions) else None
+    if bytes_eq word (codes "bully") && bytes_eq version (codes "1") then option_map (header_with Version.One) (setup_in nodes partitions) else None
 header_of (a ∷ b ∷ c ∷ d ∷ e ∷ []) = None
 header_of (word ∷ version ∷ nodes ∷ partitions ∷ weights ∷ keeps ∷ []) =
-    if bytes_eq word (codes "bully") && bytes_eq version (codes "2") then option_map second_header (weighted_in nodes partitions weights keeps) else None
+    if bytes_eq word (codes "bully") then later_header version nodes partitions weights keeps else None
 header_of (a ∷ b ∷ c ∷ d ∷ e ∷ f ∷ g ∷ rest) = None

@@ -9,7 +9,7 @@ use Rattle.bully_trace.specs.declared.trace.Row.{Row}
 use Rattle.bully_trace.specs.declared.verdict.Verdict.{Verdict}
 use Rattle.bully_trace.specs.declared.trace.TraceCause.{TraceCause}
 use Rattle.bully_trace.specs.declared.trace.TraceFault.{TraceFault}
-use Rattle.bully_trace.specs.Headers.{Record, header_of}
+use Rattle.bully_trace.specs.Headers.{Record, header_of, header_with}
 use Rattle.bully_trace.specs.RecordsLeft.{EndsReading, HasRead, IsUnread, ReadSoFar, rows_left}
 use Rattle.bully_trace.specs.Rows.{IsTraceOf, fault_at, no_memory, row_of}
 use Rattle.bully_trace.specs.Verdict.{IsJudged}
@@ -52,10 +52,6 @@ TakesRow reader judge after =
 abbrev pub IsNoRow : ReadSoFar → JudgeState → TraceFault → Type 0
 IsNoRow reader judge fault =
     ((row_of judge.version judge.world.setup reader.fields ≡ None) × (fault ≡ fault_at reader.number TraceCause.BadRow)) ⊎ (fault ≡ no_memory)
-
--- a header of this version and this setup
-abbrev pub header_with : Version → Setup → Header
-header_with version setup = record { version = version; setup = setup }
 
 -- the rows that were read of a text, behind the judge's header, were judged
 abbrev pub AreJudged : Option (List ℕ) → ReadSoFar → JudgeState → Type 0

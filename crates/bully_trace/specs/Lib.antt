@@ -1,5 +1,7 @@
 pub mod Words
 pub mod Headers
+pub mod Whole
+pub mod Details
 pub mod Trace
 pub mod Rows
 pub mod RecordsLeft
@@ -8,3 +10,4 @@ pub mod VerdictText
 pub mod TraceText
 pub mod Judging
 pub mod NodeEvents
+pub mod Recorded

@@ -26,15 +26,15 @@ abbrev pub node_text : Option ℕ → List ℕ
 node_text None = codes "-"
 node_text (Some i) = decimal i
 
--- the owners with commas, or a dash
-abbrev pub task_text : Option (List ℕ) → List ℕ
-task_text None = codes "-"
-task_text (Some owners) = owners_text 44 owners
+-- the owners of a task, with the separator between each two, or a dash
+abbrev pub task_text : ℕ → Option (List ℕ) → List ℕ
+task_text separator None = codes "-"
+task_text separator (Some owners) = owners_text separator owners
 
 abbrev pub node_line : ℕ → Vector → List ℕ
 node_line i v =
     decimal i ++ codes " " ++ status_word v.status ++ codes " " ++ node_text v.coordinator ++ codes " " ++ node_text v.halter
-    ++ codes " " ++ task_text v.task ++ codes "\n"
+    ++ codes " " ++ task_text 44 v.task ++ codes "\n"
 
 -- the lines of the first n nodes
 abbrev pub node_lines : World → ℕ → List ℕ

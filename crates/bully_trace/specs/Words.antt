@@ -3,6 +3,10 @@ use Rattle.std.specs.Prelude.{ℕ, Bool, true, false, List, [], ◌∷◌, Optio
 use Rattle.std.specs.Str.{bytes_eq}
 use Rattle.bully_base.specs.declared.node.Status.{Status}
 use Rattle.bully_base.specs.declared.node.Status.TheVariants.{Down, Election, Reorganization, Normal}
+use Rattle.bully_calls.specs.declared.call.Answer.{Answer}
+use Rattle.bully_calls.specs.declared.call.Answer.TheVariants.{Done, Yes, No, Failed, Discarded}
+use Rattle.bully_calls.specs.declared.call.CallKind.{CallKind}
+use Rattle.bully_calls.specs.declared.call.CallKind.TheVariants.{AreYouUp, AreYouNormal, Halt, NewCoordinator, Ready}
 use Rattle.bully_world.specs.declared.event.Event.{Event}
 use Rattle.bully_world.specs.declared.event.Refused.{Refused}
 use Rattle.bully_world.specs.declared.event.Refused.TheVariants.{Full, BadNode, IsDown, IsUp, Busy, NoStep, SlotBusy, NoCall, CalleeDown, CalleeUp, BadTable, NotOrphan}
@@ -34,6 +38,20 @@ abbrev pub keeps_word : Bool → List ℕ
 keeps_word true = codes "keep"
 keeps_word false = codes "clear"
 
+abbrev pub call_word : CallKind → List ℕ
+call_word AreYouUp = codes "are-you-up"
+call_word AreYouNormal = codes "are-you-normal"
+call_word Halt = codes "halt"
+call_word NewCoordinator = codes "new-coordinator"
+call_word Ready = codes "ready"
+
+abbrev pub answer_word : Answer → List ℕ
+answer_word Done = codes "done"
+answer_word Yes = codes "yes"
+answer_word No = codes "no"
+answer_word Failed = codes "failed"
+answer_word Discarded = codes "discarded"
+
 abbrev pub cause_word : Refused → List ℕ
 cause_word Full = codes "Full"
 cause_word BadNode = codes "BadNode"
@@ -61,6 +79,17 @@ event_named word i =
 
 abbrev pub status_named : List ℕ → Option Status
 status_named word = first_named status_word word (Down ∷ Election ∷ Reorganization ∷ Normal ∷ [])
+
+abbrev pub call_named : List ℕ → Option CallKind
+call_named word = first_named call_word word (AreYouUp ∷ AreYouNormal ∷ Halt ∷ NewCoordinator ∷ Ready ∷ [])
+
+-- what a call is answered where it runs
+abbrev pub reply_named : List ℕ → Option Answer
+reply_named word = first_named answer_word word (Done ∷ Yes ∷ No ∷ [])
+
+-- what a call that returns brings
+abbrev pub outcome_named : List ℕ → Option Answer
+outcome_named word = first_named answer_word word (Failed ∷ Discarded ∷ Done ∷ Yes ∷ No ∷ [])
 
 abbrev pub keeps_named : List ℕ → Option Bool
 keeps_named word = first_named keeps_word word (true ∷ false ∷ [])

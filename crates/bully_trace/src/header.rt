@@ -3,7 +3,7 @@ ghost use Rattle.std.specs.Prelude.{◌≡◌, ◌⊎◌, ◌∷◌, ◌+◌, �
 ghost use Rattle.std.specs.Option.{option_map};
 ghost use Rattle.csv.specs.Records.{fields_of};
 ghost use Rattle.bully_base.specs.declared.TheConstants.{NODES_MAX, PARTITIONS_MAX};
-ghost use Rattle.bully_trace.specs.Headers.{header_of, nodes_max, partitions_max, setup_in, version_for, weighted_in, weights_from, weights_in};
+ghost use Rattle.bully_trace.specs.Headers.{header_of, later_version, nodes_max, partitions_max, says_more, setup_in, version_for, weighted_in, weights_from, weights_in};
 
 use crate::row::{field, number_within};
 use crate::words::{is_word, keeps_named};
@@ -12,8 +12,8 @@ use bully_base::{EVENTS_MAX, NODES_MAX, PARTITIONS_MAX, Setup, WEIGHT_MAX};
 use bully_table::Pieces;
 use csv::ByteRecord;
 
-/// The version of a trace: what its header tells, and how large a group may be. The rows behind the header have the same
-/// forms in both.
+/// The version of a trace: what its header tells, how large a group may be, and whether rows may say more than an event, or
+/// than a status and a coordinator.
 #[derive(Clone, Copy, PartialEq, Eq, Debug)]
 pub enum Version {
     /// How many nodes and partitions there are, at most [`FIRST_NODES_MAX`] and [`FIRST_PARTITIONS_MAX`]. All nodes weigh 1,
@@ -22,6 +22,8 @@ pub enum Version {
     /// How many nodes and partitions there are, as many as a group may have; beside that what each node weighs, and whether
     /// tasks are kept over a crash.
     Two,
+    /// What version 2 has; and its rows may say more ([`crate::Detail`] and [`crate::WholeClaim`]).
+    Three,
 }
 
 impl Version {
@@ -32,7 +34,7 @@ impl Version {
     {
         match self {
             Version::One => FIRST_NODES_MAX,
-            Version::Two => NODES_MAX,
+            Version::Two | Version::Three => NODES_MAX,
         }
     }
 
@@ -43,8 +45,15 @@ impl Version {
     {
         match self {
             Version::One => FIRST_PARTITIONS_MAX,
-            Version::Two => PARTITIONS_MAX,
+            Version::Two | Version::Three => PARTITIONS_MAX,
         }
+    }
+
+    /// Whether its rows may say more than an event, or than a status and a coordinator.
+    pub fn says_more(self) -> bool
+        ensures { result ≡ says_more self }
+    {
+        matches!(self, Version::Three)
     }
 }
 
@@ -67,7 +76,7 @@ pub fn version_for(setup: &Setup) -> Version
     }
 }
 
-/// What the first record of a trace tells; none where it is no header of version 1 or 2.
+/// What the first record of a trace tells; none where it is no header of version 1, 2 or 3.
 pub fn read_header(row: &ByteRecord) -> Option<Header>
     ensures { result ≡ header_of (fields_of row.now) }
 {
@@ -82,7 +91,7 @@ pub fn read_header(row: &ByteRecord) -> Option<Header>
             let version = field(row, 1);
             let nodes = field(row, 2);
             let partitions = field(row, 3);
-            second_header(
+            later_header(
                 word,
                 version,
                 nodes,
@@ -116,8 +125,8 @@ fn setup_in(nodes: &[u8], partitions: &[u8]) -> Option<Setup>
     Setup::new(nodes, partitions, EVENTS_MAX).ok()
 }
 
-// What six fields mean: a header of version 2.
-fn second_header(
+// What six fields mean: a header of version 2 or 3.
+fn later_header(
     word: &[u8],
     version: &[u8],
     nodes: &[u8],
@@ -127,12 +136,25 @@ fn second_header(
 ) -> Option<Header>
     ensures { result ≡ header_of (word.now ∷ version.now ∷ nodes.now ∷ partitions.now ∷ weights.now ∷ keeps.now ∷ []) }
 {
-    if !is_word(word, "bully") || !is_word(version, "2") {
+    if !is_word(word, "bully") {
         return None;
     }
+    let version = later_version(version)?;
     let setup = weighted_in(nodes, partitions, weights, keeps)?;
-    let version = Version::Two;
     Some(Header { version, setup })
+}
+
+// The version whose header tells weights, and whether tasks are kept.
+fn later_version(version: &[u8]) -> Option<Version>
+    ensures { result ≡ later_version version.now }
+{
+    if is_word(version, "2") {
+        Some(Version::Two)
+    } else if is_word(version, "3") {
+        Some(Version::Three)
+    } else {
+        None
+    }
 }
 
 // The setup of these numbers and these weights, which keeps tasks or doesn't.

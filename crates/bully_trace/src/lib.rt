@@ -14,12 +14,15 @@ ghost use Rattle.bully_trace.specs.declared.verdict.Verdict.{Verdict as VerdictS
 ghost use Rattle.bully_world.specs.World.{World};
 
 mod checking;
+mod detail;
+mod details;
 mod header;
 mod judging;
 mod node_event;
 mod reading;
 mod row;
 mod row_reader;
+mod saying;
 mod text;
 mod trace;
 mod upgrading;
@@ -28,19 +31,22 @@ mod words;
 mod writing;
 
 pub use checking::check;
+pub use detail::{Detail, DetailedEvent};
+pub use details::offer_of;
 pub use header::{Header, Version, read_weights};
 pub use judging::Judge;
 pub use node_event::{EventKind, NodeEvent};
 pub use reading::read_trace;
 pub use row::{number_within, read_node};
 pub use row_reader::{RowReader, no_header};
-pub use text::{push_node, push_row};
-pub use trace::{Claim, Row, Rows, Trace, TraceCause, TraceFault};
+pub use text::{push_node, push_row, push_set};
+pub use trace::{Claim, Row, Rows, Trace, TraceCause, TraceFault, WholeClaim};
 pub use upgrading::upgrade;
 pub use verdict::Verdict;
 pub use words::{
-    CHECK, CRASH, DROP, LOSE, MOVE, PLAN, RECOVER, RETURN, RUN, SAW, START, TIMEOUT, cause_word,
-    is_word, kind_named, status_named, status_word,
+    CHECK, CRASH, DROP, LOSE, MOVE, PLAN, RECOVER, RETURN, RUN, SAW, START, TIMEOUT, answer_word,
+    call_named, call_word, cause_word, is_word, kind_named, outcome_named, reply_named, status_named,
+    status_word,
 };
 pub use writing::write_trace;
 

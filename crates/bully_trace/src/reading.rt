@@ -1,7 +1,7 @@
 ghost use Rattle.std.specs.Prelude.{◌≡◌, ◌≢◌, ◌≤◌, ℕ, List, [], Option, ◌+◌, length, IfErr, IfOk, OnOk};
 ghost use Rattle.bully_trace.specs.Headers.{IsVersionFor};
 ghost use Rattle.bully_trace.specs.Rows.{IsFirstFault, IsReadAtItsRow, IsTraceOf};
-ghost use Rattle.bully_trace.specs.Trace.{headed};
+ghost use Rattle.bully_trace.specs.Trace.{AreRowsFor, headed};
 ghost use Rattle.bully_trace.specs.declared.TheConstants.{ROWS_MAX};
 ghost use Rattle.bully_trace.specs.RecordsLeft.{EndsReading, HasRead, IsUnread, rows_left};
 
@@ -71,6 +71,7 @@ fn read_rows<R: Read + Drop>(
     requires begun { 1 ≤ rows.old.number }
     ensures read { (known : Option (List ℕ)) → HasRead known [] (rows_left header.now rows.old) → OnOk result (IsTraceOf known (headed header.now read.new.items)) }
     ensures within { OnOk result (length read.new.items ≤ ROWS_MAX) }
+    ensures fits { OnOk result (AreRowsFor header.now.version read.new.items) }
     ensures fault { (known : Option (List ℕ)) → HasRead known [] (rows_left header.now rows.old) → IfErr result (EndsReading known) }
 {
     while rows.advance()? {

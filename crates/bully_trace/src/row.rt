@@ -10,6 +10,7 @@ ghost use Rattle.bully_trace.specs.Rows.{claim_in, coordinator_in, row_of};
 
 use crate::header::Version;
 use crate::node_event::NodeEvent;
+use crate::saying::{answered_row, unanswered_row, whole_row};
 use crate::trace::{Claim, Row};
 use crate::words::{PLAN, SAW, is_word, kind_named, status_named};
 use bully_base::{Node, OutOfMemory, Setup};
@@ -44,8 +45,15 @@ pub fn read_longer_row(
         4 => {
             let word = field(fields, 0);
             let node = field(fields, 1);
-            Ok(claim_row(version, word, node, field(fields, 2), field(fields, 3)))
+            Ok(four_fields(version, word, node, field(fields, 2), field(fields, 3)))
         }
+        5 => {
+            let word = field(fields, 0);
+            let node = field(fields, 1);
+            let kind = field(fields, 2);
+            Ok(answered_row(version, word, node, kind, field(fields, 3), field(fields, 4)))
+        }
+        7 => seven_fields(alloc, version, setup, fields),
         _ => Ok(None),
     }
 }
@@ -107,24 +115,42 @@ fn plan_row(
 }
 
 // What four fields mean.
-fn claim_row(
+fn four_fields(
     version: Version,
     word: &[u8],
     node: &[u8],
-    status: &[u8],
-    coordinator: &[u8],
+    third: &[u8],
+    fourth: &[u8],
 ) -> Option<Row>
-    ensures { (setup : SetupState) → result ≡ row_of version setup (word.now ∷ node.now ∷ status.now ∷ coordinator.now ∷ []) }
+    ensures { (setup : SetupState) → result ≡ row_of version setup (word.now ∷ node.now ∷ third.now ∷ fourth.now ∷ []) }
 {
-    if !is_word(word, SAW) {
-        return None;
+    if is_word(word, SAW) {
+        Some(Row::Claim(claim_of(version, node, third, fourth)?))
+    } else {
+        unanswered_row(version, word, node, third, fourth)
     }
-    Some(Row::Claim(claim_of(version, node, status, coordinator)?))
 }
 
-// What the fields of a claim mean.
-fn claim_of(version: Version, node: &[u8], status: &[u8], coordinator: &[u8]) -> Option<Claim>
-    ensures { option_map Row.Claim result ≡ claim_in version node.now status.now coordinator.now }
+// What seven fields mean.
+fn seven_fields(
+    alloc: Global,
+    version: Version,
+    setup: &Setup,
+    fields: &ByteRecord,
+) -> Result<Option<Row>, OutOfMemory>
+    requires { length (fields_of fields.now) ≡ 7 }
+    ensures { IfOk result (λ row. row ≡ row_of version setup.now (fields_of fields.now)) }
+{
+    if !is_word(field(fields, 0), SAW) || !version.says_more() {
+        return Ok(None);
+    }
+    let claim = claim_of(version, field(fields, 1), field(fields, 2), field(fields, 3));
+    whole_row(alloc, version, setup, claim, field(fields, 4), field(fields, 5), field(fields, 6))
+}
+
+/// What the fields of a claim mean.
+pub fn claim_of(version: Version, node: &[u8], status: &[u8], coordinator: &[u8]) -> Option<Claim>
+    ensures { result ≡ claim_in version node.now status.now coordinator.now }
 {
     let node = read_node(version, node)?;
     let status = status_named(status)?;
@@ -136,8 +162,8 @@ fn claim_of(version: Version, node: &[u8], status: &[u8], coordinator: &[u8]) ->
     })
 }
 
-// A node, or none where the text is a dash.
-fn read_coordinator(version: Version, text: &[u8]) -> Option<Option<Node>>
+/// A node, or none where the text is a dash.
+pub fn read_coordinator(version: Version, text: &[u8]) -> Option<Option<Node>>
     ensures { result ≡ coordinator_in version text.now }
 {
     if is_word(text, "-") {

@@ -8,8 +8,8 @@ use crate::{Trace, TraceCause, TraceFault, Version, read_trace, write_trace};
 use std::alloc::Global;
 use std::io::{Read, Write};
 
-/// Upgrades a trace: reads one of either version, writes the one of version 2 with the same setup and the same rows, and
-/// tells how many rows it has behind its header. It judges nothing. All rows are read before anything is written, and are
+/// Upgrades a trace: reads one of any version, writes the one with the same setup and the same rows in version 2, or in version 3
+/// where a row says more, and tells how many rows it has behind its header. It judges nothing. All rows are read before anything is written, and are
 /// kept till then. Refused as [`crate::read_trace`] refuses the trace, and then nothing was written; as `OutOfMemory` where
 /// the text can't be made, with nothing written; then as `Write`, and then a prefix of the text may have been written. The
 /// last two are at row 0.
@@ -36,8 +36,8 @@ pub fn upgrade<R: Read + Drop, W: Write>(
     write_counted(alloc, writer, &newer)
 }
 
-// The trace of version 2 with the same setup and the same rows.
-#[tactic(auto, using(crate::proofs::HeaderLemmas::two_fits))]
+// The trace with the same setup and the same rows in the first version behind 1 that can tell them.
+#[tactic(auto, using(crate::proofs::HeaderLemmas::two_fits_rows))]
 fn upgraded(trace: Trace) -> Trace
     ensures { result ≡ upgraded trace }
 {
@@ -47,7 +47,7 @@ fn upgraded(trace: Trace) -> Trace
         rows,
     } = trace;
     Trace {
-        version: Version::Two,
+        version: rows.version_with(Version::Two),
         setup,
         rows,
     }

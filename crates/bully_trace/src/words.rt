@@ -3,10 +3,11 @@ ghost use Rattle.std.specs.Prelude.{◌≡◌, ℕ};
 ghost use Rattle.std.specs.Option.{option_map};
 ghost use Rattle.std.specs.Str.{bytes_eq};
 ghost use Rattle.bully_trace.specs.NodeEvents.{event_at};
-ghost use Rattle.bully_trace.specs.Words.{cause_word, event_named, keeps_named, keeps_word, status_named, status_word};
+ghost use Rattle.bully_trace.specs.Words.{answer_word, call_named, call_word, cause_word, event_named, keeps_named, keeps_word, outcome_named, reply_named, status_named, status_word};
 
 use crate::node_event::EventKind;
 use bully_base::Status;
+use bully_calls::{Answer, CallKind};
 use bully_world::Refused;
 
 /// The words of the events.
@@ -52,6 +53,32 @@ pub fn keeps_word(keeps: bool) -> &'static str
     ensures { result.now ≡ keeps_word keeps }
 {
     if keeps { "keep" } else { "clear" }
+}
+
+/// The kind of a call as a row spells it.
+pub fn call_word(kind: CallKind) -> &'static str
+    ensures { result.now ≡ call_word kind }
+{
+    match kind {
+        CallKind::AreYouUp => "are-you-up",
+        CallKind::AreYouNormal => "are-you-normal",
+        CallKind::Halt => "halt",
+        CallKind::NewCoordinator => "new-coordinator",
+        CallKind::Ready => "ready",
+    }
+}
+
+/// What a call is answered, or brings, as a row spells it.
+pub fn answer_word(answer: Answer) -> &'static str
+    ensures { result.now ≡ answer_word answer }
+{
+    match answer {
+        Answer::Done => "done",
+        Answer::Yes => "yes",
+        Answer::No => "no",
+        Answer::Failed => "failed",
+        Answer::Discarded => "discarded",
+    }
 }
 
 /// The cause of a refusal as a verdict spells it.
@@ -119,6 +146,53 @@ pub fn status_named(word: &[u8]) -> Option<Status>
         Some(Status::Normal)
     } else {
         None
+    }
+}
+
+/// The kind of call of this word.
+pub fn call_named(word: &[u8]) -> Option<CallKind>
+    ensures { result ≡ call_named word.now }
+{
+    if is_word(word, call_word(CallKind::AreYouUp)) {
+        Some(CallKind::AreYouUp)
+    } else if is_word(word, call_word(CallKind::AreYouNormal)) {
+        Some(CallKind::AreYouNormal)
+    } else if is_word(word, call_word(CallKind::Halt)) {
+        Some(CallKind::Halt)
+    } else if is_word(word, call_word(CallKind::NewCoordinator)) {
+        Some(CallKind::NewCoordinator)
+    } else if is_word(word, call_word(CallKind::Ready)) {
+        Some(CallKind::Ready)
+    } else {
+        None
+    }
+}
+
+/// What a call is answered where it runs, by its word.
+pub fn reply_named(word: &[u8]) -> Option<Answer>
+    ensures { result ≡ reply_named word.now }
+{
+    if is_word(word, answer_word(Answer::Done)) {
+        Some(Answer::Done)
+    } else if is_word(word, answer_word(Answer::Yes)) {
+        Some(Answer::Yes)
+    } else if is_word(word, answer_word(Answer::No)) {
+        Some(Answer::No)
+    } else {
+        None
+    }
+}
+
+/// What a call that returns brings, by its word.
+pub fn outcome_named(word: &[u8]) -> Option<Answer>
+    ensures { result ≡ outcome_named word.now }
+{
+    if is_word(word, answer_word(Answer::Failed)) {
+        Some(Answer::Failed)
+    } else if is_word(word, answer_word(Answer::Discarded)) {
+        Some(Answer::Discarded)
+    } else {
+        reply_named(word)
     }
 }
 

@@ -15,7 +15,7 @@ pub returns-in-6 : goal.returns-in-6
 returns-in-6 c =
     let six = fields-six (fields_of c.args.row.now) c.field-word-in-6.result.now c.field-version-in-6.result.now c.field-nodes.result.now c.field-partitions.result.now c.field-in-6.result.now c.field-in-6-2.result.now
     (search rules) c.field-word-in-6.ensures c.field-version-in-6.ensures c.field-nodes.ensures c.field-partitions.ensures c.field-in-6.ensures c.field-in-6-2.ensures in
-    c.second_header.ensures ∙ sym (ap header_of six)
+    c.later_header.ensures ∙ sym (ap header_of six)
 
 pub returns-in_default : goal.returns-in_default
 returns-in_default c = no-header (fields_of c.args.row.now) (search rules) (search rules)

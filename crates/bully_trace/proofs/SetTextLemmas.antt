@@ -1,0 +1,55 @@
+-- The text of a set that grows by a member.
+use Rattle.std.proofs.Common.{◌≡◌, ◌⊎◌, inl, inr, ◌∙◌, ℕ, ◌+◌, ◌<◌, ◌≤◌, List, [], ◌∷◌, ◌++◌, length, Some, None, append_assoc, refl, sym, ap, arith}
+use Rattle.std.specs.Prelude.{codes, reverse, nat_lt, Contains}
+use Rattle.std.specs.Fmt.{decimal}
+use Rattle.std.proofs.lemmas.Bool.Decides.{nat_tests}
+use Rattle.std.proofs.lemmas.Grind.{common_steps}
+use Rattle.std.proofs.lemmas.List.{reverse-append, length-reverse}
+use Rattle.bully_base.specs.NodeSet.{IsFallingBelow, below_node, highest_of}
+use Rattle.bully_base.proofs.NodeSetLemmas.{Has, Has-from, below_node-all}
+use Rattle.bully_table.specs.TableText.{owners_text}
+use Rattle.bully_trace.specs.TraceText.{gap_behind}
+
+-- a member of a falling list is below its bound
+has-below : (k bound : ℕ) (ms : List ℕ) → IsFallingBelow bound ms → Has ms k → k < bound
+has-below k bound [] falls has = absurd has
+has-below k bound (m ∷ ms) falls (inl is) = omega (arith, falls.1, is)
+has-below k bound (m ∷ ms) falls (inr has) = let low = has-below k m ms falls.2 has in omega (arith, low, falls.1)
+
+-- up to a member, and up to one that is none
+pub below-with : (k bound : ℕ) (ms : List ℕ) → IsFallingBelow bound ms → Has ms k → below_node (k + 1) ms ≡ k ∷ below_node k ms
+below-with k bound [] falls has = absurd has
+below-with k bound (m ∷ ms) falls (inl is) =
+    let all = below_node-all (k + 1) ms m (omega (arith, is)) falls.2 in
+    let same = below_node-all k ms m (omega (arith, is)) falls.2 in
+    grind (arith, nat_tests, is, all, same)
+below-with k bound (m ∷ ms) falls (inr has) =
+    let low = has-below k m ms falls.2 has in
+    let more = below-with k m ms falls.2 has in
+    grind (arith, nat_tests, low, more)
+
+pub below-without : (k : ℕ) (ms : List ℕ) → (Has ms k → ⊥) → below_node (k + 1) ms ≡ below_node k ms
+below-without k [] none = refl
+below-without k (m ∷ ms) none =
+    let more = below-without k ms (λ has. none (inr has)) in
+    let other : k ≡ m → ⊥ = λ is. none (inl is) in
+    grind (arith, nat_tests, more, other)
+
+-- one owner behind others
+snoc : (c : ℕ) (xs : List ℕ) (k : ℕ) → (xs ≡ [] → ⊥) → owners_text c (xs ++ k ∷ []) ≡ owners_text c xs ++ (c ∷ decimal k)
+snoc c [] k some = absurd (some refl)
+snoc c (a ∷ []) k some = grind (arith, common_steps)
+snoc c (a ∷ b ∷ xs) k some =
+    let more = snoc c (b ∷ xs) k (λ is. cc is) in
+    let same = append_assoc (decimal a) (c ∷ owners_text c (b ∷ xs)) (c ∷ decimal k) in
+    grind (arith, more, same)
+
+-- one member above others
+pub with-highest : (k : ℕ) (ms : List ℕ) → owners_text 32 (reverse (k ∷ ms)) ≡ (owners_text 32 (reverse ms) ++ gap_behind (highest_of ms)) ++ decimal k
+with-highest k [] = grind (arith, common_steps)
+with-highest k (m ∷ ms) =
+    let turned = reverse-append (k ∷ []) (m ∷ ms) in
+    let size = length-reverse (m ∷ ms) in
+    let some : reverse (m ∷ ms) ≡ [] → ⊥ = λ none. absurd (omega (arith, size, ap length none)) in
+    let same = append_assoc (owners_text 32 (reverse (m ∷ ms))) (codes " ") (decimal k) in
+    ap (owners_text 32) turned ∙ snoc 32 (reverse (m ∷ ms)) k some ∙ sym same
