@@ -1,4 +1,5 @@
 pub mod FieldLemmas
+pub mod RowForms
 pub mod HeaderLemmas
 pub mod RecordsLemmas
 pub mod RowsLemmas

@@ -1,10 +1,11 @@
 -- The text of a set that grows by a member.
-use Rattle.std.proofs.Common.{◌≡◌, ◌⊎◌, inl, inr, ◌∙◌, ℕ, ◌+◌, ◌<◌, ◌≤◌, List, [], ◌∷◌, ◌++◌, length, Some, None, append_assoc, refl, sym, ap, arith}
-use Rattle.std.specs.Prelude.{codes, reverse, nat_lt, Contains}
+use Rattle.std.proofs.Common.{◌≡◌, ◌⊎◌, inl, inr, ◌∙◌, ℕ, ◌+◌, ◌<◌, ◌≤◌, List, [], ◌∷◌, ◌++◌, length, Option, Some, None, Result, Ok, Err, append_assoc, refl, sym, ap, arith}
+use Rattle.std.specs.Prelude.{OnOk, codes, reverse}
 use Rattle.std.specs.Fmt.{decimal}
 use Rattle.std.proofs.lemmas.Bool.Decides.{nat_tests}
 use Rattle.std.proofs.lemmas.Grind.{common_steps}
 use Rattle.std.proofs.lemmas.List.{reverse-append, length-reverse}
+use Rattle.std.proofs.lemmas.Option.{same_Some}
 use Rattle.bully_base.specs.NodeSet.{IsFallingBelow, below_node, highest_of}
 use Rattle.bully_base.proofs.NodeSetLemmas.{Has, Has-from, below_node-all}
 use Rattle.bully_table.specs.TableText.{owners_text}
@@ -35,6 +36,20 @@ below-without k (m ∷ ms) none =
     let other : k ≡ m → ⊥ = λ is. none (inl is) in
     grind (arith, nat_tests, more, other)
 
+-- up to the first node, and up to the highest member
+pub below-first : (bound : ℕ) (ms : List ℕ) → IsFallingBelow bound ms → below_node 1 ms ≡ []
+below-first bound [] falls = refl
+below-first bound (m ∷ ms) falls =
+    let more = below-first m ms falls.2 in
+    grind (arith, nat_tests, falls.0, more)
+
+pub below-highest : (bound highest : ℕ) (ms : List ℕ) → IsFallingBelow bound ms → highest_of ms ≡ Some highest → below_node (highest + 1) ms ≡ ms
+below-highest bound highest [] falls is = absurd (cc is)
+below-highest bound highest (m ∷ ms) falls is =
+    let same = same_Some m highest is in
+    let all = below_node-all (highest + 1) ms m (omega (arith, same)) falls.2 in
+    grind (arith, nat_tests, same, all)
+
 -- one owner behind others
 snoc : (c : ℕ) (xs : List ℕ) (k : ℕ) → (xs ≡ [] → ⊥) → owners_text c (xs ++ k ∷ []) ≡ owners_text c xs ++ (c ∷ decimal k)
 snoc c [] k some = absurd (some refl)
@@ -53,3 +68,17 @@ with-highest k (m ∷ ms) =
     let some : reverse (m ∷ ms) ≡ [] → ⊥ = λ none. absurd (omega (arith, size, ap length none)) in
     let same = append_assoc (owners_text 32 (reverse (m ∷ ms))) (codes " ") (decimal k) in
     ap (owners_text 32) turned ∙ snoc 32 (reverse (m ∷ ms)) k some ∙ sym same
+
+-- the text behind one member more, which is written behind the space
+pub grown : {E : Type 0} (k bound : ℕ) (ms : List ℕ) (lower : Option ℕ) (start text spaced new : List ℕ) (written : Result (Unit {0}) E)
+    → IsFallingBelow bound ms → Has ms k → lower ≡ highest_of (below_node k ms) → text ≡ start ++ owners_text 32 (reverse (below_node k ms))
+    → spaced ≡ text ++ gap_behind lower → OnOk written (new ≡ spaced ++ decimal k)
+    → OnOk written (new ≡ start ++ owners_text 32 (reverse (below_node (k + 1) ms)))
+grown k bound ms lower start text spaced new (Err why) falls has is so_far gap last = tt
+grown k bound ms lower start text spaced new (Ok done) falls has is so_far gap last =
+    let before = below_node k ms in
+    let members = ap (λ (ns : List ℕ). owners_text 32 (reverse ns)) (below-with k bound ms falls has) ∙ with-highest k before in
+    let old = owners_text 32 (reverse before) in
+    let one = append_assoc start old (gap_behind (highest_of before)) in
+    let two = append_assoc start (old ++ gap_behind (highest_of before)) (decimal k) in
+    last ∙ ap (λ (t : List ℕ). t ++ decimal k) (gap ∙ rw (so_far, is) one) ∙ two ∙ ap (λ (t : List ℕ). start ++ t) (sym members)

@@ -7,6 +7,7 @@ ghost use Rattle.bully_trace.specs.declared.trace.Row.{Row as RowState};
 ghost use Rattle.bully_trace.specs.Judging.{AreAllJudged, Begins, HasJudged, IsJudgedToEnd, IsNoRow, IsNoStart, TakesRow};
 ghost use Rattle.bully_trace.specs.RecordsLeft.{EndsReading, IsUnread};
 ghost use Rattle.bully_trace.specs.Verdict.{IsJudged, IsLawfulCount, AgreesAfterEachRow};
+ghost use Rattle.bully_trace.specs.Recorded.{RecordedAgreement};
 ghost use Rattle.bully_trace.specs.VerdictText.{IsJudgedAs, verdict_text, node_lines};
 ghost use Rattle.bully_world.specs.State.{world_of};
 ghost use Rattle.bully_world.specs.World.{first_world};
@@ -37,6 +38,8 @@ pub fn check<R: Read + Drop, W: Write>(
         (λ trace. IsLawfulCount trace verdict)) }
     ensures agreement { IfOk result (λ verdict. OfTrace (R.remaining reader)
         (λ trace. AgreesAfterEachRow trace verdict)) }
+    ensures recorded { IfOk result (λ verdict. OfTrace (R.remaining reader)
+        (λ trace. RecordedAgreement trace verdict)) }
     ensures fault { IfErr result (IsFirstFault (R.remaining reader)) }
     ensures behind { IfErr result (IsReadAtItsRow (R.remaining reader)) }
     ensures silent { IfErr result (λ fault.

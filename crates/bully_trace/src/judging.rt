@@ -123,9 +123,10 @@ impl Judge {
         ensures judged { (setup : SetupState) (rows : List RowState) → length rows + 2 ≡ number → HasJudged setup rows self.old
             → HasJudged setup (rows ++ Row.Detailed event.now ∷ []) self.new }
     {
-        if self.stopped.is_none() {
-            self.stopped = detail_stop(&mut self.walk, number, event);
+        if self.stopped.is_some() {
+            return;
         }
+        self.stopped = detail_stop(&mut self.walk, number, event);
     }
 
     // Judges the claim of this row that tells all of a vector, where no row before it decided.

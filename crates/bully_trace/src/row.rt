@@ -141,11 +141,18 @@ fn seven_fields(
     requires { length (fields_of fields.now) ≡ 7 }
     ensures { IfOk result (λ row. row ≡ row_of version setup.now (fields_of fields.now)) }
 {
-    if !is_word(field(fields, 0), SAW) || !version.says_more() {
+    let word = field(fields, 0);
+    let node = field(fields, 1);
+    let status = field(fields, 2);
+    let coordinator = field(fields, 3);
+    let halter = field(fields, 4);
+    let up = field(fields, 5);
+    let owners = field(fields, 6);
+    if !is_word(word, SAW) || !version.says_more() {
         return Ok(None);
     }
-    let claim = claim_of(version, field(fields, 1), field(fields, 2), field(fields, 3));
-    whole_row(alloc, version, setup, claim, field(fields, 4), field(fields, 5), field(fields, 6))
+    let claim = claim_of(version, node, status, coordinator);
+    whole_row(alloc, version, setup, claim, halter, up, owners)
 }
 
 /// What the fields of a claim mean.

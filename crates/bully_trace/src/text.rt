@@ -2,10 +2,11 @@ ghost use Rattle.std.specs.Prelude.{◌≡◌, ◌+◌, ◌<◌, ◌∷◌, ◌+
 ghost use Rattle.std.specs.Fmt.{decimal};
 ghost use Rattle.std.specs.List.{join_with_byte};
 ghost use Rattle.std.specs.Option.{option_copied};
-ghost use Rattle.bully_base.specs.NodeSet.{below_node, highest_of};
+ghost use Rattle.bully_base.specs.NodeSet.{IsFallingBelow, below_node, highest_of};
+ghost use Rattle.bully_base.specs.declared.TheConstants.{NODES_MAX};
 ghost use Rattle.bully_table.specs.TableText.{owners_text};
 ghost use Rattle.bully_world.specs.declared.event.Event.{Event};
-ghost use Rattle.bully_trace.specs.TraceText.{call_fields, claim_fields, event_fields, gap_behind, header_fields, later_fields, line_of, row_fields, set_text};
+ghost use Rattle.bully_trace.specs.TraceText.{call_fields, claim_fields, event_fields, gap_behind, header_fields, later_fields, line_of, rest_text, row_fields, set_text};
 ghost use Rattle.bully_trace.specs.Words.{answer_word};
 ghost use Rattle.bully_trace.specs.VerdictText.{node_text, task_text, node_line, verdict_head};
 
@@ -237,13 +238,20 @@ fn push_whole(text: &mut String, whole: &WholeClaim) -> Result<(), OutOfMemory>
     ensures { OnOk result (string_bytes text.new ≡ string_bytes text.old ++ line_of (row_fields (Row.Whole whole.now))) }
 {
     push_claim(text, whole.claim())?;
+    push_rest(text, whole)?;
+    text.push('\n')
+}
+
+// Appends the fields of a whole claim that another one doesn't have.
+fn push_rest(text: &mut String, whole: &WholeClaim) -> Result<(), OutOfMemory>
+    ensures { OnOk result (string_bytes text.new ≡ string_bytes text.old ++ rest_text whole.now) }
+{
     text.push(',')?;
     push_node(text, whole.halter())?;
     text.push(',')?;
     push_set(text, whole.up())?;
     text.push(',')?;
-    push_task(text, whole.task(), ' ')?;
-    text.push('\n')
+    push_task(text, whole.task(), ' ')
 }
 
 /// Appends the members in rising order, parted by spaces, or a dash for none.
@@ -258,7 +266,8 @@ pub fn push_set(text: &mut String, set: &NodeSet) -> Result<(), OutOfMemory>
 
 // Appends the members of a set with this highest one.
 fn push_members(text: &mut String, set: &NodeSet, highest: Node) -> Result<(), OutOfMemory>
-    requires { highest_of set.now ≡ Some highest }
+    requires highest { highest_of set.now ≡ Some highest }
+    requires falling { IsFallingBelow (NODES_MAX + 1) set.now }
     ensures { OnOk result (string_bytes text.new ≡ string_bytes text.old ++ owners_text 32 (reverse set.now)) }
 {
     for before in 0..highest.number() {
@@ -269,6 +278,7 @@ fn push_members(text: &mut String, set: &NodeSet, highest: Node) -> Result<(), O
 
 // Appends the node, where it is a member: behind a space, if there is a lower one.
 fn push_member(text: &mut String, set: &NodeSet, node: Node) -> Result<(), OutOfMemory>
+    requires { IsFallingBelow (NODES_MAX + 1) set.now }
     ensures { (start : List ℕ) → string_bytes text.old ≡ start ++ owners_text 32 (reverse (below_node node set.now))
         → OnOk result (string_bytes text.new ≡ start ++ owners_text 32 (reverse (below_node (node + 1) set.now))) }
 {

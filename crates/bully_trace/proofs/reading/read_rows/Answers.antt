@@ -1,5 +1,6 @@
 use Rattle.std.proofs.Common.{◌∙◌, refl, sym, arith, rules, length-append, [], ◌∷◌}
 use Rattle.bully_trace.specs.RecordsLeft.{rows_left}
+use Rattle.bully_trace.proofs.RowForms.{rows-fit}
 use Rattle.bully_trace.proofs.TraceLemmas.{read-bad, read-more}
 use Rattle.bully_trace.proofs.reading.read_rows.Goals as goal
 
@@ -19,5 +20,6 @@ loop-rows-preserved g c =
           read-more known c.loop-rows.read.items (rows_left c.args.header.now c.loop-rows.rows) (rows_left c.args.header.now c.advance.new.self) c.in_ok-advance.field-0 c.advance.new.self.fields c.in-Some.row
           (c.loop-rows.invariant.read known read) c.in_ok-advance.ensures.takes (search rules) (omega (arith, low)) (sym c.in_ok-row.ensures ∙ c.in-Some.is) refl next;
       within = omega (arith, one, low, c.loop-rows.invariant.counted);
+      fits = rows-fit c.args.header.now.version c.args.header.now.setup c.advance.new.self.fields c.loop-rows.read.items c.in-Some.row (sym c.in_ok-row.ensures ∙ c.in-Some.is) c.loop-rows.invariant.fits;
       counted = omega (arith, one, next, c.loop-rows.invariant.counted);
     })
