@@ -95,6 +95,21 @@ says setup w i (Detail.Drop call) = has_call (call_at w i) call
 abbrev pub is_so : Setup → World → DetailedEvent → Bool
 is_so setup w e = is_node setup e.node && is_node setup (call_told e.detail).callee && says setup w e.node e.detail
 
+-- what there is to say of an event of a call in the world before it; none where there is no such call, and of another event
+abbrev pub unanswered_of : ℕ → (Call → Detail) → Option Call → Option DetailedEvent
+unanswered_of i say call = option_map (λ c. record { node = i; detail = say c }) call
+
+abbrev pub returned_of : ℕ → Pending → Option DetailedEvent
+returned_of i c = option_map (λ a. record { node = i; detail = Detail.Return c.call a }) (brought c)
+
+abbrev pub said_of : Setup → World → Event → Option DetailedEvent
+said_of setup w (Event.Start i) = unanswered_of i (λ call. Detail.Start call) (offered_call (offer setup w i))
+said_of setup w (Event.Run i) = unanswered_of i (λ call. Detail.Run call (reply call.kind (vector w call.callee))) (call_at w i)
+said_of setup w (Event.Lose i) = unanswered_of i (λ call. Detail.Lose call) (call_at w i)
+said_of setup w (Event.Return i) = option_and_then (returned_of i) (pending w i)
+said_of setup w (Event.Drop i) = unanswered_of i (λ call. Detail.Drop call) (call_at w i)
+said_of setup w _ = None
+
 abbrev pub same_status : Status → Status → Bool
 same_status Down s = is_down s
 same_status Election s = is_election s

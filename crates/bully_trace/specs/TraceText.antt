@@ -12,7 +12,6 @@ use Rattle.bully_trace.specs.declared.header.Version.{Version}
 use Rattle.bully_trace.specs.declared.trace.Claim.{Claim}
 use Rattle.bully_trace.specs.declared.trace.Row.{Row}
 use Rattle.bully_trace.specs.Details.{event_of}
-use Rattle.bully_trace.specs.Whole.{Whole}
 use Rattle.bully_trace.specs.Trace.{Trace}
 use Rattle.bully_trace.specs.VerdictText.{node_text, task_text}
 use Rattle.bully_trace.specs.Words.{answer_word, call_word, event_word, keeps_word, plan_word, status_word}
@@ -50,8 +49,8 @@ set_text [] = codes "-"
 set_text (i ∷ set) = owners_text 32 (reverse (i ∷ set))
 
 -- what a whole claim tells behind the fields of another one, each field behind a comma
-abbrev pub rest_text : Whole → List ℕ
-rest_text whole = codes "," ++ node_text whole.halter ++ codes "," ++ set_text whole.up ++ codes "," ++ task_text 32 whole.task
+abbrev pub rest_text : Option ℕ → List ℕ → Option (List ℕ) → List ℕ
+rest_text halter up task = codes "," ++ node_text halter ++ codes "," ++ set_text up ++ codes "," ++ task_text 32 task
 
 abbrev pub row_fields : Row → List (List ℕ)
 row_fields (Row.Event e) = event_fields e

@@ -1,10 +1,13 @@
 //! Whether what a row says is so in the world before it.
-ghost use Rattle.std.specs.Prelude.{◌≡◌, ◌≤◌, option_and_then};
+ghost use Rattle.std.specs.Prelude.{◌≡◌, ◌≤◌, true, option_and_then, option_map};
 ghost use Rattle.std.specs.Option.{option_copied};
+ghost use Rattle.bully_base.specs.Setup.{is_node};
 ghost use Rattle.bully_calls.specs.Slot.{pending_in};
 ghost use Rattle.bully_handlers.specs.Handler.{reply};
+ghost use Rattle.bully_handlers.specs.Vector.{is_normal};
 ghost use Rattle.bully_steps.specs.Point.{offered};
-ghost use Rattle.bully_trace.specs.Details.{brought, call_at, call_told, has_answer, has_call, is_so, is_true, is_whole, offered_call, same_task, says};
+ghost use Rattle.bully_trace.specs.Details.{brought, call_at, call_told, has_answer, has_call, is_so, is_true, is_whole, offered_call, said_of, same_task, says};
+ghost use Rattle.bully_world.specs.Cause.{node_of};
 ghost use Rattle.bully_world.specs.State.{state_at, world_of};
 ghost use Rattle.bully_world.specs.World.{pending, vector};
 
@@ -13,7 +16,7 @@ use bully_base::{Node, Status};
 use bully_calls::{Answer, Call, CallKind, Phase, Slot};
 use bully_steps::Want;
 use bully_table::Table;
-use bully_world::World;
+use bully_world::{Event, World};
 
 /// Whether the claim is true of the world.
 pub fn holds(world: &World, claim: &Claim) -> bool
@@ -71,7 +74,7 @@ fn says(world: &World, node: Node, detail: &Detail) -> bool
     match detail {
         Detail::Start(call) => offers_call(offer_of(world, node), *call),
         Detail::Run(call, answer) => {
-            has_call(world, node, *call) && reply_of(world, *call) == *answer
+            has_call(world, node, *call) && reply_of(world, call) == *answer
         }
         Detail::Lose(call) | Detail::Drop(call) => has_call(world, node, *call),
         Detail::Return(call, answer) => {
@@ -93,13 +96,60 @@ pub fn offer_of(world: &World, node: Node) -> Want
         .offers(procedure.setup(), node, coordinator)
 }
 
+/// What there is to say of the event in the world before it: none of an event without a call, and where there is no such call.
+pub fn said_of(world: &World, event: &Event) -> Option<DetailedEvent>
+    ensures { is_node world.now.setup (node_of event.now) ≡ true → result ≡ said_of world.now.setup (world_of world.now) event.now }
+{
+    let node = event.node();
+    if node.number() > world.setup().nodes() {
+        return None;
+    }
+    let detail = match event {
+        Event::Start(_) => Detail::Start(offered_call(offer_of(world, node))?),
+        Event::Run(_) => ran(world, &world.slot(node).call()?),
+        Event::Lose(_) => Detail::Lose(world.slot(node).call()?),
+        Event::Return(_) => returned(world, node)?,
+        Event::Drop(_) => Detail::Drop(world.slot(node).call()?),
+        _ => return None,
+    };
+    Some(DetailedEvent { node, detail })
+}
+
+// That the call runs, and what it is answered.
+fn ran(world: &World, call: &Call) -> Detail
+    ensures { result ≡ Detail.Run call.now (reply call.now.kind (vector (world_of world.now) call.now.callee)) }
+{
+    Detail::Run(*call, reply_of(world, call))
+}
+
+// That the call in the slot of the node returns, and what it brings; none where it can't return yet.
+fn returned(world: &World, node: Node) -> Option<Detail>
+    requires { node ≤ world.now.setup.nodes }
+    ensures { result ≡ option_and_then (λ c. option_map (λ a. Detail.Return c.call a) (brought c)) (pending (world_of world.now) node) }
+{
+    let slot = world.slot(node);
+    let call = slot.call()?;
+    let answer = brought(slot, world.generation(node))?;
+    Some(Detail::Return(call, answer))
+}
+
+// The call that is offered.
+fn offered_call(want: Want) -> Option<Call>
+    ensures { result ≡ offered_call want }
+{
+    match want {
+        Want::Start(call) => Some(call),
+        _ => None,
+    }
+}
+
 // Whether this call is offered.
 fn offers_call(want: Want, call: Call) -> bool
     ensures { result ≡ has_call (offered_call want) call }
 {
-    match want {
-        Want::Start(offered) => offered == call,
-        _ => false,
+    match offered_call(want) {
+        Some(offered) => offered == call,
+        None => false,
     }
 }
 
@@ -115,15 +165,20 @@ fn has_call(world: &World, node: Node, call: Call) -> bool
 }
 
 // What the callee answers to the call.
-fn reply_of(world: &World, call: Call) -> Answer
-    requires { call.callee ≤ world.now.setup.nodes }
-    ensures { result ≡ reply call.kind (vector (world_of world.now) call.callee) }
+fn reply_of(world: &World, call: &Call) -> Answer
+    ensures { result ≡ reply call.now.kind (vector (world_of world.now) call.now.callee) }
 {
-    match (call.kind, world.vector(call.callee).status()) {
-        (CallKind::AreYouNormal, Status::Normal) => Answer::Yes,
-        (CallKind::AreYouNormal, _) => Answer::No,
+    match call.kind {
+        CallKind::AreYouNormal if !is_normal(world, call.callee) => Answer::No,
         _ => Answer::Yes,
     }
+}
+
+// Whether the node is Normal. One that the group doesn't have is none.
+fn is_normal(world: &World, node: Node) -> bool
+    ensures { result ≡ is_normal (vector (world_of world.now) node).status }
+{
+    node.number() <= world.setup().nodes() && world.vector(node).status() == Status::Normal
 }
 
 // Whether the call in the slot of the node brings this, where it returns.

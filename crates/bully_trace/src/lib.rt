@@ -32,14 +32,14 @@ mod writing;
 
 pub use checking::check;
 pub use detail::{Detail, DetailedEvent};
-pub use details::offer_of;
+pub use details::{offer_of, said_of};
 pub use header::{Header, Version, read_weights};
 pub use judging::Judge;
 pub use node_event::{EventKind, NodeEvent};
 pub use reading::read_trace;
 pub use row::{number_within, read_node};
 pub use row_reader::{RowReader, no_header};
-pub use text::{push_node, push_row, push_set};
+pub use text::{push_header, push_node, push_row, push_set, push_vector};
 pub use trace::{Claim, Row, Rows, Trace, TraceCause, TraceFault, WholeClaim};
 pub use upgrading::upgrade;
 pub use verdict::Verdict;

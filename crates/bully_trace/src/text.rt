@@ -7,6 +7,7 @@ ghost use Rattle.bully_base.specs.declared.TheConstants.{NODES_MAX};
 ghost use Rattle.bully_table.specs.TableText.{owners_text};
 ghost use Rattle.bully_world.specs.declared.event.Event.{Event};
 ghost use Rattle.bully_trace.specs.TraceText.{call_fields, claim_fields, event_fields, gap_behind, header_fields, later_fields, line_of, rest_text, row_fields, set_text};
+ghost use Rattle.bully_trace.specs.Whole.{whole_of};
 ghost use Rattle.bully_trace.specs.Words.{answer_word};
 ghost use Rattle.bully_trace.specs.VerdictText.{node_text, task_text, node_line, verdict_head};
 
@@ -238,20 +239,39 @@ fn push_whole(text: &mut String, whole: &WholeClaim) -> Result<(), OutOfMemory>
     ensures { OnOk result (string_bytes text.new ≡ string_bytes text.old ++ line_of (row_fields (Row.Whole whole.now))) }
 {
     push_claim(text, whole.claim())?;
-    push_rest(text, whole)?;
+    push_rest(text, whole.halter(), whole.up(), whole.task())?;
+    text.push('\n')
+}
+
+/// Appends the line of a claim that tells all of this node's vector.
+pub fn push_vector(text: &mut String, node: Node, vector: &Vector) -> Result<(), OutOfMemory>
+    ensures { OnOk result (string_bytes text.new ≡ string_bytes text.old ++ line_of (row_fields (Row.Whole (whole_of node vector.now.vector)))) }
+{
+    let claim = Claim {
+        node,
+        status: vector.status(),
+        coordinator: vector.coordinator(),
+    };
+    push_claim(text, claim)?;
+    push_rest(text, vector.halter(), vector.up(), vector.task())?;
     text.push('\n')
 }
 
 // Appends the fields of a whole claim that another one doesn't have.
-fn push_rest(text: &mut String, whole: &WholeClaim) -> Result<(), OutOfMemory>
-    ensures { OnOk result (string_bytes text.new ≡ string_bytes text.old ++ rest_text whole.now) }
+fn push_rest(
+    text: &mut String,
+    halter: Option<Node>,
+    up: &NodeSet,
+    task: Option<&Table>,
+) -> Result<(), OutOfMemory>
+    ensures { OnOk result (string_bytes text.new ≡ string_bytes text.old ++ rest_text halter up.now (option_copied task.entry)) }
 {
     text.push(',')?;
-    push_node(text, whole.halter())?;
+    push_node(text, halter)?;
     text.push(',')?;
-    push_set(text, whole.up())?;
+    push_set(text, up)?;
     text.push(',')?;
-    push_task(text, whole.task(), ' ')
+    push_task(text, task, ' ')
 }
 
 /// Appends the members in rising order, parted by spaces, or a dash for none.
