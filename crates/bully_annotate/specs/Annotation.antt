@@ -1,0 +1,20 @@
+-- What annotating a trace comes to.
+use Rattle.std.specs.Prelude.{◌≡◌, ◌≢◌, ◌<◌, ◌≤◌, ℕ, List, length}
+use Rattle.bully_trace.specs.declared.TheConstants.{ROWS_MAX}
+use Rattle.bully_trace.specs.declared.verdict.Verdict.{Verdict}
+use Rattle.bully_trace.specs.Trace.{Trace}
+use Rattle.bully_trace.specs.TraceText.{trace_text}
+use Rattle.bully_trace.specs.Verdict.{IsVerdict}
+use Rattle.bully_world.specs.World.{World}
+use Rattle.bully_annotate.specs.declared.annotation.Annotation.{Annotation}
+use Rattle.bully_annotate.specs.Annotated.{annotated}
+
+-- what is told of the trace is so, and this was written: where it is lawful, and no longer with everything said than a trace may
+-- be, the trace with everything said, which is as lawful; else nothing
+abbrev pub IsAnnotationOf : Trace → Annotation → (List ℕ → Type 0) → Type 0 → Type 0
+IsAnnotationOf trace (Annotation.Written count) Writes silent =
+    (w : World) × IsVerdict trace (Verdict.Lawful count) w × IsVerdict (annotated trace) (Verdict.Lawful count) w
+    × (length (annotated trace).rows ≤ ROWS_MAX) × Writes (trace_text (annotated trace))
+IsAnnotationOf trace (Annotation.Unlawful verdict) Writes silent =
+    (w : World) × IsVerdict trace verdict w × ((count : ℕ) → verdict ≢ Verdict.Lawful count) × silent
+IsAnnotationOf trace Annotation.TooLong Writes silent = (ROWS_MAX < length (annotated trace).rows) × silent
