@@ -113,7 +113,7 @@ of-call setup w i e say (Some call) d so is = subst (IsSaid setup w e) (same_Som
 call-there : (w : World) (i : ℕ) (call : Call) → call_at w i ≡ Some call → has_call (call_at w i) call ≡ true
 call-there w i call there = rw there (call-itself call)
 
-slot-node : (setup : Setup) (w : World) (i : ℕ) (call : Call) → WorldInvariant setup w → call_at w i ≡ Some call → IsNode setup call.callee
+pub slot-node : (setup : Setup) (w : World) (i : ℕ) (call : Call) → WorldInvariant setup w → call_at w i ≡ Some call → IsNode setup call.callee
 slot-node setup w i call fits there = by_pending (pending w i) refl there
   where
     by_pending : (q : Option Pending) → pending w i ≡ q → option_map (λ (c : Pending). c.call) q ≡ Some call → IsNode setup call.callee
@@ -263,19 +263,19 @@ event-lawful setup w mid count e a rows after w' (events, answers, lawful, count
     (λ d is. said-so setup w e mid a d fits node step is)
     (behind-change setup w mid (count + 1) (place_of w e) rows after w' (place-node setup w e fits node) more)
 
-said-event : (setup : Setup) (w mid : World) (e : Event) (a : Answer) (rows : List Row) → Step setup w e mid a
+pub said-event : (setup : Setup) (w mid : World) (e : Event) (a : Answer) (rows : List Row) → Step setup w e mid a
     → (elim (step_of setup w e) as (λ _. List Row) [ | None ↦ [] | Some r ↦ event_rows setup w e r.0 ++ rows_said setup r.0 rows ]) ≡ event_rows setup w e mid ++ rows_said setup mid rows
 said-event setup w mid e a rows step = rw ((step_is_computed setup w e mid a).1 step) refl
 
 -- a true claim is of a node
-claim-node : (setup : Setup) (w : World) (c : Claim) → is_true setup w c ≡ true → IsNode setup c.node
+pub claim-node : (setup : Setup) (w : World) (c : Claim) → is_true setup w c ≡ true → IsNode setup c.node
 claim-node setup w c holds = by_node (is_node setup c.node) refl holds
   where
     by_node : (b : Bool) → is_node setup c.node ≡ b → (b && same_status c.status (vector w c.node).status && same_node c.coordinator (vector w c.node).coordinator) ≡ true → IsNode setup c.node
     by_node true node holds = grind (arith, nat_tests, node)
     by_node false node holds = absurd (cc holds)
 
-whole-claim : (setup : Setup) (w : World) (whole : Whole) → is_whole setup w whole ≡ true → is_true setup w whole.claim ≡ true
+pub whole-claim : (setup : Setup) (w : World) (whole : Whole) → is_whole setup w whole ≡ true → is_true setup w whole.claim ≡ true
 whole-claim setup w whole holds = by_claim (is_true setup w whole.claim) refl holds
   where
     by_claim : (b : Bool) → is_true setup w whole.claim ≡ b → (b && same_node (vector w whole.claim.node).halter whole.halter && same_set (vector w whole.claim.node).up whole.up && same_task (vector w whole.claim.node).task whole.task) ≡ true → is_true setup w whole.claim ≡ true

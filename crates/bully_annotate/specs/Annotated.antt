@@ -38,8 +38,11 @@ abbrev pub shown_row : World → ℕ → Row
 shown_row w i = Row.Whole (whole_of i (vector w i))
 
 -- the vector of a node behind a step, where it isn't the one before it
+abbrev pub shown_unless : Bool → World → ℕ → List Row
+shown_unless same w i = if same then [] else shown_row w i ∷ []
+
 abbrev pub shown_change : World → World → ℕ → List Row
-shown_change w w' i = if same_vector (vector w i) (vector w' i) then [] else shown_row w' i ∷ []
+shown_change w w' i = shown_unless (same_vector (vector w i) (vector w' i)) w' i
 
 -- the rows of an event that leads from w to w'
 abbrev pub event_rows : Setup → World → Event → World → List Row

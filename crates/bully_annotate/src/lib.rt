@@ -5,5 +5,9 @@
 #![tactic(auto)]
 
 mod annotation;
+mod annotator;
+mod saying;
+mod seen;
 
 pub use annotation::Annotation;
+pub use annotator::Annotator;

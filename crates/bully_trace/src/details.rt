@@ -1,7 +1,6 @@
 //! Whether what a row says is so in the world before it.
-ghost use Rattle.std.specs.Prelude.{◌≡◌, ◌≤◌, true, option_and_then, option_map};
+ghost use Rattle.std.specs.Prelude.{◌≡◌, ◌≤◌, option_and_then, option_map};
 ghost use Rattle.std.specs.Option.{option_copied};
-ghost use Rattle.bully_base.specs.Setup.{is_node};
 ghost use Rattle.bully_calls.specs.Slot.{pending_in};
 ghost use Rattle.bully_handlers.specs.Handler.{reply};
 ghost use Rattle.bully_handlers.specs.Vector.{is_normal};
@@ -43,8 +42,8 @@ pub fn is_whole(world: &World, whole: &WholeClaim) -> bool
         && same_task(vector.task(), whole.task())
 }
 
-// Whether the two have the same owners, or are none.
-fn same_task(one: Option<&Table>, other: Option<&Table>) -> bool
+/// Whether the two have the same owners, or are none.
+pub fn same_task(one: Option<&Table>, other: Option<&Table>) -> bool
     ensures { result ≡ same_task (option_copied one.entry) (option_copied other.entry) }
 {
     match (one, other) {
@@ -98,7 +97,7 @@ pub fn offer_of(world: &World, node: Node) -> Want
 
 /// What there is to say of the event in the world before it: none of an event without a call, and where there is no such call.
 pub fn said_of(world: &World, event: &Event) -> Option<DetailedEvent>
-    ensures { is_node world.now.setup (node_of event.now) ≡ true → result ≡ said_of world.now.setup (world_of world.now) event.now }
+    ensures { node_of event.now ≤ world.now.setup.nodes → result ≡ said_of world.now.setup (world_of world.now) event.now }
 {
     let node = event.node();
     if node.number() > world.setup().nodes() {
@@ -106,10 +105,10 @@ pub fn said_of(world: &World, event: &Event) -> Option<DetailedEvent>
     }
     let detail = match event {
         Event::Start(_) => Detail::Start(offered_call(offer_of(world, node))?),
-        Event::Run(_) => ran(world, &world.slot(node).call()?),
-        Event::Lose(_) => Detail::Lose(world.slot(node).call()?),
+        Event::Run(_) => ran(world, &call_at(world, node)?),
+        Event::Lose(_) => Detail::Lose(call_at(world, node)?),
         Event::Return(_) => returned(world, node)?,
-        Event::Drop(_) => Detail::Drop(world.slot(node).call()?),
+        Event::Drop(_) => Detail::Drop(call_at(world, node)?),
         _ => return None,
     };
     Some(DetailedEvent { node, detail })
@@ -153,12 +152,20 @@ fn offers_call(want: Want, call: Call) -> bool
     }
 }
 
+/// The call in the slot of the node, which is at most the setup's last.
+pub fn call_at(world: &World, node: Node) -> Option<Call>
+    requires { node ≤ world.now.setup.nodes }
+    ensures { result ≡ call_at (world_of world.now) node }
+{
+    world.slot(node).call()
+}
+
 // Whether this call is in the slot of the node.
 fn has_call(world: &World, node: Node, call: Call) -> bool
     requires { node ≤ world.now.setup.nodes }
     ensures { result ≡ has_call (call_at (world_of world.now) node) call }
 {
-    match world.slot(node).call() {
+    match call_at(world, node) {
         Some(there) => there == call,
         None => false,
     }

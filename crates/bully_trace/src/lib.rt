@@ -32,14 +32,14 @@ mod writing;
 
 pub use checking::check;
 pub use detail::{Detail, DetailedEvent};
-pub use details::{offer_of, said_of};
+pub use details::{call_at, offer_of, said_of, same_task};
 pub use header::{Header, Version, read_weights};
 pub use judging::Judge;
 pub use node_event::{EventKind, NodeEvent};
 pub use reading::read_trace;
 pub use row::{number_within, read_node};
 pub use row_reader::{RowReader, no_header};
-pub use text::{push_header, push_node, push_row, push_set, push_vector};
+pub use text::{push_detailed, push_event, push_header, push_node, push_row, push_set, push_vector};
 pub use trace::{Claim, Row, Rows, Trace, TraceCause, TraceFault, WholeClaim};
 pub use upgrading::upgrade;
 pub use verdict::Verdict;
@@ -48,7 +48,7 @@ pub use words::{
     call_named, call_word, cause_word, is_word, kind_named, outcome_named, reply_named, status_named,
     status_word,
 };
-pub use writing::write_trace;
+pub use writing::{not_written, write_trace};
 
 /// The most rows of a trace after its header. The profile's limit.
 pub const ROWS_MAX: u32 = 1_000_000;

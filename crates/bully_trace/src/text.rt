@@ -131,7 +131,7 @@ pub fn push_row(text: &mut String, row: &Row) -> Result<(), OutOfMemory>
 {
     match row {
         Row::Event(event) => push_event(text, event),
-        Row::Detailed(event) => push_detailed(text, *event),
+        Row::Detailed(event) => push_detailed(text, event),
         Row::Claim(claim) => {
             push_claim(text, *claim)?;
             text.push('\n')
@@ -140,8 +140,8 @@ pub fn push_row(text: &mut String, row: &Row) -> Result<(), OutOfMemory>
     }
 }
 
-// Appends the line of an event.
-fn push_event(text: &mut String, event: &Event) -> Result<(), OutOfMemory>
+/// Appends the line of an event.
+pub fn push_event(text: &mut String, event: &Event) -> Result<(), OutOfMemory>
     ensures { OnOk result (string_bytes text.new ≡ string_bytes text.old ++ line_of (event_fields event.now)) }
 {
     match event {
@@ -178,9 +178,9 @@ fn push_plan(text: &mut String, node: Node, table: &Table) -> Result<(), OutOfMe
     text.push('\n')
 }
 
-// Appends the line of an event of a call, and of what is said beside it.
-fn push_detailed(text: &mut String, event: DetailedEvent) -> Result<(), OutOfMemory>
-    ensures { OnOk result (string_bytes text.new ≡ string_bytes text.old ++ line_of (row_fields (Row.Detailed event))) }
+/// Appends the line of an event of a call, and of what is said beside it.
+pub fn push_detailed(text: &mut String, event: &DetailedEvent) -> Result<(), OutOfMemory>
+    ensures { OnOk result (string_bytes text.new ≡ string_bytes text.old ++ line_of (row_fields (Row.Detailed event.now))) }
 {
     let node = event.node;
     match event.detail {
