@@ -1,8 +1,9 @@
 -- What is written of one row.
-use Rattle.std.proofs.Common.{◌≡◌, ◌∙◌, ℕ, ◌+◌, ◌++◌, Bool, true, false, List, [], ◌∷◌, Option, Some, None, MatchOption, length, refl, sym, ap, subst}
+use Rattle.std.proofs.Common.{add-one, drop-cons, suc, take, ◌≤◌, ◌≡◌, ◌∙◌, ℕ, ◌+◌, ◌++◌, Bool, true, false, List, [], ◌∷◌, Option, Some, None, MatchOption, length, drop, refl, sym, ap, subst, arith}
 use Rattle.std.specs.Bool.{MatchBool}
-use Rattle.std.specs.Prelude.{IfOk, OnOk, Result, Ok, Err}
-use Rattle.std.proofs.lemmas.List.{append-nil, append_assoc}
+use Rattle.std.specs.Prelude.{IfOk, OnOk, Result, Ok, Err, slice_get}
+use Rattle.std.proofs.lemmas.Option.{slice_get_within, get_or_from_slice_get}
+use Rattle.std.proofs.lemmas.List.{append-nil, append_assoc, length-append, length-take-le, take_more, take_all}
 use Rattle.bully_handlers.specs.Vector.{StoredVector, Vector}
 use Rattle.bully_trace.specs.TraceText.{line_of, row_fields, rows_text}
 use Rattle.bully_world.proofs.MembersOf.{member-members_of}
@@ -13,17 +14,19 @@ use Rattle.bully_world.specs.declared.event.Refused.{Refused}
 use Rattle.bully_world.specs.Cause.{cause}
 use Rattle.bully_world.specs.State.{WorldState, cause_in, state_at, world_of}
 use Rattle.bully_world.specs.Step.{Step}
-use Rattle.bully_world.specs.World.{Member, World, vector}
+use Rattle.bully_world.specs.World.{Member, World, first_world, vector}
 use Rattle.bully_world.proofs.StepOfLemmas.{step_is_one}
 use Rattle.bully_trace.specs.declared.detail.DetailedEvent.{DetailedEvent}
 use Rattle.bully_trace.specs.declared.trace.Claim.{Claim}
 use Rattle.bully_trace.specs.declared.trace.Row.{Row}
 use Rattle.bully_trace.specs.declared.verdict.Verdict.{Verdict}
 use Rattle.bully_trace.specs.Details.{event_of, is_so, is_true, is_whole}
-use Rattle.bully_trace.specs.Verdict.{IsJudged}
+use Rattle.bully_trace.specs.Judging.{HasJudged, JudgeState}
+use Rattle.bully_trace.specs.Trace.{Trace}
+use Rattle.bully_trace.specs.Verdict.{IsJudged, IsVerdict}
 use Rattle.bully_trace.specs.Whole.{Whole, whole_of}
 use Rattle.bully_annotate.specs.Annotated.{event_rows, rows_said, shown_row}
-use Rattle.bully_annotate.specs.Says.{IsLawfulFrom, Says, Shows, Steps}
+use Rattle.bully_annotate.specs.Says.{GoesOn, IsLawfulFrom, Says, Shows, Steps}
 use Rattle.bully_annotate.proofs.SaidLemmas.{claim-node, said-event, whole-claim}
 
 -- the rows behind an event that was taken
@@ -152,3 +155,59 @@ event-written old mid new said change first then =
 -- the node's vector in the world that the kept one stands for
 pub vector-there : (world : WorldState) (i : ℕ) (v : StoredVector) → v ≡ (state_at world i).vector → v.vector ≡ vector (world_of world) i
 vector-there world i v is = ap (λ (v : StoredVector). v.vector) is ∙ sym (ap (λ (m : Member). m.vector) (member-members_of world.members i))
+
+-- ---- the loop over rows
+
+-- one row more
+pub goes-further : (first world next : WorldState) (all : List Row) (k : ℕ) (row : Row) (start text text' : List ℕ) (count more : ℕ)
+    → GoesOn first world all (drop k all) start text count → drop k all ≡ row ∷ drop (k + 1) all
+    → ((number : ℕ) (others : List Row) (after : ℕ) (w : World) → IsLawfulFrom world number (row ∷ others) after w → Says world next number row others after w text text' more)
+    → GoesOn first next all (drop (k + 1) all) start text' (count + more)
+goes-further first world next all k row start text text' count more goes splits says =
+    let others = drop (k + 1) all in
+    let (number, after, w, lawful) = goes.lawful in
+    let s = says number others after w (rw splits at lawful) in
+    record {
+      rows = goes.rows ++ s.rows;
+      said = goes.said ∙ ap (λ (rs : List Row). goes.rows ++ rs) (ap (λ (rs : List Row). rows_said world.setup (world_of world) rs) splits ∙ s.all)
+          ∙ sym (append_assoc goes.rows s.rows (rows_said next.setup (world_of next) others));
+      counted = omega (arith, length-append goes.rows s.rows, goes.counted, s.counted);
+      written = s.written ∙ ap (λ (t : List ℕ). t ++ rows_text s.rows) goes.written ∙ append_assoc start (rows_text goes.rows) (rows_text s.rows)
+          ∙ ap (λ (t : List ℕ). start ++ t) (sym (rows_text-append goes.rows s.rows));
+      lawful = (number + 1, after, w, s.lawful);
+    }
+  where
+    rows_text-append : (rows more : List Row) → rows_text (rows ++ more) ≡ rows_text rows ++ rows_text more
+    rows_text-append [] more = refl
+    rows_text-append (r ∷ rows) more = ap (λ (t : List ℕ). line_of (row_fields r) ++ t) (rows_text-append rows more) ∙ sym (append_assoc (line_of (row_fields r)) (rows_text rows) (rows_text more))
+
+row-at : (xs : List Row) (k : ℕ) (x : Row) → slice_get xs k ≡ Some x → drop k xs ≡ x ∷ drop (k + 1) xs
+row-at xs k x there = rw (add-one k) (drop-cons xs k x (slice_get_within xs k x there) ∙ ap (λ (y : Row). y ∷ drop (suc k) xs) (get_or_from_slice_get xs k x x there))
+
+pub goes-on-at : (first world next : WorldState) (all : List Row) (k : ℕ) (row : Row) (start text text' : List ℕ) (count more : ℕ)
+    → GoesOn first world all (drop k all) start text count → slice_get all k ≡ Some row
+    → ((number : ℕ) (others : List Row) (after : ℕ) (w : World) → IsLawfulFrom world number (row ∷ others) after w → Says world next number row others after w text text' more)
+    → GoesOn first next all (drop (k + 1) all) start text' (count + more)
+goes-on-at first world next all k row start text text' count more goes there says =
+    goes-further first world next all k row start text text' count more goes (row-at all k row there) says
+
+-- ---- the loop that judges
+
+pub judged-taken : (setup : Setup) (rows : List Row) (k number : ℕ) (row : Row) (before behind : JudgeState) → slice_get rows k ≡ Some row → number ≡ k + 2
+    → ((setup : Setup) (rows : List Row) → length rows + 2 ≡ number → HasJudged setup rows before → HasJudged setup (rows ++ row ∷ []) behind)
+    → HasJudged setup (take k rows) before → HasJudged setup (take (k + 1) rows) behind
+judged-taken setup rows k number row before behind there at says judged =
+    let within = slice_get_within rows k row there in
+    let size : length (take k rows) ≡ k = length-take-le k rows (omega (arith, within)) in
+    let one : take (k + 1) rows ≡ take k rows ++ row ∷ [] =
+    take_more rows k row within ∙ ap (λ (y : Row). take k rows ++ y ∷ []) (get_or_from_slice_get rows k row row there) in
+    rw one (says setup (take k rows) (omega (arith, size, at)) judged)
+
+pub judged-whole : (setup : Setup) (rows : List Row) (k : ℕ) (judge : JudgeState) → length rows ≤ k → HasJudged setup (take k rows) judge → HasJudged setup rows judge
+judged-whole setup rows k judge past judged = subst (λ rs. HasJudged setup rs judge) (take_all k rows past) judged
+
+-- ---- where it begins
+
+pub begins-lawful : (trace : Trace) (world : WorldState) (after : ℕ) (w : World) → world.setup ≡ trace.setup → world_of world ≡ first_world trace.setup → world.events ≡ 0
+    → IsVerdict trace (Verdict.Lawful after) w → IsLawfulFrom world 2 trace.rows after w
+begins-lawful trace world after w setup first none v = rw (setup, first, none) v

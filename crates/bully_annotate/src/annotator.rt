@@ -30,12 +30,14 @@ impl Annotator {
     ghost use Rattle.std.specs.Prelude.{◌≡◌, ◌≤◌, ◌∷◌, ℕ, List, None, IfOk, string_bytes};
     ghost use Rattle.bully_annotate.specs.Says.{IsLawfulFrom, Says, Shows, Steps};
     ghost use Rattle.bully_trace.specs.declared.trace.Row.{Row as RowState};
-    ghost use Rattle.bully_world.specs.State.{cause_in, first_state};
-    ghost use Rattle.bully_world.specs.World.{World as WorldOf};
+    ghost use Rattle.bully_world.specs.State.{cause_in, world_of};
+    ghost use Rattle.bully_world.specs.World.{World as WorldOf, first_world};
 
     /// Before any row. Refused where an allocation fails.
     pub fn new(alloc: Global, setup: &Setup) -> Result<Annotator, OutOfMemory>
-        ensures { IfOk result (λ a. a ≡ first_state setup.now) }
+        ensures setup { IfOk result (λ a. a.setup ≡ setup.now) }
+        ensures first { IfOk result (λ a. world_of a ≡ first_world setup.now) }
+        ensures none { IfOk result (λ a. a.events ≡ 0) }
     {
         Ok(Annotator {
             walk: Walk::new(alloc, *setup)?,

@@ -8,6 +8,6 @@ mod annotation;
 mod annotator;
 mod saying;
 mod seen;
+mod writing;
 
-pub use annotation::Annotation;
-pub use annotator::Annotator;
+pub use annotation::{Annotation, annotate};
