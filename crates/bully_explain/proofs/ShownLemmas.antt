@@ -1,16 +1,8 @@
 -- What is shown of the nodes of a world.
 use Rattle.std.proofs.Common.{◌≡◌, ℕ, ◌+◌, ◌++◌, List, [], ◌∷◌, length, arith, subst}
-use Rattle.bully_base.specs.Setup.{Setup}
-use Rattle.bully_steps.specs.declared.point.Point.{Point}
-use Rattle.bully_steps.specs.Point.{IsPointOf}
-use Rattle.bully_steps.specs.ProcedureState.{IsProcedureState, ProcedureState}
 use Rattle.bully_world.specs.State.{WorldState}
 use Rattle.bully_explain.specs.declared.showing.NodeSheet.{NodeSheet}
 use Rattle.bully_explain.specs.Shown.{Shows, ShowsFrom}
-
--- a procedure keeps that its point is one of its node's
-pub point-of : (h : ProcedureState) (setup : Setup) (i : ℕ) (p : Point) → IsProcedureState h → setup ≡ h.setup → i ≡ h.node → p ≡ h.point → IsPointOf setup i p
-point-of h setup i p is same node at = rw (same, node, at) is.point
 
 -- one more node is shown
 pub shows-more : (w : WorldState) (i j : ℕ) (sheets : List NodeSheet) (sheet : NodeSheet) → length sheets + i ≡ j → ShowsFrom w i sheets → Shows w j sheet

@@ -90,8 +90,11 @@ impl Account {
     fn remember(&mut self, number: u32, row: &Row, moves: Option<bool>)
         ensures { self.new ≡ self.old }
     {
-        if let Row::Event(event) = row {
-            self.memories.take(self.judge.world(), number, event, moves);
+        let world = self.judge.world();
+        match row {
+            Row::Event(event) => self.memories.take(world, number, event, moves),
+            Row::Detailed(event) => self.memories.take(world, number, &event.event(), moves),
+            Row::Claim(_) | Row::Whole(_) => {}
         }
     }
 
@@ -139,7 +142,8 @@ impl Account {
 fn moves_point_by(world: &World, row: &Row) -> Option<bool> {
     match row {
         Row::Event(event) => moves_point(world, event),
-        Row::Claim(_) => Some(false),
+        Row::Detailed(event) => moves_point(world, &event.event()),
+        Row::Claim(_) | Row::Whole(_) => Some(false),
     }
 }
 

@@ -1,5 +1,5 @@
-//! What a verdict saw: the sheet that explains a refused row, a false claim, a fault of form, or a lawful trace; and the one
-//! that explains the first fault of a configuration.
+//! What a verdict saw: the sheet that explains a refused row, one that says something else than the group shows, a fault of
+//! form, or a lawful trace; and the one that explains the first fault of a configuration.
 //!
 //! It stands on bully_trace, whose judge decides, on bully_config, whose refusals are told, and on the crates below these.
 //! The program relies on the verdict that is explained being that of `check`, on what is shown of a node being what the
@@ -11,6 +11,7 @@ mod account;
 mod config;
 mod config_text;
 mod deed;
+mod differing;
 mod explaining;
 mod form;
 mod form_text;
@@ -22,6 +23,7 @@ mod reading;
 mod sentences;
 mod sheet_text;
 mod showing;
+mod sides;
 mod words;
 
 pub use account::{Account, Stop};

@@ -1,13 +1,12 @@
 ghost use Rattle.std.specs.Prelude.{◌≡◌, ◌≤◌, [], option_map, IfOk, OnOk};
 ghost use Rattle.bully_calls.specs.Slot.{pending_in};
 ghost use Rattle.bully_explain.specs.Shown.{Shows, ShowsAll, shown_call, shown_in};
-ghost use Rattle.bully_steps.specs.Point.{offered};
-ghost use Rattle.bully_world.specs.State.{state_at};
 
 use crate::{Deed, possible_now};
 use bully_base::{Node, NodeSet, OutOfMemory, Status};
 use bully_calls::{Call, Phase, Slot};
 use bully_steps::{Point, Want};
+use bully_trace::offer_of;
 use bully_world::World;
 use std::alloc::Global;
 
@@ -89,19 +88,6 @@ pub fn shown_of(world: &World, node: Node) -> Shown
         offer: offer_of(world, node),
         call: shown_call(world.slot(node), world.generation(node)),
     }
-}
-
-// What the point of the node offers.
-// (a procedure keeps that its point is one of its node's)
-fn offer_of(world: &World, node: Node) -> Want
-    requires { node ≤ world.now.setup.nodes }
-    ensures { result ≡ offered world.now.setup (state_at world.now node).vector.vector.coordinator (state_at world.now node).point }
-{
-    let procedure = world.procedure(node);
-    let coordinator = world.vector(node).coordinator();
-    procedure
-        .point()
-        .offers(procedure.setup(), node, coordinator)
 }
 
 // The call in the slot of a caller of this generation.

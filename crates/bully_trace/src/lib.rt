@@ -32,14 +32,17 @@ mod writing;
 
 pub use checking::check;
 pub use detail::{Detail, DetailedEvent};
-pub use details::{call_at, offer_of, said_of, same_task};
+pub use details::{brought, call_at, offer_of, reply_of, said_of, same_task};
 pub use header::{Header, Version, read_weights};
 pub use judging::Judge;
 pub use node_event::{EventKind, NodeEvent};
 pub use reading::read_trace;
-pub use row::{number_within, read_node};
+pub use row::{number_within, read_coordinator, read_node};
 pub use row_reader::{RowReader, no_header};
-pub use text::{push_detailed, push_event, push_header, push_node, push_row, push_set, push_vector};
+pub use saying::read_set;
+pub use text::{
+    push_detailed, push_event, push_header, push_node, push_row, push_set, push_task, push_vector,
+};
 pub use trace::{Claim, Row, Rows, Trace, TraceCause, TraceFault, WholeClaim};
 pub use upgrading::upgrade;
 pub use verdict::Verdict;

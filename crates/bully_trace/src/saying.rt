@@ -117,8 +117,8 @@ pub fn whole_row(
     }
 }
 
-// A set of nodes in rising order, parted by single spaces, or the empty one where the text is a dash.
-fn read_set(version: Version, text: &[u8]) -> Option<NodeSet>
+/// A set of nodes in rising order, parted by single spaces, or the empty one where the text is a dash.
+pub fn read_set(version: Version, text: &[u8]) -> Option<NodeSet>
     ensures { result ≡ set_in version text.now }
 {
     if is_word(text, "-") {

@@ -1,0 +1,145 @@
+//! What a row says beside what the group shows, where the two differ.
+
+use crate::sentences::push_no_node;
+use crate::sides::{Side, push_heads, push_sides};
+use crate::{NodeSheet, Shown};
+use bully_base::{Node, OutOfMemory, Setup};
+use bully_calls::{Answer, Call};
+use bully_steps::Want;
+use bully_table::Table;
+use bully_trace::{
+    Claim, Detail, DetailedEvent, WholeClaim, answer_word, brought, call_word, reply_of, status_word,
+};
+use bully_world::World;
+
+/// Appends why the claim is false: what it says of the node and what the group shows, side by side. The node has this sheet,
+/// where the group has it.
+pub fn push_claimed(
+    text: &mut String,
+    setup: &Setup,
+    claim: Claim,
+    sheet: Option<&NodeSheet>,
+) -> Result<(), OutOfMemory> {
+    text.push_str("differs: ")?;
+    match sheet {
+        Some(sheet) => push_claim(text, claim, &sheet.shown),
+        None => {
+            push_no_node(text, setup, claim.node)?;
+            text.push('\n')
+        }
+    }
+}
+
+// Appends the status and the coordinator that are claimed of the node, and beside them what the group shows.
+fn push_claim(text: &mut String, claim: Claim, shown: &Shown) -> Result<(), OutOfMemory> {
+    let number = claim.node.number();
+    writeln!(text, "node {number} isn't as it is claimed")?;
+    push_heads(text, "claimed")?;
+    let claimed = Side::Word(status_word(claim.status));
+    push_sides(text, "status", claimed, Side::Word(status_word(shown.status)))?;
+    let claimed = Side::Node(claim.coordinator);
+    push_sides(text, "coordinator", claimed, Side::Node(shown.coordinator))
+}
+
+/// Appends why the claim that tells all of a vector is false, as [`push_claimed`] does, and then the rest of that vector.
+pub fn push_whole_claimed(
+    text: &mut String,
+    world: &World,
+    whole: &WholeClaim,
+    sheet: Option<&NodeSheet>,
+) -> Result<(), OutOfMemory> {
+    let claim = whole.claim();
+    push_claimed(text, world.setup(), claim, sheet)?;
+    let Some(sheet) = sheet else {
+        return Ok(());
+    };
+    let shown = &sheet.shown;
+    push_sides(text, "halter", Side::Node(whole.halter()), Side::Node(shown.halter))?;
+    push_sides(text, "up", Side::Set(whole.up()), Side::Set(&shown.up))?;
+    let owners = task_of(world, claim.node);
+    push_sides(text, "owners", Side::Task(whole.task()), Side::Task(owners))
+}
+
+// The owners that the group shows at the node; none where it doesn't have the node.
+fn task_of(world: &World, node: Node) -> Option<&Table> {
+    if node.number() > world.setup().nodes() {
+        return None;
+    }
+    world.vector(node).task()
+}
+
+/// Appends why what is said beside the event isn't so: the call that it tells and the one that the group has, side by side; of
+/// a run what is answered, too, and of a return what it brings. The event's node has this sheet, where the group has it.
+pub fn push_detailed(
+    text: &mut String,
+    world: &World,
+    event: &DetailedEvent,
+    sheet: Option<&NodeSheet>,
+) -> Result<(), OutOfMemory> {
+    let Some(sheet) = sheet else {
+        return Ok(());
+    };
+    let number = event.node.number();
+    writeln!(text, "differs: the call of node {number} isn't as it is told")?;
+    push_heads(text, "told")?;
+    let shown = call_of(&event.detail, &sheet.shown);
+    push_calls(text, event.detail.call(), shown)?;
+    match event.detail {
+        Detail::Run(_, answer) => push_answers(text, "answer", answer, answer_of(world, shown)),
+        Detail::Return(_, answer) => {
+            push_answers(text, "outcome", answer, outcome_of(world, event.node))
+        }
+        Detail::Start(_) | Detail::Lose(_) | Detail::Drop(_) => Ok(()),
+    }
+}
+
+// The call that the group has for such an event of a node of which this is shown: that which its point offers for a start, and
+// else the one in its slot.
+fn call_of(detail: &Detail, shown: &Shown) -> Option<Call> {
+    match (detail, shown.offer) {
+        (Detail::Start(_), Want::Start(call)) => Some(call),
+        (Detail::Start(_), _) => None,
+        _ => Some(shown.call?.call),
+    }
+}
+
+// Appends the call that is told and the one that the group has, its kind and its callee each on a line.
+fn push_calls(text: &mut String, told: Call, shown: Option<Call>) -> Result<(), OutOfMemory> {
+    let (kind, callee) = match shown {
+        Some(call) => (call_word(call.kind), Some(call.callee)),
+        None => ("-", None),
+    };
+    push_sides(text, "call", Side::Word(call_word(told.kind)), Side::Word(kind))?;
+    push_sides(text, "callee", Side::Node(Some(told.callee)), Side::Node(callee))
+}
+
+// What the callee answers to the call.
+fn answer_of(world: &World, call: Option<Call>) -> Option<Answer> {
+    let call = call?;
+    if call.callee.number() > world.setup().nodes() {
+        return None;
+    }
+    Some(reply_of(world, call))
+}
+
+// What the call in the slot of the node brings.
+fn outcome_of(world: &World, node: Node) -> Option<Answer> {
+    if node.number() > world.setup().nodes() {
+        return None;
+    }
+    brought(world.slot(node), world.generation(node))
+}
+
+// Appends the line of an answer or an outcome, of this name.
+fn push_answers(
+    text: &mut String,
+    part: &str,
+    told: Answer,
+    shown: Option<Answer>,
+) -> Result<(), OutOfMemory> {
+    let shown = match shown {
+        Some(answer) => answer_word(answer),
+        None => "-",
+    };
+    push_sides(text, part, Side::Word(answer_word(told)), Side::Word(shown))
+}
