@@ -1,14 +1,15 @@
 //! What a row says beside what the group shows, where the two differ.
 
 use crate::sentences::push_no_node;
-use crate::sides::{Side, push_heads, push_sides};
+use crate::sides::{push_heads, push_nodes, push_sets, push_tasks, push_words};
 use crate::{NodeSheet, Shown};
 use bully_base::{Node, OutOfMemory, Setup};
 use bully_calls::{Answer, Call};
 use bully_steps::Want;
 use bully_table::Table;
 use bully_trace::{
-    Claim, Detail, DetailedEvent, WholeClaim, answer_word, brought, call_word, reply_of, status_word,
+    Claim, Detail, DetailedEvent, WholeClaim, answer_word, brought, call_word, reply_of,
+    status_word,
 };
 use bully_world::World;
 
@@ -35,10 +36,13 @@ fn push_claim(text: &mut String, claim: Claim, shown: &Shown) -> Result<(), OutO
     let number = claim.node.number();
     writeln!(text, "node {number} isn't as it is claimed")?;
     push_heads(text, "claimed")?;
-    let claimed = Side::Word(status_word(claim.status));
-    push_sides(text, "status", claimed, Side::Word(status_word(shown.status)))?;
-    let claimed = Side::Node(claim.coordinator);
-    push_sides(text, "coordinator", claimed, Side::Node(shown.coordinator))
+    push_words(
+        text,
+        "status",
+        status_word(claim.status),
+        status_word(shown.status),
+    )?;
+    push_nodes(text, "coordinator", claim.coordinator, shown.coordinator)
 }
 
 /// Appends why the claim that tells all of a vector is false, as [`push_claimed`] does, and then the rest of that vector.
@@ -48,20 +52,23 @@ pub fn push_whole_claimed(
     whole: &WholeClaim,
     sheet: Option<&NodeSheet>,
 ) -> Result<(), OutOfMemory> {
-    let claim = whole.claim();
-    push_claimed(text, world.setup(), claim, sheet)?;
+    push_claimed(text, world.setup(), whole.claim(), sheet)?;
     let Some(sheet) = sheet else {
         return Ok(());
     };
-    let shown = &sheet.shown;
-    push_sides(text, "halter", Side::Node(whole.halter()), Side::Node(shown.halter))?;
-    push_sides(text, "up", Side::Set(whole.up()), Side::Set(&shown.up))?;
-    let owners = task_of(world, claim.node);
-    push_sides(text, "owners", Side::Task(whole.task()), Side::Task(owners))
+    push_rest(text, whole, &sheet.shown)?;
+    push_tasks(text, "owners", whole.task(), task_of(world, whole))
 }
 
-// The owners that the group shows at the node; none where it doesn't have the node.
-fn task_of(world: &World, node: Node) -> Option<&Table> {
+// Appends the halter and the up set that are claimed, and beside them what the group shows.
+fn push_rest(text: &mut String, whole: &WholeClaim, shown: &Shown) -> Result<(), OutOfMemory> {
+    push_nodes(text, "halter", whole.halter(), shown.halter)?;
+    push_sets(text, "up", whole.up(), &shown.up)
+}
+
+// The owners that the group shows at the node of the claim; none where it doesn't have the node.
+fn task_of<'a>(world: &'a World, whole: &WholeClaim) -> Option<&'a Table> {
+    let node = whole.claim().node;
     if node.number() > world.setup().nodes() {
         return None;
     }
@@ -80,17 +87,13 @@ pub fn push_detailed(
         return Ok(());
     };
     let number = event.node.number();
-    writeln!(text, "differs: the call of node {number} isn't as it is told")?;
+    writeln!(
+        text,
+        "differs: the call of node {number} isn't as it is told"
+    )?;
     push_heads(text, "told")?;
-    let shown = call_of(&event.detail, &sheet.shown);
-    push_calls(text, event.detail.call(), shown)?;
-    match event.detail {
-        Detail::Run(_, answer) => push_answers(text, "answer", answer, answer_of(world, shown)),
-        Detail::Return(_, answer) => {
-            push_answers(text, "outcome", answer, outcome_of(world, event.node))
-        }
-        Detail::Start(_) | Detail::Lose(_) | Detail::Drop(_) => Ok(()),
-    }
+    push_calls(text, &event.detail, &sheet.shown)?;
+    push_answers(text, world, event, &sheet.shown)
 }
 
 // The call that the group has for such an event of a node of which this is shown: that which its point offers for a start, and
@@ -104,18 +107,38 @@ fn call_of(detail: &Detail, shown: &Shown) -> Option<Call> {
 }
 
 // Appends the call that is told and the one that the group has, its kind and its callee each on a line.
-fn push_calls(text: &mut String, told: Call, shown: Option<Call>) -> Result<(), OutOfMemory> {
-    let (kind, callee) = match shown {
+fn push_calls(text: &mut String, detail: &Detail, shown: &Shown) -> Result<(), OutOfMemory> {
+    let told = detail.call();
+    let (kind, callee) = match call_of(detail, shown) {
         Some(call) => (call_word(call.kind), Some(call.callee)),
         None => ("-", None),
     };
-    push_sides(text, "call", Side::Word(call_word(told.kind)), Side::Word(kind))?;
-    push_sides(text, "callee", Side::Node(Some(told.callee)), Side::Node(callee))
+    push_words(text, "call", call_word(told.kind), kind)?;
+    push_nodes(text, "callee", Some(told.callee), callee)
 }
 
-// What the callee answers to the call.
-fn answer_of(world: &World, call: Option<Call>) -> Option<Answer> {
-    let call = call?;
+// Appends the answer or the outcome that is told and the one that the group has, where the event has one.
+fn push_answers(
+    text: &mut String,
+    world: &World,
+    event: &DetailedEvent,
+    shown: &Shown,
+) -> Result<(), OutOfMemory> {
+    match event.detail {
+        Detail::Run(_, told) => push_answer(text, "answer", told, answer_of(world, event, shown)),
+        Detail::Return(_, told) => push_answer(
+            text,
+            "outcome",
+            told,
+            outcome_of(world, event.node),
+        ),
+        Detail::Start(_) | Detail::Lose(_) | Detail::Drop(_) => Ok(()),
+    }
+}
+
+// What the callee answers to the call that the group has for the event.
+fn answer_of(world: &World, event: &DetailedEvent, shown: &Shown) -> Option<Answer> {
+    let call = call_of(&event.detail, shown)?;
     if call.callee.number() > world.setup().nodes() {
         return None;
     }
@@ -130,8 +153,8 @@ fn outcome_of(world: &World, node: Node) -> Option<Answer> {
     brought(world.slot(node), world.generation(node))
 }
 
-// Appends the line of an answer or an outcome, of this name.
-fn push_answers(
+// Appends the line of an answer or an outcome, of this name; a dash for none.
+fn push_answer(
     text: &mut String,
     part: &str,
     told: Answer,
@@ -141,5 +164,5 @@ fn push_answers(
         Some(answer) => answer_word(answer),
         None => "-",
     };
-    push_sides(text, part, Side::Word(answer_word(told)), Side::Word(shown))
+    push_words(text, part, answer_word(told), shown)
 }

@@ -4,49 +4,70 @@ use bully_base::{Node, NodeSet, OutOfMemory};
 use bully_table::Table;
 use bully_trace::{push_node, push_set, push_task};
 
-/// How wide the column of what a row says is.
+/// How wide the column of what a row says is, in bytes.
 const COLUMN: usize = 16;
-
-/// What stands on one side of a line.
-#[derive(Clone, Copy)]
-pub enum Side<'a> {
-    Word(&'a str),
-    /// A node; a dash for none.
-    Node(Option<Node>),
-    /// The members of a set; a dash where it is empty.
-    Set(&'a NodeSet),
-    /// The owners of a task; a dash for none.
-    Task(Option<&'a Table>),
-}
 
 /// Appends the heads of the two columns, of which the first has this one, behind a blank line.
 pub fn push_heads(text: &mut String, head: &str) -> Result<(), OutOfMemory> {
     writeln!(text, "\n                {head:<16}shown")
 }
 
-/// Appends the line of a part: its name, what the row says of it, and what the group shows.
-pub fn push_sides(
+/// Appends the line of a part: its name, and a word for each side.
+pub fn push_words(
     text: &mut String,
     part: &str,
-    said: Side<'_>,
-    shown: Side<'_>,
+    said: &str,
+    shown: &str,
 ) -> Result<(), OutOfMemory> {
-    write!(text, "  {part:<14}")?;
-    let start = text.len();
-    push_side(text, said)?;
+    writeln!(text, "  {part:<14}{said:<16}{shown}")
+}
+
+/// The same with a node for each side; a dash for none.
+pub fn push_nodes(
+    text: &mut String,
+    part: &str,
+    said: Option<Node>,
+    shown: Option<Node>,
+) -> Result<(), OutOfMemory> {
+    let start = push_part(text, part)?;
+    push_node(text, said)?;
     push_gap(text, start)?;
-    push_side(text, shown)?;
+    push_node(text, shown)?;
     text.push('\n')
 }
 
-// Appends one side.
-fn push_side(text: &mut String, side: Side<'_>) -> Result<(), OutOfMemory> {
-    match side {
-        Side::Word(word) => text.push_str(word),
-        Side::Node(node) => push_node(text, node),
-        Side::Set(set) => push_set(text, set),
-        Side::Task(task) => push_task(text, task, ' '),
-    }
+/// The same with a set for each side; a dash for the empty one.
+pub fn push_sets(
+    text: &mut String,
+    part: &str,
+    said: &NodeSet,
+    shown: &NodeSet,
+) -> Result<(), OutOfMemory> {
+    let start = push_part(text, part)?;
+    push_set(text, said)?;
+    push_gap(text, start)?;
+    push_set(text, shown)?;
+    text.push('\n')
+}
+
+/// The same with the owners of a task for each side; a dash for none.
+pub fn push_tasks(
+    text: &mut String,
+    part: &str,
+    said: Option<&Table>,
+    shown: Option<&Table>,
+) -> Result<(), OutOfMemory> {
+    let start = push_part(text, part)?;
+    push_task(text, said, ' ')?;
+    push_gap(text, start)?;
+    push_task(text, shown, ' ')?;
+    text.push('\n')
+}
+
+// Appends the name of a part, and tells at which length of the text its first column begins.
+fn push_part(text: &mut String, part: &str) -> Result<usize, OutOfMemory> {
+    write!(text, "  {part:<14}")?;
+    Ok(text.len())
 }
 
 // Fills up the column that began at this length. What is too long for it has two spaces behind it.
