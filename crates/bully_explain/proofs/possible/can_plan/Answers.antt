@@ -1,5 +1,5 @@
 -- The procedure that the world shows of the node is prepared; where it then has a table, that is one that may be planned.
-use Rattle.std.proofs.Common.{◌≡◌, ◌∙◌, List, ℕ, Option, Some, None, ap, sym, rules}
+use Rattle.std.proofs.Common.{◌≡◌, ◌∙◌, Some, None, ap, rules}
 use Rattle.bully_steps.specs.Prepared.{prepared_from}
 use Rattle.bully_steps.specs.Procedure.{state_of}
 use Rattle.bully_steps.specs.ProcedureState.{IsProcedureState, ProcedureState}

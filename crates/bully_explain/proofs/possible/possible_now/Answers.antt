@@ -1,4 +1,3 @@
-use Rattle.std.proofs.Common.{IfOk, rules}
 use Rattle.bully_explain.proofs.PossibleLemmas.{passing-listed}
 use Rattle.bully_explain.proofs.possible.possible_now.Goals as goal
 

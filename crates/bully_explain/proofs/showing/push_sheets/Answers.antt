@@ -1,5 +1,4 @@
-use Rattle.std.proofs.Common.{◌≡◌, ◌+◌, [], ◌∷◌, length-append, arith, subst}
-use Rattle.bully_explain.specs.Shown.{Shows}
+use Rattle.std.proofs.Common.{◌≡◌, ◌+◌, [], ◌∷◌, length-append, arith}
 use Rattle.bully_explain.proofs.ShownLemmas.{shows-more}
 use Rattle.bully_explain.proofs.showing.push_sheets.Goals as goal
 
