@@ -142,7 +142,7 @@ fn answer_of(world: &World, event: &DetailedEvent, shown: &Shown) -> Option<Answ
     if call.callee.number() > world.setup().nodes() {
         return None;
     }
-    Some(reply_of(world, call))
+    Some(reply_of(world, &call))
 }
 
 // What the call in the slot of the node brings.

@@ -93,7 +93,7 @@ judged_leads setup w before number (Row.Detailed e ∷ rows) after w' j =
     by_cause : ((w : World) (before number after : ℕ) (w' : World) → IsJudged setup w before number rows (Verdict.Lawful after) w' → Leads setup w before rows after w')
         → (q : Option Refused) (so : Bool) → cause setup w before (event_of e) ≡ q
         → MatchOption q (MatchBool so ((mid : World) × (a : Answer) × Step setup w (event_of e) mid a × IsJudged setup mid (before + 1) (number + 1) rows (Verdict.Lawful after) w')
-            ((Verdict.Lawful after ≡ Verdict.Differs number) × (w' ≡ w))) (λ why. (Verdict.Lawful after ≡ Verdict.Refused number why) × (w' ≡ w))
+        ((Verdict.Lawful after ≡ Verdict.Differs number) × (w' ≡ w))) (λ why. (Verdict.Lawful after ≡ Verdict.Refused number why) × (w' ≡ w))
         → Leads setup w before (Row.Detailed e ∷ rows) after w'
     by_cause more None true none (mid, a, step, j) =
         behind-event setup w mid before (Row.Detailed e) rows (event_of e) a after w' refl none step (more mid (before + 1) (number + 1) after w' j)

@@ -70,7 +70,7 @@ judged-parted setup w count number (Row.Event e ∷ before) rest after w' j =
   where
     by_cause : ((mid : World) → IsJudged setup mid (count + 1) (number + 1) (before ++ rest) (Verdict.Lawful after) w' → Parts setup mid before rest after w')
         → (q : Option Refused) → MatchOption q ((mid : World) × (a : Answer) × Step setup w e mid a × IsJudged setup mid (count + 1) (number + 1) (before ++ rest) (Verdict.Lawful after) w')
-            (λ why. (Verdict.Lawful after ≡ Verdict.Refused number why) × (w' ≡ w)) → Parts setup w (Row.Event e ∷ before) rest after w'
+        (λ why. (Verdict.Lawful after ≡ Verdict.Refused number why) × (w' ≡ w)) → Parts setup w (Row.Event e ∷ before) rest after w'
     by_cause more None (mid, a, step, j) = event-before setup w mid (Row.Event e) before rest e a after w' refl step (more mid j)
     by_cause more (Some why) j = absurd (cc j.0)
 judged-parted setup w count number (Row.Detailed e ∷ before) rest after w' j =
@@ -78,7 +78,7 @@ judged-parted setup w count number (Row.Detailed e ∷ before) rest after w' j =
   where
     by_cause : ((mid : World) → IsJudged setup mid (count + 1) (number + 1) (before ++ rest) (Verdict.Lawful after) w' → Parts setup mid before rest after w')
         → (q : Option Refused) (so : Bool) → MatchOption q (MatchBool so ((mid : World) × (a : Answer) × Step setup w (event_of e) mid a × IsJudged setup mid (count + 1) (number + 1) (before ++ rest) (Verdict.Lawful after) w')
-            ((Verdict.Lawful after ≡ Verdict.Differs number) × (w' ≡ w))) (λ why. (Verdict.Lawful after ≡ Verdict.Refused number why) × (w' ≡ w)) → Parts setup w (Row.Detailed e ∷ before) rest after w'
+        ((Verdict.Lawful after ≡ Verdict.Differs number) × (w' ≡ w))) (λ why. (Verdict.Lawful after ≡ Verdict.Refused number why) × (w' ≡ w)) → Parts setup w (Row.Detailed e ∷ before) rest after w'
     by_cause more None true (mid, a, step, j) = event-before setup w mid (Row.Detailed e) before rest (event_of e) a after w' refl step (more mid j)
     by_cause more None false j = absurd (cc j.0)
     by_cause more (Some why) so j = absurd (cc j.0)
@@ -160,9 +160,10 @@ claimed-here setup w count number (Row.Whole whole) rows after w' j = by_claim (
     by_claim true holds j =
         let first = both _ _ holds in
         let second = both _ _ first.0 in
-        let third = both _ _ second.0 in
-        (λ c is. subst (λ c. (c.status ≡ (vector w c.node).status) × (c.coordinator ≡ (vector w c.node).coordinator)) (same_Some whole.claim c is) (true-claim setup w whole.claim third.0),
-        λ c is. subst (λ c. c.task ≡ (vector w c.claim.node).task) (whole_same whole c is) (sym (task-is (vector w whole.claim.node).task whole.task first.1)))
+        let third = both _ _ second.0 in (
+          λ c is. subst (λ c. (c.status ≡ (vector w c.node).status) × (c.coordinator ≡ (vector w c.node).coordinator)) (same_Some whole.claim c is) (true-claim setup w whole.claim third.0),
+          λ c is. subst (λ c. c.task ≡ (vector w c.claim.node).task) (whole_same whole c is) (sym (task-is (vector w whole.claim.node).task whole.task first.1)),
+        )
     by_claim false holds j = absurd (cc j.0)
 
 -- ---- two claims of one world

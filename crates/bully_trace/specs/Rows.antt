@@ -82,6 +82,7 @@ set_in version text = if bytes_eq text (codes "-") then Some [] else set_from ve
 -- a table, or none
 abbrev pub task_in : Setup → List ℕ → Option (Option (List ℕ))
 task_in setup text = if bytes_eq text (codes "-") then Some None else option_map Some (result_ok (table_of_text setup text))
+
 -- a claim that tells all of a vector, in a version that has such
 abbrev pub whole_of : Version → Setup → Option Claim → List ℕ → List ℕ → List ℕ → Option Row
 whole_of version setup claim halter up owners =

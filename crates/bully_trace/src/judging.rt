@@ -8,8 +8,8 @@ ghost use Rattle.bully_trace.specs.Verdict.{IsJudged};
 ghost use Rattle.bully_world.specs.State.{world_of};
 ghost use Rattle.bully_world.specs.World.{World as WorldOf, first_world};
 
-use crate::header::{Header, Version};
 use crate::details::{holds, is_so, is_whole};
+use crate::header::{Header, Version};
 use crate::node_event::{EventKind, NodeEvent};
 use crate::{Claim, DetailedEvent, Row, Verdict, WholeClaim};
 use bully_agree::Walk;

@@ -48,8 +48,8 @@ pub use upgrading::upgrade;
 pub use verdict::Verdict;
 pub use words::{
     CHECK, CRASH, DROP, LOSE, MOVE, PLAN, RECOVER, RETURN, RUN, SAW, START, TIMEOUT, answer_word,
-    call_named, call_word, cause_word, is_word, kind_named, outcome_named, reply_named, status_named,
-    status_word,
+    call_named, call_word, cause_word, is_word, kind_named, outcome_named, reply_named,
+    status_named, status_word,
 };
 pub use writing::{not_written, write_trace};
 

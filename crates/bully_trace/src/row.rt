@@ -51,7 +51,14 @@ pub fn read_longer_row(
             let word = field(fields, 0);
             let node = field(fields, 1);
             let kind = field(fields, 2);
-            Ok(answered_row(version, word, node, kind, field(fields, 3), field(fields, 4)))
+            Ok(answered_row(
+                version,
+                word,
+                node,
+                kind,
+                field(fields, 3),
+                field(fields, 4),
+            ))
         }
         7 => seven_fields(alloc, version, setup, fields),
         _ => Ok(None),

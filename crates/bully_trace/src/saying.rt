@@ -6,7 +6,9 @@ use crate::detail::{Detail, DetailedEvent};
 use crate::header::Version;
 use crate::row::{read_coordinator, read_node};
 use crate::trace::{Claim, Row, WholeClaim};
-use crate::words::{DROP, LOSE, RETURN, RUN, START, call_named, is_word, outcome_named, reply_named};
+use crate::words::{
+    DROP, LOSE, RETURN, RUN, START, call_named, is_word, outcome_named, reply_named,
+};
 use bully_base::{Node, NodeSet, OutOfMemory, Setup};
 use bully_calls::Call;
 use bully_table::{Pieces, Table, TableFault};
@@ -147,7 +149,11 @@ fn is_above(node: Node, set: &NodeSet) -> bool
 }
 
 // A table of the setup, or none where the text is a dash.
-fn read_task(alloc: Global, setup: &Setup, text: &[u8]) -> Result<Option<Option<Table>>, OutOfMemory>
+fn read_task(
+    alloc: Global,
+    setup: &Setup,
+    text: &[u8],
+) -> Result<Option<Option<Table>>, OutOfMemory>
     ensures { IfOk result (λ task. task ≡ task_in setup.now text.now) }
 {
     if is_word(text, "-") {

@@ -12,8 +12,8 @@ ghost use Rattle.bully_trace.specs.Words.{answer_word};
 ghost use Rattle.bully_trace.specs.VerdictText.{node_text, task_text, node_line, verdict_head};
 
 use crate::words::{
-    CHECK, CRASH, DROP, LOSE, MOVE, PLAN, RECOVER, RETURN, RUN, START, TIMEOUT, answer_word, call_word,
-    cause_word, keeps_word, status_word,
+    CHECK, CRASH, DROP, LOSE, MOVE, PLAN, RECOVER, RETURN, RUN, START, TIMEOUT, answer_word,
+    call_word, cause_word, keeps_word, status_word,
 };
 use crate::{Claim, Detail, DetailedEvent, Row, Verdict, Version, WholeClaim};
 use bully_base::{Node, NodeSet, OutOfMemory, Setup};
@@ -193,12 +193,7 @@ pub fn push_detailed(text: &mut String, event: &DetailedEvent) -> Result<(), Out
 }
 
 // Appends the line of an event of this word and of its call.
-fn push_unanswered(
-    text: &mut String,
-    word: &str,
-    node: Node,
-    call: Call,
-) -> Result<(), OutOfMemory>
+fn push_unanswered(text: &mut String, word: &str, node: Node, call: Call) -> Result<(), OutOfMemory>
     ensures { OnOk result (string_bytes text.new ≡ string_bytes text.old ++ line_of (word.now ∷ decimal node ∷ call_fields call)) }
 {
     let number = node.number();

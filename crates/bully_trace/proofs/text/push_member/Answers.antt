@@ -9,8 +9,8 @@ pub returns-then-not-has : goal.returns-then-not-has
 returns-then-not-has c = λ start so_far.
     let set = c.args.set.now in
     let none : Has set c.args.node → ⊥ = λ has.
-        let there : c.has.result ≡ true = c.has.ensures.1 (Contains-from set c.args.node has) in
-        grind (arith, there, c.if-not-has.true) in
+    let there : c.has.result ≡ true = c.has.ensures.1 (Contains-from set c.args.node has) in
+    grind (arith, there, c.if-not-has.true) in
     rw (below-without c.args.node set none) so_far
 
 pub returns : goal.returns
