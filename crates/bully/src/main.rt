@@ -7,6 +7,7 @@
 //! OutOfMemory.
 #![tactic(auto)]
 
+mod annotating;
 mod answering;
 mod checking;
 mod configs;

@@ -143,8 +143,11 @@ run-said : (setup : Setup) (w : World) (i : ℕ) (d : DetailedEvent) → WorldIn
     → said_of setup w (Event.Run i) ≡ Some d → IsSaid setup w (Event.Run i) d
 run-said setup w i d fits node is =
     of-call setup w i (Event.Run i) (λ call. Detail.Run call (reply call.kind (vector w call.callee))) (call_at w i) d
-    (λ call at. (refl, so-node setup w i (Detail.Run call (reply call.kind (vector w call.callee))) node (slot-node setup w i call fits at)
-        (rw (call-there w i call at, answer-itself (reply call.kind (vector w call.callee))) refl))) is
+    (λ call at. (
+      refl,
+      so-node setup w i (Detail.Run call (reply call.kind (vector w call.callee))) node (slot-node setup w i call fits at)
+          (rw (call-there w i call at, answer-itself (reply call.kind (vector w call.callee))) refl),
+    )) is
 
 lose-said : (setup : Setup) (w : World) (i : ℕ) (d : DetailedEvent) → WorldInvariant setup w → IsNode setup i
     → said_of setup w (Event.Lose i) ≡ Some d → IsSaid setup w (Event.Lose i) d
@@ -264,7 +267,7 @@ event-lawful setup w mid count e a rows after w' (events, answers, lawful, count
     (behind-change setup w mid (count + 1) (place_of w e) rows after w' (place-node setup w e fits node) more)
 
 pub said-event : (setup : Setup) (w mid : World) (e : Event) (a : Answer) (rows : List Row) → Step setup w e mid a
-    → (elim (step_of setup w e) as (λ _. List Row) [ | None ↦ [] | Some r ↦ event_rows setup w e r.0 ++ rows_said setup r.0 rows ]) ≡ event_rows setup w e mid ++ rows_said setup mid rows
+    → (elim (step_of setup w e) as (λ _. List Row) [ None ↦ [] | Some r ↦ event_rows setup w e r.0 ++ rows_said setup r.0 rows ]) ≡ event_rows setup w e mid ++ rows_said setup mid rows
 said-event setup w mid e a rows step = rw ((step_is_computed setup w e mid a).1 step) refl
 
 -- a true claim is of a node
@@ -300,7 +303,7 @@ rows-lawful setup w count number (Row.Detailed d ∷ rows) after w' reached j = 
   where
     by_cause : (q : Option Refused) (so : Bool) → cause setup w count (event_of d) ≡ q
         → MatchOption q (MatchBool so ((mid : World) × (a : Answer) × Step setup w (event_of d) mid a × IsJudged setup mid (count + 1) (number + 1) rows (Verdict.Lawful after) w')
-            ((Verdict.Lawful after ≡ Verdict.Differs number) × (w' ≡ w))) (λ why. (Verdict.Lawful after ≡ Verdict.Refused number why) × (w' ≡ w))
+        ((Verdict.Lawful after ≡ Verdict.Differs number) × (w' ≡ w))) (λ why. (Verdict.Lawful after ≡ Verdict.Refused number why) × (w' ≡ w))
         → ((mid : World) → IsReachedBy setup mid (count + 1) → IsJudged setup mid (count + 1) (number + 1) rows (Verdict.Lawful after) w' → AreLawful setup mid (count + 1) (rows_said setup mid rows) after w')
         → AreLawful setup w count (rows_said setup w (Row.Detailed d ∷ rows)) after w'
     by_cause None true none (mid, a, step, j) more =

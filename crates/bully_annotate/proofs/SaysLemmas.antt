@@ -54,7 +54,7 @@ event-says before behind number e more after w text text' count steps j = by_cau
   where
     by_cause : (q : Option Refused) → cause before.setup (world_of before) before.events e ≡ q
         → MatchOption q ((mid : World) × (a : Answer) × Step before.setup (world_of before) e mid a × IsJudged before.setup mid (before.events + 1) (number + 1) more (Verdict.Lawful after) w)
-            (λ why. (Verdict.Lawful after ≡ Verdict.Refused number why) × (w ≡ world_of before)) → Says before behind number (Row.Event e) more after w text text' count
+        (λ why. (Verdict.Lawful after ≡ Verdict.Refused number why) × (w ≡ world_of before)) → Says before behind number (Row.Event e) more after w text text' count
     by_cause None none (mid, a, step, j) =
         behind-event before behind number (Row.Event e) e more after w text text' count mid a (λ mid a step. said-event before.setup (world_of before) mid e a more step) step j (steps none)
     by_cause (Some why) is j = absurd (cc j.0)
@@ -66,8 +66,8 @@ detailed-says before behind number d more after w text text' count steps j = by_
   where
     by_cause : (q : Option Refused) (so : Bool) → cause before.setup (world_of before) before.events (event_of d) ≡ q
         → MatchOption q (MatchBool so ((mid : World) × (a : Answer) × Step before.setup (world_of before) (event_of d) mid a × IsJudged before.setup mid (before.events + 1) (number + 1) more (Verdict.Lawful after) w)
-            ((Verdict.Lawful after ≡ Verdict.Differs number) × (w ≡ world_of before)))
-            (λ why. (Verdict.Lawful after ≡ Verdict.Refused number why) × (w ≡ world_of before)) → Says before behind number (Row.Detailed d) more after w text text' count
+        ((Verdict.Lawful after ≡ Verdict.Differs number) × (w ≡ world_of before)))
+        (λ why. (Verdict.Lawful after ≡ Verdict.Refused number why) × (w ≡ world_of before)) → Says before behind number (Row.Detailed d) more after w text text' count
     by_cause None true none (mid, a, step, j) =
         behind-event before behind number (Row.Detailed d) (event_of d) more after w text text' count mid a (λ mid a step. said-event before.setup (world_of before) mid (event_of d) a more step) step j (steps none)
     by_cause None false none j = absurd (cc j.0)

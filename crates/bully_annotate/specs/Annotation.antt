@@ -1,5 +1,5 @@
 -- What annotating a trace comes to.
-use Rattle.std.specs.Prelude.{◌≡◌, ◌≢◌, ◌<◌, ◌≤◌, ℕ, List, length}
+use Rattle.std.specs.Prelude.{◌≡◌, ◌≢◌, ◌<◌, ◌≤◌, ℕ, Bool, true, false, List, length}
 use Rattle.bully_trace.specs.declared.TheConstants.{ROWS_MAX}
 use Rattle.bully_trace.specs.declared.verdict.Verdict.{Verdict}
 use Rattle.bully_trace.specs.Trace.{Trace}
@@ -18,3 +18,9 @@ IsAnnotationOf trace (Annotation.Written count) Writes silent =
 IsAnnotationOf trace (Annotation.Unlawful verdict) Writes silent =
     (w : World) × IsVerdict trace verdict w × ((count : ℕ) → verdict ≢ Verdict.Lawful count) × silent
 IsAnnotationOf trace Annotation.TooLong Writes silent = (ROWS_MAX < length (annotated trace).rows) × silent
+
+-- the annotated trace was written
+abbrev pub is_written : Annotation → Bool
+is_written (Annotation.Written count) = true
+is_written (Annotation.Unlawful verdict) = false
+is_written Annotation.TooLong = false

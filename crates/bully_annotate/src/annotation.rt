@@ -1,6 +1,6 @@
-ghost use Rattle.std.specs.Prelude.{◌≡◌, ◌≢◌, ◌⊎◌, ◌≤◌, ℕ, length, IfErr, IfOk};
+ghost use Rattle.std.specs.Prelude.{◌≡◌, ◌≢◌, ◌⊎◌, false, IfErr, IfOk};
 ghost use Rattle.std.specs.Io.KnownBytes.{Appends};
-ghost use Rattle.bully_annotate.specs.Annotation.{IsAnnotationOf};
+ghost use Rattle.bully_annotate.specs.Annotation.{IsAnnotationOf, is_written};
 ghost use Rattle.bully_trace.specs.Rows.{HasNoFault, IsFirstFault, IsOfWriting, IsReadAtItsRow, OfTrace};
 ghost use Rattle.bully_trace.specs.Verdict.{IsVerdict};
 ghost use Rattle.bully_trace.specs.declared.verdict.Verdict.{Verdict as VerdictState};
@@ -37,6 +37,7 @@ pub fn annotate<R: Read + Drop, W: Write>(
 ) -> Result<Annotation, TraceFault>
     ensures annotated { IfOk result (λ told. OfTrace (R.remaining reader)
         (λ trace. IsAnnotationOf trace told (Appends (W.contents writer.old) (W.contents writer.new)) (writer.new ≡ writer.old))) }
+    ensures unwritten { IfOk result (λ told. is_written told ≡ false → writer.new ≡ writer.old) }
     ensures fault { IfErr result (IsFirstFault (R.remaining reader)) }
     ensures behind { IfErr result (IsReadAtItsRow (R.remaining reader)) }
     ensures silent { IfErr result (λ fault.
@@ -57,6 +58,7 @@ fn annotate_trace<W: Write>(
     writer: &mut W,
 ) -> Result<Annotation, TraceFault>
     ensures annotated { IfOk result (λ told. IsAnnotationOf trace.now told (Appends (W.contents writer.old) (W.contents writer.new)) (writer.new ≡ writer.old)) }
+    ensures unwritten { IfOk result (λ told. is_written told ≡ false → writer.new ≡ writer.old) }
     ensures fault { IfErr result IsOfWriting }
     ensures silent { IfErr result (λ fault. fault.cause ≡ TraceCause.OutOfMemory → writer.new ≡ writer.old) }
 {
@@ -92,6 +94,7 @@ fn write_lawful<W: Write>(
 ) -> Result<Annotation, TraceFault>
     requires { (w : World) × IsVerdict trace.now (VerdictState.Lawful count) w }
     ensures annotated { IfOk result (λ told. IsAnnotationOf trace.now told (Appends (W.contents writer.old) (W.contents writer.new)) (writer.new ≡ writer.old)) }
+    ensures unwritten { IfOk result (λ told. is_written told ≡ false → writer.new ≡ writer.old) }
     ensures fault { IfErr result IsOfWriting }
     ensures silent { IfErr result (λ fault. fault.cause ≡ TraceCause.OutOfMemory → writer.new ≡ writer.old) }
 {

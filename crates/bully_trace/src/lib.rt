@@ -42,6 +42,7 @@ pub use row_reader::{RowReader, no_header};
 pub use saying::read_set;
 pub use text::{
     push_detailed, push_event, push_header, push_node, push_row, push_set, push_task, push_vector,
+    push_verdict_head,
 };
 pub use trace::{Claim, Row, Rows, Trace, TraceCause, TraceFault, WholeClaim};
 pub use upgrading::upgrade;

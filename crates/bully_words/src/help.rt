@@ -43,13 +43,25 @@ pub const EXPLAIN: &str = "\
 
 /// What help tells of `upgrade`.
 pub const UPGRADE: &str = "\
-    Reads a trace of version 1 or 2 on standard input, and writes it as one of\n\
-    version 2 on standard output, with the same rows and the same verdict. It judges\n\
-    nothing.\n\
+    Reads a trace of any version on standard input, and writes it on standard\n\
+    output as one of version 2, or of version 3 where a row says more, with the\n\
+    same rows and the same verdict. It judges nothing.\n\
     \n\
     Statuses: 0 written, 3 a fault of the trace's form, 4 Read, Write or OutOfMemory.\n\
     \n\
     Example: bully upgrade < examples/alone.csv | bully check";
+
+/// What help tells of `annotate`.
+pub const ANNOTATE: &str = "\
+    Reads a lawful trace of any version on standard input, and writes it on standard\n\
+    output as one of version 3 in which everything is said: which call each event is\n\
+    of and what was answered, and behind each event the whole vector of the node that\n\
+    it changed. Of a trace that isn't lawful the verdict stands on standard error.\n\
+    \n\
+    Statuses: 0 written, 1 refused or differs, 3 a fault of the trace's form, or more\n\
+    rows than a trace may have, 4 Read, Write or OutOfMemory.\n\
+    \n\
+    Example: bully annotate < examples/alone.csv | bully check";
 
 /// What help tells of `play`.
 pub const PLAY: &str = "\
