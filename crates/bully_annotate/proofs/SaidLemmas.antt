@@ -25,6 +25,7 @@ use Rattle.bully_world.specs.Lawful.{IsLawful}
 use Rattle.bully_world.specs.NodeInvariant.{NodeInvariant, SuitsPending, WorldInvariant}
 use Rattle.bully_world.specs.Step.{Step, offer}
 use Rattle.bully_world.specs.StepOf.{step_of}
+use Rattle.bully_world.specs.Turn.{same_node}
 use Rattle.bully_world.specs.World.{World, first_world, member, pending, vector}
 use Rattle.bully_world.proofs.ApplyLemmas.{node_in_setup, room_of}
 use Rattle.bully_world.proofs.CallInvariant.{start_fits}
@@ -36,47 +37,12 @@ use Rattle.bully_trace.specs.declared.detail.DetailedEvent.{DetailedEvent}
 use Rattle.bully_trace.specs.declared.trace.Claim.{Claim}
 use Rattle.bully_trace.specs.declared.trace.Row.{Row}
 use Rattle.bully_trace.specs.declared.verdict.Verdict.{Verdict}
-use Rattle.bully_trace.specs.Details.{brought, call_at, call_told, event_of, has_answer, has_call, is_so, is_true, is_whole, offered_call, returned_of, said_of, same_answer, same_call, same_kind, same_node, same_status, same_task, says, unanswered_of}
+use Rattle.bully_trace.specs.Details.{brought, call_at, call_told, event_of, has_answer, has_call, is_so, is_true, is_whole, offered_call, returned_of, said_of, same_answer, same_call, same_status, same_task, says, unanswered_of}
 use Rattle.bully_trace.specs.Trace.{Trace}
 use Rattle.bully_trace.specs.Verdict.{IsJudged, IsVerdict}
 use Rattle.bully_trace.specs.Whole.{Whole, whole_of}
+use Rattle.bully_trace.proofs.SameLemmas.{answer-itself, call-itself, is-node, node-itself, status-itself, task-itself}
 use Rattle.bully_annotate.specs.Annotated.{annotated, callee_or, event_rows, place_of, rows_said, said_row, same_vector, shown_change, shown_row}
-
--- ---- each is the same as itself
-
-status-itself : (s : Status) → same_status s s ≡ true
-status-itself Down = refl
-status-itself Election = refl
-status-itself Reorganization = refl
-status-itself Normal = refl
-
-node-itself : (i : Option ℕ) → same_node i i ≡ true
-node-itself None = refl
-node-itself (Some i) = grind (arith, nat_tests)
-
-task-itself : (t : Option (List ℕ)) → same_task t t ≡ true
-task-itself None = refl
-task-itself (Some t) = (bytes_eq-Decides t t).1 refl
-
-kind-itself : (k : CallKind) → same_kind k k ≡ true
-kind-itself kind.AreYouUp = refl
-kind-itself kind.AreYouNormal = refl
-kind-itself kind.Halt = refl
-kind-itself kind.NewCoordinator = refl
-kind-itself kind.Ready = refl
-
-call-itself : (c : Call) → same_call c c ≡ true
-call-itself c = let callee : (c.callee == c.callee) ≡ true = grind (arith, nat_tests) in rw (callee, kind-itself c.kind) refl
-
-answer-itself : (a : Answer) → same_answer a a ≡ true
-answer-itself answer.Done = refl
-answer-itself answer.Yes = refl
-answer-itself answer.No = refl
-answer-itself answer.Failed = refl
-answer-itself answer.Discarded = refl
-
-is-node : (setup : Setup) (i : ℕ) → IsNode setup i → is_node setup i ≡ true
-is-node setup i node = grind (arith, nat_tests, node.0, node.1)
 
 -- ---- what is shown is true
 

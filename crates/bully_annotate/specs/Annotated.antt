@@ -7,12 +7,13 @@ use Rattle.bully_handlers.specs.Vector.{Vector}
 use Rattle.bully_trace.specs.declared.detail.DetailedEvent.{DetailedEvent}
 use Rattle.bully_trace.specs.declared.header.Version.{Version}
 use Rattle.bully_trace.specs.declared.trace.Row.{Row}
-use Rattle.bully_trace.specs.Details.{call_at, event_of, said_of, same_node, same_status, same_task}
+use Rattle.bully_trace.specs.Details.{call_at, event_of, said_of, same_status, same_task}
 use Rattle.bully_trace.specs.Trace.{Trace}
 use Rattle.bully_trace.specs.Whole.{whole_of}
 use Rattle.bully_world.specs.declared.event.Event.{Event}
 use Rattle.bully_world.specs.Cause.{node_of}
 use Rattle.bully_world.specs.StepOf.{step_of}
+use Rattle.bully_world.specs.Turn.{same_node}
 use Rattle.bully_world.specs.World.{World, first_world, vector}
 
 -- the row of an event with all that there is to say of it

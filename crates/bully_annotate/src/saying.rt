@@ -4,12 +4,12 @@ ghost use Rattle.bully_annotate.specs.Annotated.{place_of, said_row, same_vector
 ghost use Rattle.bully_trace.specs.Details.{said_of};
 ghost use Rattle.bully_trace.specs.TraceText.{line_of, row_fields, rows_text};
 ghost use Rattle.bully_world.specs.Cause.{node_of};
-ghost use Rattle.bully_world.specs.State.{IsReached, world_of};
+ghost use Rattle.bully_world.specs.State.{world_of};
 ghost use Rattle.bully_world.specs.World.{vector};
 
 use crate::seen::Seen;
 use bully_base::{Node, OutOfMemory};
-use bully_trace::{call_at, push_detailed, push_event, push_vector, said_of};
+use bully_trace::{call_at, push_detailed, push_event, push_vector, reached, said_of};
 use bully_world::{Event, World};
 
 /// Appends the event with all that there is to say of it in the world before it. Its node is at most the setup's last.
@@ -96,11 +96,4 @@ pub fn push_shown(text: &mut String, world: &World, node: Node) -> Result<(), Ou
     ensures { OnOk result (string_bytes text.new ≡ string_bytes text.old ++ rows_text (shown_row (world_of world.now) node ∷ [])) }
 {
     push_vector(text, node, world.vector(node))
-}
-
-// That a lawful list of events leads to a world is what its readers tell.
-fn reached(world: &World)
-    ensures { IsReached world.now }
-{
-    world.setup();
 }

@@ -2,7 +2,7 @@
 
 use crate::sentences::push_no_node;
 use crate::sides::{push_heads, push_nodes, push_sets, push_tasks, push_words};
-use crate::{NodeSheet, Shown};
+use bully_account::{NodeSheet, Shown};
 use bully_base::{Node, OutOfMemory, Setup};
 use bully_calls::{Answer, Call};
 use bully_steps::Want;

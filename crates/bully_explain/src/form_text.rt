@@ -1,7 +1,5 @@
-use crate::Account;
-use crate::account::line_of;
 use crate::form::{Expected, FieldCounts, Misfit, field_at, misfit_of_header, misfit_of_row};
-use crate::lines::Lines;
+use bully_account::{Account, Lines, line_of};
 use bully_base::{OutOfMemory, Setup, WEIGHT_MAX};
 use bully_trace::{ROWS_MAX, RowReader, TraceCause, TraceFault, Version};
 use csv::ByteRecord;

@@ -2,7 +2,7 @@
 ghost use Rattle.std.specs.Prelude.{◌<◌, length, IfSome};
 
 use crate::words::{push_held, push_offer, push_point};
-use crate::{NodeSheet, Shown};
+use bully_account::{NodeSheet, Shown};
 use bully_base::{NODES_MAX, Node, NodeSet, OutOfMemory, Setup};
 use bully_table::Table;
 use bully_trace::{Verdict, cause_word, status_word};

@@ -1,6 +1,6 @@
 //! The pieces of a sheet: nodes, points, calls and slots, as text.
 
-use crate::{Deed, Memory, Note, Shown, ShownCall, What};
+use bully_account::{Deed, Memory, Note, Shown, ShownCall, What};
 use bully_base::{NODES_MAX, Node, NodeSet, OutOfMemory};
 use bully_calls::{Answer, Call, CallKind, Phase};
 use bully_steps::{Point, Want};

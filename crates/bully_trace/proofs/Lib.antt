@@ -7,6 +7,8 @@ pub mod TraceLemmas
 pub mod TextLemmas
 pub mod SetTextLemmas
 pub mod JudgeLemmas
+pub mod SameLemmas
+pub mod StepToldLemmas
 pub mod RecordedLemmas
 pub mod CheckLemmas
 pub mod UpgradeLemmas

@@ -2,6 +2,7 @@
 use Rattle.std.proofs.Common.{◌≡◌, ◌⊎◌, inl, inr, ◌∙◌, ℕ, ◌+◌, ◌++◌, ◌&&◌, ◌==◌, Bool, true, false, List, [], ◌∷◌, Option, Some, None, MatchOption, length, refl, sym, ap, subst, arith}
 use Rattle.std.specs.Prelude.{bytes_eq, IsSome}
 use Rattle.std.specs.Bool.{MatchBool}
+use Rattle.std.proofs.lemmas.Bool.{and_parts}
 use Rattle.std.proofs.lemmas.Bool.Decides.{nat_tests}
 use Rattle.std.proofs.lemmas.List.{length-append}
 use Rattle.std.proofs.lemmas.Option.{same_Some}
@@ -21,12 +22,14 @@ use Rattle.bully_agree.specs.Agreement.{Agreement}
 use Rattle.bully_trace.specs.declared.trace.Claim.{Claim}
 use Rattle.bully_trace.specs.declared.trace.Row.{Row}
 use Rattle.bully_trace.specs.declared.verdict.Verdict.{Verdict}
-use Rattle.bully_trace.specs.Details.{event_of, is_so, is_true, is_whole, same_node, same_status, same_task}
+use Rattle.bully_world.specs.Turn.{same_node}
+use Rattle.bully_trace.specs.Details.{event_of, is_so, is_true, is_whole, same_status, same_task}
 use Rattle.bully_trace.specs.Recorded.{ClaimsAgree, RecordedAgreement, TakesPartBy, claim_of}
 use Rattle.bully_trace.specs.Trace.{Trace}
 use Rattle.bully_trace.specs.Verdict.{IsJudged, IsVerdict, events_of}
 use Rattle.bully_trace.specs.Whole.{Whole}
 use Rattle.bully_trace.proofs.JudgeLemmas.{by_claim, events-append, judged_leads}
+use Rattle.bully_trace.proofs.SameLemmas.{node-is, status-is, task-is}
 
 -- ---- rows that are judged lawful, parted at some row
 
@@ -100,45 +103,10 @@ abbrev IsClaimed : World → Row → Type 0
 IsClaimed w row = ((c : Claim) → claim_of row ≡ Some c → (c.status ≡ (vector w c.node).status) × (c.coordinator ≡ (vector w c.node).coordinator))
     × ((c : Whole) → row ≡ Row.Whole c → c.task ≡ (vector w c.claim.node).task)
 
-status-is : (a b : Status) → same_status a b ≡ true → a ≡ b
-status-is Down Down e = refl
-status-is Down Election e = absurd (cc e)
-status-is Down Reorganization e = absurd (cc e)
-status-is Down Normal e = absurd (cc e)
-status-is Election Down e = absurd (cc e)
-status-is Election Election e = refl
-status-is Election Reorganization e = absurd (cc e)
-status-is Election Normal e = absurd (cc e)
-status-is Reorganization Down e = absurd (cc e)
-status-is Reorganization Election e = absurd (cc e)
-status-is Reorganization Reorganization e = refl
-status-is Reorganization Normal e = absurd (cc e)
-status-is Normal Down e = absurd (cc e)
-status-is Normal Election e = absurd (cc e)
-status-is Normal Reorganization e = absurd (cc e)
-status-is Normal Normal e = refl
-
-node-is : (a b : Option ℕ) → same_node a b ≡ true → a ≡ b
-node-is None None e = refl
-node-is None (Some j) e = absurd (cc e)
-node-is (Some i) None e = absurd (cc e)
-node-is (Some i) (Some j) e = let same : i ≡ j = grind (arith, nat_tests, e) in ap Some same
-
-task-is : (a b : Option (List ℕ)) → same_task a b ≡ true → a ≡ b
-task-is None None e = refl
-task-is None (Some b) e = absurd (cc e)
-task-is (Some a) None e = absurd (cc e)
-task-is (Some a) (Some b) e = ap Some ((bytes_eq-Decides a b).0 e)
-
-both : (a b : Bool) → (a && b) ≡ true → (a ≡ true) × (b ≡ true)
-both true true e = (refl, refl)
-both true false e = absurd (cc e)
-both false b e = absurd (cc e)
-
 true-claim : (setup : Setup) (w : World) (c : Claim) → is_true setup w c ≡ true → (c.status ≡ (vector w c.node).status) × (c.coordinator ≡ (vector w c.node).coordinator)
 true-claim setup w c e =
-    let first = both (is_node setup c.node && same_status c.status (vector w c.node).status) (same_node c.coordinator (vector w c.node).coordinator) e in
-    let second = both (is_node setup c.node) (same_status c.status (vector w c.node).status) first.0 in
+    let first = and_parts (is_node setup c.node && same_status c.status (vector w c.node).status) (same_node c.coordinator (vector w c.node).coordinator) e in
+    let second = and_parts (is_node setup c.node) (same_status c.status (vector w c.node).status) first.0 in
     (status-is c.status (vector w c.node).status second.1, node-is c.coordinator (vector w c.node).coordinator first.1)
 
 whole_same : (a b : Whole) → Row.Whole a ≡ Row.Whole b → a ≡ b
@@ -158,9 +126,9 @@ claimed-here setup w count number (Row.Whole whole) rows after w' j = by_claim (
   where
     by_claim : (b : Bool) → is_whole setup w whole ≡ b → MatchBool b (IsJudged setup w count (number + 1) rows (Verdict.Lawful after) w') ((Verdict.Lawful after ≡ Verdict.Differs number) × (w' ≡ w)) → IsClaimed w (Row.Whole whole)
     by_claim true holds j =
-        let first = both _ _ holds in
-        let second = both _ _ first.0 in
-        let third = both _ _ second.0 in (
+        let first = and_parts _ _ holds in
+        let second = and_parts _ _ first.0 in
+        let third = and_parts _ _ second.0 in (
           λ c is. subst (λ c. (c.status ≡ (vector w c.node).status) × (c.coordinator ≡ (vector w c.node).coordinator)) (same_Some whole.claim c is) (true-claim setup w whole.claim third.0),
           λ c is. subst (λ c. c.task ≡ (vector w c.claim.node).task) (whole_same whole c is) (sym (task-is (vector w whole.claim.node).task whole.task first.1)),
         )

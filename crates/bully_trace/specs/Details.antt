@@ -16,6 +16,7 @@ use Rattle.bully_handlers.specs.Vector.{is_down, is_election, is_reorganization,
 use Rattle.bully_steps.specs.declared.point.Want.{Want}
 use Rattle.bully_world.specs.declared.event.Event.{Event}
 use Rattle.bully_world.specs.Step.{offer}
+use Rattle.bully_world.specs.Turn.{same_node}
 use Rattle.bully_world.specs.World.{World, pending, vector}
 use Rattle.bully_trace.specs.declared.detail.Detail.{Detail}
 use Rattle.bully_trace.specs.declared.detail.DetailedEvent.{DetailedEvent}
@@ -115,12 +116,6 @@ same_status Down s = is_down s
 same_status Election s = is_election s
 same_status Reorganization s = is_reorganization s
 same_status Normal s = is_normal s
-
-abbrev pub same_node : Option ℕ → Option ℕ → Bool
-same_node None None = true
-same_node None (Some j) = false
-same_node (Some i) None = false
-same_node (Some i) (Some j) = i == j
 
 abbrev pub same_task : Option (List ℕ) → Option (List ℕ) → Bool
 same_task None None = true

@@ -2,6 +2,7 @@ pub mod Words
 pub mod Headers
 pub mod Whole
 pub mod Details
+pub mod StepTold
 pub mod Trace
 pub mod Rows
 pub mod RecordsLeft

@@ -7,7 +7,7 @@ ghost use Rattle.bully_handlers.specs.Vector.{is_normal};
 ghost use Rattle.bully_steps.specs.Point.{offered};
 ghost use Rattle.bully_trace.specs.Details.{brought, call_at, call_told, has_answer, has_call, is_so, is_true, is_whole, offered_call, said_of, same_task, says};
 ghost use Rattle.bully_world.specs.Cause.{node_of};
-ghost use Rattle.bully_world.specs.State.{state_at, world_of};
+ghost use Rattle.bully_world.specs.State.{IsReached, state_at, world_of};
 ghost use Rattle.bully_world.specs.World.{pending, vector};
 
 use crate::{Claim, Detail, DetailedEvent, WholeClaim};
@@ -214,4 +214,11 @@ pub fn brought(slot: &Slot, generation: u32) -> Option<Answer>
     } else {
         Some(answer)
     }
+}
+
+/// A lawful list of events leads to the world. Its type keeps that, and its readers tell it.
+pub fn reached(world: &World)
+    ensures { IsReached world.now }
+{
+    world.setup();
 }

@@ -7,6 +7,7 @@
 #![tactic(auto)]
 
 ghost use Rattle.std.specs.Prelude.{◌≡◌, ◌↔◌};
+ghost use Rattle.bully_trace.specs.StepTold.{TellsTheStep};
 ghost use Rattle.bully_trace.specs.Trace.{Trace as TraceState, upgraded};
 ghost use Rattle.bully_trace.specs.Verdict.{IsVerdict};
 ghost use Rattle.bully_trace.specs.declared.TheConstants.{ROWS_MAX, FIRST_NODES_MAX, FIRST_PARTITIONS_MAX};
@@ -32,7 +33,7 @@ mod writing;
 
 pub use checking::check;
 pub use detail::{Detail, DetailedEvent};
-pub use details::{brought, call_at, offer_of, reply_of, said_of, same_task};
+pub use details::{brought, call_at, offer_of, reached, reply_of, said_of, same_task};
 pub use header::{Header, Version, read_weights};
 pub use judging::Judge;
 pub use node_event::{EventKind, NodeEvent};
@@ -57,10 +58,10 @@ pub use writing::{not_written, write_trace};
 /// The most rows of a trace after its header. The profile's limit.
 pub const ROWS_MAX: u32 = 1_000_000;
 
-/// The most nodes that a trace of version 1 has. Version 2 has as many as a group may have.
+/// The most nodes that a trace of version 1 has. Versions 2 and 3 have as many as a group may have.
 pub const FIRST_NODES_MAX: u16 = 64;
 
-/// The most partitions that a trace of version 1 has. Version 2 has as many as a group may have.
+/// The most partitions that a trace of version 1 has. Versions 2 and 3 have as many as a group may have.
 pub const FIRST_PARTITIONS_MAX: u16 = 256;
 
 /// The limits in numbers. The definitions cite the constants, and so say as much as these numbers.
@@ -75,4 +76,11 @@ pub fn limits()
 pub fn same_verdict()
     ensures { (trace : TraceState) (verdict : VerdictState) (w : World)
         → IsVerdict (upgraded trace) verdict w ↔ IsVerdict trace verdict w }
+{}
+
+/// The law of rows that say more. What is said beside an event that is possible is so, as [`check`] asks, exactly where the step of
+/// that event has it: of a start the call that it sends, of the others the call in the slot, and of a run and a return also
+/// the answer; and where the group has the node and the callee.
+pub fn step_told()
+    ensures { TellsTheStep }
 {}
