@@ -13,7 +13,7 @@ use Rattle.bully_trace.specs.Rows.{OfTrace, is_of_form, no_memory}
 use Rattle.bully_trace.specs.Verdict.{IsJudged}
 use Rattle.bully_trace.proofs.TraceLemmas.{memory-ends}
 use Rattle.bully_account.specs.declared.showing.NodeSheet.{NodeSheet}
-use Rattle.bully_account.specs.Told.{Explains, IsToldOf, IsUntold}
+use Rattle.bully_account.specs.Told.{Explains, IsUntold}
 use Rattle.bully_account.specs.Shown.{ShowsAll}
 
 -- the verdict on all rows of a text is that on its trace, and its world the one that is shown

@@ -1,20 +1,14 @@
 -- What is said of an event that is possible is so, and what is shown behind it is true: so rows with everything said are as lawful.
-use Rattle.std.proofs.Common.{◌≡◌, ◌≢◌, ◌⊎◌, inl, inr, ◌∙◌, ℕ, ◌+◌, ◌≤◌, ◌++◌, ◌&&◌, ◌==◌, Bool, true, false, List, [], ◌∷◌, Option, Some, None, MatchOption, if◌then◌else◌, length, refl, sym, ap, subst, arith}
-use Rattle.std.specs.Prelude.{bytes_eq, option_map, option_and_then}
+use Rattle.std.proofs.Common.{◌≡◌, ℕ, ◌+◌, ◌++◌, ◌&&◌, Bool, true, false, List, [], ◌∷◌, Option, Some, None, MatchOption, if◌then◌else◌, length, refl, sym, subst, arith}
+use Rattle.std.specs.Prelude.{option_map, option_and_then}
 use Rattle.std.specs.Bool.{MatchBool}
 use Rattle.std.proofs.lemmas.Bool.Decides.{nat_tests}
 use Rattle.std.proofs.lemmas.List.{length-append}
 use Rattle.std.proofs.lemmas.Option.{same_Some}
-use Rattle.std.proofs.lemmas.Slice.Eq.{bytes_eq-Decides}
-use Rattle.bully_base.specs.declared.node.Status.{Status}
-use Rattle.bully_base.specs.declared.node.Status.TheVariants.{Down, Election, Reorganization, Normal}
-use Rattle.bully_base.specs.NodeSetEq.{same_set, same_set_equiv}
+use Rattle.bully_base.specs.NodeSetEq.{same_set}
 use Rattle.bully_base.specs.Setup.{IsNode, Setup, is_node}
 use Rattle.bully_calls.specs.declared.call.Answer.{Answer}
-use Rattle.bully_calls.specs.declared.call.Answer.TheVariants as answer
 use Rattle.bully_calls.specs.declared.call.Call.{Call}
-use Rattle.bully_calls.specs.declared.call.CallKind.{CallKind}
-use Rattle.bully_calls.specs.declared.call.CallKind.TheVariants as kind
 use Rattle.bully_calls.specs.Pending.{Pending}
 use Rattle.bully_handlers.specs.Handler.{reply}
 use Rattle.bully_steps.specs.declared.point.Want.{Want}
@@ -22,7 +16,7 @@ use Rattle.bully_world.specs.declared.event.Event.{Event}
 use Rattle.bully_world.specs.declared.event.Refused.{Refused}
 use Rattle.bully_world.specs.Cause.{cause, node_of}
 use Rattle.bully_world.specs.Lawful.{IsLawful}
-use Rattle.bully_world.specs.NodeInvariant.{NodeInvariant, SuitsPending, WorldInvariant}
+use Rattle.bully_world.specs.NodeInvariant.{SuitsPending, WorldInvariant}
 use Rattle.bully_world.specs.Step.{Step, offer}
 use Rattle.bully_world.specs.StepOf.{step_of}
 use Rattle.bully_world.specs.Turn.{same_node}
@@ -37,7 +31,7 @@ use Rattle.bully_trace.specs.declared.detail.DetailedEvent.{DetailedEvent}
 use Rattle.bully_trace.specs.declared.trace.Claim.{Claim}
 use Rattle.bully_trace.specs.declared.trace.Row.{Row}
 use Rattle.bully_trace.specs.declared.verdict.Verdict.{Verdict}
-use Rattle.bully_trace.specs.Details.{brought, call_at, call_told, event_of, has_answer, has_call, is_so, is_true, is_whole, offered_call, returned_of, said_of, same_answer, same_call, same_status, same_task, says, unanswered_of}
+use Rattle.bully_trace.specs.Details.{brought, call_at, call_told, event_of, has_answer, has_call, is_so, is_true, is_whole, offered_call, returned_of, said_of, same_status, same_task, says, unanswered_of}
 use Rattle.bully_trace.specs.Trace.{Trace}
 use Rattle.bully_trace.specs.Verdict.{IsJudged, IsVerdict}
 use Rattle.bully_trace.specs.Whole.{Whole, whole_of}

@@ -8,7 +8,7 @@ use bully_trace::{
 use csv::ByteRecord;
 
 /// What may stand at a place of a row.
-#[derive(Clone, Copy, PartialEq, Eq, Debug)]
+#[derive(Clone, Copy)]
 pub enum Expected {
     /// The word of an event or of a claim.
     Word,
@@ -47,7 +47,7 @@ pub enum Expected {
 }
 
 /// How many fields the rows of a kind have: so many, and where they may say more, so many then.
-#[derive(Clone, Copy, PartialEq, Eq, Debug)]
+#[derive(Clone, Copy)]
 pub struct FieldCounts {
     pub few: usize,
     pub more: Option<usize>,
@@ -55,7 +55,7 @@ pub struct FieldCounts {
 
 /// The first field of a row at which it breaks its form, counted from 1, or 0 for the row as a whole; and what may stand
 /// there.
-#[derive(Clone, Copy, PartialEq, Eq, Debug)]
+#[derive(Clone, Copy)]
 pub struct Misfit {
     pub field: usize,
     pub expected: Expected,

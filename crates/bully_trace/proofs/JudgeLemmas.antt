@@ -1,5 +1,5 @@
 -- The verdict on rows that were judged one by one, and what it says of their events.
-use Rattle.std.proofs.Common.{◌≡◌, ℕ, zero, suc, ◌+◌, ◌≤◌, ◌++◌, take, drop, Bool, true, false, List, [], ◌∷◌, Option, Some, None, MatchOption, length, ◌∙◌, refl, sym, ap, subst, arith}
+use Rattle.std.proofs.Common.{◌≡◌, ℕ, ◌+◌, ◌≤◌, ◌++◌, take, drop, Bool, true, false, List, [], ◌∷◌, Option, Some, None, MatchOption, length, ◌∙◌, refl, sym, ap, subst, arith}
 use Rattle.std.specs.Bool.{MatchBool}
 use Rattle.std.proofs.lemmas.List.{append_assoc, append-nil, length-append, take-append-drop}
 use Rattle.bully_base.specs.Setup.{Setup}

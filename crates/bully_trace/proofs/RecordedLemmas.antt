@@ -1,14 +1,11 @@
 -- Claims with no event between them are true of one world, in which the nodes agree.
-use Rattle.std.proofs.Common.{◌≡◌, ◌⊎◌, inl, inr, ◌∙◌, ℕ, ◌+◌, ◌++◌, ◌&&◌, ◌==◌, Bool, true, false, List, [], ◌∷◌, Option, Some, None, MatchOption, length, refl, sym, ap, subst, arith}
-use Rattle.std.specs.Prelude.{bytes_eq, IsSome}
+use Rattle.std.proofs.Common.{◌≡◌, ◌⊎◌, inl, inr, ◌∙◌, ℕ, ◌+◌, ◌++◌, ◌&&◌, Bool, true, false, List, [], ◌∷◌, Option, Some, None, MatchOption, length, refl, sym, ap, subst, arith}
 use Rattle.std.specs.Bool.{MatchBool}
 use Rattle.std.proofs.lemmas.Bool.{and_parts}
-use Rattle.std.proofs.lemmas.Bool.Decides.{nat_tests}
 use Rattle.std.proofs.lemmas.List.{length-append}
 use Rattle.std.proofs.lemmas.Option.{same_Some}
-use Rattle.std.proofs.lemmas.Slice.Eq.{bytes_eq-Decides}
 use Rattle.bully_base.specs.declared.node.Status.{Status}
-use Rattle.bully_base.specs.declared.node.Status.TheVariants.{Down, Election, Reorganization, Normal}
+use Rattle.bully_base.specs.declared.node.Status.TheVariants.{Reorganization, Normal}
 use Rattle.bully_base.specs.Setup.{Setup, is_node}
 use Rattle.bully_calls.specs.declared.call.Answer.{Answer}
 use Rattle.bully_world.specs.declared.event.Event.{Event}
@@ -23,7 +20,7 @@ use Rattle.bully_trace.specs.declared.trace.Claim.{Claim}
 use Rattle.bully_trace.specs.declared.trace.Row.{Row}
 use Rattle.bully_trace.specs.declared.verdict.Verdict.{Verdict}
 use Rattle.bully_world.specs.Turn.{same_node}
-use Rattle.bully_trace.specs.Details.{event_of, is_so, is_true, is_whole, same_status, same_task}
+use Rattle.bully_trace.specs.Details.{event_of, is_so, is_true, is_whole, same_status}
 use Rattle.bully_trace.specs.Recorded.{ClaimsAgree, RecordedAgreement, TakesPartBy, claim_of}
 use Rattle.bully_trace.specs.Trace.{Trace}
 use Rattle.bully_trace.specs.Verdict.{IsJudged, IsVerdict, events_of}

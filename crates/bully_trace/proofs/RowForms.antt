@@ -1,7 +1,6 @@
 -- The forms of rows by version.
-use Rattle.std.proofs.Common.{◌≡◌, ◌++◌, ℕ, Bool, true, false, List, [], ◌∷◌, Option, Some, None, refl, sym, subst, ◌∙◌}
-use Rattle.std.specs.Prelude.{◌&&◌, if◌then◌else◌, option_and_then, option_map, codes}
-use Rattle.std.specs.List.{list_all}
+use Rattle.std.proofs.Common.{◌≡◌, ◌++◌, Bool, true, false, List, [], ◌∷◌, Option, Some, None, refl, subst, ◌∙◌}
+use Rattle.std.specs.Prelude.{if◌then◌else◌, option_and_then, option_map, codes}
 use Rattle.std.specs.Str.{bytes_eq}
 use Rattle.std.proofs.lemmas.List.Folds.{list_all-append}
 use Rattle.std.proofs.lemmas.Option.{same_Some}
@@ -9,8 +8,8 @@ use Rattle.bully_base.specs.Setup.{Setup}
 use Rattle.bully_trace.specs.declared.header.Version.{Version}
 use Rattle.bully_trace.specs.declared.trace.Row.{Row}
 use Rattle.bully_trace.specs.Headers.{Record, node_in, says_more}
-use Rattle.bully_trace.specs.Rows.{answered_row, claim_in, plan_in, row_of, unanswered_row, whole_row}
-use Rattle.bully_trace.specs.Trace.{AreRowsFor, are_short, is_short}
+use Rattle.bully_trace.specs.Rows.{claim_in, plan_in, row_of, unanswered_row, whole_row}
+use Rattle.bully_trace.specs.Trace.{AreRowsFor, is_short}
 use Rattle.bully_trace.specs.Words.{event_named, plan_word}
 
 -- a row that is made of a value in a short form

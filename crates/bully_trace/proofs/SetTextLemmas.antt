@@ -1,5 +1,5 @@
 -- The text of a set that grows by a member.
-use Rattle.std.proofs.Common.{◌≡◌, ◌⊎◌, inl, inr, ◌∙◌, ℕ, ◌+◌, ◌<◌, ◌≤◌, List, [], ◌∷◌, ◌++◌, length, Option, Some, None, Result, Ok, Err, append_assoc, refl, sym, ap, arith}
+use Rattle.std.proofs.Common.{◌≡◌, inl, inr, ◌∙◌, ℕ, ◌+◌, ◌<◌, List, [], ◌∷◌, ◌++◌, length, Option, Some, Result, Ok, Err, append_assoc, refl, sym, ap, arith}
 use Rattle.std.specs.Prelude.{OnOk, codes, reverse}
 use Rattle.std.specs.Fmt.{decimal}
 use Rattle.std.proofs.lemmas.Bool.Decides.{nat_tests}
@@ -7,7 +7,7 @@ use Rattle.std.proofs.lemmas.Grind.{common_steps}
 use Rattle.std.proofs.lemmas.List.{reverse-append, length-reverse}
 use Rattle.std.proofs.lemmas.Option.{same_Some}
 use Rattle.bully_base.specs.NodeSet.{IsFallingBelow, below_node, highest_of}
-use Rattle.bully_base.proofs.NodeSetLemmas.{Has, Has-from, below_node-all}
+use Rattle.bully_base.proofs.NodeSetLemmas.{Has, below_node-all}
 use Rattle.bully_table.specs.TableText.{owners_text}
 use Rattle.bully_trace.specs.TraceText.{gap_behind}
 

@@ -1,21 +1,19 @@
 -- What a row says beside an event of a call is so exactly where the step of that event has it.
-use Rattle.std.proofs.Common.{◌≡◌, ◌↔◌, ◌∙◌, ℕ, ◌&&◌, Bool, true, false, Option, Some, None, if◌then◌else◌, refl, sym, ap}
+use Rattle.std.proofs.Common.{◌≡◌, ◌↔◌, ◌∙◌, ℕ, ◌&&◌, Bool, true, false, Option, Some, None, if◌then◌else◌, sym, ap}
 use Rattle.std.specs.Prelude.{option_map, option_and_then}
 use Rattle.std.proofs.lemmas.Bool.{and_from, and_parts}
 use Rattle.std.proofs.lemmas.Option.{same_Some}
-use Rattle.bully_base.specs.Setup.{IsNode, Setup, is_node}
+use Rattle.bully_base.specs.Setup.{Setup, is_node}
 use Rattle.bully_calls.specs.declared.call.Answer.{Answer}
 use Rattle.bully_calls.specs.declared.call.Answer.TheVariants.{Discarded}
 use Rattle.bully_calls.specs.declared.call.Call.{Call}
 use Rattle.bully_calls.specs.declared.call.Outcome.{Outcome}
 use Rattle.bully_calls.specs.Pending.{Pending, answer_of, outcome_of}
 use Rattle.bully_handlers.specs.Handler.{reply}
-use Rattle.bully_steps.specs.declared.point.Want.{Want}
-use Rattle.bully_world.specs.Step.{Returns, Step, offer}
+use Rattle.bully_world.specs.Step.{Returns, Step}
 use Rattle.bully_world.specs.World.{World, pending, vector}
 use Rattle.bully_trace.specs.declared.detail.Detail.{Detail}
-use Rattle.bully_trace.specs.declared.detail.DetailedEvent.{DetailedEvent}
-use Rattle.bully_trace.specs.Details.{brought, call_at, call_told, event_of, event_told, has_answer, has_call, is_so, offered_call, same_answer, says}
+use Rattle.bully_trace.specs.Details.{brought, call_at, call_told, event_told, has_answer, has_call, same_answer, says}
 use Rattle.bully_trace.specs.StepTold.{IsOfStep, TellsTheStep}
 use Rattle.bully_trace.proofs.SameLemmas.{answer-is, answer-itself, call-is, call-itself, is-node, node-within}
 

@@ -1,5 +1,5 @@
 -- The callee of a call is a node of the group.
-use Rattle.std.proofs.Common.{◌≡◌, ◌≤◌, ◌∙◌, Some, arith, rules}
+use Rattle.std.proofs.Common.{◌≡◌, Some, rules}
 use Rattle.bully_base.specs.Setup.{IsNode}
 use Rattle.bully_trace.specs.Details.{call_at}
 use Rattle.bully_world.proofs.NodeInvariantLemmas.{lawful_fits}

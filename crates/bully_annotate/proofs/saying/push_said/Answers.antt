@@ -1,10 +1,5 @@
-use Rattle.std.proofs.Common.{◌≡◌, Some, ap, sym, ◌∙◌, true, arith, rules, OnOk, ◌++◌}
-use Rattle.std.specs.String.{string_bytes}
-use Rattle.std.proofs.lemmas.Bool.Decides.{nat_tests}
-use Rattle.bully_base.specs.Setup.{is_node}
+use Rattle.std.proofs.Common.{◌≡◌, Some, rules}
 use Rattle.bully_trace.specs.Details.{said_of}
-use Rattle.bully_trace.specs.TraceText.{line_of, row_fields}
-use Rattle.bully_world.specs.Cause.{node_of}
 use Rattle.bully_world.specs.State.{world_of}
 use Rattle.bully_annotate.proofs.saying.push_said.Goals as goal
 

@@ -1,4 +1,4 @@
-use Rattle.std.proofs.Common.{◌≤◌, length, drop, take}
+use Rattle.std.proofs.Common.{◌≤◌, drop}
 use Rattle.std.specs.String.{string_bytes}
 use Rattle.bully_trace.specs.declared.TheConstants.{ROWS_MAX}
 use Rattle.bully_annotate.specs.Says.{GoesOn}

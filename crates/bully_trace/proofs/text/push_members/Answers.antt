@@ -1,9 +1,7 @@
-use Rattle.std.proofs.Common.{◌≡◌, ◌+◌, ◌++◌, ◌∙◌, sym, ap, List, ℕ, arith, rules}
-use Rattle.std.specs.Prelude.{reverse}
+use Rattle.std.proofs.Common.{◌≡◌, ◌+◌, sym, arith, rules}
 use Rattle.std.specs.String.{string_bytes}
 use Rattle.std.proofs.lemmas.List.{append-nil}
 use Rattle.bully_base.specs.declared.TheConstants.{NODES_MAX}
-use Rattle.bully_table.specs.TableText.{owners_text}
 use Rattle.bully_trace.proofs.SetTextLemmas.{below-first, below-highest}
 use Rattle.bully_trace.proofs.text.push_members.Goals as goal
 

@@ -1,5 +1,3 @@
-use Rattle.std.proofs.Common.{rules}
-use Rattle.bully_trace.specs.declared.trace.Row.{Row}
 use Rattle.bully_annotate.proofs.SaysLemmas.{claim-said, detailed-said, event-said, whole-said}
 use Rattle.bully_annotate.proofs.annotator.Annotator.say.Goals as goal
 
