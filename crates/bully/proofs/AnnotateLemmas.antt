@@ -3,8 +3,8 @@ use Rattle.std.proofs.Common.{◌≡◌, ◌≢◌, ◌⊎◌, inl, inr, ℕ, So
 use Rattle.std.specs.Prelude.{IfSome}
 use Rattle.std.specs.Io.KnownBytes.{Appends, Keeps}
 use Rattle.bully_trace.specs.declared.verdict.Verdict.{Verdict}
-use Rattle.bully_trace.specs.Rows.{OfTrace, records_of, trace_of}
-use Rattle.bully_trace.specs.Trace.{Trace}
+use Rattle.bully_rows.specs.Rows.{OfTrace, records_of, trace_of}
+use Rattle.bully_rows.specs.Trace.{Trace}
 use Rattle.bully_annotate.specs.Annotation.{IsAnnotationOf}
 use Rattle.bully_annotate.specs.declared.annotation.Annotation.{Annotation}
 use Rattle.bully.specs.Answer.{IsUntaken, KnownBytes, Tells, stop_line}

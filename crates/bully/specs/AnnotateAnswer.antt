@@ -2,11 +2,11 @@
 use Rattle.std.specs.Prelude.{◌≡◌, ◌≢◌, ◌⊎◌, ◌<◌, ◌≤◌, ℕ, List, ◌++◌, Ok, codes, length}
 use Rattle.std.specs.Io.KnownBytes.{Appends, Keeps}
 use Rattle.bully_world.specs.World.{World}
-use Rattle.bully_trace.specs.declared.TheConstants.{ROWS_MAX}
+use Rattle.bully_rows.specs.declared.TheConstants.{ROWS_MAX}
 use Rattle.bully_trace.specs.declared.verdict.Verdict.{Verdict}
-use Rattle.bully_trace.specs.Rows.{records_of, trace_of}
-use Rattle.bully_trace.specs.Trace.{Trace}
-use Rattle.bully_trace.specs.TraceText.{trace_text}
+use Rattle.bully_rows.specs.Rows.{records_of, trace_of}
+use Rattle.bully_rows.specs.Trace.{Trace}
+use Rattle.bully_rows.specs.TraceText.{trace_text}
 use Rattle.bully_trace.specs.Verdict.{IsVerdict}
 use Rattle.bully_trace.specs.VerdictText.{verdict_head}
 use Rattle.bully_annotate.specs.Annotated.{annotated}

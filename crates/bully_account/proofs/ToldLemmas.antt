@@ -4,14 +4,14 @@ use Rattle.std.specs.Prelude.{IfOk, IfErr}
 use Rattle.bully_base.specs.Setup.{Setup}
 use Rattle.bully_world.specs.State.{IsReached, world_of}
 use Rattle.bully_world.specs.World.{first_world}
-use Rattle.bully_trace.specs.declared.trace.Row.{Row}
-use Rattle.bully_trace.specs.declared.trace.TraceFault.{TraceFault}
+use Rattle.bully_rows.specs.declared.trace.Row.{Row}
+use Rattle.bully_rows.specs.declared.trace.TraceFault.{TraceFault}
 use Rattle.bully_trace.specs.declared.verdict.Verdict.{Verdict}
 use Rattle.bully_trace.specs.Judging.{AreAllJudged, HasJudged, JudgeState}
-use Rattle.bully_trace.specs.RecordsLeft.{EndsReading}
-use Rattle.bully_trace.specs.Rows.{OfTrace, is_of_form, no_memory}
+use Rattle.bully_rows.specs.RecordsLeft.{EndsReading}
+use Rattle.bully_rows.specs.Rows.{OfTrace, is_of_form, no_memory}
 use Rattle.bully_trace.specs.Verdict.{IsJudged}
-use Rattle.bully_trace.proofs.TraceLemmas.{memory-ends}
+use Rattle.bully_rows.proofs.TraceLemmas.{memory-ends}
 use Rattle.bully_account.specs.declared.showing.NodeSheet.{NodeSheet}
 use Rattle.bully_account.specs.Told.{Explains, IsUntold}
 use Rattle.bully_account.specs.Shown.{ShowsAll}

@@ -1,11 +1,11 @@
 -- What is told of a text: the verdict on its trace, or the fault that ends its reading.
 use Rattle.std.specs.Prelude.{◌≡◌, ℕ, false, List, Option, Result, MatchResult}
 use Rattle.bully_world.specs.State.{IsReached, WorldState, world_of}
-use Rattle.bully_trace.specs.declared.trace.TraceFault.{TraceFault}
+use Rattle.bully_rows.specs.declared.trace.TraceFault.{TraceFault}
 use Rattle.bully_trace.specs.declared.verdict.Verdict.{Verdict}
-use Rattle.bully_trace.specs.RecordsLeft.{EndsReading}
-use Rattle.bully_trace.specs.Rows.{OfTrace, is_of_form}
-use Rattle.bully_trace.specs.Trace.{Trace}
+use Rattle.bully_rows.specs.RecordsLeft.{EndsReading}
+use Rattle.bully_rows.specs.Rows.{OfTrace, is_of_form}
+use Rattle.bully_rows.specs.Trace.{Trace}
 use Rattle.bully_trace.specs.Verdict.{IsVerdict}
 use Rattle.bully_account.specs.declared.showing.NodeSheet.{NodeSheet}
 use Rattle.bully_account.specs.Shown.{ShowsAll}

@@ -4,7 +4,8 @@ use crate::moving::moves_point;
 use crate::showing::node_sheets;
 use crate::{Memory, NodeSheet};
 use bully_base::{Node, OutOfMemory};
-use bully_trace::{Header, Judge, Row, RowReader, Verdict, Version};
+use bully_rows::{Header, Row, RowReader, Version};
+use bully_trace::{Judge, Verdict};
 use bully_world::World;
 use std::alloc::Global;
 use std::io::Read;
@@ -39,7 +40,7 @@ impl Account {
     ghost use Rattle.std.specs.Prelude.{◌≡◌, ◌+◌, ◌++◌, ◌∷◌, [], List, length, IfOk};
     ghost use Rattle.bully_account.specs.Shown.{ShowsAll};
     ghost use Rattle.bully_base.specs.Setup.{Setup as SetupState};
-    ghost use Rattle.bully_trace.specs.declared.trace.Row.{Row as RowState};
+    ghost use Rattle.bully_rows.specs.declared.trace.Row.{Row as RowState};
     ghost use Rattle.bully_trace.specs.Judging.{HasJudged};
     ghost use Rattle.bully_trace.specs.Verdict.{IsJudged};
     ghost use Rattle.bully_world.specs.State.{world_of};
@@ -58,8 +59,8 @@ impl Account {
         })
     }
 
-    /// Takes the row that was read last. The first event that the world refuses, or the first claim that is false of it,
-    /// decides: that row is kept, and no later one changes anything.
+    /// Takes the row that was read last. The first event that the world refuses, or the first claim or detail that is
+    /// false of it, decides: that row is kept, and no later one changes anything.
     pub fn take_row<R: Read + Drop>(&mut self, rows: &RowReader<Lines<R>>, row: Row)
         ensures version { self.new.version ≡ self.old.version }
         ensures judged { (setup : SetupState) (before : List RowState) → length before + 2 ≡ rows.now.number → HasJudged setup before self.old → HasJudged setup (before ++ row ∷ []) self.new }

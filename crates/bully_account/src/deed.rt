@@ -1,5 +1,5 @@
 use bully_base::Node;
-use bully_trace::{CHECK, CRASH, DROP, LOSE, MOVE, PLAN, RECOVER, RETURN, RUN, START, TIMEOUT};
+use bully_rows::{CHECK, CRASH, DROP, LOSE, MOVE, PLAN, RECOVER, RETURN, RUN, START, TIMEOUT};
 use bully_world::Event;
 
 /// What an event is, but for its node and for the table of a plan.

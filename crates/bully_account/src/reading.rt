@@ -1,10 +1,10 @@
 ghost use Rattle.std.specs.Prelude.{◌≡◌, ℕ, List, Option, None, IfErr, MatchOption, OnOk};
 ghost use Rattle.bully_trace.specs.Judging.{Begins, IsJudgedToEnd, IsNoRow, IsNoStart, TakesRow};
-ghost use Rattle.bully_trace.specs.RecordsLeft.{EndsReading, IsUnread};
+ghost use Rattle.bully_rows.specs.RecordsLeft.{EndsReading, IsUnread};
 
 use crate::Account;
 use crate::lines::Lines;
-use bully_trace::{RowReader, TraceFault};
+use bully_rows::{RowReader, TraceFault};
 use std::alloc::Global;
 use std::io::Read;
 

@@ -1,14 +1,15 @@
 ghost use Rattle.std.specs.Prelude.{◌≡◌, ℕ, List, Option, None, true, IfErr, IfOk};
 ghost use Rattle.bully_account.specs.Told.{IsToldOf, IsUntold};
 ghost use Rattle.bully_trace.specs.Judging.{AreAllJudged};
-ghost use Rattle.bully_trace.specs.RecordsLeft.{EndsReading, IsUnread};
-ghost use Rattle.bully_trace.specs.Rows.{is_of_form, no_memory};
+ghost use Rattle.bully_rows.specs.RecordsLeft.{EndsReading, IsUnread};
+ghost use Rattle.bully_rows.specs.Rows.{is_of_form, no_memory};
 ghost use Rattle.bully_trace.specs.declared.verdict.Verdict.{Verdict as VerdictState};
 
 use crate::lines::Lines;
 use crate::reading::read_each;
 use crate::{Account, NodeSheet};
-use bully_trace::{RowReader, TraceCause, TraceFault, Verdict, no_header, reached};
+use bully_rows::{RowReader, TraceCause, TraceFault, no_header};
+use bully_trace::{Verdict, reached};
 use std::alloc::Global;
 use std::io::Read;
 

@@ -26,15 +26,16 @@ use Rattle.bully_world.proofs.CallInvariant.{start_fits}
 use Rattle.bully_world.proofs.LawfulLemmas.{lawful_more}
 use Rattle.bully_world.proofs.NodeInvariantLemmas.{lawful_fits}
 use Rattle.bully_world.proofs.StepOfLemmas.{step_is_computed}
-use Rattle.bully_trace.specs.declared.detail.Detail.{Detail}
-use Rattle.bully_trace.specs.declared.detail.DetailedEvent.{DetailedEvent}
-use Rattle.bully_trace.specs.declared.trace.Claim.{Claim}
-use Rattle.bully_trace.specs.declared.trace.Row.{Row}
+use Rattle.bully_rows.specs.declared.detail.Detail.{Detail}
+use Rattle.bully_rows.specs.declared.detail.DetailedEvent.{DetailedEvent}
+use Rattle.bully_rows.specs.declared.trace.Claim.{Claim}
+use Rattle.bully_rows.specs.declared.trace.Row.{Row}
 use Rattle.bully_trace.specs.declared.verdict.Verdict.{Verdict}
-use Rattle.bully_trace.specs.Details.{brought, call_at, call_told, event_of, has_answer, has_call, is_so, is_true, is_whole, offered_call, returned_of, said_of, same_status, same_task, says, unanswered_of}
-use Rattle.bully_trace.specs.Trace.{Trace}
+use Rattle.bully_rows.specs.EventsTold.{call_told, event_of}
+use Rattle.bully_trace.specs.Details.{brought, call_at, has_answer, has_call, is_so, is_true, is_whole, offered_call, returned_of, said_of, same_status, same_task, says, unanswered_of}
+use Rattle.bully_rows.specs.Trace.{Trace}
 use Rattle.bully_trace.specs.Verdict.{IsJudged, IsVerdict}
-use Rattle.bully_trace.specs.Whole.{Whole, whole_of}
+use Rattle.bully_rows.specs.Whole.{Whole, whole_of}
 use Rattle.bully_trace.proofs.SameLemmas.{answer-itself, call-itself, is-node, node-itself, status-itself, task-itself}
 use Rattle.bully_annotate.specs.Annotated.{annotated, callee_or, event_rows, place_of, rows_said, said_row, same_vector, shown_change, shown_row}
 

@@ -5,7 +5,7 @@ use Rattle.std.specs.Prelude.{IfOk, OnOk, Result, Ok, Err, slice_get}
 use Rattle.std.proofs.lemmas.Option.{slice_get_within, get_or_from_slice_get}
 use Rattle.std.proofs.lemmas.List.{append-nil, append_assoc, length-append, length-take-le, take_more, take_all}
 use Rattle.bully_handlers.specs.Vector.{StoredVector, Vector}
-use Rattle.bully_trace.specs.TraceText.{line_of, row_fields, rows_text}
+use Rattle.bully_rows.specs.TraceText.{line_of, row_fields, rows_text}
 use Rattle.bully_world.proofs.MembersOf.{member-members_of}
 use Rattle.bully_base.specs.Setup.{IsNode, Setup}
 use Rattle.bully_calls.specs.declared.call.Answer.{Answer}
@@ -16,15 +16,16 @@ use Rattle.bully_world.specs.State.{WorldState, cause_in, state_at, world_of}
 use Rattle.bully_world.specs.Step.{Step}
 use Rattle.bully_world.specs.World.{Member, World, first_world, vector}
 use Rattle.bully_world.proofs.StepOfLemmas.{step_is_one}
-use Rattle.bully_trace.specs.declared.detail.DetailedEvent.{DetailedEvent}
-use Rattle.bully_trace.specs.declared.trace.Claim.{Claim}
-use Rattle.bully_trace.specs.declared.trace.Row.{Row}
+use Rattle.bully_rows.specs.declared.detail.DetailedEvent.{DetailedEvent}
+use Rattle.bully_rows.specs.declared.trace.Claim.{Claim}
+use Rattle.bully_rows.specs.declared.trace.Row.{Row}
 use Rattle.bully_trace.specs.declared.verdict.Verdict.{Verdict}
-use Rattle.bully_trace.specs.Details.{event_of, is_so, is_true, is_whole}
+use Rattle.bully_rows.specs.EventsTold.{event_of}
+use Rattle.bully_trace.specs.Details.{is_so, is_true, is_whole}
 use Rattle.bully_trace.specs.Judging.{HasJudged, JudgeState}
-use Rattle.bully_trace.specs.Trace.{Trace}
+use Rattle.bully_rows.specs.Trace.{Trace}
 use Rattle.bully_trace.specs.Verdict.{IsJudged, IsVerdict}
-use Rattle.bully_trace.specs.Whole.{Whole, whole_of}
+use Rattle.bully_rows.specs.Whole.{Whole, whole_of}
 use Rattle.bully_annotate.specs.Annotated.{event_rows, rows_said, shown_row}
 use Rattle.bully_annotate.specs.Says.{GoesOn, IsLawfulFrom, Says, Shows, Steps}
 use Rattle.bully_annotate.proofs.SaidLemmas.{claim-node, said-event, whole-claim}

@@ -4,12 +4,13 @@ use Rattle.bully_base.specs.NodeSetEq.{same_set}
 use Rattle.bully_base.specs.Setup.{Setup}
 use Rattle.bully_calls.specs.declared.call.Call.{Call}
 use Rattle.bully_handlers.specs.Vector.{Vector}
-use Rattle.bully_trace.specs.declared.detail.DetailedEvent.{DetailedEvent}
-use Rattle.bully_trace.specs.declared.header.Version.{Version}
-use Rattle.bully_trace.specs.declared.trace.Row.{Row}
-use Rattle.bully_trace.specs.Details.{call_at, event_of, said_of, same_status, same_task}
-use Rattle.bully_trace.specs.Trace.{Trace}
-use Rattle.bully_trace.specs.Whole.{whole_of}
+use Rattle.bully_rows.specs.declared.detail.DetailedEvent.{DetailedEvent}
+use Rattle.bully_rows.specs.declared.header.Version.{Version}
+use Rattle.bully_rows.specs.declared.trace.Row.{Row}
+use Rattle.bully_rows.specs.EventsTold.{event_of}
+use Rattle.bully_trace.specs.Details.{call_at, said_of, same_status, same_task}
+use Rattle.bully_rows.specs.Trace.{Trace}
+use Rattle.bully_rows.specs.Whole.{whole_of}
 use Rattle.bully_world.specs.declared.event.Event.{Event}
 use Rattle.bully_world.specs.Cause.{node_of}
 use Rattle.bully_world.specs.StepOf.{step_of}

@@ -1,14 +1,15 @@
 ghost use Rattle.std.specs.Prelude.{◌≡◌, ◌≢◌, ◌⊎◌, false, IfErr, IfOk};
 ghost use Rattle.std.specs.Io.KnownBytes.{Appends};
 ghost use Rattle.bully_annotate.specs.Annotation.{IsAnnotationOf, is_written};
-ghost use Rattle.bully_trace.specs.Rows.{HasNoFault, IsFirstFault, IsOfWriting, IsReadAtItsRow, OfTrace};
+ghost use Rattle.bully_rows.specs.Rows.{HasNoFault, IsFirstFault, IsOfWriting, IsReadAtItsRow, OfTrace};
 ghost use Rattle.bully_trace.specs.Verdict.{IsVerdict};
 ghost use Rattle.bully_trace.specs.declared.verdict.Verdict.{Verdict as VerdictState};
 ghost use Rattle.bully_world.specs.World.{World};
 
 use crate::writing::text_of;
 use bully_base::OutOfMemory;
-use bully_trace::{Header, Judge, Trace, TraceCause, TraceFault, Verdict, not_written, read_trace};
+use bully_rows::{Header, Trace, TraceCause, TraceFault, not_written, read_trace};
+use bully_trace::{Judge, Verdict};
 use std::alloc::Global;
 use std::io::{Read, Write};
 
@@ -27,7 +28,7 @@ pub enum Annotation {
 /// which everything is said: of each event of a call which call it is and what was answered; each claim with all of its
 /// node's vector; and behind each event such a claim of the node whose vector it changed, if it changed one. Where the trace isn't
 /// lawful, its verdict is told and nothing is written, nor where that would have more rows than a trace may.
-/// Refused as [`bully_trace::read_trace`] refuses the trace, and then nothing was written; as `OutOfMemory` where the world or the
+/// Refused as [`bully_rows::read_trace`] refuses the trace, and then nothing was written; as `OutOfMemory` where the world or the
 /// text can't be made, with nothing written; then as `Write`, and then a prefix of the text may have been written. The last
 /// two are at row 0. This project's profile: docs/FORMATS.md.
 pub fn annotate<R: Read + Drop, W: Write>(

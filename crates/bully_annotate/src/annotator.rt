@@ -2,7 +2,7 @@ use crate::saying::{begin, push_change, push_shown};
 use crate::seen::Seen;
 use bully_agree::Walk;
 use bully_base::{Node, OutOfMemory, Setup};
-use bully_trace::Row;
+use bully_rows::Row;
 use bully_world::Event;
 use std::alloc::Global;
 use std::marker::Model;
@@ -29,7 +29,7 @@ impl Model for Annotator {
 impl Annotator {
     ghost use Rattle.std.specs.Prelude.{◌≡◌, ◌≤◌, ◌∷◌, ℕ, List, None, IfOk, string_bytes};
     ghost use Rattle.bully_annotate.specs.Says.{IsLawfulFrom, Says, Shows, Steps};
-    ghost use Rattle.bully_trace.specs.declared.trace.Row.{Row as RowState};
+    ghost use Rattle.bully_rows.specs.declared.trace.Row.{Row as RowState};
     ghost use Rattle.bully_world.specs.State.{cause_in, world_of};
     ghost use Rattle.bully_world.specs.World.{World as WorldOf, first_world};
 

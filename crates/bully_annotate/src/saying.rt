@@ -2,14 +2,15 @@
 ghost use Rattle.std.specs.Prelude.{◌≡◌, ◌≤◌, ◌+◌, ◌++◌, ◌∷◌, [], length, IfOk, OnOk, string_bytes};
 ghost use Rattle.bully_annotate.specs.Annotated.{place_of, said_row, same_vector, shown_row, shown_unless};
 ghost use Rattle.bully_trace.specs.Details.{said_of};
-ghost use Rattle.bully_trace.specs.TraceText.{line_of, row_fields, rows_text};
+ghost use Rattle.bully_rows.specs.TraceText.{line_of, row_fields, rows_text};
 ghost use Rattle.bully_world.specs.Cause.{node_of};
 ghost use Rattle.bully_world.specs.State.{world_of};
 ghost use Rattle.bully_world.specs.World.{vector};
 
 use crate::seen::Seen;
 use bully_base::{Node, OutOfMemory};
-use bully_trace::{call_at, push_detailed, push_event, push_vector, reached, said_of};
+use bully_rows::{push_detailed, push_event, push_vector};
+use bully_trace::{call_at, reached, said_of};
 use bully_world::{Event, World};
 
 /// Appends the event with all that there is to say of it in the world before it. Its node is at most the setup's last.

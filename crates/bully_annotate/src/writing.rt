@@ -2,15 +2,15 @@
 ghost use Rattle.std.specs.Prelude.{◌≡◌, ◌≤◌, ◌<◌, ℕ, length, IfOk, MatchOption, string_bytes};
 ghost use Rattle.bully_annotate.specs.Annotated.{annotated};
 ghost use Rattle.bully_annotate.specs.Says.{IsWrittenOf, IsSomewhereLawful};
-ghost use Rattle.bully_trace.specs.TraceText.{trace_text};
+ghost use Rattle.bully_rows.specs.TraceText.{trace_text};
 ghost use Rattle.bully_trace.specs.Verdict.{IsVerdict};
-ghost use Rattle.bully_trace.specs.declared.TheConstants.{ROWS_MAX};
+ghost use Rattle.bully_rows.specs.declared.TheConstants.{ROWS_MAX};
 ghost use Rattle.bully_trace.specs.declared.verdict.Verdict.{Verdict as VerdictState};
 ghost use Rattle.bully_world.specs.World.{World};
 
 use crate::annotator::Annotator;
 use bully_base::OutOfMemory;
-use bully_trace::{ROWS_MAX, Row, Trace, Version, push_header};
+use bully_rows::{ROWS_MAX, Row, Trace, Version, push_header};
 use std::alloc::Global;
 
 /// The text of the lawful trace with everything said; none where it has more rows than a trace may. Refused where an allocation

@@ -5,12 +5,10 @@ use crate::sides::{push_heads, push_nodes, push_sets, push_tasks, push_words};
 use bully_account::{NodeSheet, Shown};
 use bully_base::{Node, OutOfMemory, Setup};
 use bully_calls::{Answer, Call};
+use bully_rows::{Claim, Detail, DetailedEvent, WholeClaim, answer_word, call_word, status_word};
 use bully_steps::Want;
 use bully_table::Table;
-use bully_trace::{
-    Claim, Detail, DetailedEvent, WholeClaim, answer_word, brought, call_word, reply_of,
-    status_word,
-};
+use bully_trace::{brought, reply_of};
 use bully_world::World;
 
 /// Appends why the claim is false: what it says of the node and what the group shows, side by side. The node has this sheet,
@@ -76,41 +74,37 @@ fn task_of<'a>(world: &'a World, whole: &WholeClaim) -> Option<&'a Table> {
 }
 
 /// Appends why what is said beside the event isn't so: the call that it tells and the one that the group has, side by side; of
-/// a run what is answered, too, and of a return what it brings. The event's node has this sheet, where the group has it.
+/// a run what is answered, too, and of a return what it brings. Nothing of an event whose node the group doesn't have.
 pub fn push_detailed(
     text: &mut String,
     world: &World,
     event: &DetailedEvent,
-    sheet: Option<&NodeSheet>,
 ) -> Result<(), OutOfMemory> {
-    let Some(sheet) = sheet else {
-        return Ok(());
-    };
     let number = event.node.number();
+    if number > world.setup().nodes() {
+        return Ok(());
+    }
+    let shown = said_of(world, &event.event());
     writeln!(
         text,
         "differs: the call of node {number} isn't as it is told"
     )?;
     push_heads(text, "told")?;
-    push_calls(text, &event.detail, &sheet.shown)?;
-    push_answers(text, world, event, &sheet.shown)
-}
-
-// The call that the group has for such an event of a node of which this is shown: that which its point offers for a start, and
-// else the one in its slot.
-fn call_of(detail: &Detail, shown: &Shown) -> Option<Call> {
-    match (detail, shown.offer) {
-        (Detail::Start(_), Want::Start(call)) => Some(call),
-        (Detail::Start(_), _) => None,
-        _ => Some(shown.call?.call),
-    }
+    push_calls(text, event.detail.call(), shown)?;
+    push_answers(text, &event.detail, shown)
 }
 
 // Appends the call that is told and the one that the group has, its kind and its callee each on a line.
-fn push_calls(text: &mut String, detail: &Detail, shown: &Shown) -> Result<(), OutOfMemory> {
-    let told = detail.call();
-    let (kind, callee) = match call_of(detail, shown) {
-        Some(call) => (call_word(call.kind), Some(call.callee)),
+fn push_calls(
+    text: &mut String,
+    told: Call,
+    shown: Option<DetailedEvent>,
+) -> Result<(), OutOfMemory> {
+    let (kind, callee) = match shown {
+        Some(event) => {
+            let call = event.detail.call();
+            (call_word(call.kind), Some(call.callee))
+        }
         None => ("-", None),
     };
     push_words(text, "call", call_word(told.kind), kind)?;
@@ -120,37 +114,14 @@ fn push_calls(text: &mut String, detail: &Detail, shown: &Shown) -> Result<(), O
 // Appends the answer or the outcome that is told and the one that the group has, where the event has one.
 fn push_answers(
     text: &mut String,
-    world: &World,
-    event: &DetailedEvent,
-    shown: &Shown,
+    told: &Detail,
+    shown: Option<DetailedEvent>,
 ) -> Result<(), OutOfMemory> {
-    match event.detail {
-        Detail::Run(_, told) => push_answer(text, "answer", told, answer_of(world, event, shown)),
-        Detail::Return(_, told) => push_answer(
-            text,
-            "outcome",
-            told,
-            outcome_of(world, event.node),
-        ),
+    match told {
+        Detail::Run(_, answer) => push_answer(text, "answer", *answer, shown),
+        Detail::Return(_, answer) => push_answer(text, "outcome", *answer, shown),
         Detail::Start(_) | Detail::Lose(_) | Detail::Drop(_) => Ok(()),
     }
-}
-
-// What the callee answers to the call that the group has for the event.
-fn answer_of(world: &World, event: &DetailedEvent, shown: &Shown) -> Option<Answer> {
-    let call = call_of(&event.detail, shown)?;
-    if call.callee.number() > world.setup().nodes() {
-        return None;
-    }
-    Some(reply_of(world, &call))
-}
-
-// What the call in the slot of the node brings.
-fn outcome_of(world: &World, node: Node) -> Option<Answer> {
-    if node.number() > world.setup().nodes() {
-        return None;
-    }
-    brought(world.slot(node), world.generation(node))
 }
 
 // Appends the line of an answer or an outcome, of this name; a dash for none.
@@ -158,11 +129,19 @@ fn push_answer(
     text: &mut String,
     part: &str,
     told: Answer,
-    shown: Option<Answer>,
+    shown: Option<DetailedEvent>,
 ) -> Result<(), OutOfMemory> {
     let shown = match shown {
-        Some(answer) => answer_word(answer),
+        Some(event) => answer_text(&event.detail),
         None => "-",
     };
     push_words(text, part, answer_word(told), shown)
+}
+
+// What is answered or brought, or a dash.
+fn answer_text(detail: &Detail) -> &'static str {
+    match detail {
+        Detail::Run(_, answer) | Detail::Return(_, answer) => answer_word(*answer),
+        Detail::Start(_) | Detail::Lose(_) | Detail::Drop(_) => "-",
+    }
 }

@@ -1,13 +1,14 @@
 ghost use Rattle.std.specs.Prelude.{◌≡◌, ℕ, List, Option, true, IfErr, IfOk};
 ghost use Rattle.bully_account.specs.Told.{IsToldOf, IsUntold};
-ghost use Rattle.bully_trace.specs.RecordsLeft.{EndsReading, IsUnread};
-ghost use Rattle.bully_trace.specs.Rows.{is_of_form};
+ghost use Rattle.bully_rows.specs.RecordsLeft.{EndsReading, IsUnread};
+ghost use Rattle.bully_rows.specs.Rows.{is_of_form};
 
 use crate::form_text::form_text;
 use crate::sheet_text::sheet_text;
 use bully_account::{Account, Lines, NodeSheet, Told, tell};
 use bully_base::OutOfMemory;
-use bully_trace::{RowReader, TraceFault, Verdict};
+use bully_rows::{RowReader, TraceFault};
+use bully_trace::Verdict;
 use std::alloc::Global;
 use std::io::Read;
 

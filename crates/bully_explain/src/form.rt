@@ -1,7 +1,7 @@
 //! Where a row breaks its form.
 
 use bully_base::NODES_MAX;
-use bully_trace::{
+use bully_rows::{
     EventKind, PLAN, RUN, SAW, Version, call_named, is_word, kind_named, number_within,
     read_coordinator, read_node, read_set, read_weights, status_named,
 };

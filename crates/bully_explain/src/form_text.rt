@@ -1,7 +1,7 @@
 use crate::form::{Expected, FieldCounts, Misfit, field_at, misfit_of_header, misfit_of_row};
 use bully_account::{Account, Lines, line_of};
 use bully_base::{OutOfMemory, Setup, WEIGHT_MAX};
-use bully_trace::{ROWS_MAX, RowReader, TraceCause, TraceFault, Version};
+use bully_rows::{ROWS_MAX, RowReader, TraceCause, TraceFault, Version};
 use csv::ByteRecord;
 use std::alloc::Global;
 use std::io::Read;

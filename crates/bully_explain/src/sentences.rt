@@ -4,8 +4,9 @@ ghost use Rattle.std.specs.Prelude.{◌<◌, length, IfSome};
 use crate::words::{push_held, push_offer, push_point};
 use bully_account::{NodeSheet, Shown};
 use bully_base::{NODES_MAX, Node, NodeSet, OutOfMemory, Setup};
+use bully_rows::{cause_word, status_word};
 use bully_table::Table;
-use bully_trace::{Verdict, cause_word, status_word};
+use bully_trace::Verdict;
 use bully_world::{Event, Refused};
 
 /// Appends why the event was refused, as the verdict says: the cause, and a sentence with what it speaks of. A line. Its node

@@ -3,8 +3,9 @@ use crate::sentences::push_refused;
 use crate::words::{push_held, push_note, push_offer, push_point, push_vector};
 use bully_account::{Account, Deed, Memory, NodeSheet, Note, Shown, ShownCall, Stop};
 use bully_base::{NODES_MAX, Node, OutOfMemory, Status};
+use bully_rows::{Row, push_row};
 use bully_steps::Point;
-use bully_trace::{Row, Verdict, push_row};
+use bully_trace::Verdict;
 use std::alloc::Global;
 
 /// The sheet of the account's verdict as text, with what it shows of each node, from node 1 on.
@@ -66,7 +67,7 @@ fn push_reason(
     match &stop.row {
         Row::Event(event) => push_refused(text, setup, event, verdict, sheet),
         Row::Detailed(event) if matches!(verdict, Verdict::Differs(_)) => {
-            push_detailed(text, world, event, sheet)
+            push_detailed(text, world, event)
         }
         Row::Detailed(event) => push_refused(text, setup, &event.event(), verdict, sheet),
         Row::Claim(claim) => push_claimed(text, setup, *claim, sheet),

@@ -1,8 +1,8 @@
 //! Two columns: what a row says, and beside it what the group shows.
 
 use bully_base::{Node, NodeSet, OutOfMemory};
+use bully_rows::{push_node, push_set, push_task};
 use bully_table::Table;
-use bully_trace::{push_node, push_set, push_task};
 
 /// How wide the column of what a row says is, in bytes.
 const COLUMN: usize = 16;

@@ -2,8 +2,9 @@ use crate::trying::{Outcome, Trial};
 use crate::worlds::ELECTION;
 use bully_annotate::annotate;
 use bully_base::{Node, NodeSet, Setup, Status};
+use bully_rows::{Claim, WholeClaim, read_trace, write_trace};
 use bully_table::Table;
-use bully_trace::{Claim, WholeClaim, check, read_trace, upgrade, write_trace};
+use bully_trace::{check, upgrade};
 use std::alloc::Global;
 
 // A trace of version 2: node 2 leads itself alone, and its task is kept over a crash.

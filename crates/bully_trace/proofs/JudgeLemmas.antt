@@ -15,11 +15,12 @@ use Rattle.bully_world.proofs.LawfulLemmas.{lead_split}
 use Rattle.bully_world.proofs.ApplyLemmas.{room_of}
 use Rattle.bully_agree.proofs.Law.{agreement_lem}
 use Rattle.bully_agree.specs.Agreement.{Agreement}
-use Rattle.bully_trace.specs.declared.trace.Row.{Row}
+use Rattle.bully_rows.specs.declared.trace.Row.{Row}
 use Rattle.bully_trace.specs.declared.verdict.Verdict.{Verdict}
 use Rattle.bully_trace.specs.Judging.{HasJudged, IsJudgedOn, JudgeState}
-use Rattle.bully_trace.specs.Trace.{Trace}
-use Rattle.bully_trace.specs.Details.{event_of, is_so, is_true, is_whole}
+use Rattle.bully_rows.specs.Trace.{Trace}
+use Rattle.bully_rows.specs.EventsTold.{event_of}
+use Rattle.bully_trace.specs.Details.{is_so, is_true, is_whole}
 use Rattle.bully_trace.specs.Verdict.{AgreesAfterEachRow, IsJudged, IsVerdict, IsLawfulCount, events_of}
 
 -- behind the last row

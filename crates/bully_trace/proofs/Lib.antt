@@ -1,11 +1,4 @@
-pub mod FieldLemmas
-pub mod RowForms
-pub mod HeaderLemmas
-pub mod RecordsLemmas
-pub mod RowsLemmas
-pub mod TraceLemmas
-pub mod TextLemmas
-pub mod SetTextLemmas
+pub mod NodeLineLemmas
 pub mod JudgeLemmas
 pub mod SameLemmas
 pub mod StepToldLemmas

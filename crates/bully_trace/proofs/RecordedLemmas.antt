@@ -16,15 +16,16 @@ use Rattle.bully_world.specs.Step.{Step}
 use Rattle.bully_world.specs.World.{World, first_world, vector}
 use Rattle.bully_agree.proofs.Law.{agreement_lem}
 use Rattle.bully_agree.specs.Agreement.{Agreement}
-use Rattle.bully_trace.specs.declared.trace.Claim.{Claim}
-use Rattle.bully_trace.specs.declared.trace.Row.{Row}
+use Rattle.bully_rows.specs.declared.trace.Claim.{Claim}
+use Rattle.bully_rows.specs.declared.trace.Row.{Row}
 use Rattle.bully_trace.specs.declared.verdict.Verdict.{Verdict}
 use Rattle.bully_world.specs.Turn.{same_node}
-use Rattle.bully_trace.specs.Details.{event_of, is_so, is_true, is_whole, same_status}
+use Rattle.bully_rows.specs.EventsTold.{event_of}
+use Rattle.bully_trace.specs.Details.{is_so, is_true, is_whole, same_status}
 use Rattle.bully_trace.specs.Recorded.{ClaimsAgree, RecordedAgreement, TakesPartBy, claim_of}
-use Rattle.bully_trace.specs.Trace.{Trace}
+use Rattle.bully_rows.specs.Trace.{Trace}
 use Rattle.bully_trace.specs.Verdict.{IsJudged, IsVerdict, events_of}
-use Rattle.bully_trace.specs.Whole.{Whole}
+use Rattle.bully_rows.specs.Whole.{Whole}
 use Rattle.bully_trace.proofs.JudgeLemmas.{by_claim, events-append, judged_leads}
 use Rattle.bully_trace.proofs.SameLemmas.{node-is, status-is, task-is}
 

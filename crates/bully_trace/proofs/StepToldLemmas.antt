@@ -12,8 +12,9 @@ use Rattle.bully_calls.specs.Pending.{Pending, answer_of, outcome_of}
 use Rattle.bully_handlers.specs.Handler.{reply}
 use Rattle.bully_world.specs.Step.{Returns, Step}
 use Rattle.bully_world.specs.World.{World, pending, vector}
-use Rattle.bully_trace.specs.declared.detail.Detail.{Detail}
-use Rattle.bully_trace.specs.Details.{brought, call_at, call_told, event_told, has_answer, has_call, same_answer, says}
+use Rattle.bully_rows.specs.declared.detail.Detail.{Detail}
+use Rattle.bully_rows.specs.EventsTold.{call_told, event_told}
+use Rattle.bully_trace.specs.Details.{brought, call_at, has_answer, has_call, same_answer, says}
 use Rattle.bully_trace.specs.StepTold.{IsOfStep, TellsTheStep}
 use Rattle.bully_trace.proofs.SameLemmas.{answer-is, answer-itself, call-is, call-itself, is-node, node-within}
 

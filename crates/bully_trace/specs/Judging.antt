@@ -3,15 +3,15 @@ use Rattle.std.specs.Prelude.{◌≡◌, ◌⊎◌, ℕ, ◌+◌, List, [], ◌�
 use Rattle.bully_base.specs.Setup.{Setup}
 use Rattle.bully_world.specs.State.{WorldState, world_of}
 use Rattle.bully_world.specs.World.{World, first_world}
-use Rattle.bully_trace.specs.declared.header.Header.{Header}
-use Rattle.bully_trace.specs.declared.header.Version.{Version}
-use Rattle.bully_trace.specs.declared.trace.Row.{Row}
+use Rattle.bully_rows.specs.declared.header.Header.{Header}
+use Rattle.bully_rows.specs.declared.header.Version.{Version}
+use Rattle.bully_rows.specs.declared.trace.Row.{Row}
 use Rattle.bully_trace.specs.declared.verdict.Verdict.{Verdict}
-use Rattle.bully_trace.specs.declared.trace.TraceCause.{TraceCause}
-use Rattle.bully_trace.specs.declared.trace.TraceFault.{TraceFault}
-use Rattle.bully_trace.specs.Headers.{Record, header_of, header_with}
-use Rattle.bully_trace.specs.RecordsLeft.{EndsReading, HasRead, IsUnread, ReadSoFar, rows_left}
-use Rattle.bully_trace.specs.Rows.{IsTraceOf, fault_at, no_memory, row_of}
+use Rattle.bully_rows.specs.declared.trace.TraceCause.{TraceCause}
+use Rattle.bully_rows.specs.declared.trace.TraceFault.{TraceFault}
+use Rattle.bully_rows.specs.Headers.{Record, header_of, header_with}
+use Rattle.bully_rows.specs.RecordsLeft.{EndsReading, HasRead, IsUnread, ReadSoFar, rows_left}
+use Rattle.bully_rows.specs.Rows.{IsTraceOf, fault_at, no_memory, row_of}
 use Rattle.bully_trace.specs.Verdict.{IsJudged}
 
 -- the version of the trace, the world that its rows were taken to, and the first verdict that isn't lawful

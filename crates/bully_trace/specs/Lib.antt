@@ -1,14 +1,6 @@
-pub mod Words
-pub mod Headers
-pub mod Whole
 pub mod Details
 pub mod StepTold
-pub mod Trace
-pub mod Rows
-pub mod RecordsLeft
 pub mod Verdict
 pub mod VerdictText
-pub mod TraceText
 pub mod Judging
-pub mod NodeEvents
 pub mod Recorded

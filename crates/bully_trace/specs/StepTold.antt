@@ -5,9 +5,10 @@ use Rattle.bully_calls.specs.declared.call.Answer.{Answer}
 use Rattle.bully_steps.specs.declared.point.Want.{Want}
 use Rattle.bully_world.specs.Step.{Step, offer, sent}
 use Rattle.bully_world.specs.World.{World, member, vector, with_member}
-use Rattle.bully_trace.specs.declared.detail.Detail.{Detail}
-use Rattle.bully_trace.specs.declared.detail.DetailedEvent.{DetailedEvent}
-use Rattle.bully_trace.specs.Details.{call_at, call_told, event_of, is_so}
+use Rattle.bully_rows.specs.declared.detail.Detail.{Detail}
+use Rattle.bully_rows.specs.declared.detail.DetailedEvent.{DetailedEvent}
+use Rattle.bully_rows.specs.EventsTold.{call_told, event_of}
+use Rattle.bully_trace.specs.Details.{call_at, is_so}
 
 -- what is said of an event of node i, which leads from w to w' with this answer: of a Start the call that it sends; of the others
 -- the call in the slot; of a Run and of a Return also the answer

@@ -9,10 +9,11 @@ use Rattle.bully_world.specs.Lawful.{IsLawful}
 use Rattle.bully_world.specs.Step.{Step}
 use Rattle.bully_world.specs.World.{World, first_world}
 use Rattle.bully_agree.specs.Agreement.{Agreement}
-use Rattle.bully_trace.specs.declared.trace.Row.{Row}
+use Rattle.bully_rows.specs.declared.trace.Row.{Row}
 use Rattle.bully_trace.specs.declared.verdict.Verdict.{Verdict}
-use Rattle.bully_trace.specs.Details.{event_of, is_so, is_true, is_whole}
-use Rattle.bully_trace.specs.Trace.{Trace}
+use Rattle.bully_rows.specs.EventsTold.{event_of}
+use Rattle.bully_trace.specs.Details.{is_so, is_true, is_whole}
+use Rattle.bully_rows.specs.Trace.{Trace}
 
 -- from a world in which so many events were applied, the rows from this number on come to this verdict,
 -- and to this last world

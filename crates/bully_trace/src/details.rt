@@ -5,14 +5,15 @@ ghost use Rattle.bully_calls.specs.Slot.{pending_in};
 ghost use Rattle.bully_handlers.specs.Handler.{reply};
 ghost use Rattle.bully_handlers.specs.Vector.{is_normal};
 ghost use Rattle.bully_steps.specs.Point.{offered};
-ghost use Rattle.bully_trace.specs.Details.{brought, call_at, call_told, has_answer, has_call, is_so, is_true, is_whole, offered_call, said_of, same_task, says};
+ghost use Rattle.bully_rows.specs.EventsTold.{call_told};
+ghost use Rattle.bully_trace.specs.Details.{brought, call_at, has_answer, has_call, is_so, is_true, is_whole, offered_call, said_of, same_task, says};
 ghost use Rattle.bully_world.specs.Cause.{node_of};
 ghost use Rattle.bully_world.specs.State.{IsReached, state_at, world_of};
 ghost use Rattle.bully_world.specs.World.{pending, vector};
 
-use crate::{Claim, Detail, DetailedEvent, WholeClaim};
 use bully_base::{Node, Status};
 use bully_calls::{Answer, Call, CallKind, Phase, Slot};
+use bully_rows::{Claim, Detail, DetailedEvent, WholeClaim};
 use bully_steps::Want;
 use bully_table::Table;
 use bully_world::{Event, World};
@@ -96,13 +97,12 @@ pub fn offer_of(world: &World, node: Node) -> Want
 }
 
 /// What there is to say of the event in the world before it: none of an event without a call, and where there is no such call.
+/// Its node is at most the setup's last.
 pub fn said_of(world: &World, event: &Event) -> Option<DetailedEvent>
-    ensures { node_of event.now ≤ world.now.setup.nodes → result ≡ said_of world.now.setup (world_of world.now) event.now }
+    requires { node_of event.now ≤ world.now.setup.nodes }
+    ensures { result ≡ said_of world.now.setup (world_of world.now) event.now }
 {
     let node = event.node();
-    if node.number() > world.setup().nodes() {
-        return None;
-    }
     let detail = match event {
         Event::Start(_) => Detail::Start(offered_call(offer_of(world, node))?),
         Event::Run(_) => ran(world, &call_at(world, node)?),

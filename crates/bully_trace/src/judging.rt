@@ -1,19 +1,18 @@
 ghost use Rattle.std.specs.Prelude.{◌≡◌, ◌+◌, ◌++◌, ◌∷◌, [], List, length, IfOk};
 ghost use Rattle.bully_base.specs.Setup.{Setup as SetupState};
-ghost use Rattle.bully_trace.specs.declared.trace.Row.{Row as RowState};
+ghost use Rattle.bully_rows.specs.declared.trace.Row.{Row as RowState};
 ghost use Rattle.bully_trace.specs.declared.verdict.Verdict.{Verdict as VerdictState};
 ghost use Rattle.bully_trace.specs.Judging.{HasJudged, IsJudgedOn};
-ghost use Rattle.bully_trace.specs.NodeEvents.{event_at};
+ghost use Rattle.bully_rows.specs.NodeEvents.{event_at};
 ghost use Rattle.bully_trace.specs.Verdict.{IsJudged};
 ghost use Rattle.bully_world.specs.State.{world_of};
 ghost use Rattle.bully_world.specs.World.{World as WorldOf, first_world};
 
+use crate::Verdict;
 use crate::details::{holds, is_so, is_whole};
-use crate::header::{Header, Version};
-use crate::node_event::{EventKind, NodeEvent};
-use crate::{Claim, DetailedEvent, Row, Verdict, WholeClaim};
 use bully_agree::Walk;
 use bully_base::OutOfMemory;
+use bully_rows::{Claim, DetailedEvent, EventKind, Header, NodeEvent, Row, Version, WholeClaim};
 use bully_world::{Event, World};
 use std::alloc::Global;
 use std::marker::Model;

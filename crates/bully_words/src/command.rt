@@ -14,7 +14,7 @@ pub fn command_line<'a>(alloc: Global) -> Result<Command<'a>, AllocError>
         .about("Judges the trace on the standard input")
         .after_help(help::CHECK);
     let upgrade = Command::new(alloc, "upgrade")
-        .about("Writes the trace on the standard input as one of a later version")
+        .about("Writes the trace on the standard input as one of version 2 or 3")
         .after_help(help::UPGRADE);
     let annotate = Command::new(alloc, "annotate")
         .about("Writes the lawful trace on the standard input with everything said")

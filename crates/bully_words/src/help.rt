@@ -2,7 +2,7 @@
 
 /// The version of the program, that the promises of its README were proved for it, and the kit that they were proved with,
 /// by its number and its logic. `bin/test` compares these with `rt version`. When the version rises: CONTRIBUTING.md.
-pub const VERSION: &str = "0.1.0\n\
+pub const VERSION: &str = "0.2.0\n\
     Each promise of its README was proved for this version.\n\
     Proved with rattle-kit-13 logic dac8208d650f15bf";
 
@@ -12,8 +12,8 @@ pub const PROGRAM: &str = "\
     output, and a fault as one line on standard error.\n\
     \n\
     Statuses: 0 done, 1 the trace is refused or differs, 2 bad words, 3 a fault of\n\
-    form in a trace or a configuration, 4 something failed: Read, Write, Spawn,\n\
-    Finish or OutOfMemory.\n\
+    form in a trace or a configuration, or a trace too long to annotate, 4 something\n\
+    failed: Read, Write, Spawn, Finish or OutOfMemory.\n\
     \n\
     Example: bully play examples/two_nodes.toml | bully check";
 

@@ -5,7 +5,8 @@ use super::scripts::{
     ORPHAN_READY, OTHERS_DOWN, REPLY_LOST, WEIGHTED,
 };
 use super::weight_of;
-use bully_trace::{Trace, TraceFault, Version, check, read_trace, upgrade, write_trace};
+use bully_rows::{Trace, TraceFault, Version, read_trace, write_trace};
+use bully_trace::{check, upgrade};
 use std::alloc::Global;
 
 /// More rows than any script has.

@@ -1,6 +1,6 @@
 use Rattle.std.proofs.Common.{◌≤◌, drop}
 use Rattle.std.specs.String.{string_bytes}
-use Rattle.bully_trace.specs.declared.TheConstants.{ROWS_MAX}
+use Rattle.bully_rows.specs.declared.TheConstants.{ROWS_MAX}
 use Rattle.bully_annotate.specs.Says.{GoesOn}
 use Rattle.bully_annotate.proofs.writing.write_rows.Given as goal
 

@@ -4,7 +4,7 @@ use Rattle.std.specs.Io.KnownBytes.{Appends}
 use Rattle.bully_world.specs.State.{world_of}
 use Rattle.bully_trace.specs.declared.verdict.Verdict.{Verdict}
 use Rattle.bully_trace.specs.Recorded.{RecordedAgreement}
-use Rattle.bully_trace.specs.Trace.{Trace}
+use Rattle.bully_rows.specs.Trace.{Trace}
 use Rattle.bully_trace.specs.Verdict.{AgreesAfterEachRow, IsLawfulCount}
 use Rattle.bully_trace.proofs.CheckLemmas.{told-as, told-so}
 use Rattle.bully_trace.proofs.JudgeLemmas.{agrees_after, lawful_count}
