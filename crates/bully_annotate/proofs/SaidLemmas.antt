@@ -41,7 +41,7 @@ use Rattle.bully_annotate.specs.Annotated.{annotated, callee_or, event_rows, pla
 
 -- ---- what is shown is true
 
-shown-true : (setup : Setup) (w : World) (i : ℕ) → IsNode setup i → is_whole setup w (whole_of i (vector w i)) ≡ true
+pub shown-true : (setup : Setup) (w : World) (i : ℕ) → IsNode setup i → is_whole setup w (whole_of i (vector w i)) ≡ true
 shown-true setup w i node =
     let v = vector w i in
     rw (is-node setup i node, status-itself v.status, node-itself v.coordinator, node-itself v.halter, task-itself v.task) (set-itself v.up)

@@ -17,7 +17,12 @@ IsAnnotationOf trace (Annotation.Written count) Writes silent =
     × (length (annotated trace).rows ≤ ROWS_MAX) × Writes (trace_text (annotated trace))
 IsAnnotationOf trace (Annotation.Unlawful verdict) Writes silent =
     (w : World) × IsVerdict trace verdict w × ((count : ℕ) → verdict ≢ Verdict.Lawful count) × silent
-IsAnnotationOf trace Annotation.TooLong Writes silent = (ROWS_MAX < length (annotated trace).rows) × silent
+IsAnnotationOf trace Annotation.TooLong Writes silent =
+    (count : ℕ) × (w : World) × IsVerdict trace (Verdict.Lawful count) w × (ROWS_MAX < length (annotated trace).rows) × silent
+
+-- the trace is lawful, and no longer with everything said than a trace may be
+abbrev pub IsWritable : Trace → Type 0
+IsWritable trace = (count : ℕ) × (w : World) × IsVerdict trace (Verdict.Lawful count) w × (length (annotated trace).rows ≤ ROWS_MAX)
 
 -- the annotated trace was written
 abbrev pub is_written : Annotation → Bool

@@ -1,6 +1,6 @@
 ghost use Rattle.std.specs.Prelude.{◌≡◌, ◌≢◌, ◌⊎◌, false, IfErr, IfOk};
 ghost use Rattle.std.specs.Io.KnownBytes.{Appends};
-ghost use Rattle.bully_annotate.specs.Annotation.{IsAnnotationOf, is_written};
+ghost use Rattle.bully_annotate.specs.Annotation.{IsAnnotationOf, IsWritable, is_written};
 ghost use Rattle.bully_rows.specs.Rows.{HasNoFault, IsFirstFault, IsOfWriting, IsReadAtItsRow, OfTrace};
 ghost use Rattle.bully_trace.specs.Verdict.{IsVerdict};
 ghost use Rattle.bully_trace.specs.declared.verdict.Verdict.{Verdict as VerdictState};
@@ -45,6 +45,8 @@ pub fn annotate<R: Read + Drop, W: Write>(
         fault.cause ≢ TraceCause.Write → writer.new ≡ writer.old) }
     ensures read { IfErr result (λ fault.
         fault.cause ≡ TraceCause.Write → HasNoFault (R.remaining reader)) }
+    ensures write { IfErr result (λ fault.
+        fault.cause ≡ TraceCause.Write → OfTrace (R.remaining reader) IsWritable) }
     ensures row { IfErr result (λ fault.
         (fault.cause ≡ TraceCause.Write) ⊎ (fault.cause ≡ TraceCause.OutOfMemory) → fault.row ≡ 0) }
 {
@@ -62,6 +64,7 @@ fn annotate_trace<W: Write>(
     ensures unwritten { IfOk result (λ told. is_written told ≡ false → writer.new ≡ writer.old) }
     ensures fault { IfErr result IsOfWriting }
     ensures silent { IfErr result (λ fault. fault.cause ≡ TraceCause.OutOfMemory → writer.new ≡ writer.old) }
+    ensures write { IfErr result (λ fault. fault.cause ≡ TraceCause.Write → IsWritable trace.now) }
 {
     match verdict_of(alloc, trace)? {
         Verdict::Lawful(count) => write_lawful(alloc, trace, count, writer),
@@ -98,6 +101,7 @@ fn write_lawful<W: Write>(
     ensures unwritten { IfOk result (λ told. is_written told ≡ false → writer.new ≡ writer.old) }
     ensures fault { IfErr result IsOfWriting }
     ensures silent { IfErr result (λ fault. fault.cause ≡ TraceCause.OutOfMemory → writer.new ≡ writer.old) }
+    ensures write { IfErr result (λ fault. fault.cause ≡ TraceCause.Write → IsWritable trace.now) }
 {
     match &text_of(alloc, trace)? {
         Some(text) => match writer.write_all(text.as_bytes()) {

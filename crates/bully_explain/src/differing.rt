@@ -6,9 +6,8 @@ use bully_account::{NodeSheet, Shown};
 use bully_base::{Node, OutOfMemory, Setup};
 use bully_calls::{Answer, Call};
 use bully_rows::{Claim, Detail, DetailedEvent, WholeClaim, answer_word, call_word, status_word};
-use bully_steps::Want;
 use bully_table::Table;
-use bully_trace::{brought, reply_of};
+use bully_trace::said_of;
 use bully_world::World;
 
 /// Appends why the claim is false: what it says of the node and what the group shows, side by side. The node has this sheet,

@@ -1,12 +1,8 @@
 -- Texts that grow by a piece.
-use Rattle.std.proofs.Common.{◌≡◌, ◌∙◌, ℕ, zero, suc, ◌+◌, ◌-◌, ◌<◌, List, [], ◌∷◌, ◌++◌, take, length, slice_get, Some, append_assoc, add-one, ap, sym, arith}
+use Rattle.std.proofs.Common.{◌≡◌, ◌∙◌, ℕ, zero, suc, ◌+◌, ◌-◌, ◌<◌, List, [], ◌∷◌, ◌++◌, take, length, slice_get, Some, append_assoc, ap, sym, arith}
 use Rattle.std.proofs.lemmas.Grind.{common_steps}
 use Rattle.std.proofs.lemmas.Option.{slice_get-get_or}
-use Rattle.bully_base.specs.Places.{at_node}
 use Rattle.bully_base.specs.Setup.{IsSetup, Setup, weight_of}
-use Rattle.bully_world.specs.State.{MemberState, empty_state, members_of}
-use Rattle.bully_world.specs.World.{Member}
-use Rattle.bully_world.proofs.MembersOf.{member-members_of}
 use Rattle.bully_rows.specs.declared.trace.Row.{Row}
 use Rattle.bully_rows.specs.TraceText.{line_of, row_fields, rows_text}
 

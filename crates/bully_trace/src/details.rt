@@ -171,8 +171,8 @@ fn has_call(world: &World, node: Node, call: Call) -> bool
     }
 }
 
-/// What the callee answers to the call.
-pub fn reply_of(world: &World, call: &Call) -> Answer
+// What the callee answers to the call.
+fn reply_of(world: &World, call: &Call) -> Answer
     ensures { result ≡ reply call.now.kind (vector (world_of world.now) call.now.callee) }
 {
     match call.kind {
@@ -199,8 +199,8 @@ fn brings(world: &World, node: Node, answer: Answer) -> bool
     }
 }
 
-/// What the call in the slot of a caller of this generation brings, where it returns; none where it can't yet.
-pub fn brought(slot: &Slot, generation: u32) -> Option<Answer>
+// What the call in the slot of a caller of this generation brings, where it returns; none where it can't yet.
+fn brought(slot: &Slot, generation: u32) -> Option<Answer>
     ensures { result ≡ option_and_then brought (pending_in generation slot.now) }
 {
     let answer = match slot.phase()? {

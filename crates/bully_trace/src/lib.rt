@@ -30,7 +30,7 @@ pub use bully_rows::{
     read_weights, reply_named, status_named, status_word, write_trace,
 };
 pub use checking::check;
-pub use details::{brought, call_at, offer_of, reached, reply_of, said_of, same_task};
+pub use details::{call_at, offer_of, reached, said_of, same_task};
 pub use judging::Judge;
 pub use upgrading::upgrade;
 pub use verdict::Verdict;
