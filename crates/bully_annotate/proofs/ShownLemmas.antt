@@ -1,16 +1,14 @@
 -- An event changes the vector of one node at most, and that one is shown where it isn't the one before.
-use Rattle.std.proofs.Common.{◌≡◌, ◌≢◌, ◌⊎◌, ◌↔◌, inl, inr, ◌∙◌, ℕ, ◌+◌, ◌≤◌, ◌&&◌, Bool, true, false, List, [], ◌∷◌, Option, Some, None, if◌then◌else◌, refl, sym, ap, subst, arith}
-use Rattle.std.specs.Prelude.{bytes_eq, option_map}
+use Rattle.std.proofs.Common.{◌≡◌, ◌≢◌, ◌⊎◌, inl, inr, ◌∙◌, ℕ, ◌+◌, ◌&&◌, Bool, true, false, List, [], ◌∷◌, Option, refl, sym, ap, subst, arith}
+use Rattle.std.specs.Prelude.{option_map}
 use Rattle.std.proofs.lemmas.Bool.{and_parts}
-use Rattle.std.proofs.lemmas.Option.{same_Some}
 use Rattle.std.proofs.lemmas.Slice.Eq.{bytes_eq-Decides}
 use Rattle.bully_base.specs.declared.node.Status.{Status}
 use Rattle.bully_base.specs.NodeSet.{IsFallingBelow}
 use Rattle.bully_base.specs.NodeSetEq.{same_set}
-use Rattle.bully_base.specs.Setup.{IsNode, Setup, is_node}
+use Rattle.bully_base.specs.Setup.{Setup, is_node}
 use Rattle.bully_base.proofs.NodeSetLemmas.{IsFallingBelow-more, same_set_test}
 use Rattle.bully_calls.specs.declared.call.Answer.{Answer}
-use Rattle.bully_calls.specs.declared.call.Call.{Call}
 use Rattle.bully_calls.specs.declared.call.Outcome.{Outcome}
 use Rattle.bully_calls.specs.Pending.{Pending}
 use Rattle.bully_handlers.specs.Vector.{Vector}
@@ -18,13 +16,12 @@ use Rattle.bully_world.specs.declared.event.Event.{Event}
 use Rattle.bully_world.specs.NodeInvariant.{WorldInvariant}
 use Rattle.bully_world.specs.Step.{Proceeds, Returns, Step, ran}
 use Rattle.bully_world.specs.Turn.{same_node}
-use Rattle.bully_world.specs.World.{Member, World, member, pending, vector, with_member}
+use Rattle.bully_world.specs.World.{Member, World, vector, with_member}
 use Rattle.bully_world.proofs.NodeInvariantLemmas.{lawful_fits, step_fits}
 use Rattle.bully_world.proofs.MemberLemmas.{member_other}
 use Rattle.bully_world.proofs.RunInvariant.{ran_here, ran_other}
-use Rattle.bully_rows.specs.declared.trace.Claim.{Claim}
 use Rattle.bully_rows.specs.Whole.{Whole, whole_of}
-use Rattle.bully_trace.specs.Details.{call_at, is_true, is_whole, same_status, same_task}
+use Rattle.bully_trace.specs.Details.{is_true, is_whole, same_status, same_task}
 use Rattle.bully_trace.proofs.SameLemmas.{node-is, node-within, status-is, task-is}
 use Rattle.bully_annotate.specs.Annotated.{callee_or, place_of, same_vector, shown_change, shown_row, shown_unless}
 use Rattle.bully_annotate.specs.Shown.{ShowsEachChange, TellsTheVector}
@@ -76,6 +73,7 @@ run-stays setup w i w' a j fits (c, at, sent, up, is, answered) other = rw is (b
   where
     callee : j ≢ c.call.callee
     callee e = other (e ∙ sym (ap (callee_or i) (ap (option_map (λ (p : Pending). p.call)) at)))
+
     by_case : (j ≡ i) ⊎ (j ≢ i) → Stays w (ran w i c) j
     by_case (inl e) = rw e (ap (λ (n : Member). n.vector) (ran_here setup w i c fits at up))
     by_case (inr apart) = ap (λ (n : Member). n.vector) (ran_other setup w i c fits at up j apart callee)
@@ -108,8 +106,10 @@ shows-each-change setup events answers w e w' a lawful step j = by_case (grind a
   where
     before : WorldInvariant setup w
     before = lawful_fits setup events answers w lawful
+
     after : WorldInvariant setup w'
     after = step_fits setup w e w' a step before
+
     by_case : (j ≡ place_of w e) ⊎ (j ≢ place_of w e) → Stays w w' j ⊎ (shown_change w w' (place_of w e) ≡ shown_row w' j ∷ [])
     by_case (inl is) =
         rw is (place-shown w w' (place_of w e) (before.fits (place_of w e)).by_setup.up (after.fits (place_of w e)).by_setup.up)
@@ -126,22 +126,21 @@ whole-same whole v status coordinator halter up task =
 pub tells-the-vector : TellsTheVector
 tells-the-vector setup events answers w whole bound lawful falls = (
   λ e.
-    let one = and_parts (is_true setup w whole.claim && same_node (vector w whole.claim.node).halter whole.halter && same_set (vector w whole.claim.node).up whole.up) (same_task (vector w whole.claim.node).task whole.task) e in
-    let two = and_parts (is_true setup w whole.claim && same_node (vector w whole.claim.node).halter whole.halter) (same_set (vector w whole.claim.node).up whole.up) one.0 in
-    let three = and_parts (is_true setup w whole.claim) (same_node (vector w whole.claim.node).halter whole.halter) two.0 in
-    let four = and_parts (is_node setup whole.claim.node && same_status whole.claim.status (vector w whole.claim.node).status) (same_node whole.claim.coordinator (vector w whole.claim.node).coordinator) three.0 in
-    let five = and_parts (is_node setup whole.claim.node) (same_status whole.claim.status (vector w whole.claim.node).status) four.0 in
-    (
-      node-within setup whole.claim.node five.0,
-      whole-same whole (vector w whole.claim.node)
-          (status-is whole.claim.status (vector w whole.claim.node).status five.1)
-          (node-is whole.claim.coordinator (vector w whole.claim.node).coordinator four.1)
-          (node-is (vector w whole.claim.node).halter whole.halter three.1)
-          (set-is (whole.claim.node + bound) (vector w whole.claim.node).up whole.up
-          (IsFallingBelow-more whole.claim.node (whole.claim.node + bound) (vector w whole.claim.node).up (omega arith) (fits.fits whole.claim.node).by_setup.up)
-          (IsFallingBelow-more bound (whole.claim.node + bound) whole.up (omega arith) falls) two.1)
-          (task-is (vector w whole.claim.node).task whole.task one.1),
-    ),
+      let one = and_parts (is_true setup w whole.claim && same_node (vector w whole.claim.node).halter whole.halter && same_set (vector w whole.claim.node).up whole.up) (same_task (vector w whole.claim.node).task whole.task) e in
+      let two = and_parts (is_true setup w whole.claim && same_node (vector w whole.claim.node).halter whole.halter) (same_set (vector w whole.claim.node).up whole.up) one.0 in
+      let three = and_parts (is_true setup w whole.claim) (same_node (vector w whole.claim.node).halter whole.halter) two.0 in
+      let four = and_parts (is_node setup whole.claim.node && same_status whole.claim.status (vector w whole.claim.node).status) (same_node whole.claim.coordinator (vector w whole.claim.node).coordinator) three.0 in
+      let five = and_parts (is_node setup whole.claim.node) (same_status whole.claim.status (vector w whole.claim.node).status) four.0 in (
+        node-within setup whole.claim.node five.0,
+        whole-same whole (vector w whole.claim.node)
+            (status-is whole.claim.status (vector w whole.claim.node).status five.1)
+            (node-is whole.claim.coordinator (vector w whole.claim.node).coordinator four.1)
+            (node-is (vector w whole.claim.node).halter whole.halter three.1)
+            (set-is (whole.claim.node + bound) (vector w whole.claim.node).up whole.up
+            (IsFallingBelow-more whole.claim.node (whole.claim.node + bound) (vector w whole.claim.node).up (omega arith) (fits.fits whole.claim.node).by_setup.up)
+            (IsFallingBelow-more bound (whole.claim.node + bound) whole.up (omega arith) falls) two.1)
+            (task-is (vector w whole.claim.node).task whole.task one.1),
+      ),
   λ is. subst (λ (x : Whole). is_whole setup w x ≡ true) (sym is.1) (shown-true setup w whole.claim.node is.0),
 )
   where

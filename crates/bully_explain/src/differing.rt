@@ -89,15 +89,15 @@ pub fn push_detailed(
         "differs: the call of node {number} isn't as it is told"
     )?;
     push_heads(text, "told")?;
-    push_calls(text, event.detail.call(), shown)?;
-    push_answers(text, &event.detail, shown)
+    push_calls(text, event.detail.call(), &shown)?;
+    push_answers(text, &event.detail, &shown)
 }
 
 // Appends the call that is told and the one that the group has, its kind and its callee each on a line.
 fn push_calls(
     text: &mut String,
     told: Call,
-    shown: Option<DetailedEvent>,
+    shown: &Option<DetailedEvent>,
 ) -> Result<(), OutOfMemory> {
     let (kind, callee) = match shown {
         Some(event) => {
@@ -114,7 +114,7 @@ fn push_calls(
 fn push_answers(
     text: &mut String,
     told: &Detail,
-    shown: Option<DetailedEvent>,
+    shown: &Option<DetailedEvent>,
 ) -> Result<(), OutOfMemory> {
     match told {
         Detail::Run(_, answer) => push_answer(text, "answer", *answer, shown),
@@ -128,7 +128,7 @@ fn push_answer(
     text: &mut String,
     part: &str,
     told: Answer,
-    shown: Option<DetailedEvent>,
+    shown: &Option<DetailedEvent>,
 ) -> Result<(), OutOfMemory> {
     let shown = match shown {
         Some(event) => answer_text(&event.detail),
