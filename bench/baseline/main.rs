@@ -77,17 +77,18 @@ fn check_input() -> u8 {
     answer(check(input), &mut BufWriter::new(stdout().lock()), &mut stderr())
 }
 
-/// Annotates a lawful trace; of another one it tells the verdict or the fault.
+/// Annotates a lawful trace, read as `csv` takes it; of another one it tells the verdict or the fault.
 fn annotate_input() -> u8 {
     let mut text = Vec::new();
     if stdin().lock().read_to_end(&mut text).is_err() {
         return tell_fault(&mut stderr(), &Fault::Read);
     }
-    match check(text.as_slice()) {
+    let lines = plain_lines(&text);
+    match check(lines.as_slice()) {
         Ok(Verdict::Lawful(_)) => {}
         judged => return answer(judged, &mut stderr(), &mut stderr()),
     }
-    match annotate(text.as_slice(), BufWriter::with_capacity(BUFFER, stdout().lock())) {
+    match annotate(lines.as_slice(), BufWriter::with_capacity(BUFFER, stdout().lock())) {
         Ok(()) => 0,
         Err(fault) => tell_fault(&mut stderr(), &fault),
     }
