@@ -2,20 +2,11 @@
 //! log for each actor, and asks no step whether it may be taken.
 
 use crate::planning::plan;
-use crate::world::{Action, Node, NodeSet, Offer, Outcome, Phase, Point, Setup, World};
+use crate::world::{Action, Answer, Node, NodeSet, Offer, Outcome, Phase, Point, Setup, World};
 use std::sync::Mutex;
 
 /// How often the last node crashes: once in so many rounds.
 const PERIOD: u32 = 1024;
-
-#[derive(Clone, Copy)]
-pub enum Answer {
-    Done,
-    Yes,
-    No,
-    Failed,
-    Discarded,
-}
 
 #[derive(Clone)]
 pub struct Entry {
@@ -62,14 +53,6 @@ pub struct Group {
     locked: Mutex<Locked>,
     operator: Seat,
     players: Vec<Player>,
-}
-
-fn answer_of(outcome: Outcome) -> Answer {
-    match outcome {
-        Outcome::Yes => Answer::Yes,
-        Outcome::No => Answer::No,
-        Outcome::Failed => Answer::Failed,
-    }
 }
 
 /// Whether a live call of the node is under way.
@@ -144,7 +127,7 @@ impl Locked {
             return false;
         };
         let outcome = self.world.exchange(caller, me);
-        self.record(seat, Action::Run, caller, answer_of(outcome), None);
+        self.record(seat, Action::Run, caller, outcome.into(), None);
         true
     }
 
@@ -182,12 +165,7 @@ impl Locked {
     fn take_back(&mut self, seat: &mut Seat, outcome: Outcome) {
         let nodes = self.world.setup.nodes;
         let node = self.world.node_mut(seat.actor);
-        let answer = if node.has_orphan() {
-            Answer::Discarded
-        } else {
-            answer_of(outcome)
-        };
-        node.close(seat.actor, nodes, outcome);
+        let answer = node.close(seat.actor, nodes, outcome);
         self.record(seat, Action::Return, seat.actor, answer, None);
     }
 

@@ -2,8 +2,8 @@
 
 use crate::checking::{or_dash, status_word};
 use crate::random::Random;
-use crate::rows::{header, Version};
-use crate::world::{action_word, Action, CallKind, Node, Offer, Phase, Point, Setup, World};
+use crate::rows::{header, write_event, Version};
+use crate::world::{Action, CallKind, Node, Offer, Phase, Point, Setup, World};
 use std::fmt;
 use std::io::{self, Write};
 
@@ -85,7 +85,8 @@ impl<W: Write> Generator<W> {
         self.world
             .apply(action, node, &self.owners)
             .expect("the event is possible");
-        self.write_event(action, node)
+        write_event(&mut self.output, action, node, &self.owners)?;
+        writeln!(self.output)
     }
 
     /// A claim that is true.
@@ -95,17 +96,6 @@ impl<W: Write> Generator<W> {
         let coordinator = or_dash(node.coordinator);
         self.tally.claims += 1;
         writeln!(self.output, "saw,{number},{},{coordinator}", status_word(node.status))
-    }
-
-    fn write_event(&mut self, action: Action, node: u16) -> io::Result<()> {
-        write!(self.output, "{},{node}", action_word(action))?;
-        if let Action::Plan = action {
-            for (place, owner) in self.owners.iter().enumerate() {
-                let before = if place == 0 { ',' } else { ' ' };
-                write!(self.output, "{before}{owner}")?;
-            }
-        }
-        writeln!(self.output)
     }
 
     fn any_node(&mut self) -> u16 {

@@ -2,32 +2,43 @@
 //!
 //!     baseline check < TRACE
 //!     baseline answers FOLDER
+//!     baseline annotate < TRACE > TRACE
 //!     baseline generate NODES PARTITIONS ROWS SEED > TRACE
 //!     baseline spoil FOLDER COUNT SEED
+//!     baseline spoil-annotated FOLDER COUNT SEED
 //!
 //! `check` answers as `bully check` does. It takes rows as lines without quotes, as traces are written.
-//! `generate` writes a lawful trace, of version 1 where that can tell the setup.
+//! `annotate` writes a lawful trace of any version as one of version 3, in which all is said that a row may say, and where
+//! behind each event a whole claim tells what it changed. Of a trace that isn't lawful it writes the verdict, on standard
+//! error. `generate` writes a lawful trace, of version 1 where that can tell the setup.
 //! `answers` does so for each file of the folder, in the order of their names, and takes the text as csv does: standard
 //! output has the file's name behind `== `, its verdict if it has one, and the status behind `= `; standard error has the
-//! lines of the faults. `spoil` writes so many traces into the folder, most of which aren't lawful.
+//! lines of the faults. `spoil` writes so many traces into the folder, most of which aren't lawful, and `spoil-annotated`
+//! so many of version 3.
 
+mod annotating;
 mod checking;
 mod csv_text;
 mod generating;
 #[path = "../random.rs"]
 mod random;
+mod reading;
 mod rows;
 mod spoiling;
+mod spoiling_annotated;
 mod world;
 
-use checking::{check, write_verdict, Fault, Verdict};
+use annotating::annotate;
+use checking::{check, write_verdict, Verdict};
 use csv_text::plain_lines;
 use generating::{generate, Order};
 use random::Random;
+use reading::Fault;
 use rows::Version;
 use spoiling::spoiled_trace;
+use spoiling_annotated::spoiled_annotated_trace;
 use std::fs;
-use std::io::{self, stderr, stdin, stdout, BufRead, BufReader, BufWriter, Write};
+use std::io::{self, stderr, stdin, stdout, BufReader, BufWriter, Read, Write};
 use std::path::{Path, PathBuf};
 use std::process::ExitCode;
 use world::{Setup, NODES_MAX, PARTITIONS_MAX};
@@ -40,14 +51,17 @@ fn main() -> ExitCode {
     match words.as_slice() {
         ["check"] => ExitCode::from(check_input()),
         ["answers", folder] => exit_code(answer_folder(Path::new(folder))),
+        ["annotate"] => ExitCode::from(annotate_input()),
         ["generate", nodes, partitions, rows, seed] => generate_output(nodes, partitions, rows, seed),
-        ["spoil", folder, count, seed] => spoil(Path::new(folder), count, seed),
+        ["spoil", folder, count, seed] => spoil(spoiled_trace, Path::new(folder), count, seed),
+        ["spoil-annotated", folder, count, seed] => spoil(spoiled_annotated_trace, Path::new(folder), count, seed),
         _ => refuse_words(),
     }
 }
 
 fn refuse_words() -> ExitCode {
-    eprintln!("usage: baseline check | answers FOLDER | generate NODES PARTITIONS ROWS SEED | spoil FOLDER COUNT SEED");
+    eprintln!("usage: baseline check | answers FOLDER | annotate | generate NODES PARTITIONS ROWS SEED");
+    eprintln!("     | spoil FOLDER COUNT SEED | spoil-annotated FOLDER COUNT SEED");
     ExitCode::from(2)
 }
 
@@ -60,22 +74,38 @@ fn exit_code(done: io::Result<()>) -> ExitCode {
 
 fn check_input() -> u8 {
     let input = BufReader::with_capacity(BUFFER, stdin().lock());
-    answer(input, &mut BufWriter::new(stdout().lock()), &mut stderr())
+    answer(check(input), &mut BufWriter::new(stdout().lock()), &mut stderr())
 }
 
-/// Checks a trace. The status is 0 for lawful, 1 for refused or differs, 3 for a fault of form, 4 for a stream that
-/// failed.
-fn answer<R: BufRead, W: Write, E: Write>(input: R, output: &mut W, errors: &mut E) -> u8 {
-    match check(input) {
+/// Annotates a lawful trace, read as `csv` takes it; of another one it tells the verdict or the fault.
+fn annotate_input() -> u8 {
+    let mut text = Vec::new();
+    if stdin().lock().read_to_end(&mut text).is_err() {
+        return tell_fault(&mut stderr(), &Fault::Read);
+    }
+    let lines = plain_lines(&text);
+    match check(lines.as_slice()) {
+        Ok(Verdict::Lawful(_)) => {}
+        judged => return answer(judged, &mut stderr(), &mut stderr()),
+    }
+    match annotate(lines.as_slice(), BufWriter::with_capacity(BUFFER, stdout().lock())) {
+        Ok(()) => 0,
+        Err(fault) => tell_fault(&mut stderr(), &fault),
+    }
+}
+
+/// Tells the verdict on a trace, or its fault. The status is 0 for lawful, 1 for refused or differs, 3 for a fault of form,
+/// 4 for a stream that failed.
+fn answer<W: Write, E: Write>(judged: Result<Verdict, Fault>, output: &mut W, errors: &mut E) -> u8 {
+    match judged {
         Ok(verdict) => answer_verdict(&verdict, output, errors),
-        Err(Fault::Form(row, cause)) => tell(errors, &format!("trace row {row}: {cause}"), 3),
-        Err(Fault::Read) => tell(errors, "Read", 4),
+        Err(fault) => tell_fault(errors, &fault),
     }
 }
 
 fn answer_verdict<W: Write, E: Write>(verdict: &Verdict, output: &mut W, errors: &mut E) -> u8 {
     if write_verdict(output, verdict).is_err() {
-        return tell(errors, "Write", 4);
+        return tell_fault(errors, &Fault::Write);
     }
     match verdict {
         Verdict::Lawful(_) => 0,
@@ -83,7 +113,12 @@ fn answer_verdict<W: Write, E: Write>(verdict: &Verdict, output: &mut W, errors:
     }
 }
 
-fn tell<E: Write>(errors: &mut E, what: &str, status: u8) -> u8 {
+fn tell_fault<E: Write>(errors: &mut E, fault: &Fault) -> u8 {
+    let (what, status) = match fault {
+        Fault::Form(row, cause) => (format!("trace row {row}: {cause}"), 3),
+        Fault::Read => ("Read".to_string(), 4),
+        Fault::Write => ("Write".to_string(), 4),
+    };
     let _ = writeln!(errors, "bully: {what}");
     status
 }
@@ -98,25 +133,28 @@ fn answer_folder(folder: &Path) -> io::Result<()> {
     for path in paths {
         let lines = plain_lines(&fs::read(&path)?);
         writeln!(output, "== {}", path.file_name().unwrap_or_default().to_string_lossy())?;
-        let status = answer(lines.as_slice(), &mut output, &mut errors);
+        let status = answer(check(lines.as_slice()), &mut output, &mut errors);
         writeln!(output, "= {status}")?;
     }
     output.flush()?;
     errors.flush()
 }
 
-fn spoil(folder: &Path, count: &str, seed: &str) -> ExitCode {
+/// Makes a spoiled trace.
+type Spoiler = fn(&mut Random) -> io::Result<Vec<u8>>;
+
+fn spoil(spoiler: Spoiler, folder: &Path, count: &str, seed: &str) -> ExitCode {
     match (count.parse(), seed.parse()) {
-        (Ok(count), Ok(seed)) => exit_code(write_spoiled(folder, count, seed)),
+        (Ok(count), Ok(seed)) => exit_code(write_spoiled(spoiler, folder, count, seed)),
         _ => refuse_words(),
     }
 }
 
 /// Writes so many spoiled traces, each into a file whose name is its number.
-fn write_spoiled(folder: &Path, count: u32, seed: u64) -> io::Result<()> {
+fn write_spoiled(spoiler: Spoiler, folder: &Path, count: u32, seed: u64) -> io::Result<()> {
     let mut random = Random(seed | 1 << 63);
     for number in 1..=count {
-        fs::write(folder.join(format!("{number:05}")), spoiled_trace(&mut random)?)?;
+        fs::write(folder.join(format!("{number:05}")), spoiler(&mut random)?)?;
     }
     Ok(())
 }

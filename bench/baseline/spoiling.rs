@@ -23,35 +23,39 @@ const HEADERS: [&[u8]; 2] = [b"bully,1,2,2\n", b"bully,2,2,2,2 1,keep\n"];
 /// One trace; each such call draws another one.
 pub fn spoiled_trace(random: &mut Random) -> io::Result<Vec<u8>> {
     match random.below(10) {
-        0 => random_rows(random),
+        0 => {
+            let (setup, version) = any_setup(random);
+            random_rows(random, &setup, version, |_, _, _, _| Ok(()))
+        }
         1 => Ok(random_bytes(random)),
         2 => lawful_trace(random, 600),
-        3 | 4 => changed_bytes(random),
-        _ => changed_rows(random),
+        3 | 4 => {
+            let text = lawful_trace(random, 60)?;
+            Ok(changed_bytes(random, text))
+        }
+        _ => {
+            let text = lawful_trace(random, 150)?;
+            Ok(changed_rows(random, &text))
+        }
     }
 }
 
-/// A lawful trace that is cut behind any byte, or of which one or two bytes become another of the alphabet.
-fn changed_bytes(random: &mut Random) -> io::Result<Vec<u8>> {
-    let mut text = lawful_trace(random, 60)?;
+/// The text cut behind any byte, or with one or two bytes that become another of the alphabet.
+pub fn changed_bytes(random: &mut Random, mut text: Vec<u8>) -> Vec<u8> {
     if random.once_in(2) {
         text.truncate(random.below(1 + text.len() as u32) as usize);
-        return Ok(text);
+        return text;
     }
     for _ in 0..1 + random.below(2) {
         let place = random.below(text.len() as u32) as usize;
         text[place] = ALPHABET[random.below(ALPHABET.len() as u32) as usize];
     }
-    Ok(text)
+    text
 }
 
-/// A lawful trace whose rows are changed.
-fn changed_rows(random: &mut Random) -> io::Result<Vec<u8>> {
-    let text = lawful_trace(random, 150)?;
-    let mut lines: Vec<Vec<u8>> = text
-        .split_inclusive(|&byte| byte == b'\n')
-        .map(<[u8]>::to_vec)
-        .collect();
+/// The trace with its rows changed.
+pub fn changed_rows(random: &mut Random, text: &[u8]) -> Vec<u8> {
+    let mut lines = lines_of(text);
     match random.below(8) {
         0 | 1 => swap_rows(random, &mut lines),
         2 => cut_rows(random, &mut lines),
@@ -60,11 +64,17 @@ fn changed_rows(random: &mut Random) -> io::Result<Vec<u8>> {
         5 => put_edge(random, &mut lines),
         _ => change_number(random, &mut lines),
     }
-    Ok(lines.concat())
+    lines.concat()
+}
+
+/// The lines, each with its line feed.
+pub fn lines_of(text: &[u8]) -> Vec<Vec<u8>> {
+    let lines = text.split_inclusive(|&byte| byte == b'\n');
+    lines.map(<[u8]>::to_vec).collect()
 }
 
 /// A setup, and a version of traces that can tell it.
-fn any_setup(random: &mut Random) -> (Setup, Version) {
+pub fn any_setup(random: &mut Random) -> (Setup, Version) {
     let mut setup = any_size(random);
     if random.once_in(2) {
         return (setup, Version::of(&setup));
@@ -98,7 +108,7 @@ fn any_weight(random: &mut Random) -> u16 {
 }
 
 /// A number from 1 to the limit; now and then one that is higher, or no number at all.
-fn number(random: &mut Random, limit: u32) -> String {
+pub fn number(random: &mut Random, limit: u32) -> String {
     if !random.once_in(40) {
         return (1 + random.below(limit)).to_string();
     }
@@ -116,10 +126,13 @@ fn any_edge(random: &mut Random, edges: [u16; 4]) -> String {
     edges[random.below(4) as usize].to_string()
 }
 
-fn random_rows(random: &mut Random) -> io::Result<Vec<u8>> {
-    let (setup, version) = any_setup(random);
+/// Writes what the row of a word says further, which has this setup.
+type Further = fn(&mut Random, &mut Vec<u8>, &str, &Setup) -> io::Result<()>;
+
+/// A header and rows, mostly of the right form.
+pub fn random_rows(random: &mut Random, setup: &Setup, version: Version, further: Further) -> io::Result<Vec<u8>> {
     let (nodes, partitions) = (setup.nodes as u32, setup.partitions as u32);
-    let mut text = header(&setup, version).into_bytes();
+    let mut text = header(setup, version).into_bytes();
     text.push(b'\n');
     if random.once_in(20) {
         change_header(random, &mut text);
@@ -132,12 +145,13 @@ fn random_rows(random: &mut Random) -> io::Result<Vec<u8>> {
             "saw" => write_claim(random, &mut text, nodes)?,
             _ => {}
         }
+        further(random, &mut text, word, setup)?;
         writeln!(text, "{}", if random.once_in(80) { "," } else { "" })?;
     }
     Ok(text)
 }
 
-fn write_owners(random: &mut Random, text: &mut Vec<u8>, nodes: u32, partitions: u32) -> io::Result<()> {
+pub fn write_owners(random: &mut Random, text: &mut Vec<u8>, nodes: u32, partitions: u32) -> io::Result<()> {
     for place in 0..partitions {
         write!(text, "{}{}", if place == 0 { ',' } else { ' ' }, number(random, nodes))?;
     }
@@ -171,7 +185,7 @@ fn random_bytes(random: &mut Random) -> Vec<u8> {
 
 /// A lawful trace of any setup, with up to so many rows. Where there are many nodes, the highest ones recover first, and
 /// there are more rows, since an election takes longer.
-fn lawful_trace(random: &mut Random, most: u32) -> io::Result<Vec<u8>> {
+pub fn lawful_trace(random: &mut Random, most: u32) -> io::Result<Vec<u8>> {
     let mut text = Vec::new();
     let (setup, version) = any_setup(random);
     let highest = setup.nodes / 16;
@@ -186,7 +200,7 @@ fn lawful_trace(random: &mut Random, most: u32) -> io::Result<Vec<u8>> {
     Ok(text)
 }
 
-fn any_row(random: &mut Random, lines: &[Vec<u8>]) -> usize {
+pub fn any_row(random: &mut Random, lines: &[Vec<u8>]) -> usize {
     1 + random.below(lines.len() as u32 - 1) as usize
 }
 
@@ -230,7 +244,7 @@ fn change_header(random: &mut Random, line: &mut Vec<u8>) {
 }
 
 /// The text with one of its parts changed, of which there is this byte between each two.
-fn changed_parts(random: &mut Random, text: &[u8], between: u8) -> Vec<u8> {
+pub fn changed_parts(random: &mut Random, text: &[u8], between: u8) -> Vec<u8> {
     let mut parts: Vec<&[u8]> = text.split(|&byte| byte == between).collect();
     let place = random.below(parts.len() as u32) as usize;
     match random.below(3) {

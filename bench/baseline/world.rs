@@ -26,7 +26,7 @@ pub enum Status {
     Normal,
 }
 
-#[derive(Clone, Copy)]
+#[derive(Clone, Copy, PartialEq, Eq)]
 pub enum CallKind {
     AreYouUp,
     AreYouNormal,
@@ -60,6 +60,16 @@ pub enum Outcome {
     Yes,
     No,
     Failed,
+}
+
+/// What an event answers.
+#[derive(Clone, Copy, PartialEq, Eq)]
+pub enum Answer {
+    Done,
+    Yes,
+    No,
+    Failed,
+    Discarded,
 }
 
 #[derive(Clone, Copy, PartialEq, Eq)]
@@ -100,6 +110,8 @@ pub enum Refusal {
     NotOrphan,
 }
 
+/// An empty one keeps the callee and the kind of the call that was in it last.
+#[derive(Clone)]
 pub struct Slot {
     pub phase: Phase,
     pub callee: u16,
@@ -108,6 +120,7 @@ pub struct Slot {
     table: Vec<u16>,
 }
 
+#[derive(Clone)]
 pub struct Node {
     pub status: Status,
     pub coordinator: Option<u16>,
@@ -140,6 +153,16 @@ pub fn action_word(action: Action) -> &'static str {
         Action::Drop => "drop",
         Action::Move => "move",
         Action::Plan => "plan",
+    }
+}
+
+impl From<Outcome> for Answer {
+    fn from(outcome: Outcome) -> Answer {
+        match outcome {
+            Outcome::Yes => Answer::Yes,
+            Outcome::No => Answer::No,
+            Outcome::Failed => Answer::Failed,
+        }
     }
 }
 
@@ -204,6 +227,17 @@ impl Node {
 
     pub fn is_down(&self) -> bool {
         self.status == Status::Down
+    }
+
+    /// The owners of the node's task, if it has one.
+    pub fn owners(&self) -> Option<&[u16]> {
+        self.has_task.then_some(&self.task)
+    }
+
+    /// Whether both show the same status, coordinator, halter, up set and task.
+    pub fn has_vector_of(&self, other: &Node) -> bool {
+        let shows_same = self.status == other.status && self.coordinator == other.coordinator;
+        shows_same && self.halter == other.halter && self.up == other.up && self.owners() == other.owners()
     }
 
     /// Whether the call in the slot was started before the node was last stopped.
@@ -290,26 +324,27 @@ impl Node {
         }
     }
 
-    fn take_back(&mut self, me: u16, nodes: u16) -> Result<(), Refusal> {
+    fn take_back(&mut self, me: u16, nodes: u16) -> Result<Answer, Refusal> {
         let outcome = match self.slot.phase {
             Phase::Empty | Phase::Sent => return Err(Refusal::NoCall),
             Phase::Ran(outcome) => outcome,
             Phase::Failed => Outcome::Failed,
         };
-        self.close(me, nodes, outcome);
-        Ok(())
+        Ok(self.close(me, nodes, outcome))
     }
 
     /// The call returns, and the point moves where it isn't an orphan.
-    pub fn close(&mut self, me: u16, nodes: u16, outcome: Outcome) {
+    pub fn close(&mut self, me: u16, nodes: u16, outcome: Outcome) -> Answer {
         let is_orphan = self.has_orphan();
         self.slot.phase = Phase::Empty;
-        if !is_orphan {
-            self.proceed(me, nodes, outcome);
+        if is_orphan {
+            return Answer::Discarded;
         }
+        self.proceed(me, nodes, outcome);
+        outcome.into()
     }
 
-    fn drop_call(&mut self) -> Result<(), Refusal> {
+    fn drop_call(&mut self) -> Result<Answer, Refusal> {
         if self.slot.phase == Phase::Empty {
             return Err(Refusal::NoCall);
         }
@@ -317,7 +352,7 @@ impl Node {
             return Err(Refusal::NotOrphan);
         }
         self.slot.phase = Phase::Empty;
-        Ok(())
+        Ok(Answer::Discarded)
     }
 
     /// The point moves by the outcome of its call.
@@ -484,13 +519,14 @@ impl World {
         &mut self.nodes[number as usize - 1]
     }
 
-    /// Applies an event, or tells the first refusal and changes nothing. The owners are those of a Plan.
-    pub fn apply(&mut self, action: Action, me: u16, owners: &[u16]) -> Result<(), Refusal> {
+    /// Applies an event and tells its answer, or the first refusal and changes nothing. The owners are those of a Plan.
+    pub fn apply(&mut self, action: Action, me: u16, owners: &[u16]) -> Result<Answer, Refusal> {
         let Setup { nodes, keeps, .. } = self.setup;
         if me > nodes {
             return Err(Refusal::BadNode);
         }
         let node = &mut self.nodes[me as usize - 1];
+        let mut answer = Answer::Done;
         match (action, node.is_down()) {
             (Action::Recover, true) => node.recover(me, keeps),
             (Action::Recover, false) => return Err(Refusal::IsUp),
@@ -500,18 +536,18 @@ impl World {
             (Action::Check, _) => node.check(me, nodes),
             (Action::Timeout, _) => node.time_out(me),
             (Action::Start, _) => node.start(nodes)?,
-            (Action::Run, _) => self.run(me)?,
+            (Action::Run, _) => answer = self.run(me)?,
             (Action::Lose, _) => self.lose(me)?,
-            (Action::Return, _) => node.take_back(me, nodes)?,
-            (Action::Drop, _) => node.drop_call()?,
+            (Action::Return, _) => answer = node.take_back(me, nodes)?,
+            (Action::Drop, _) => answer = node.drop_call()?,
             (Action::Move, _) => node.move_on(me, nodes)?,
             (Action::Plan, _) => node.plan(me, &self.setup, owners)?,
         }
         self.events += 1;
-        Ok(())
+        Ok(answer)
     }
 
-    fn run(&mut self, caller: u16) -> Result<(), Refusal> {
+    fn run(&mut self, caller: u16) -> Result<Answer, Refusal> {
         if self.node(caller).slot.phase != Phase::Sent {
             return Err(Refusal::NoCall);
         }
@@ -519,8 +555,7 @@ impl World {
         if self.node(callee).is_down() {
             return Err(Refusal::CalleeDown);
         }
-        self.exchange(caller, callee);
-        Ok(())
+        Ok(self.exchange(caller, callee).into())
     }
 
     /// The caller's call runs at its callee, which answers so.

@@ -3,12 +3,12 @@ use Rattle.std.proofs.Common.{◌≡◌, ◌≢◌, ◌⊎◌, inl, inr, ℕ, So
 use Rattle.std.specs.Prelude.{IfSome, IsOk, IsTrue}
 use Rattle.std.specs.Io.KnownBytes.{Appends, Keeps}
 use Rattle.bully_world.specs.World.{World}
-use Rattle.bully_trace.specs.declared.trace.TraceCause.{TraceCause}
-use Rattle.bully_trace.specs.declared.trace.TraceFault.{TraceFault}
+use Rattle.bully_rows.specs.declared.trace.TraceCause.{TraceCause}
+use Rattle.bully_rows.specs.declared.trace.TraceFault.{TraceFault}
 use Rattle.bully_trace.specs.declared.verdict.Verdict.{Verdict}
-use Rattle.bully_trace.specs.Rows.{OfTrace, records_of, trace_of, is_of_form}
-use Rattle.bully_trace.specs.Trace.{Trace, upgraded}
-use Rattle.bully_trace.specs.TraceText.{trace_text}
+use Rattle.bully_rows.specs.Rows.{OfTrace, records_of, trace_of, is_of_form}
+use Rattle.bully_rows.specs.Trace.{Trace, upgraded}
+use Rattle.bully_rows.specs.TraceText.{trace_text}
 use Rattle.bully_trace.specs.Verdict.{IsVerdict}
 use Rattle.bully_trace.specs.VerdictText.{verdict_text}
 use Rattle.bully.specs.Answer.{KnownBytes, Tells, IsAnswer, IsUntaken, IsUpgradeAnswer, verdict_status, stop_of, stop_line, row_line}

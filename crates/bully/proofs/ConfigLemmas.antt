@@ -13,7 +13,7 @@ use Rattle.bully_table.specs.TableText.{table_of_text}
 use Rattle.bully_table.specs.declared.planning.PlanFault.{PlanFault}
 use Rattle.bully_table.specs.declared.planning.TablePlan.{TablePlan}
 use Rattle.bully_table.specs.declared.table.TableFault.{TableFault}
-use Rattle.bully_trace.specs.TraceText.{trace_text}
+use Rattle.bully_rows.specs.TraceText.{trace_text}
 use Rattle.bully_words.specs.Words.{planning}
 use Rattle.bully_world.specs.declared.event.Event.{Event}
 use Rattle.bully.specs.Answer.{KnownBytes, Tells, stop_line}

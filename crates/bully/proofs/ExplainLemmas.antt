@@ -3,15 +3,15 @@ use Rattle.std.proofs.Common.{◌≡◌, ◌⊎◌, ◌++◌, inl, inr, ℕ, tru
 use Rattle.std.specs.Prelude.{IfSome}
 use Rattle.std.specs.Io.KnownBytes.{Appends, Keeps}
 use Rattle.bully_world.specs.State.{world_of}
-use Rattle.bully_trace.specs.declared.trace.TraceCause.{TraceCause}
-use Rattle.bully_trace.specs.declared.trace.TraceFault.{TraceFault}
+use Rattle.bully_rows.specs.declared.trace.TraceCause.{TraceCause}
+use Rattle.bully_rows.specs.declared.trace.TraceFault.{TraceFault}
 use Rattle.bully_trace.specs.declared.verdict.Verdict.{Verdict}
-use Rattle.bully_trace.specs.RecordsLeft.{EndsReading}
-use Rattle.bully_trace.specs.Rows.{OfTrace, is_of_form}
+use Rattle.bully_rows.specs.RecordsLeft.{EndsReading}
+use Rattle.bully_rows.specs.Rows.{OfTrace, is_of_form}
 use Rattle.bully_config.specs.Configuration.{Configuration}
 use Rattle.bully_config.specs.declared.fault.ConfigFault.{ConfigFault}
-use Rattle.bully_explain.specs.declared.showing.NodeSheet.{NodeSheet}
-use Rattle.bully_explain.specs.Explained.{Explains, IsUntold}
+use Rattle.bully_account.specs.declared.showing.NodeSheet.{NodeSheet}
+use Rattle.bully_account.specs.Told.{Explains, IsUntold}
 use Rattle.bully.specs.Answer.{KnownBytes, Tells, row_line, stop_line, stop_of, verdict_status}
 use Rattle.bully.specs.ExplainAnswer.{IsConfigExplainAnswer, IsExplainAnswer}
 use Rattle.bully.specs.RefusalText.{refusal_line}

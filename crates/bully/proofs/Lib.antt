@@ -1,4 +1,5 @@
 pub mod KnownBytesLemmas
+pub mod AnnotateLemmas
 pub mod AnswerLemmas
 pub mod ExplainLemmas
 mod MemberLemmas

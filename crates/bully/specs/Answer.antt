@@ -3,13 +3,13 @@ use Rattle.std.specs.Prelude.{◌≡◌, ◌≢◌, ◌⊎◌, ℕ, List, ◌++�
 use Rattle.std.specs.Fmt.{decimal}
 use Rattle.std.specs.Io.KnownBytes.{Appends, Keeps}
 use Rattle.bully_world.specs.World.{World}
-use Rattle.bully_trace.specs.declared.trace.TraceCause.{TraceCause}
-use Rattle.bully_trace.specs.VerdictText.{trace_cause_text}
-use Rattle.bully_trace.specs.declared.trace.TraceFault.{TraceFault}
+use Rattle.bully_rows.specs.declared.trace.TraceCause.{TraceCause}
+use Rattle.bully_rows.specs.TraceText.{trace_cause_text}
+use Rattle.bully_rows.specs.declared.trace.TraceFault.{TraceFault}
 use Rattle.bully_trace.specs.declared.verdict.Verdict.{Verdict}
-use Rattle.bully_trace.specs.Rows.{records_of, trace_of}
-use Rattle.bully_trace.specs.Trace.{Trace, upgraded}
-use Rattle.bully_trace.specs.TraceText.{trace_text}
+use Rattle.bully_rows.specs.Rows.{records_of, trace_of}
+use Rattle.bully_rows.specs.Trace.{Trace, upgraded}
+use Rattle.bully_rows.specs.TraceText.{trace_text}
 use Rattle.bully_trace.specs.Verdict.{IsVerdict}
 use Rattle.bully_trace.specs.VerdictText.{verdict_text}
 use Rattle.bully.specs.declared.telling.Stop.{Stop}

@@ -10,7 +10,7 @@ use Rattle.bully_play.specs.Turns.{IsScheduled}
 use Rattle.bully_play.specs.declared.playing.PlayFault.{PlayFault}
 use Rattle.bully_nodes.specs.declared.running.NodesFault.{NodesFault}
 use Rattle.bully_table.specs.declared.planning.TablePlan.{TablePlan}
-use Rattle.bully_trace.specs.TraceText.{trace_text}
+use Rattle.bully_rows.specs.TraceText.{trace_text}
 use Rattle.bully_world.specs.declared.event.Event.{Event}
 use Rattle.bully.specs.Answer.{KnownBytes, Tells, stop_line}
 use Rattle.bully.specs.PlanText.{plan_text}

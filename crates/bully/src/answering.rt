@@ -1,10 +1,12 @@
 ghost use Rattle.std.specs.Prelude.{◌≡◌, ◌≤◌, ◌⊎◌, ◌∷◌, ℕ, List, [], None, Some, true, false, codes, map, IfSome};
 ghost use Rattle.clap.specs.Words.{kind_of};
-ghost use Rattle.bully_words.specs.Words.{checking, explaining, planning, playing, running, texts_of, upgrading, ParsesAsCheck, ParsesAsExplain, ParsesAsPlay, ParsesAsRun, ParsesAsTable, ParsesAsUpgrade, is_help, is_mistake, asks_for_help};
+ghost use Rattle.bully_words.specs.Words.{annotating, checking, explaining, planning, playing, running, texts_of, upgrading, ParsesAsAnnotate, ParsesAsCheck, ParsesAsExplain, ParsesAsPlay, ParsesAsRun, ParsesAsTable, ParsesAsUpgrade, is_help, is_mistake, asks_for_help};
 ghost use Rattle.bully.specs.Answer.{IsAnswer, IsUpgradeAnswer, Tells, stop_line};
+ghost use Rattle.bully.specs.AnnotateAnswer.{IsAnnotateAnswer};
 ghost use Rattle.bully.specs.ExplainAnswer.{IsConfigExplainAnswer, IsExplainAnswer};
 ghost use Rattle.bully.specs.ConfigAnswer.{IsPlayAnswer, IsRunAnswer, IsTableAnswer};
 
+use crate::annotating::answer_annotate;
 use crate::checking::answer_check;
 use crate::explaining::{answer_explain, answer_explain_config};
 use crate::playing::answer_play;
@@ -23,10 +25,11 @@ use std::thread::Threads;
 
 /// Does what the words ask for, those after the program's name, and tells the status.
 ///
-/// 0: done, the trace is lawful, the configuration has no fault, an upgraded trace, a group's trace or the table is written,
-/// or help was asked for and stands on the output. 1: an event of the trace is refused or a claim of it differs. 2: bad
+/// 0: done, the trace is lawful, the configuration has no fault, an upgraded or annotated trace, a group's trace or the table is
+/// written, or help was asked for and stands on the output. 1: an event of the trace is refused, or a claim or a detail of it
+/// differs. 2: bad
 /// words, a member that is no name, or owners that are no table; the message stands on `errors` and nothing on the output.
-/// 3: a fault of form in the trace or in the configuration; its line stands on `errors` and nothing on the output. 4: Read,
+/// 3: a fault of form in the trace or in the configuration, or an annotated trace that would be too long; its line stands on `errors` and nothing on the output. 4: Read,
 /// Write, Spawn, Finish or OutOfMemory, which a line on `errors` tells. A line on `errors` that can't be written changes no
 /// status. The words are looked at first; then the trace, or the configuration, the members and the old owners. Only words
 /// of `run` wait, for the group's threads. The rule: docs/FORMATS.md.
@@ -42,6 +45,7 @@ pub fn answer<
     ensures explain { ParsesAsExplain (map S.text words.now) None → IfSome (R.remaining input) (λ bytes. IsExplainAnswer bytes (W.contents output.old) (W.contents output.new) (E.contents errors.old) (E.contents errors.new) result) }
     ensures explain_config { (path : _) → ParsesAsExplain (map S.text words.now) (Some path) → (bytes : List ℕ) × IsConfigExplainAnswer bytes (W.contents output.old) (W.contents output.new) (E.contents errors.old) (E.contents errors.new) result }
     ensures upgrade { ParsesAsUpgrade (map S.text words.now) → IfSome (R.remaining input) (λ bytes. IsUpgradeAnswer bytes (W.contents output.old) (W.contents output.new) (E.contents errors.old) (E.contents errors.new) result) }
+    ensures annotate { ParsesAsAnnotate (map S.text words.now) → IfSome (R.remaining input) (λ bytes. IsAnnotateAnswer bytes (W.contents output.old) (W.contents output.new) (E.contents errors.old) (E.contents errors.new) result) }
     ensures play { (path : _) → ParsesAsPlay (map S.text words.now) path → (bytes : List ℕ) × IsPlayAnswer bytes (W.contents output.old) (W.contents output.new) (E.contents errors.old) (E.contents errors.new) result }
     ensures run { (path : _) → ParsesAsRun (map S.text words.now) path → (bytes : List ℕ) × IsRunAnswer bytes (W.contents output.old) (W.contents output.new) (E.contents errors.old) (E.contents errors.new) result }
     ensures table { (path : _) (members : _) (old : _) → ParsesAsTable (map S.text words.now) path members old → (bytes : List ℕ) × IsTableAnswer bytes members old (W.contents output.old) (W.contents output.new) (E.contents errors.old) (E.contents errors.new) result }
@@ -68,6 +72,7 @@ fn act<H: Files + AllocGlobal + Threads + Wait + Sync, R: Read + Drop, W: Write,
     ensures explain { texts_of action.now ≡ explaining None → IfSome (R.remaining input) (λ bytes. IsExplainAnswer bytes (W.contents output.old) (W.contents output.new) (E.contents errors.old) (E.contents errors.new) result) }
     ensures explain_config { (path : _) → texts_of action.now ≡ explaining (Some path) → (bytes : List ℕ) × IsConfigExplainAnswer bytes (W.contents output.old) (W.contents output.new) (E.contents errors.old) (E.contents errors.new) result }
     ensures upgrade { texts_of action.now ≡ upgrading → IfSome (R.remaining input) (λ bytes. IsUpgradeAnswer bytes (W.contents output.old) (W.contents output.new) (E.contents errors.old) (E.contents errors.new) result) }
+    ensures annotate { texts_of action.now ≡ annotating → IfSome (R.remaining input) (λ bytes. IsAnnotateAnswer bytes (W.contents output.old) (W.contents output.new) (E.contents errors.old) (E.contents errors.new) result) }
     ensures play { (path : _) → texts_of action.now ≡ playing path → (bytes : List ℕ) × IsPlayAnswer bytes (W.contents output.old) (W.contents output.new) (E.contents errors.old) (E.contents errors.new) result }
     ensures run { (path : _) → texts_of action.now ≡ running path → (bytes : List ℕ) × IsRunAnswer bytes (W.contents output.old) (W.contents output.new) (E.contents errors.old) (E.contents errors.new) result }
     ensures table { (path : _) (members : _) (old : _) → texts_of action.now ≡ planning path members old → (bytes : List ℕ) × IsTableAnswer bytes members old (W.contents output.old) (W.contents output.new) (E.contents errors.old) (E.contents errors.new) result }
@@ -79,6 +84,7 @@ fn act<H: Files + AllocGlobal + Threads + Wait + Sync, R: Read + Drop, W: Write,
         Action::Explain(None) => answer_explain(rt.alloc(), input, output, errors),
         Action::Explain(Some(path)) => answer_explain_config(rt, path, output, errors),
         Action::Upgrade => answer_upgrade(rt.alloc(), input, output, errors),
+        Action::Annotate => answer_annotate(rt.alloc(), input, output, errors),
         Action::Play(path) => answer_play(rt, path, output, errors),
         Action::Run(path) => answer_run(rt, path, output, errors),
         Action::Table(words) => answer_table(rt, words, output, errors),

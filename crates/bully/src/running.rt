@@ -5,7 +5,7 @@ ghost use Rattle.bully.specs.ConfigAnswer.{IsRunAnswer, nodes_line};
 ghost use Rattle.bully_play.specs.Play.{IsPlay, trace_with};
 ghost use Rattle.bully_nodes.specs.Run.{IsNodesFault};
 ghost use Rattle.bully_nodes.specs.declared.running.NodesFault.{NodesFault};
-ghost use Rattle.bully_trace.specs.TraceText.{trace_text};
+ghost use Rattle.bully_rows.specs.TraceText.{trace_text};
 ghost use Rattle.bully_watch.specs.History.{event_of};
 ghost use Rattle.bully_world.specs.declared.event.Event.{Event};
 

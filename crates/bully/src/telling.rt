@@ -5,7 +5,7 @@ ghost use Rattle.bully.specs.Answer.{Tells, stop_of, stop_line, row_line};
 
 use bully_base::OutOfMemory;
 use bully_play::PlayFault;
-use bully_trace::{TraceCause, TraceFault};
+use bully_rows::{TraceCause, TraceFault};
 use std::alloc::Global;
 use std::io;
 use std::io::{ErrorKind, Write};

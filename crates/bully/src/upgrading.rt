@@ -6,8 +6,8 @@ use bully_trace::upgrade;
 use std::alloc::Global;
 use std::io::{Read, Write};
 
-/// Upgrades the trace on the input, with the one of version 2 on the output, and tells the status. The number of its rows
-/// isn't told.
+/// Upgrades the trace on the input, with the one of version 2, or 3 where a row says more, on the output, and tells the status.
+/// The number of its rows isn't told.
 pub fn answer_upgrade<R: Read + Drop, W: Write, E: Write>(
     alloc: Global,
     input: R,

@@ -1,5 +1,1 @@
-pub mod MemoryLemmas
-pub mod PossibleLemmas
-pub mod ShownLemmas
-pub mod ExplainLemmas
 pub mod ConfigLemmas

@@ -1,17 +1,14 @@
-ghost use Rattle.std.specs.Prelude.{◌≡◌, ◌⊎◌, ℕ, List, Option, Ok, Err, true, IfErr, IfOk};
-ghost use Rattle.bully_explain.specs.Explained.{IsToldOf, IsUntold};
-ghost use Rattle.bully_trace.specs.Judging.{AreAllJudged};
-ghost use Rattle.bully_trace.specs.RecordsLeft.{EndsReading, IsUnread};
-ghost use Rattle.bully_trace.specs.Rows.{is_of_form, no_memory};
-ghost use Rattle.bully_trace.specs.declared.verdict.Verdict.{Verdict as VerdictState};
+ghost use Rattle.std.specs.Prelude.{◌≡◌, ℕ, List, Option, true, IfErr, IfOk};
+ghost use Rattle.bully_account.specs.Told.{IsToldOf, IsUntold};
+ghost use Rattle.bully_rows.specs.RecordsLeft.{EndsReading, IsUnread};
+ghost use Rattle.bully_rows.specs.Rows.{is_of_form};
 
 use crate::form_text::form_text;
-use crate::lines::Lines;
-use crate::possible::reached;
-use crate::reading::read_each;
 use crate::sheet_text::sheet_text;
-use crate::{Account, NodeSheet};
-use bully_trace::{RowReader, TraceCause, TraceFault, Verdict, no_header};
+use bully_account::{Account, Lines, NodeSheet, Told, tell};
+use bully_base::OutOfMemory;
+use bully_rows::{RowReader, TraceFault};
+use bully_trace::Verdict;
 use std::alloc::Global;
 use std::io::Read;
 
@@ -49,59 +46,25 @@ fn read_sheet<R: Read + Drop>(
     ensures untold { IfErr result IsUntold }
 {
     let mut account: Option<Account> = None;
-    match read_each(alloc, rows, &mut account) {
-        Ok(()) => match &account {
-            Some(account) => verdict_sheet(alloc, account),
-            None => form_sheet(alloc, rows, &account, no_header()),
-        },
-        Err(fault) => form_sheet(alloc, rows, &account, fault),
-    }
-}
-
-// The sheet of a verdict.
-fn verdict_sheet(alloc: Global, account: &Account) -> Result<Sheet, TraceFault>
-    ensures told { (known : Option (List ℕ)) → AreAllJudged known account.now.world.setup account.now → IfOk result (λ sheet. IsToldOf known sheet.nodes.items sheet.told) }
-    ensures verdict { IfOk result (λ sheet. (verdict : VerdictState) × (sheet.told ≡ Ok verdict)) }
-    ensures fault { IfErr result (λ fault. fault ≡ no_memory) }
-{
-    reached(account.world());
-    let verdict = account.verdict();
-    let nodes = account.nodes(alloc)?;
-    let text = sheet_text(alloc, account, nodes.as_slice())?;
+    let told = tell(alloc, rows, &mut account)?;
+    let text = text_of(alloc, rows, &account, &told)?;
     Ok(Sheet {
-        told: Ok(verdict),
-        nodes,
+        told: told.verdict,
+        nodes: told.nodes,
         text,
     })
 }
 
-// The sheet of a fault of form; none of another fault.
-fn form_sheet<R: Read + Drop>(
+// The text of the sheet.
+fn text_of<R: Read + Drop>(
     alloc: Global,
     rows: &RowReader<Lines<R>>,
     account: &Option<Account>,
-    fault: TraceFault,
-) -> Result<Sheet, TraceFault>
-    ensures told { IfOk result (λ sheet. (sheet.told ≡ Err fault) × (is_of_form fault.cause ≡ true)) }
-    ensures other { IfErr result (λ other. (other ≡ no_memory) ⊎ ((other ≡ fault) × IsUntold fault)) }
-{
-    if !is_of_form(fault.cause) {
-        return Err(fault);
-    }
-    let text = form_text(alloc, rows, account, fault)?;
-    Ok(Sheet {
-        told: Err(fault),
-        nodes: Vec::new(alloc),
-        text,
-    })
-}
-
-// Whether it is a fault of the trace's form.
-fn is_of_form(cause: TraceCause) -> bool
-    ensures { result ≡ is_of_form cause }
-{
-    match cause {
-        TraceCause::BadHeader | TraceCause::BadRow | TraceCause::TooManyRows => true,
-        TraceCause::Read | TraceCause::Write | TraceCause::OutOfMemory => false,
+    told: &Told,
+) -> Result<String, OutOfMemory> {
+    match (&told.verdict, account) {
+        (Err(fault), _) => form_text(alloc, rows, account, *fault),
+        (Ok(_), Some(account)) => sheet_text(alloc, account, told.nodes.as_slice()),
+        (Ok(_), None) => Ok(String::new(alloc)),
     }
 }

@@ -1,18 +1,19 @@
 //! Where a row breaks its form.
 
 use bully_base::NODES_MAX;
-use bully_trace::{
-    PLAN, SAW, Version, is_word, kind_named, number_within, read_node, read_weights, status_named,
+use bully_rows::{
+    EventKind, PLAN, RUN, SAW, Version, call_named, is_word, kind_named, number_within,
+    read_coordinator, read_node, read_set, read_weights, status_named,
 };
 use csv::ByteRecord;
 
 /// What may stand at a place of a row.
-#[derive(Clone, Copy, PartialEq, Eq, Debug)]
+#[derive(Clone, Copy)]
 pub enum Expected {
     /// The word of an event or of a claim.
     Word,
     /// So many fields, in the whole row.
-    Fields(usize),
+    Fields(FieldCounts),
     /// The number of a node, at most this one.
     Node(u16),
     /// The owners of the partitions.
@@ -21,6 +22,16 @@ pub enum Expected {
     Status,
     /// The number of a node, at most this one, or a dash.
     Coordinator(u16),
+    /// The members of an up set, none above this node, or a dash.
+    Up(u16),
+    /// The owners of the partitions, or a dash.
+    Task,
+    /// The word of a call.
+    Call,
+    /// What a call is answered.
+    Answer,
+    /// What a call brings.
+    Outcome,
     /// The word of a header.
     Bully,
     /// The version of a header.
@@ -35,9 +46,16 @@ pub enum Expected {
     Keep,
 }
 
+/// How many fields the rows of a kind have: so many, and where they may say more, so many then.
+#[derive(Clone, Copy)]
+pub struct FieldCounts {
+    pub few: usize,
+    pub more: Option<usize>,
+}
+
 /// The first field of a row at which it breaks its form, counted from 1, or 0 for the row as a whole; and what may stand
 /// there.
-#[derive(Clone, Copy, PartialEq, Eq, Debug)]
+#[derive(Clone, Copy)]
 pub struct Misfit {
     pub field: usize,
     pub expected: Expected,
@@ -46,20 +64,32 @@ pub struct Misfit {
 /// Where a row behind the header of a trace of this version, which has no form, breaks it.
 pub fn misfit_of_row(version: Version, fields: &ByteRecord) -> Misfit {
     let word = field_at(fields, 0);
-    let highest = version.nodes_max();
-    match fields_wanted(word) {
+    match counts_wanted(version, word) {
         None => breaks_at(1, Expected::Word),
-        Some(count) if count != fields.len() => breaks_at(0, Expected::Fields(count)),
-        Some(_) if read_node(version, field_at(fields, 1)).is_none() => {
-            breaks_at(2, Expected::Node(highest))
+        Some(counts) if !are_wanted(&counts, fields.len()) => {
+            breaks_at(0, Expected::Fields(counts))
         }
-        Some(3) => breaks_at(3, Expected::Owners),
-        Some(_) if status_named(field_at(fields, 2)).is_none() => breaks_at(3, Expected::Status),
-        Some(_) => breaks_at(4, Expected::Coordinator(highest)),
+        Some(_) if read_node(version, field_at(fields, 1)).is_none() => {
+            breaks_at(2, Expected::Node(version.nodes_max()))
+        }
+        Some(_) if is_word(word, PLAN) => breaks_at(3, Expected::Owners),
+        Some(_) if is_word(word, SAW) => misfit_of_claim(version, fields),
+        Some(_) => misfit_of_detail(version, fields),
     }
 }
 
-// How many fields a row of this word has; none where there is no such word.
+// How many fields a row of this word has in a trace of this version; none where there is no such word.
+fn counts_wanted(version: Version, word: &[u8]) -> Option<FieldCounts> {
+    let few = fields_wanted(word)?;
+    let more = if version.says_more() {
+        more_wanted(word)
+    } else {
+        None
+    };
+    Some(FieldCounts { few, more })
+}
+
+// How many fields a row of this word has where it says no more than in every version; none where there is no such word.
 fn fields_wanted(word: &[u8]) -> Option<usize> {
     if kind_named(word).is_some() {
         Some(2)
@@ -69,6 +99,50 @@ fn fields_wanted(word: &[u8]) -> Option<usize> {
         Some(4)
     } else {
         None
+    }
+}
+
+// How many it has where it says more; none where it never does.
+fn more_wanted(word: &[u8]) -> Option<usize> {
+    match kind_named(word) {
+        Some(EventKind::Start | EventKind::Lose | EventKind::Drop) => Some(4),
+        Some(EventKind::Run | EventKind::Return) => Some(5),
+        None if is_word(word, SAW) => Some(7),
+        _ => None,
+    }
+}
+
+// Whether a row may have so many fields.
+fn are_wanted(counts: &FieldCounts, count: usize) -> bool {
+    count == counts.few || counts.more == Some(count)
+}
+
+// Where a claim of a node, which has a right number of fields, breaks its form behind that node.
+fn misfit_of_claim(version: Version, fields: &ByteRecord) -> Misfit {
+    let highest = version.nodes_max();
+    if status_named(field_at(fields, 2)).is_none() {
+        breaks_at(3, Expected::Status)
+    } else if read_coordinator(version, field_at(fields, 3)).is_none() {
+        breaks_at(4, Expected::Coordinator(highest))
+    } else if read_coordinator(version, field_at(fields, 4)).is_none() {
+        breaks_at(5, Expected::Coordinator(highest))
+    } else if read_set(version, field_at(fields, 5)).is_none() {
+        breaks_at(6, Expected::Up(highest))
+    } else {
+        breaks_at(7, Expected::Task)
+    }
+}
+
+// Where an event of a node, which says more and has a right number of fields, breaks its form behind that node.
+fn misfit_of_detail(version: Version, fields: &ByteRecord) -> Misfit {
+    if call_named(field_at(fields, 2)).is_none() {
+        breaks_at(3, Expected::Call)
+    } else if read_node(version, field_at(fields, 3)).is_none() {
+        breaks_at(4, Expected::Node(version.nodes_max()))
+    } else if is_word(field_at(fields, 0), RUN) {
+        breaks_at(5, Expected::Answer)
+    } else {
+        breaks_at(5, Expected::Outcome)
     }
 }
 
@@ -82,15 +156,18 @@ pub fn misfit_of_header(fields: &ByteRecord) -> Misfit {
         misfit_of_version(Version::One, fields, 4)
     } else if is_word(version, "2") {
         misfit_of_version(Version::Two, fields, 6)
+    } else if is_word(version, "3") {
+        misfit_of_version(Version::Three, fields, 6)
     } else {
         breaks_at(2, Expected::Version)
     }
 }
 
 // The same of a header of this version, which has so many fields.
-fn misfit_of_version(version: Version, fields: &ByteRecord, count: usize) -> Misfit {
-    if fields.len() != count {
-        return breaks_at(0, Expected::Fields(count));
+fn misfit_of_version(version: Version, fields: &ByteRecord, few: usize) -> Misfit {
+    if fields.len() != few {
+        let more = None;
+        return breaks_at(0, Expected::Fields(FieldCounts { few, more }));
     }
     let most_nodes = version.nodes_max();
     let Some(nodes) = number_within(field_at(fields, 2), most_nodes) else {

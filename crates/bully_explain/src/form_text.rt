@@ -1,9 +1,7 @@
-use crate::Account;
-use crate::account::line_of;
-use crate::form::{Expected, Misfit, field_at, misfit_of_header, misfit_of_row};
-use crate::lines::Lines;
+use crate::form::{Expected, FieldCounts, Misfit, field_at, misfit_of_header, misfit_of_row};
+use bully_account::{Account, Lines, line_of};
 use bully_base::{OutOfMemory, Setup, WEIGHT_MAX};
-use bully_trace::{ROWS_MAX, RowReader, TraceCause, TraceFault, Version};
+use bully_rows::{ROWS_MAX, RowReader, TraceCause, TraceFault, Version};
 use csv::ByteRecord;
 use std::alloc::Global;
 use std::io::Read;
@@ -146,7 +144,7 @@ fn push_expected(
         Expected::Word => text.push_str(
             "recover, crash, check, timeout, start, run, lose, return, drop, move, plan or saw",
         ),
-        Expected::Fields(count) => write!(text, "one of its kind has {count}"),
+        Expected::Fields(counts) => push_counts(text, counts),
         Expected::Node(highest) => write!(text, "the number of a node, from 1 to {highest}"),
         Expected::Owners => push_owners_expected(text, setup),
         Expected::Status => text.push_str("down, election, reorganization or normal"),
@@ -154,8 +152,45 @@ fn push_expected(
             text,
             "the number of a node, from 1 to {highest}, or - for none"
         ),
+        Expected::Up(highest) => write!(
+            text,
+            "the numbers of nodes in rising order, parted by single spaces, each from 1 to {highest}, or - for none"
+        ),
+        Expected::Task => {
+            push_owners_expected(text, setup)?;
+            text.push_str(", or - for none")
+        }
+        _ => push_word_expected(text, expected),
+    }
+}
+
+// Appends how many fields a row of a kind has.
+fn push_counts(text: &mut String, counts: FieldCounts) -> Result<(), OutOfMemory> {
+    let few = counts.few;
+    write!(text, "one of its kind has {few}")?;
+    match counts.more {
+        Some(more) => write!(text, " or {more}"),
+        None => Ok(()),
+    }
+}
+
+// Appends which words may stand in a row beside an event, or else what may stand in a header.
+fn push_word_expected(text: &mut String, expected: Expected) -> Result<(), OutOfMemory> {
+    match expected {
+        Expected::Call => {
+            text.push_str("are-you-up, are-you-normal, halt, new-coordinator or ready")
+        }
+        Expected::Answer => text.push_str("done, yes or no"),
+        Expected::Outcome => text.push_str("done, yes, no, failed or discarded"),
+        _ => push_header_expected(text, expected),
+    }
+}
+
+// Appends what may stand at a place of a header.
+fn push_header_expected(text: &mut String, expected: Expected) -> Result<(), OutOfMemory> {
+    match expected {
         Expected::Bully => text.push_str("the word bully"),
-        Expected::Version => text.push_str("the version, 1 or 2"),
+        Expected::Version => text.push_str("the version, 1, 2 or 3"),
         Expected::Nodes(most) => write!(text, "how many nodes there are, from 1 to {most}"),
         Expected::Partitions(most) => {
             write!(text, "how many partitions there are, from 1 to {most}")
@@ -165,6 +200,7 @@ fn push_expected(
             "the weights of {nodes} nodes, parted by single spaces, each from 1 to {WEIGHT_MAX}"
         ),
         Expected::Keep => text.push_str("keep or clear"),
+        _ => Ok(()),
     }
 }
 

@@ -1,11 +1,12 @@
-//! Why a row decided, in a sentence for each of the causes.
+//! Why an event is refused, in a sentence for each of the causes.
 ghost use Rattle.std.specs.Prelude.{◌<◌, length, IfSome};
 
 use crate::words::{push_held, push_offer, push_point};
-use crate::{NodeSheet, Shown};
-use bully_base::{NODES_MAX, Node, NodeSet, OutOfMemory, Setup, Status};
+use bully_account::{NodeSheet, Shown};
+use bully_base::{NODES_MAX, Node, NodeSet, OutOfMemory, Setup};
+use bully_rows::{cause_word, status_word};
 use bully_table::Table;
-use bully_trace::{Claim, Verdict, cause_word, push_node, status_word};
+use bully_trace::Verdict;
 use bully_world::{Event, Refused};
 
 /// Appends why the event was refused, as the verdict says: the cause, and a sentence with what it speaks of. A line. Its node
@@ -29,8 +30,8 @@ pub fn push_refused(
     text.push('\n')
 }
 
-// Appends that the group has no such node.
-fn push_no_node(text: &mut String, setup: &Setup, node: Node) -> Result<(), OutOfMemory> {
+/// Appends that the group has no such node.
+pub fn push_no_node(text: &mut String, setup: &Setup, node: Node) -> Result<(), OutOfMemory> {
     let nodes = setup.nodes();
     let number = node.number();
     write!(text, "the group has {nodes} nodes, and no node {number}")
@@ -219,55 +220,4 @@ fn owned_by(table: &Table, node: Node) -> usize {
         }
     }
     count
-}
-
-/// Appends why the claim is false: what it says of the node and what the group shows, side by side. The node has this sheet,
-/// where the group has it.
-pub fn push_claimed(
-    text: &mut String,
-    setup: &Setup,
-    claim: Claim,
-    sheet: Option<&NodeSheet>,
-) -> Result<(), OutOfMemory> {
-    text.push_str("differs: ")?;
-    match sheet {
-        Some(sheet) => push_sides(text, claim, &sheet.shown),
-        None => {
-            push_no_node(text, setup, claim.node)?;
-            text.push('\n')
-        }
-    }
-}
-
-// Appends what is claimed of the node, and beside it what the group shows.
-fn push_sides(text: &mut String, claim: Claim, shown: &Shown) -> Result<(), OutOfMemory> {
-    let number = claim.node.number();
-    writeln!(text, "node {number} isn't as it is claimed")?;
-    text.push_str("\n                claimed         shown\n")?;
-    push_statuses(text, claim.status, shown.status)?;
-    push_coordinators(text, claim.coordinator, shown.coordinator)
-}
-
-// Appends the status that is claimed and the one that is shown.
-fn push_statuses(text: &mut String, claimed: Status, shown: Status) -> Result<(), OutOfMemory> {
-    let claimed = status_word(claimed);
-    let shown = status_word(shown);
-    writeln!(text, "  status        {claimed:<16}{shown}")
-}
-
-// Appends the coordinator that is claimed and the one that is shown; a dash for none.
-fn push_coordinators(
-    text: &mut String,
-    claimed: Option<Node>,
-    shown: Option<Node>,
-) -> Result<(), OutOfMemory> {
-    match claimed {
-        Some(node) => {
-            let number = node.number();
-            write!(text, "  coordinator   {number:<16}")?;
-        }
-        None => text.push_str("  coordinator   -               ")?,
-    }
-    push_node(text, shown)?;
-    text.push('\n')
 }

@@ -1,9 +1,11 @@
-use crate::sentences::{push_claimed, push_refused};
+use crate::differing::{push_claimed, push_detailed, push_whole_claimed};
+use crate::sentences::push_refused;
 use crate::words::{push_held, push_note, push_offer, push_point, push_vector};
-use crate::{Account, Deed, Memory, NodeSheet, Note, Shown, ShownCall, Stop};
+use bully_account::{Account, Deed, Memory, NodeSheet, Note, Shown, ShownCall, Stop};
 use bully_base::{NODES_MAX, Node, OutOfMemory, Status};
+use bully_rows::{Row, push_row};
 use bully_steps::Point;
-use bully_trace::{Row, push_row};
+use bully_trace::Verdict;
 use std::alloc::Global;
 
 /// The sheet of the account's verdict as text, with what it shows of each node, from node 1 on.
@@ -46,7 +48,9 @@ fn push_stopped(
 fn node_of(row: &Row) -> Node {
     match row {
         Row::Event(event) => event.node(),
+        Row::Detailed(event) => event.node,
         Row::Claim(claim) => claim.node,
+        Row::Whole(whole) => whole.claim().node,
     }
 }
 
@@ -57,10 +61,17 @@ fn push_reason(
     stop: &Stop,
     sheet: Option<&NodeSheet>,
 ) -> Result<(), OutOfMemory> {
-    let setup = account.world().setup();
+    let world = account.world();
+    let setup = world.setup();
+    let verdict = account.verdict();
     match &stop.row {
-        Row::Event(event) => push_refused(text, setup, event, account.verdict(), sheet),
+        Row::Event(event) => push_refused(text, setup, event, verdict, sheet),
+        Row::Detailed(event) if matches!(verdict, Verdict::Differs(_)) => {
+            push_detailed(text, world, event)
+        }
+        Row::Detailed(event) => push_refused(text, setup, &event.event(), verdict, sheet),
         Row::Claim(claim) => push_claimed(text, setup, *claim, sheet),
+        Row::Whole(whole) => push_whole_claimed(text, world, whole, sheet),
     }
 }
 

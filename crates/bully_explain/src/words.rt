@@ -1,11 +1,11 @@
 //! The pieces of a sheet: nodes, points, calls and slots, as text.
 
-use crate::{Deed, Memory, Note, Shown, ShownCall, What};
+use bully_account::{Deed, Memory, Note, Shown, ShownCall, What};
 use bully_base::{NODES_MAX, Node, NodeSet, OutOfMemory};
 use bully_calls::{Answer, Call, CallKind, Phase};
+use bully_rows::status_word;
 use bully_steps::{Point, Want};
 use bully_table::push_owners;
-use bully_trace::status_word;
 
 /// Appends the members in rising number, each behind a space; `of nobody` where there is none.
 pub fn push_members(text: &mut String, set: &NodeSet) -> Result<(), OutOfMemory> {

@@ -24,7 +24,7 @@ use std::env;
 use std::process::ExitCode;
 use std::sync::Wait;
 
-/// The calls, from the lowest crate's on; `/2` stands behind one that is tried with a trace of version 2, too. (Two more,
+/// The calls, from the lowest crate's on; `/2` or `/3` stands behind one that is tried with a trace of that version, too. (Two more,
 /// `World::new/full` and `view/full`, are for the largest group, and take a minute or two: they are asked for by name.)
 /// `Setup::weighted` and `Walk::apply` take no memory: the latter is tried with all events of an election.
 const CALLS: &str = "Setup::weighted
@@ -63,14 +63,21 @@ Locked::publish
 Locked::finish
 Group::open
 Group::open_watched
+WholeClaim::new
 read_trace
 read_trace/2
+read_trace/3
 write_trace
 write_trace/2
+write_trace/3
 check
 check/2
+check/3
 upgrade
-upgrade/2";
+upgrade/2
+upgrade/3
+annotate
+annotate/3";
 
 fn main(rt: HostRuntime) -> ExitCode {
     let Some(name) = word(&rt) else {
@@ -120,7 +127,7 @@ enum Kind {
 }
 
 // Each call that isn't one on a group that nobody watches.
-const KINDS: [(&str, Kind); 36] = [
+const KINDS: [(&str, Kind); 43] = [
     ("Setup::weighted", Kind::Table),
     ("Table::read", Kind::Table),
     ("Table::read_in", Kind::Table),
@@ -149,14 +156,21 @@ const KINDS: [(&str, Kind); 36] = [
     ("Observer::look", Kind::Watched),
     ("Locked::publish", Kind::Watched),
     ("Group::open_watched", Kind::Watched),
+    ("WholeClaim::new", Kind::Text),
     ("read_trace", Kind::Text),
     ("read_trace/2", Kind::Text),
+    ("read_trace/3", Kind::Text),
     ("write_trace", Kind::Text),
     ("write_trace/2", Kind::Text),
+    ("write_trace/3", Kind::Text),
     ("check", Kind::Text),
     ("check/2", Kind::Text),
+    ("check/3", Kind::Text),
     ("upgrade", Kind::Text),
     ("upgrade/2", Kind::Text),
+    ("upgrade/3", Kind::Text),
+    ("annotate", Kind::Text),
+    ("annotate/3", Kind::Text),
 ];
 
 fn kind_of(name: &str) -> Option<Kind> {

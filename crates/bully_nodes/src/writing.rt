@@ -1,14 +1,14 @@
 ghost use Rattle.std.specs.Prelude.{◌≡◌, Err, map, IfOk, OnOk};
 ghost use Rattle.std.specs.Io.KnownBytes.{Appends};
 ghost use Rattle.bully_play.specs.Play.{trace_with};
-ghost use Rattle.bully_trace.specs.TraceText.{trace_text};
-ghost use Rattle.bully_trace.specs.declared.trace.Row.{Row};
+ghost use Rattle.bully_rows.specs.TraceText.{trace_text};
+ghost use Rattle.bully_rows.specs.declared.trace.Row.{Row};
 ghost use Rattle.bully_watch.specs.History.{event_of};
 
 use bully_base::OutOfMemory;
 use bully_group::Closed;
 use bully_play::{PlayFault, trace_with};
-use bully_trace::{Row, Trace, write_trace};
+use bully_rows::{Row, Trace, write_trace};
 use bully_watch::Entry;
 use std::alloc::Global;
 use std::io::Write;

@@ -7,9 +7,9 @@ use Rattle.bully_config.specs.Configuration.{Configuration}
 use Rattle.bully_config.specs.declared.config.Fault.{Fault}
 use Rattle.bully_config.specs.declared.config.FaultKind.{FaultKind}
 use Rattle.bully_play.specs.declared.playing.PlayFault.{PlayFault}
-use Rattle.bully_trace.specs.declared.trace.Row.{Row}
-use Rattle.bully_trace.specs.declared.trace.TraceCause.{TraceCause}
-use Rattle.bully_trace.specs.Trace.{Trace, trace_for}
+use Rattle.bully_rows.specs.declared.trace.Row.{Row}
+use Rattle.bully_rows.specs.declared.trace.TraceCause.{TraceCause}
+use Rattle.bully_rows.specs.Trace.{Trace, trace_for}
 use Rattle.bully_world.specs.declared.event.Event.{Event}
 use Rattle.bully_world.specs.Lawful.{IsLawful}
 use Rattle.bully_world.specs.World.{World}

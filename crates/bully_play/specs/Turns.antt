@@ -12,7 +12,7 @@ use Rattle.bully_steps.specs.declared.point.Point.TheVariants.{Idle}
 use Rattle.bully_steps.specs.Driver.{chosen_every}
 use Rattle.bully_steps.specs.Prepared.{prepared_from}
 use Rattle.bully_steps.specs.ProcedureState.{ProcedureState, procedure_state}
-use Rattle.bully_trace.specs.declared.trace.Row.{Row}
+use Rattle.bully_rows.specs.declared.trace.Row.{Row}
 use Rattle.bully_world.specs.declared.event.Event.{Event}
 use Rattle.bully_world.specs.declared.turn.Next.{Next}
 use Rattle.bully_world.specs.State.{WorldState, state_at, world_of, first_state}

@@ -6,7 +6,7 @@ ghost use Rattle.bully_play.specs.Schedule.{AreLeft};
 ghost use Rattle.bully_play.specs.Turns.{IsTurn, IsRound, IsScheduled, idle_first};
 ghost use Rattle.bully_steps.specs.Procedure.{state_of};
 ghost use Rattle.bully_steps.specs.ProcedureState.{HasSameNode};
-ghost use Rattle.bully_trace.specs.TraceText.{trace_text};
+ghost use Rattle.bully_rows.specs.TraceText.{trace_text};
 ghost use Rattle.bully_world.specs.declared.event.Event.{Event};
 
 use crate::recording::Recording;
@@ -14,8 +14,8 @@ use crate::schedule::Schedule;
 use crate::turns::{take_node_turn, take_operator_turn};
 use bully_base::{Node, OutOfMemory, Setup};
 use bully_config::Config;
+use bully_rows::{Trace, TraceCause, TraceFault, write_trace};
 use bully_steps::Procedure;
-use bully_trace::{Trace, TraceCause, TraceFault, write_trace};
 use std::alloc::Global;
 use std::io::Write;
 

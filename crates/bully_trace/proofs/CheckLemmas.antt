@@ -4,17 +4,17 @@ use Rattle.std.specs.Prelude.{IfOk, MatchOption, Ok, Err, Result}
 use Rattle.bully_base.specs.Setup.{Setup}
 use Rattle.bully_world.specs.State.{world_of}
 use Rattle.bully_world.specs.World.{first_world}
-use Rattle.bully_trace.specs.declared.TheConstants.{ROWS_MAX}
-use Rattle.bully_trace.specs.declared.header.Header.{Header}
-use Rattle.bully_trace.specs.declared.trace.Row.{Row}
+use Rattle.bully_rows.specs.declared.TheConstants.{ROWS_MAX}
+use Rattle.bully_rows.specs.declared.header.Header.{Header}
+use Rattle.bully_rows.specs.declared.trace.Row.{Row}
 use Rattle.bully_trace.specs.declared.verdict.Verdict.{Verdict}
-use Rattle.bully_trace.specs.Headers.{Record}
-use Rattle.bully_trace.specs.Judging.{AreAllJudged, AreJudged, Begins, HasJudged, IsJudgedSoFar, IsNoRow, IsNoStart, JudgeState, TakesRow, header_with}
-use Rattle.bully_trace.specs.RecordsLeft.{EndsReading, HasRead, IsUnread, ReadSoFar, Takes, rows_left}
-use Rattle.bully_trace.specs.Rows.{HasNoFault, OfTrace}
-use Rattle.bully_trace.specs.Trace.{Trace}
-use Rattle.bully_trace.specs.declared.trace.TraceFault.{TraceFault}
-use Rattle.bully_trace.proofs.TraceLemmas.{header-bad, header-read, memory-ends, read-bad, read-end, read-more}
+use Rattle.bully_rows.specs.Headers.{Record, header_with}
+use Rattle.bully_trace.specs.Judging.{AreAllJudged, AreJudged, Begins, HasJudged, IsJudgedSoFar, IsNoRow, IsNoStart, JudgeState, TakesRow}
+use Rattle.bully_rows.specs.RecordsLeft.{EndsReading, HasRead, IsUnread, ReadSoFar, Takes, rows_left}
+use Rattle.bully_rows.specs.Rows.{HasNoFault, OfTrace}
+use Rattle.bully_rows.specs.Trace.{Trace}
+use Rattle.bully_rows.specs.declared.trace.TraceFault.{TraceFault}
+use Rattle.bully_rows.proofs.TraceLemmas.{header-bad, header-read, memory-ends, read-bad, read-end, read-more}
 use Rattle.bully_trace.specs.Verdict.{IsJudged, IsVerdict}
 use Rattle.bully_trace.specs.VerdictText.{IsJudgedAs, verdict_text}
 

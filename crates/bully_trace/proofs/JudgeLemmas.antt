@@ -1,7 +1,7 @@
 -- The verdict on rows that were judged one by one, and what it says of their events.
-use Rattle.std.proofs.Common.{◌≡◌, ℕ, zero, suc, ◌+◌, ◌≤◌, ◌++◌, take, drop, Bool, true, false, List, [], ◌∷◌, Option, Some, None, MatchOption, length, ◌∙◌, refl, sym, ap, subst, arith}
+use Rattle.std.proofs.Common.{◌≡◌, ℕ, ◌+◌, ◌≤◌, ◌++◌, take, drop, Bool, true, false, List, [], ◌∷◌, Option, Some, None, MatchOption, length, ◌∙◌, refl, sym, ap, subst, arith}
 use Rattle.std.specs.Bool.{MatchBool}
-use Rattle.std.proofs.lemmas.List.{append_assoc, append-nil, length-append}
+use Rattle.std.proofs.lemmas.List.{append_assoc, append-nil, length-append, take-append-drop}
 use Rattle.bully_base.specs.Setup.{Setup}
 use Rattle.bully_calls.specs.declared.call.Answer.{Answer}
 use Rattle.bully_world.specs.declared.event.Event.{Event}
@@ -15,11 +15,13 @@ use Rattle.bully_world.proofs.LawfulLemmas.{lead_split}
 use Rattle.bully_world.proofs.ApplyLemmas.{room_of}
 use Rattle.bully_agree.proofs.Law.{agreement_lem}
 use Rattle.bully_agree.specs.Agreement.{Agreement}
-use Rattle.bully_trace.specs.declared.trace.Row.{Row}
+use Rattle.bully_rows.specs.declared.trace.Row.{Row}
 use Rattle.bully_trace.specs.declared.verdict.Verdict.{Verdict}
 use Rattle.bully_trace.specs.Judging.{HasJudged, IsJudgedOn, JudgeState}
-use Rattle.bully_trace.specs.Trace.{Trace}
-use Rattle.bully_trace.specs.Verdict.{AgreesAfterEachRow, IsJudged, IsVerdict, IsLawfulCount, events_of, is_true}
+use Rattle.bully_rows.specs.Trace.{Trace}
+use Rattle.bully_rows.specs.EventsTold.{event_of}
+use Rattle.bully_trace.specs.Details.{is_so, is_true, is_whole}
+use Rattle.bully_trace.specs.Verdict.{AgreesAfterEachRow, IsJudged, IsVerdict, IsLawfulCount, events_of}
 
 -- behind the last row
 pub judged-all : (setup : Setup) (rows : List Row) (judge : JudgeState) (verdict : Verdict) (w : World) → IsJudgedOn judge.world judge.stopped (length rows + 2) [] verdict w
@@ -49,6 +51,33 @@ pub record Leads (setup : Setup) (w : World) (before : ℕ) (rows : List Row) (a
   pub counted : before + length (events_of rows) ≡ after
   pub bounded : before ≤ setup.events_max → after ≤ setup.events_max
 
+-- a claim of a lawful trace is true
+pub by_claim : {J P : Type 0} (number after : ℕ) (w w' : World) (holds : Bool)
+    → MatchBool holds J ((Verdict.Lawful after ≡ Verdict.Differs number) × (w' ≡ w)) → (J → P) → P
+by_claim number after w w' true j more = more j
+by_claim number after w w' false j more = absurd (cc j.0)
+
+-- behind a row of an event that is possible
+behind-event : (setup : Setup) (w mid : World) (before : ℕ) (row : Row) (rows : List Row) (e : Event) (a : Answer) (after : ℕ) (w' : World)
+    → events_of (row ∷ rows) ≡ e ∷ events_of rows → cause setup w before e ≡ None → Step setup w e mid a
+    → Leads setup mid (before + 1) rows after w' → Leads setup w before (row ∷ rows) after w'
+behind-event setup w mid before row rows e a after w' same none step rest = record {
+  answers = a ∷ rest.answers;
+  leads = rw same (mid, step, rest.leads);
+  counted = rw same (omega (arith, rest.counted));
+  bounded = λ b. rest.bounded (omega (arith, room_of setup w before e none));
+}
+
+-- behind a claim
+behind-claim : (setup : Setup) (w : World) (before : ℕ) (row : Row) (rows : List Row) (after : ℕ) (w' : World)
+    → events_of (row ∷ rows) ≡ events_of rows → Leads setup w before rows after w' → Leads setup w before (row ∷ rows) after w'
+behind-claim setup w before row rows after w' same rest = record {
+  answers = rest.answers;
+  leads = rw same rest.leads;
+  counted = rw same rest.counted;
+  bounded = rest.bounded;
+}
+
 pub judged_leads : (setup : Setup) (w : World) (before number : ℕ) (rows : List Row) (after : ℕ) (w' : World) → IsJudged setup w before number rows (Verdict.Lawful after) w' → Leads setup w before rows after w'
 judged_leads setup w before number [] after w' j = record { answers = []; leads = j.1; counted = grind (arith, j.0); bounded = λ b. grind (arith, j.0, b) }
 judged_leads setup w before number (Row.Event e ∷ rows) after w' j = by_cause (λ w before number after w' j. judged_leads setup w before number rows after w' j) (cause setup w before e) refl j
@@ -57,23 +86,24 @@ judged_leads setup w before number (Row.Event e ∷ rows) after w' j = by_cause 
         → (q : Option Refused) → cause setup w before e ≡ q
         → MatchOption q ((mid : World) × (a : Answer) × Step setup w e mid a × IsJudged setup mid (before + 1) (number + 1) rows (Verdict.Lawful after) w') (λ why. (Verdict.Lawful after ≡ Verdict.Refused number why) × (w' ≡ w))
         → Leads setup w before (Row.Event e ∷ rows) after w'
-    by_cause more None none (mid, a, step, j) =
-        let rest = more mid (before + 1) (number + 1) after w' j in
-        record {
-          answers = a ∷ rest.answers;
-          leads = (mid, step, rest.leads);
-          counted = omega (arith, rest.counted);
-          bounded = λ b. rest.bounded (omega (arith, room_of setup w before e none));
-        }
+    by_cause more None none (mid, a, step, j) = behind-event setup w mid before (Row.Event e) rows e a after w' refl none step (more mid (before + 1) (number + 1) after w' j)
     by_cause more (Some why) is j = absurd (cc j.0)
-judged_leads setup w before number (Row.Claim claim ∷ rows) after w' j = by_claim (λ w before number after w' j. judged_leads setup w before number rows after w' j) (is_true setup w claim) j
+judged_leads setup w before number (Row.Detailed e ∷ rows) after w' j =
+    by_cause (λ w before number after w' j. judged_leads setup w before number rows after w' j) (cause setup w before (event_of e)) (is_so setup w e) refl j
   where
-    by_claim : ((w : World) (before number after : ℕ) (w' : World) → IsJudged setup w before number rows (Verdict.Lawful after) w' → Leads setup w before rows after w')
-        → (b : Bool) → MatchBool b (IsJudged setup w before (number + 1) rows (Verdict.Lawful after) w') ((Verdict.Lawful after ≡ Verdict.Differs number) × (w' ≡ w)) → Leads setup w before (Row.Claim claim ∷ rows) after w'
-    by_claim more true j =
-        let rest = more w before (number + 1) after w' j in
-        record { answers = rest.answers; leads = rest.leads; counted = rest.counted; bounded = rest.bounded }
-    by_claim more false j = absurd (cc j.0)
+    by_cause : ((w : World) (before number after : ℕ) (w' : World) → IsJudged setup w before number rows (Verdict.Lawful after) w' → Leads setup w before rows after w')
+        → (q : Option Refused) (so : Bool) → cause setup w before (event_of e) ≡ q
+        → MatchOption q (MatchBool so ((mid : World) × (a : Answer) × Step setup w (event_of e) mid a × IsJudged setup mid (before + 1) (number + 1) rows (Verdict.Lawful after) w')
+        ((Verdict.Lawful after ≡ Verdict.Differs number) × (w' ≡ w))) (λ why. (Verdict.Lawful after ≡ Verdict.Refused number why) × (w' ≡ w))
+        → Leads setup w before (Row.Detailed e ∷ rows) after w'
+    by_cause more None true none (mid, a, step, j) =
+        behind-event setup w mid before (Row.Detailed e) rows (event_of e) a after w' refl none step (more mid (before + 1) (number + 1) after w' j)
+    by_cause more None false none j = absurd (cc j.0)
+    by_cause more (Some why) so is j = absurd (cc j.0)
+judged_leads setup w before number (Row.Claim claim ∷ rows) after w' j =
+    by_claim number after w w' (is_true setup w claim) j (λ j. behind-claim setup w before (Row.Claim claim) rows after w' refl (judged_leads setup w before (number + 1) rows after w' j))
+judged_leads setup w before number (Row.Whole whole ∷ rows) after w' j =
+    by_claim number after w w' (is_whole setup w whole) j (λ j. behind-claim setup w before (Row.Whole whole) rows after w' refl (judged_leads setup w before (number + 1) rows after w' j))
 
 -- a lawful verdict counts the events of a lawful list
 pub lawful_count : (trace : Trace) (verdict : Verdict) (w : World) → IsVerdict trace verdict w → IsLawfulCount trace verdict
@@ -83,13 +113,15 @@ lawful_count trace (Verdict.Lawful count) w v =
 lawful_count trace (Verdict.Refused number why) w v = tt
 lawful_count trace (Verdict.Differs number) w v = tt
 
+pub events-append : (rows more : List Row) → events_of (rows ++ more) ≡ events_of rows ++ events_of more
+events-append [] more = refl
+events-append (Row.Event e ∷ rows) more = ap (λ events. e ∷ events) (events-append rows more)
+events-append (Row.Detailed e ∷ rows) more = ap (λ events. event_of e ∷ events) (events-append rows more)
+events-append (Row.Claim claim ∷ rows) more = events-append rows more
+events-append (Row.Whole whole ∷ rows) more = events-append rows more
+
 events-parted : (rows : List Row) (k : ℕ) → events_of rows ≡ events_of (take k rows) ++ events_of (drop k rows)
-events-parted [] zero = refl
-events-parted [] (suc k) = refl
-events-parted (Row.Event e ∷ rows) zero = refl
-events-parted (Row.Event e ∷ rows) (suc k) = ap (λ events. e ∷ events) (events-parted rows k)
-events-parted (Row.Claim claim ∷ rows) zero = refl
-events-parted (Row.Claim claim ∷ rows) (suc k) = events-parted rows k
+events-parted rows k = ap events_of (sym (take-append-drop k rows)) ∙ events-append (take k rows) (drop k rows)
 
 -- the first events of a lawful list are lawful, and the nodes agree in the world that they lead to
 agreed_between : (setup : Setup) (events more : List Event) (answers : List Answer) (w : World) → IsLawful setup (events ++ more) answers w → (answers : List Answer) × (w : World) × IsLawful setup events answers w × Agreement w

@@ -1,9 +1,7 @@
-pub mod FieldLemmas
-pub mod HeaderLemmas
-pub mod RecordsLemmas
-pub mod RowsLemmas
-pub mod TraceLemmas
-pub mod TextLemmas
+pub mod NodeLineLemmas
 pub mod JudgeLemmas
+pub mod SameLemmas
+pub mod StepToldLemmas
+pub mod RecordedLemmas
 pub mod CheckLemmas
 pub mod UpgradeLemmas

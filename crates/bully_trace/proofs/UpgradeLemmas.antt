@@ -2,10 +2,10 @@
 use Rattle.std.proofs.Common.{◌≡◌, ◌↔◌, ℕ, List, Option, Some, None, refl, subst}
 use Rattle.std.specs.Prelude.{IfOk, Ok, Err, Result}
 use Rattle.bully_world.specs.World.{World}
-use Rattle.bully_trace.specs.declared.trace.TraceFault.{TraceFault}
+use Rattle.bully_rows.specs.declared.trace.TraceFault.{TraceFault}
 use Rattle.bully_trace.specs.declared.verdict.Verdict.{Verdict}
-use Rattle.bully_trace.specs.Rows.{HasNoFault, IsTraceOf, OfTrace}
-use Rattle.bully_trace.specs.Trace.{Trace, upgraded}
+use Rattle.bully_rows.specs.Rows.{HasNoFault, IsTraceOf, OfTrace}
+use Rattle.bully_rows.specs.Trace.{Trace, upgraded}
 use Rattle.bully_trace.specs.Verdict.{IsVerdict}
 
 -- a text that means a trace has no fault

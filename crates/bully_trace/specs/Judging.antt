@@ -3,15 +3,15 @@ use Rattle.std.specs.Prelude.{◌≡◌, ◌⊎◌, ℕ, ◌+◌, List, [], ◌�
 use Rattle.bully_base.specs.Setup.{Setup}
 use Rattle.bully_world.specs.State.{WorldState, world_of}
 use Rattle.bully_world.specs.World.{World, first_world}
-use Rattle.bully_trace.specs.declared.header.Header.{Header}
-use Rattle.bully_trace.specs.declared.header.Version.{Version}
-use Rattle.bully_trace.specs.declared.trace.Row.{Row}
+use Rattle.bully_rows.specs.declared.header.Header.{Header}
+use Rattle.bully_rows.specs.declared.header.Version.{Version}
+use Rattle.bully_rows.specs.declared.trace.Row.{Row}
 use Rattle.bully_trace.specs.declared.verdict.Verdict.{Verdict}
-use Rattle.bully_trace.specs.declared.trace.TraceCause.{TraceCause}
-use Rattle.bully_trace.specs.declared.trace.TraceFault.{TraceFault}
-use Rattle.bully_trace.specs.Headers.{Record, header_of}
-use Rattle.bully_trace.specs.RecordsLeft.{EndsReading, HasRead, IsUnread, ReadSoFar, rows_left}
-use Rattle.bully_trace.specs.Rows.{IsTraceOf, fault_at, no_memory, row_of}
+use Rattle.bully_rows.specs.declared.trace.TraceCause.{TraceCause}
+use Rattle.bully_rows.specs.declared.trace.TraceFault.{TraceFault}
+use Rattle.bully_rows.specs.Headers.{Record, header_of, header_with}
+use Rattle.bully_rows.specs.RecordsLeft.{EndsReading, HasRead, IsUnread, ReadSoFar, rows_left}
+use Rattle.bully_rows.specs.Rows.{IsTraceOf, fault_at, no_memory, row_of}
 use Rattle.bully_trace.specs.Verdict.{IsJudged}
 
 -- the version of the trace, the world that its rows were taken to, and the first verdict that isn't lawful
@@ -52,10 +52,6 @@ TakesRow reader judge after =
 abbrev pub IsNoRow : ReadSoFar → JudgeState → TraceFault → Type 0
 IsNoRow reader judge fault =
     ((row_of judge.version judge.world.setup reader.fields ≡ None) × (fault ≡ fault_at reader.number TraceCause.BadRow)) ⊎ (fault ≡ no_memory)
-
--- a header of this version and this setup
-abbrev pub header_with : Version → Setup → Header
-header_with version setup = record { version = version; setup = setup }
 
 -- the rows that were read of a text, behind the judge's header, were judged
 abbrev pub AreJudged : Option (List ℕ) → ReadSoFar → JudgeState → Type 0

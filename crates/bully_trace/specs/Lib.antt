@@ -1,10 +1,6 @@
-pub mod Words
-pub mod Headers
-pub mod Trace
-pub mod Rows
-pub mod RecordsLeft
+pub mod Details
+pub mod StepTold
 pub mod Verdict
 pub mod VerdictText
-pub mod TraceText
 pub mod Judging
-pub mod NodeEvents
+pub mod Recorded

@@ -1,40 +1,19 @@
 -- The verdict on the rows of a trace.
-use Rattle.std.specs.Prelude.{◌≡◌, ℕ, ◌+◌, Bool, true, false, List, [], ◌∷◌, length, take, Option, Some, None, MatchOption, ◌&&◌, ◌==◌}
+use Rattle.std.specs.Prelude.{◌≡◌, ℕ, ◌+◌, List, [], ◌∷◌, length, take, MatchOption}
 use Rattle.std.specs.Bool.{MatchBool}
-use Rattle.bully_base.specs.declared.node.Status.{Status}
-use Rattle.bully_base.specs.declared.node.Status.TheVariants.{Down, Election, Reorganization, Normal}
-use Rattle.bully_base.specs.Setup.{Setup, is_node}
+use Rattle.bully_base.specs.Setup.{Setup}
 use Rattle.bully_calls.specs.declared.call.Answer.{Answer}
-use Rattle.bully_handlers.specs.Vector.{is_down, is_election, is_reorganization, is_normal}
 use Rattle.bully_world.specs.declared.event.Event.{Event}
 use Rattle.bully_world.specs.Cause.{cause}
 use Rattle.bully_world.specs.Lawful.{IsLawful}
 use Rattle.bully_world.specs.Step.{Step}
-use Rattle.bully_world.specs.World.{World, vector, first_world}
+use Rattle.bully_world.specs.World.{World, first_world}
 use Rattle.bully_agree.specs.Agreement.{Agreement}
-use Rattle.bully_trace.specs.declared.trace.Claim.{Claim}
-use Rattle.bully_trace.specs.declared.trace.Row.{Row}
+use Rattle.bully_rows.specs.declared.trace.Row.{Row}
 use Rattle.bully_trace.specs.declared.verdict.Verdict.{Verdict}
-use Rattle.bully_trace.specs.Trace.{Trace}
-
-abbrev pub same_status : Status → Status → Bool
-same_status Down s = is_down s
-same_status Election s = is_election s
-same_status Reorganization s = is_reorganization s
-same_status Normal s = is_normal s
-
-abbrev pub same_node : Option ℕ → Option ℕ → Bool
-same_node None None = true
-same_node None (Some j) = false
-same_node (Some i) None = false
-same_node (Some i) (Some j) = i == j
-
--- the claim is true of the world
-abbrev pub is_true : Setup → World → Claim → Bool
-is_true setup w claim =
-    is_node setup claim.node
-    && same_status claim.status (vector w claim.node).status
-    && same_node claim.coordinator (vector w claim.node).coordinator
+use Rattle.bully_rows.specs.EventsTold.{event_of}
+use Rattle.bully_trace.specs.Details.{is_so, is_true, is_whole}
+use Rattle.bully_rows.specs.Trace.{Trace}
 
 -- from a world in which so many events were applied, the rows from this number on come to this verdict,
 -- and to this last world
@@ -44,8 +23,18 @@ IsJudged setup w count number (Row.Event e ∷ rows) verdict w' =
     MatchOption (cause setup w count e)
     ((mid : World) × (a : Answer) × Step setup w e mid a × IsJudged setup mid (count + 1) (number + 1) rows verdict w')
     (λ why. (verdict ≡ Verdict.Refused number why) × (w' ≡ w))
+IsJudged setup w count number (Row.Detailed e ∷ rows) verdict w' =
+    MatchOption (cause setup w count (event_of e))
+    (MatchBool (is_so setup w e)
+    ((mid : World) × (a : Answer) × Step setup w (event_of e) mid a × IsJudged setup mid (count + 1) (number + 1) rows verdict w')
+    ((verdict ≡ Verdict.Differs number) × (w' ≡ w)))
+    (λ why. (verdict ≡ Verdict.Refused number why) × (w' ≡ w))
 IsJudged setup w count number (Row.Claim claim ∷ rows) verdict w' =
     MatchBool (is_true setup w claim)
+    (IsJudged setup w count (number + 1) rows verdict w')
+    ((verdict ≡ Verdict.Differs number) × (w' ≡ w))
+IsJudged setup w count number (Row.Whole whole ∷ rows) verdict w' =
+    MatchBool (is_whole setup w whole)
     (IsJudged setup w count (number + 1) rows verdict w')
     ((verdict ≡ Verdict.Differs number) × (w' ≡ w))
 
@@ -57,7 +46,9 @@ IsVerdict trace verdict w = IsJudged trace.setup (first_world trace.setup) 0 2 t
 abbrev pub events_of : List Row → List Event
 events_of [] = []
 events_of (Row.Event e ∷ rows) = e ∷ events_of rows
+events_of (Row.Detailed e ∷ rows) = event_of e ∷ events_of rows
 events_of (Row.Claim claim ∷ rows) = events_of rows
+events_of (Row.Whole whole ∷ rows) = events_of rows
 
 -- where the verdict is lawful with a count, the rows mean a lawful list of so many events
 abbrev pub IsLawfulCount : Trace → Verdict → Type 0

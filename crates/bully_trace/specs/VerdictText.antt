@@ -1,40 +1,20 @@
 -- The text of a verdict.
-use Rattle.std.specs.Prelude.{◌≡◌, ℕ, zero, suc, ◌+◌, List, [], ◌++◌, Option, Some, None, Ok, IfSome, codes}
+use Rattle.std.specs.Prelude.{◌≡◌, ℕ, zero, suc, ◌+◌, List, [], ◌++◌, Option, Ok, IfSome, codes}
 use Rattle.std.specs.Fmt.{decimal}
 use Rattle.bully_base.specs.Setup.{Setup}
-use Rattle.bully_table.specs.TableText.{owners_text}
 use Rattle.bully_handlers.specs.Vector.{Vector}
 use Rattle.bully_world.specs.World.{World, vector}
-use Rattle.bully_trace.specs.declared.trace.TraceCause.{TraceCause}
 use Rattle.bully_trace.specs.declared.verdict.Verdict.{Verdict}
-use Rattle.bully_trace.specs.Rows.{records_of, trace_of}
-use Rattle.bully_trace.specs.Trace.{Trace}
+use Rattle.bully_rows.specs.Rows.{records_of, trace_of}
+use Rattle.bully_rows.specs.Trace.{Trace}
+use Rattle.bully_rows.specs.TraceText.{node_text, task_text}
 use Rattle.bully_trace.specs.Verdict.{IsVerdict}
-use Rattle.bully_trace.specs.Words.{cause_word, status_word}
-
--- the cause of a trace's fault as the program tells it
-abbrev pub trace_cause_text : TraceCause → List ℕ
-trace_cause_text TraceCause.BadHeader = codes "BadHeader"
-trace_cause_text TraceCause.BadRow = codes "BadRow"
-trace_cause_text TraceCause.TooManyRows = codes "TooManyRows"
-trace_cause_text TraceCause.Read = codes "Read"
-trace_cause_text TraceCause.Write = codes "Write"
-trace_cause_text TraceCause.OutOfMemory = codes "OutOfMemory"
-
--- a node, or a dash
-abbrev pub node_text : Option ℕ → List ℕ
-node_text None = codes "-"
-node_text (Some i) = decimal i
-
--- the owners with commas, or a dash
-abbrev pub task_text : Option (List ℕ) → List ℕ
-task_text None = codes "-"
-task_text (Some owners) = owners_text 44 owners
+use Rattle.bully_rows.specs.Words.{cause_word, status_word}
 
 abbrev pub node_line : ℕ → Vector → List ℕ
 node_line i v =
     decimal i ++ codes " " ++ status_word v.status ++ codes " " ++ node_text v.coordinator ++ codes " " ++ node_text v.halter
-    ++ codes " " ++ task_text v.task ++ codes "\n"
+    ++ codes " " ++ task_text 44 v.task ++ codes "\n"
 
 -- the lines of the first n nodes
 abbrev pub node_lines : World → ℕ → List ℕ

@@ -1,22 +1,22 @@
 ghost use Rattle.std.specs.Prelude.{◌≡◌, ◌≢◌, ◌⊎◌, ◌++◌, ℕ, List, length, Option, None, MatchOption, IfOk, IfErr, OnOk};
 ghost use Rattle.std.specs.Io.KnownBytes.{Appends};
 ghost use Rattle.std.specs.String.{string_bytes};
-ghost use Rattle.bully_trace.specs.Rows.{HasNoFault, IsFirstFault, IsOfWriting, IsReadAtItsRow, OfTrace, row_of};
+ghost use Rattle.bully_rows.specs.Rows.{HasNoFault, IsFirstFault, IsOfWriting, IsReadAtItsRow, OfTrace, row_of};
 ghost use Rattle.bully_base.specs.Setup.{Setup as SetupState};
-ghost use Rattle.bully_trace.specs.declared.trace.Row.{Row as RowState};
+ghost use Rattle.bully_rows.specs.declared.trace.Row.{Row as RowState};
 ghost use Rattle.bully_trace.specs.Judging.{AreAllJudged, Begins, HasJudged, IsJudgedToEnd, IsNoRow, IsNoStart, TakesRow};
-ghost use Rattle.bully_trace.specs.RecordsLeft.{EndsReading, IsUnread};
+ghost use Rattle.bully_rows.specs.RecordsLeft.{EndsReading, IsUnread};
 ghost use Rattle.bully_trace.specs.Verdict.{IsJudged, IsLawfulCount, AgreesAfterEachRow};
+ghost use Rattle.bully_trace.specs.Recorded.{RecordedAgreement};
 ghost use Rattle.bully_trace.specs.VerdictText.{IsJudgedAs, verdict_text, node_lines};
 ghost use Rattle.bully_world.specs.State.{world_of};
 ghost use Rattle.bully_world.specs.World.{first_world};
 
+use crate::Verdict;
 use crate::judging::Judge;
-use crate::row_reader::{RowReader, no_header};
-use crate::text::{push_node_line, push_verdict_head};
-use crate::writing::not_written;
-use crate::{TraceCause, TraceFault, Verdict};
+use crate::verdict_text::{push_node_line, push_verdict_head};
 use bully_base::{Node, OutOfMemory};
+use bully_rows::{RowReader, TraceCause, TraceFault, no_header, not_written};
 use bully_world::World;
 use std::alloc::Global;
 use std::io::{Read, Write};
@@ -37,6 +37,8 @@ pub fn check<R: Read + Drop, W: Write>(
         (λ trace. IsLawfulCount trace verdict)) }
     ensures agreement { IfOk result (λ verdict. OfTrace (R.remaining reader)
         (λ trace. AgreesAfterEachRow trace verdict)) }
+    ensures recorded { IfOk result (λ verdict. OfTrace (R.remaining reader)
+        (λ trace. RecordedAgreement trace verdict)) }
     ensures fault { IfErr result (IsFirstFault (R.remaining reader)) }
     ensures behind { IfErr result (IsReadAtItsRow (R.remaining reader)) }
     ensures silent { IfErr result (λ fault.
@@ -159,10 +161,10 @@ fn write_verdict<W: Write>(
 {
     let verdict = judge.verdict();
     let text = text_of(alloc, verdict, judge.world())?;
-    writer
-        .write_all(text.as_bytes())
-        .map_err(not_written)
-        .and(Ok(verdict))
+    match writer.write_all(text.as_bytes()) {
+        Ok(()) => Ok(verdict),
+        Err(error) => Err(not_written(error)),
+    }
 }
 
 // The text of the verdict, after which the world is so.

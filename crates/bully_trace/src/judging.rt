@@ -1,18 +1,18 @@
 ghost use Rattle.std.specs.Prelude.{◌≡◌, ◌+◌, ◌++◌, ◌∷◌, [], List, length, IfOk};
 ghost use Rattle.bully_base.specs.Setup.{Setup as SetupState};
-ghost use Rattle.bully_trace.specs.declared.trace.Row.{Row as RowState};
+ghost use Rattle.bully_rows.specs.declared.trace.Row.{Row as RowState};
 ghost use Rattle.bully_trace.specs.declared.verdict.Verdict.{Verdict as VerdictState};
 ghost use Rattle.bully_trace.specs.Judging.{HasJudged, IsJudgedOn};
-ghost use Rattle.bully_trace.specs.NodeEvents.{event_at};
-ghost use Rattle.bully_trace.specs.Verdict.{IsJudged, is_true};
+ghost use Rattle.bully_rows.specs.NodeEvents.{event_at};
+ghost use Rattle.bully_trace.specs.Verdict.{IsJudged};
 ghost use Rattle.bully_world.specs.State.{world_of};
 ghost use Rattle.bully_world.specs.World.{World as WorldOf, first_world};
 
-use crate::header::{Header, Version};
-use crate::node_event::{EventKind, NodeEvent};
-use crate::{Claim, Row, Verdict};
+use crate::Verdict;
+use crate::details::{holds, is_so, is_whole};
 use bully_agree::Walk;
 use bully_base::OutOfMemory;
+use bully_rows::{Claim, DetailedEvent, EventKind, Header, NodeEvent, Row, Version, WholeClaim};
 use bully_world::{Event, World};
 use std::alloc::Global;
 use std::marker::Model;
@@ -54,7 +54,7 @@ impl Judge {
         self.version
     }
 
-    /// Takes the row of this number. The first event that the world refuses, or the first claim that is false of it,
+    /// Takes the row of this number. The first event that the world refuses, or the first claim or detail that is false of it,
     /// decides, and no later row changes anything.
     pub fn take_row(&mut self, number: u32, row: &Row)
         ensures version { self.new.version ≡ self.old.version }
@@ -62,7 +62,9 @@ impl Judge {
     {
         match row {
             Row::Event(event) => self.judge_event(number, event),
+            Row::Detailed(event) => self.judge_detailed(number, event),
             Row::Claim(claim) => self.judge_claim(number, claim),
+            Row::Whole(whole) => self.judge_whole(number, whole),
         }
     }
 
@@ -114,6 +116,29 @@ impl Judge {
         }
     }
 
+    // Judges the event of this row and what is said beside it, where no row before it decided.
+    fn judge_detailed(&mut self, number: u32, event: &DetailedEvent)
+        ensures version { self.new.version ≡ self.old.version }
+        ensures judged { (setup : SetupState) (rows : List RowState) → length rows + 2 ≡ number → HasJudged setup rows self.old
+            → HasJudged setup (rows ++ Row.Detailed event.now ∷ []) self.new }
+    {
+        if self.stopped.is_some() {
+            return;
+        }
+        self.stopped = detail_stop(&mut self.walk, number, event);
+    }
+
+    // Judges the claim of this row that tells all of a vector, where no row before it decided.
+    fn judge_whole(&mut self, number: u32, whole: &WholeClaim)
+        ensures version { self.new.version ≡ self.old.version }
+        ensures judged { (setup : SetupState) (rows : List RowState) → length rows + 2 ≡ number → HasJudged setup rows self.old
+            → HasJudged setup (rows ++ Row.Whole whole.now ∷ []) self.new }
+    {
+        if self.stopped.is_none() && !is_whole(self.walk.world(), whole) {
+            self.stopped = Some(Verdict::Differs(number));
+        }
+    }
+
     /// The first verdict that isn't lawful; none where no row so far decided.
     pub fn stopped(&self) -> Option<Verdict>
         ensures { result ≡ self.now.stopped }
@@ -153,13 +178,18 @@ fn refusal(walk: &mut Walk, number: u32, event: &Event) -> Option<Verdict>
     }
 }
 
-// Whether the claim is true of the world.
-fn holds(world: &World, claim: &Claim) -> bool
-    ensures { result ≡ is_true world.now.setup (world_of world.now) claim.now }
+// Takes an event to the world, where what is said beside it is so: the verdict, where that isn't lawful.
+fn detail_stop(walk: &mut Walk, number: u32, event: &DetailedEvent) -> Option<Verdict>
+    ensures judged { (more : List RowState) (verdict : VerdictState) (w : WorldOf) → IsJudgedOn walk.new result (number + 1) more verdict w
+        → IsJudged walk.old.setup (world_of walk.old) walk.old.events number (Row.Detailed event.now ∷ more) verdict w }
+    ensures setup { walk.new.setup ≡ walk.old.setup }
 {
-    if claim.node.number() > world.setup().nodes() {
-        return false;
+    let plain = event.event();
+    if let Some(why) = walk.world().cause(&plain) {
+        return Some(Verdict::Refused(number, why));
     }
-    let vector = world.vector(claim.node);
-    vector.status() == claim.status && vector.coordinator() == claim.coordinator
+    if !is_so(walk.world(), event) {
+        return Some(Verdict::Differs(number));
+    }
+    refusal(walk, number, &plain)
 }

@@ -1,16 +1,16 @@
 ghost use Rattle.std.specs.Prelude.{◌≡◌, ◌≢◌, ◌⊎◌, length, IfErr, IfOk, OnOk};
 ghost use Rattle.std.specs.Io.KnownBytes.{Appends};
-ghost use Rattle.bully_trace.specs.Rows.{HasNoFault, IsFirstFault, IsOfWriting, IsReadAtItsRow, OfTrace};
-ghost use Rattle.bully_trace.specs.Trace.{upgraded};
-ghost use Rattle.bully_trace.specs.TraceText.{trace_text};
+ghost use Rattle.bully_rows.specs.Rows.{HasNoFault, IsFirstFault, IsOfWriting, IsReadAtItsRow, OfTrace};
+ghost use Rattle.bully_rows.specs.Trace.{upgraded};
+ghost use Rattle.bully_rows.specs.TraceText.{trace_text};
 
-use crate::{Trace, TraceCause, TraceFault, Version, read_trace, write_trace};
+use bully_rows::{Trace, TraceCause, TraceFault, read_trace, write_trace};
 use std::alloc::Global;
 use std::io::{Read, Write};
 
-/// Upgrades a trace: reads one of either version, writes the one of version 2 with the same setup and the same rows, and
-/// tells how many rows it has behind its header. It judges nothing. All rows are read before anything is written, and are
-/// kept till then. Refused as [`crate::read_trace`] refuses the trace, and then nothing was written; as `OutOfMemory` where
+/// Upgrades a trace: reads one of any version, writes the one with the same setup and the same rows in version 2, or in version 3
+/// where a row says more, and tells how many rows it has behind its header. It judges nothing. All rows are read before anything
+/// is written, and are kept till then. Refused as [`crate::read_trace`] refuses the trace, and then nothing was written; as `OutOfMemory` where
 /// the text can't be made, with nothing written; then as `Write`, and then a prefix of the text may have been written. The
 /// last two are at row 0.
 pub fn upgrade<R: Read + Drop, W: Write>(
@@ -32,25 +32,8 @@ pub fn upgrade<R: Read + Drop, W: Write>(
         (fault.cause ≡ TraceCause.Write) ⊎ (fault.cause ≡ TraceCause.OutOfMemory) → fault.row ≡ 0) }
 {
     let trace = read_trace(alloc, reader)?;
-    let newer = upgraded(trace);
+    let newer = trace.upgraded();
     write_counted(alloc, writer, &newer)
-}
-
-// The trace of version 2 with the same setup and the same rows.
-#[tactic(auto, using(crate::proofs::HeaderLemmas::two_fits))]
-fn upgraded(trace: Trace) -> Trace
-    ensures { result ≡ upgraded trace }
-{
-    let Trace {
-        version: _,
-        setup,
-        rows,
-    } = trace;
-    Trace {
-        version: Version::Two,
-        setup,
-        rows,
-    }
 }
 
 // Writes the trace, and tells how many rows it has behind its header.

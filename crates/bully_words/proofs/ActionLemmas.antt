@@ -70,6 +70,7 @@ checked : (a : Action) → texts_of a ≡ checking → a ≡ Action.Check
 checked Action.Check e = refl
 checked (Action.Explain path) e = absurd (grind (arith, e))
 checked Action.Upgrade e = absurd (grind (arith, e))
+checked Action.Annotate e = absurd (grind (arith, e))
 checked (Action.Play path) e = absurd (grind (arith, e))
 checked (Action.Run path) e = absurd (grind (arith, e))
 checked (Action.Table words) e = absurd (grind (arith, e))

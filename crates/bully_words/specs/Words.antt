@@ -40,6 +40,9 @@ explain_app = with_rule (new_app (codes "explain")) explained_rule
 abbrev pub upgrade_app : App
 upgrade_app = new_app (codes "upgrade")
 
+abbrev pub annotate_app : App
+annotate_app = new_app (codes "annotate")
+
 abbrev pub play_app : App
 play_app = with_rule (new_app (codes "play")) config_rule
 
@@ -52,8 +55,8 @@ table_app = with_rule (with_rule (with_rule (new_app (codes "table")) config_rul
 -- the program with all of its commands
 abbrev pub program : App
 program =
-    with_subcommand (with_subcommand (with_subcommand (with_subcommand (with_subcommand (with_subcommand bare check_app.top) explain_app.top) upgrade_app.top)
-    play_app.top) run_app.top) table_app.top
+    with_subcommand (with_subcommand (with_subcommand (with_subcommand (with_subcommand (with_subcommand (with_subcommand bare check_app.top) explain_app.top) upgrade_app.top)
+    annotate_app.top) play_app.top) run_app.top) table_app.top
 
 -- where the command was made, it reads words as this
 abbrev pub ReadsAs : App → Result Command AllocError → Type 0
@@ -68,12 +71,13 @@ abbrev pub command_named : List Text → Option Text
 command_named words = option_map (λ p. p.0) (subcommand_of program words)
 
 -- what words ask for: to judge the input; to explain the verdict on it, or the configuration at a path; to upgrade the
--- input; to play the configuration at a path, or to run its node threads; or to plan a table for the configuration at a
+-- input, or to annotate it; to play the configuration at a path, or to run its node threads; or to plan a table for the configuration at a
 -- path, members by name, and the owners in an old table
 pub data Asked : Type 0 where
   checking : Asked
   explaining : Option Text → Asked
   upgrading : Asked
+  annotating : Asked
   playing : Text → Asked
   running : Text → Asked
   planning : Text → List Text → Option Text → Asked
@@ -92,6 +96,7 @@ asked_by name rows =
     if bytes_eq name (codes "check") then Some checking
     else if bytes_eq name (codes "explain") then Some (explaining (first_of (codes "config") rows))
     else if bytes_eq name (codes "upgrade") then Some upgrading
+    else if bytes_eq name (codes "annotate") then Some annotating
     else if bytes_eq name (codes "play") then option_map playing (first_of (codes "CONFIG") rows)
     else if bytes_eq name (codes "run") then option_map running (first_of (codes "CONFIG") rows)
     else if bytes_eq name (codes "table") then planning_in rows
@@ -109,6 +114,7 @@ abbrev pub texts_of : Action → Asked
 texts_of Action.Check = checking
 texts_of (Action.Explain path) = explaining (option_map (λ s. s.now) path)
 texts_of Action.Upgrade = upgrading
+texts_of Action.Annotate = annotating
 texts_of (Action.Play path) = playing path.now
 texts_of (Action.Run path) = running path.now
 texts_of (Action.Table words) = planning words.config.now (map (λ s. s.now) words.members.items) (option_map (λ s. s.now) words.old)
@@ -124,6 +130,10 @@ ParsesAsExplain words path = (takes program words ≡ true) × (asked_for words 
 -- the words are good, and they are those of `upgrade`
 abbrev pub ParsesAsUpgrade : List Text → Type 0
 ParsesAsUpgrade words = (takes program words ≡ true) × (asked_for words ≡ Some upgrading)
+
+-- the words are good, and they are those of `annotate`
+abbrev pub ParsesAsAnnotate : List Text → Type 0
+ParsesAsAnnotate words = (takes program words ≡ true) × (asked_for words ≡ Some annotating)
 
 -- the words are good, and they are those of `play` with this CONFIG
 abbrev pub ParsesAsPlay : List Text → Text → Type 0

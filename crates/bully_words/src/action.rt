@@ -1,6 +1,6 @@
 ghost use Rattle.std.specs.Prelude.{◌≡◌, ◌≢◌, ◌⊎◌, [], codes, true, None, Some, map, option_map, IfOk, IfErr, IsErrAnd, MatchResult};
 ghost use Rattle.clap.specs.Words.{fault_of, first_of, found_of, kind_of, rows_of, subcommand_of, subcommand_rows_of, takes, FailsBy, HasKind};
-ghost use Rattle.bully_words.specs.Words.{asked_by, asked_for, asked_in, explaining, playing, planning, planning_in, program, running, texts_of, upgrading, ParsesAsCheck, ParsesAsExplain, ParsesAsPlay, ParsesAsRun, ParsesAsTable, ParsesAsUpgrade};
+ghost use Rattle.bully_words.specs.Words.{annotating, asked_by, asked_for, asked_in, explaining, playing, planning, planning_in, program, running, texts_of, upgrading, ParsesAsAnnotate, ParsesAsCheck, ParsesAsExplain, ParsesAsPlay, ParsesAsRun, ParsesAsTable, ParsesAsUpgrade};
 
 use crate::command::command_line;
 use clap::error::ErrorKind;
@@ -15,8 +15,10 @@ pub enum Action<'a> {
     Check,
     /// Explain the verdict on the trace on the input; or, where there is a path, the configuration there.
     Explain(Option<&'a str>),
-    /// Write the trace on the input as one of version 2.
+    /// Write the trace on the input as one of version 2, or of version 3 where its rows say more.
     Upgrade,
+    /// Write the lawful trace on the input as one of version 3, with everything said.
+    Annotate,
     /// Play the group of the configuration at this path.
     Play(&'a str),
     /// Run the group of the configuration at this path in threads.
@@ -41,6 +43,7 @@ pub fn action_of<'a, S: AsStr>(alloc: Global, words: &'a [S]) -> Result<Action<'
     ensures check { ParsesAsCheck (map S.text words.now) → MatchResult result (λ action. action ≡ Action.Check) (λ error. kind_of error ≡ ErrorKind.OutOfMemory) }
     ensures explain { (path : _) → ParsesAsExplain (map S.text words.now) path → MatchResult result (λ action. texts_of action ≡ explaining path) (λ error. kind_of error ≡ ErrorKind.OutOfMemory) }
     ensures upgrade { ParsesAsUpgrade (map S.text words.now) → MatchResult result (λ action. texts_of action ≡ upgrading) (λ error. kind_of error ≡ ErrorKind.OutOfMemory) }
+    ensures annotate { ParsesAsAnnotate (map S.text words.now) → MatchResult result (λ action. texts_of action ≡ annotating) (λ error. kind_of error ≡ ErrorKind.OutOfMemory) }
     ensures play { (path : _) → ParsesAsPlay (map S.text words.now) path → MatchResult result (λ action. texts_of action ≡ playing path) (λ error. kind_of error ≡ ErrorKind.OutOfMemory) }
     ensures run { (path : _) → ParsesAsRun (map S.text words.now) path → MatchResult result (λ action. texts_of action ≡ running path) (λ error. kind_of error ≡ ErrorKind.OutOfMemory) }
     ensures table { (path : _) (members : _) (old : _) → ParsesAsTable (map S.text words.now) path members old → MatchResult result (λ action. texts_of action ≡ planning path members old) (λ error. kind_of error ≡ ErrorKind.OutOfMemory) }
@@ -99,6 +102,7 @@ fn named<'a>(
         "check" => Ok(Some(Action::Check)),
         "explain" => Ok(Some(Action::Explain(explained_path(found)))),
         "upgrade" => Ok(Some(Action::Upgrade)),
+        "annotate" => Ok(Some(Action::Annotate)),
         "play" => Ok(config_path(found).map(Action::Play)),
         "run" => Ok(config_path(found).map(Action::Run)),
         "table" => table_words(alloc, found),

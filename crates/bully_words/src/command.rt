@@ -14,11 +14,15 @@ pub fn command_line<'a>(alloc: Global) -> Result<Command<'a>, AllocError>
         .about("Judges the trace on the standard input")
         .after_help(help::CHECK);
     let upgrade = Command::new(alloc, "upgrade")
-        .about("Writes the trace on the standard input as one of version 2")
+        .about("Writes the trace on the standard input as one of version 2 or 3")
         .after_help(help::UPGRADE);
+    let annotate = Command::new(alloc, "annotate")
+        .about("Writes the lawful trace on the standard input with everything said")
+        .after_help(help::ANNOTATE);
     let command = joined(bare_command(alloc), Ok(check), Command::subcommand);
     let command = joined(command, explain_command(alloc), Command::subcommand);
     let command = joined(command, Ok(upgrade), Command::subcommand);
+    let command = joined(command, Ok(annotate), Command::subcommand);
     let command = joined(command, play_command(alloc), Command::subcommand);
     let command = joined(command, run_command(alloc), Command::subcommand);
     joined(command, table_command(alloc), Command::subcommand)

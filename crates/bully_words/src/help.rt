@@ -2,7 +2,7 @@
 
 /// The version of the program, that the promises of its README were proved for it, and the kit that they were proved with,
 /// by its number and its logic. `bin/test` compares these with `rt version`. When the version rises: CONTRIBUTING.md.
-pub const VERSION: &str = "0.1.0\n\
+pub const VERSION: &str = "0.2.0\n\
     Each promise of its README was proved for this version.\n\
     Proved with rattle-kit-13 logic dac8208d650f15bf";
 
@@ -12,8 +12,8 @@ pub const PROGRAM: &str = "\
     output, and a fault as one line on standard error.\n\
     \n\
     Statuses: 0 done, 1 the trace is refused or differs, 2 bad words, 3 a fault of\n\
-    form in a trace or a configuration, 4 something failed: Read, Write, Spawn,\n\
-    Finish or OutOfMemory.\n\
+    form in a trace or a configuration, or a trace too long to annotate, 4 something\n\
+    failed: Read, Write, Spawn, Finish or OutOfMemory.\n\
     \n\
     Example: bully play examples/two_nodes.toml | bully check";
 
@@ -43,13 +43,25 @@ pub const EXPLAIN: &str = "\
 
 /// What help tells of `upgrade`.
 pub const UPGRADE: &str = "\
-    Reads a trace of version 1 or 2 on standard input, and writes it as one of\n\
-    version 2 on standard output, with the same rows and the same verdict. It judges\n\
-    nothing.\n\
+    Reads a trace of any version on standard input, and writes it on standard\n\
+    output as one of version 2, or of version 3 where a row says more, with the\n\
+    same rows and the same verdict. It judges nothing.\n\
     \n\
     Statuses: 0 written, 3 a fault of the trace's form, 4 Read, Write or OutOfMemory.\n\
     \n\
     Example: bully upgrade < examples/alone.csv | bully check";
+
+/// What help tells of `annotate`.
+pub const ANNOTATE: &str = "\
+    Reads a lawful trace of any version on standard input, and writes it on standard\n\
+    output as one of version 3 in which everything is said: which call each event is\n\
+    of and what was answered, and behind each event the whole vector of the node that\n\
+    it changed. Of a trace that isn't lawful the verdict stands on standard error.\n\
+    \n\
+    Statuses: 0 written, 1 refused or differs, 3 a fault of the trace's form, or more\n\
+    rows than a trace may have, 4 Read, Write or OutOfMemory.\n\
+    \n\
+    Example: bully annotate < examples/alone.csv | bully check";
 
 /// What help tells of `play`.
 pub const PLAY: &str = "\

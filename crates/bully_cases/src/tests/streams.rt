@@ -4,7 +4,8 @@ ghost use Rattle.std.specs.Prelude.{◌<◌};
 
 use super::scripts::{ALONE, OTHERS_DOWN};
 use super::traces::changed;
-use bully_trace::{TraceCause, TraceFault, check, read_trace, upgrade};
+use bully_rows::{TraceCause, TraceFault, read_trace};
+use bully_trace::{check, upgrade};
 use std::alloc::Global;
 use std::io;
 use std::io::{ErrorKind, Read};

@@ -2,17 +2,18 @@
 
 use super::scripts::{
     ALL_UP, ALONE, ALONE_UPGRADED, ANNOUNCED_TOO_LATE, KEPT, LATE_FAILURE, ORPHAN_HALT,
-    ORPHAN_READY, OTHERS_DOWN, REPLY_LOST, WEIGHTED,
+    ORPHAN_READY, OTHERS_DOWN, REPLY_LOST, TOLD, WEIGHTED,
 };
 use super::weight_of;
-use bully_trace::{Trace, TraceFault, Version, check, read_trace, upgrade, write_trace};
+use bully_rows::{Trace, TraceFault, Version, read_trace, write_trace};
+use bully_trace::{check, upgrade};
 use std::alloc::Global;
 
 /// More rows than any script has.
 const ALL: usize = 99;
 
 /// A script, how many of its rows are taken, the rows behind them, and what the checker writes.
-const SCRIPTS: [(&str, usize, &str, &str); 22] = [
+const SCRIPTS: [(&str, usize, &str, &str); 25] = [
     (ALONE, ALL, "", "lawful 6\n1 normal 1 1 1,1\n"),
     (
         OTHERS_DOWN,
@@ -100,6 +101,9 @@ const SCRIPTS: [(&str, usize, &str, &str); 22] = [
         "plan,3,1 1 2 2 3 3 3\n",
         "refused 20 BadTable\n",
     ),
+    (TOLD, ALL, "", "lawful 10\n1 down - - -\n2 down - - 2,2,2\n"),
+    (TOLD, 4, "start,2,ready,1\n", "differs 5\n"),
+    (TOLD, 13, "saw,2,down,-,-,-,2 2 1\n", "differs 14\n"),
 ];
 
 /// A trace, and what the checker writes.
@@ -297,13 +301,14 @@ fn odd_texts(rt: HostRuntime) {
 }
 
 /// Traces as they are written: the version, what node 1 weighs, whether tasks are kept, and how many rows there are.
-const READ: [(&str, Version, u16, bool, usize); 10] = [
+const READ: [(&str, Version, u16, bool, usize); 11] = [
     (ALONE, Version::One, 1, false, 6),
     (ALL_UP, Version::One, 1, false, 26),
     (ORPHAN_HALT, Version::One, 1, false, 39),
     (ANNOUNCED_TOO_LATE, Version::One, 1, false, 22),
     (KEPT, Version::Two, 1, true, 7),
     (WEIGHTED, Version::Two, 1, false, 26),
+    (TOLD, Version::Three, 2, true, 13),
     ("bully,1,2,1\ndrop,1\n", Version::One, 1, false, 1),
     (
         "bully,2,2,1,1 1,clear\nsaw,1,down,-\n",
@@ -324,11 +329,17 @@ fn upgrades_to(alloc: Global, text: &str, rows: u32, expected: &str) -> bool {
 }
 
 /// A trace, how many rows it has behind its header, and what an upgrade writes.
-const UPGRADES: [(&str, u32, &str); 7] = [
+const UPGRADES: [(&str, u32, &str); 9] = [
     (ALONE, 6, ALONE_UPGRADED),
     (ALONE_UPGRADED, 6, ALONE_UPGRADED),
     (KEPT, 7, KEPT),
     (WEIGHTED, 26, WEIGHTED),
+    (TOLD, 13, TOLD),
+    (
+        "bully,3,1,2,1,clear\nrecover,1\n",
+        1,
+        "bully,2,1,2,1,clear\nrecover,1\n",
+    ),
     ("bully,1,3,7\n", 0, "bully,2,3,7,1 1 1,clear\n"),
     (
         "bully,1,2,1\nsaw,1,down,-\nsaw,2,normal,1\ndrop,1\n",

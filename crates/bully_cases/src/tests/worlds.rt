@@ -3,7 +3,7 @@
 use super::scripts::ALONE;
 use super::{bounded, node, number_of};
 use bully_base::Node;
-use bully_trace::{Row, Trace, read_trace};
+use bully_rows::{Row, Trace, read_trace};
 use bully_world::{Event, World};
 use std::alloc::Global;
 

@@ -3,6 +3,7 @@ use Rattle.clap.specs.Words.{fault_of}
 use Rattle.bully_words.specs.Words.{ParsesAsCheck, program, texts_of}
 use Rattle.bully.specs.declared.telling.Stop.{Stop}
 use Rattle.bully.proofs.KnownBytesLemmas.{keeps-same}
+use Rattle.bully.proofs.AnnotateLemmas.{kept-alone, none-annotated}
 use Rattle.bully.proofs.AnswerLemmas.{none-judged, none-upgraded, stop-case}
 use Rattle.bully.proofs.ExplainLemmas.{unparsed-answer}
 use Rattle.bully_words.proofs.WordsLemmas.{check-parses, mistake-kind, help-kind}
@@ -40,6 +41,13 @@ returns-in-Err-clause-upgrade g c = λ parses.
     let stopped = c.answer_words.ensures.memory (c.in-Err.ensures.upgrade parses) in
     none-upgraded (g.R.Read.remaining c.args.input) _ _ _ _ _
     (stop-case (g.R.Read.remaining c.args.input) Stop.OutOfMemory _ _ _ _ _ (λ _. keeps-same _ _ (ap g.W.Write.contents stopped.1)) (λ e. absurd (grind (arith, e))) (stopped.0, stopped.2))
+
+pub returns-in-Err-clause-annotate : goal.returns-in-Err-clause-annotate
+returns-in-Err-clause-annotate g c = λ parses.
+    let stopped = c.answer_words.ensures.memory (c.in-Err.ensures.annotate parses) in
+    none-annotated (g.R.Read.remaining c.args.input) _ _ _ _ _
+    (stop-case (g.R.Read.remaining c.args.input) Stop.OutOfMemory _ _ _ _ _ (λ _. keeps-same _ _ (ap g.W.Write.contents stopped.1)) (λ e. absurd (grind (arith, e))) (stopped.0, stopped.2))
+    (kept-alone (g.R.Read.remaining c.args.input) _ _ (keeps-same _ _ (ap g.W.Write.contents stopped.1)))
 
 pub returns-in-Err-clause-mistake : goal.returns-in-Err-clause-mistake
 returns-in-Err-clause-mistake g c = λ mistake.

@@ -1,5 +1,5 @@
 use Rattle.std.proofs.Common.{◌≡◌, map, take}
-use Rattle.bully_trace.specs.declared.trace.Row.{Row}
+use Rattle.bully_rows.specs.declared.trace.Row.{Row}
 use Rattle.bully_watch.specs.History.{event_of}
 use Rattle.bully_nodes.proofs.writing.rows_of.Given as goal
 

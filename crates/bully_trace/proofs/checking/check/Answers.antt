@@ -3,10 +3,12 @@ use Rattle.std.proofs.Common.{rules}
 use Rattle.std.specs.Io.KnownBytes.{Appends}
 use Rattle.bully_world.specs.State.{world_of}
 use Rattle.bully_trace.specs.declared.verdict.Verdict.{Verdict}
-use Rattle.bully_trace.specs.Trace.{Trace}
+use Rattle.bully_trace.specs.Recorded.{RecordedAgreement}
+use Rattle.bully_rows.specs.Trace.{Trace}
 use Rattle.bully_trace.specs.Verdict.{AgreesAfterEachRow, IsLawfulCount}
 use Rattle.bully_trace.proofs.CheckLemmas.{told-as, told-so}
 use Rattle.bully_trace.proofs.JudgeLemmas.{agrees_after, lawful_count}
+use Rattle.bully_trace.proofs.RecordedLemmas.{recorded}
 use Rattle.bully_trace.proofs.checking.check.Goals as goal
 
 pub returns-clause-verdict : goal.returns-clause-verdict
@@ -26,6 +28,12 @@ returns-clause-agreement g c =
     let judge = c.in_ok-judge.judge in
     told-so (g.R.Read.remaining c.args.reader) judge.world.setup judge c.write_verdict.result (λ (verdict : Verdict) (trace : Trace). AgreesAfterEachRow trace verdict)
     c.write_verdict.ensures.verdict (λ verdict trace is. agrees_after trace verdict (world_of judge.world) is) c.in_ok-judge.ensures.judged
+
+pub returns-clause-recorded : goal.returns-clause-recorded
+returns-clause-recorded g c =
+    let judge = c.in_ok-judge.judge in
+    told-so (g.R.Read.remaining c.args.reader) judge.world.setup judge c.write_verdict.result (λ (verdict : Verdict) (trace : Trace). RecordedAgreement trace verdict)
+    c.write_verdict.ensures.verdict (λ verdict trace is. recorded trace verdict (world_of judge.world) is) c.in_ok-judge.ensures.judged
 
 pub returns-in_err-judge-clause-silent : goal.returns-in_err-judge-clause-silent
 returns-in_err-judge-clause-silent g c = search rules

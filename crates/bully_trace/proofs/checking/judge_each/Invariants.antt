@@ -1,7 +1,7 @@
 use Rattle.std.proofs.Common.{◌+◌, ◌-◌, ℕ, List, Option}
-use Rattle.bully_trace.specs.declared.TheConstants.{ROWS_MAX}
+use Rattle.bully_rows.specs.declared.TheConstants.{ROWS_MAX}
 use Rattle.bully_trace.specs.Judging.{IsJudgedSoFar}
-use Rattle.bully_trace.specs.RecordsLeft.{IsUnread}
+use Rattle.bully_rows.specs.RecordsLeft.{IsUnread}
 use Rattle.bully_trace.proofs.checking.judge_each.Given as goal
 
 abbrev pub invariant-loop-judge : goal.invariant-loop-judge

@@ -2,7 +2,7 @@ use Rattle.std.proofs.Common.{◌≡◌, ◌+◌, ap, arith}
 use Rattle.std.specs.String.{string_bytes}
 use Rattle.bully_handlers.specs.Vector.{StoredVector}
 use Rattle.bully_trace.specs.VerdictText.{node_line}
-use Rattle.bully_trace.proofs.TextLemmas.{node_lines-next}
+use Rattle.bully_trace.proofs.NodeLineLemmas.{node_lines-next}
 use Rattle.bully_trace.proofs.checking.push_nodes.Goals as goal
 
 pub loop-before-preserved : goal.loop-before-preserved

@@ -1,5 +1,5 @@
 use Rattle.std.proofs.Common.{◌≡◌, Some, rules}
-use Rattle.bully_trace.specs.Rows.{row_of}
+use Rattle.bully_rows.specs.Rows.{row_of}
 use Rattle.bully_trace.proofs.checking.take_longer_row.Goals as goal
 
 pub returns-clause-taken : goal.returns-clause-taken

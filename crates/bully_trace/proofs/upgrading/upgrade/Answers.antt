@@ -1,8 +1,8 @@
 -- What was written and counted is the upgraded trace of the one that was read.
 use Rattle.std.proofs.Common.{◌≡◌, ℕ, length}
 use Rattle.std.specs.Io.KnownBytes.{Appends}
-use Rattle.bully_trace.specs.Trace.{Trace}
-use Rattle.bully_trace.specs.TraceText.{trace_text}
+use Rattle.bully_rows.specs.Trace.{Trace}
+use Rattle.bully_rows.specs.TraceText.{trace_text}
 use Rattle.bully_trace.proofs.UpgradeLemmas.{told-upgraded}
 use Rattle.bully_trace.proofs.upgrading.upgrade.Goals as goal
 

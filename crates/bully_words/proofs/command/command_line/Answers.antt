@@ -1,6 +1,6 @@
 use Rattle.std.proofs.Common.{rules, Ok}
 use Rattle.clap.specs.Words.{with_subcommand}
-use Rattle.bully_words.specs.Words.{bare, check_app, explain_app, play_app, run_app, table_app, upgrade_app, IsLocalCommand, ReadsAs}
+use Rattle.bully_words.specs.Words.{annotate_app, bare, check_app, explain_app, play_app, run_app, table_app, upgrade_app, IsLocalCommand, ReadsAs}
 use Rattle.bully_words.proofs.CommandLemmas.{added_command}
 use Rattle.bully_words.proofs.command.command_line.Goals as goal
 
@@ -9,18 +9,22 @@ returns c =
     let check = with_subcommand bare check_app.top in
     let explain = with_subcommand check explain_app.top in
     let upgrade = with_subcommand explain upgrade_app.top in
-    let play = with_subcommand upgrade play_app.top in
+    let annotate = with_subcommand upgrade annotate_app.top in
+    let play = with_subcommand annotate play_app.top in
     let run = with_subcommand play run_app.top in
     let is_check : IsLocalCommand check_app (Ok c.after_help-check.result) = search rules in
     let is_upgrade : IsLocalCommand upgrade_app (Ok c.after_help-upgrade.result) = search rules in
+    let is_annotate : IsLocalCommand annotate_app (Ok c.after_help-annotate.result) = search rules in
     let reads_check : ReadsAs check c.joined-command.result =
     added_command bare check_app _ (Ok c.after_help-check.result) c.joined-command.result c.bare_command.ensures is_check c.joined-command.ensures in
     let reads_explain : ReadsAs explain c.joined-command-2.result =
     added_command check explain_app _ _ c.joined-command-2.result reads_check c.explain_command.ensures c.joined-command-2.ensures in
     let reads_upgrade : ReadsAs upgrade c.joined-command-3.result =
     added_command explain upgrade_app _ (Ok c.after_help-upgrade.result) c.joined-command-3.result reads_explain is_upgrade c.joined-command-3.ensures in
-    let reads_play : ReadsAs play c.joined-command-4.result =
-    added_command upgrade play_app _ _ c.joined-command-4.result reads_upgrade c.play_command.ensures c.joined-command-4.ensures in
-    let reads_run : ReadsAs run c.joined-command-5.result =
-    added_command play run_app _ _ c.joined-command-5.result reads_play c.run_command.ensures c.joined-command-5.ensures in
+    let reads_annotate : ReadsAs annotate c.joined-command-4.result =
+    added_command upgrade annotate_app _ (Ok c.after_help-annotate.result) c.joined-command-4.result reads_upgrade is_annotate c.joined-command-4.ensures in
+    let reads_play : ReadsAs play c.joined-command-5.result =
+    added_command annotate play_app _ _ c.joined-command-5.result reads_annotate c.play_command.ensures c.joined-command-5.ensures in
+    let reads_run : ReadsAs run c.joined-command-6.result =
+    added_command play run_app _ _ c.joined-command-6.result reads_play c.run_command.ensures c.joined-command-6.ensures in
     added_command run table_app _ _ c.joined.result reads_run c.table_command.ensures c.joined.ensures

@@ -1,5 +1,5 @@
 use Rattle.std.proofs.Common.{◌≡◌, None, Some, refl, rules}
-use Rattle.bully_trace.specs.declared.trace.Row.{Row}
+use Rattle.bully_rows.specs.declared.trace.Row.{Row}
 use Rattle.bully_trace.proofs.JudgeLemmas.{judged-more}
 use Rattle.bully_trace.proofs.judging.Judge.judge_event.Goals as goal
 

@@ -1,0 +1,4 @@
+pub mod MemoryLemmas
+pub mod PossibleLemmas
+pub mod ShownLemmas
+pub mod ToldLemmas

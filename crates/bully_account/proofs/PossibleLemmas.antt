@@ -1,0 +1,146 @@
+-- Which deeds of a node nothing refuses.
+use Rattle.std.proofs.Common.{◌≡◌, ◌≢◌, ◌↔◌, ◌∙◌, ◌<◌, ℕ, Bool, true, false, List, Option, Some, None, refl, sym, ap, subst}
+use Rattle.std.specs.Global.{Vec}
+use Rattle.std.specs.Prelude.{is_none, filter, IfOk, IfSome, Ok, Err, Result}
+use Rattle.bully_base.specs.NodeSet.{with_node}
+use Rattle.bully_base.specs.Setup.{Setup}
+use Rattle.bully_table.specs.Balance.{IsBalanced}
+use Rattle.bully_table.specs.Planning.{planned}
+use Rattle.bully_calls.specs.declared.call.Answer.{Answer}
+use Rattle.bully_steps.specs.declared.point.Point.{Point}
+use Rattle.bully_steps.specs.Prepared.{prepared_from}
+use Rattle.bully_steps.specs.ProcedureState.{IsPlannedOver, IsProcedureState, procedure_state}
+use Rattle.bully_world.specs.declared.event.Event.{Event}
+use Rattle.bully_world.specs.declared.event.Refused.{Refused}
+use Rattle.bully_world.specs.Cause.{node_of}
+use Rattle.bully_world.specs.State.{IsReached, WorldState, cause_in, member_of, state_at, world_of}
+use Rattle.bully_world.specs.Step.{Step}
+use Rattle.bully_world.specs.World.{Member, World, pending, point, vector, with_member}
+use Rattle.bully_world.proofs.CauseLemmas.{no_cause_if_step, step_if_no_cause}
+use Rattle.bully_world.proofs.MembersOf.{member-members_of}
+use Rattle.bully_world.proofs.TurnLemmas.{reached_fits}
+use Rattle.bully_account.specs.declared.deed.Deed.{Deed}
+use Rattle.bully_account.specs.Possible.{ArePossible, IsPossible, TellsPossible, deed_of, event_at, every_deed, passes}
+
+-- ---- the table that is planned
+
+-- a procedure that was prepared and has a table is Planning, over its up set
+pub prepared-over : (setup : Setup) (i g : ℕ) (p : Point) (up : List ℕ) (c : Option ℕ) (b : Bool) (table : List ℕ)
+    → IsProcedureState (prepared_from None (procedure_state setup i g p up c b)) → (prepared_from None (procedure_state setup i g p up c b)).table ≡ Some table
+    → IsPlannedOver setup i up table
+prepared-over setup i g Point.Idle up c b table is told = absurd (cc told)
+prepared-over setup i g (Point.Asking k) up c b table is told = absurd (cc told)
+prepared-over setup i g (Point.Halting k) up c b table is told = absurd (cc told)
+prepared-over setup i g (Point.Announcing rest) up c b table is told = absurd (cc told)
+prepared-over setup i g Point.Planning up c b table is told =
+    let same : planned setup None (with_node i up) ≡ table = cc told in
+    subst (λ t. IsPlannedOver setup i up t) same is.plan.1
+prepared-over setup i g (Point.Readying rest) up c b table is told = absurd (cc told)
+prepared-over setup i g (Point.Checking k) up c b table is told = absurd (cc told)
+prepared-over setup i g Point.Inquiring up c b table is told = absurd (cc told)
+
+-- one that has none isn't Planning
+pub unprepared : (setup : Setup) (i g : ℕ) (p : Point) (up : List ℕ) (c : Option ℕ) (b : Bool)
+    → (prepared_from None (procedure_state setup i g p up c b)).table ≡ None → p ≢ Point.Planning
+unprepared setup i g Point.Idle up c b none is = absurd (cc is)
+unprepared setup i g (Point.Asking k) up c b none is = absurd (cc is)
+unprepared setup i g (Point.Halting k) up c b none is = absurd (cc is)
+unprepared setup i g (Point.Announcing rest) up c b none is = absurd (cc is)
+unprepared setup i g Point.Planning up c b none is = absurd (cc none)
+unprepared setup i g (Point.Readying rest) up c b none is = absurd (cc is)
+unprepared setup i g (Point.Checking k) up c b none is = absurd (cc is)
+unprepared setup i g Point.Inquiring up c b none is = absurd (cc is)
+
+-- ---- plans that nothing refuses
+
+none_if : (q : Option Refused) → is_none q ≡ true → q ≡ None
+none_if None e = refl
+none_if (Some why) e = absurd (cc e)
+
+-- what a plan that nothing refuses needs of its node, whatever its table
+plan_needs : (w : WorldState) (i : ℕ) (e : Event) → IsReached w → node_of e ≡ i → deed_of e ≡ Deed.Plan → cause_in w e ≡ None
+    → (w.events < w.setup.events_max) × (point (world_of w) i ≡ Point.Planning) × (pending (world_of w) i ≡ None)
+plan_needs w i (Event.Recover j) reached at is free = absurd (cc is)
+plan_needs w i (Event.Crash j) reached at is free = absurd (cc is)
+plan_needs w i (Event.Check j) reached at is free = absurd (cc is)
+plan_needs w i (Event.Timeout j) reached at is free = absurd (cc is)
+plan_needs w i (Event.Start j) reached at is free = absurd (cc is)
+plan_needs w i (Event.Run j) reached at is free = absurd (cc is)
+plan_needs w i (Event.Lose j) reached at is free = absurd (cc is)
+plan_needs w i (Event.Return j) reached at is free = absurd (cc is)
+plan_needs w i (Event.Drop j) reached at is free = absurd (cc is)
+plan_needs w i (Event.Move j) reached at is free = absurd (cc is)
+plan_needs w i (Event.Plan j table) reached at is free =
+    let (room, w', a, step) = step_if_no_cause w.setup (world_of w) w.events (Event.Plan j table) (reached_fits w reached) free in
+    (room, rw (← at) step.0, rw (← at) step.1)
+
+-- a plan with a table that is balanced over the node and its up set is possible where any plan is
+pub plan-possible : (w : WorldState) (i : ℕ) (table : List ℕ) (b : Bool) → IsReached w → IsPlannedOver w.setup i (member_of (state_at w i)).vector.up table
+    → b ≡ is_none (cause_in w (Event.Plan i table)) → (b ≡ true) ↔ IsPossible w i Deed.Plan
+plan-possible w i table b reached over told =
+    let balanced : IsBalanced w.setup table (with_node i (vector (world_of w) i).up) =
+    subst (λ (m : Member). IsBalanced w.setup table (with_node i m.vector.up)) (sym (member-members_of w.members i)) over.balanced in
+    let w' : World = with_member (world_of w) i (record { vector = record (vector (world_of w) i) { task = Some table }; point = Point.Readying (vector (world_of w) i).up; pending = None }) in (
+      λ passed. record { event = Event.Plan i table; node = refl; is = refl; free = none_if (cause_in w (Event.Plan i table)) (sym told ∙ passed) },
+      λ possible.
+          let (room, at, empty) = plan_needs w i possible.event reached possible.node possible.is possible.free in
+          let step : Step w.setup (world_of w) (Event.Plan i table) w' Answer.Done = (at, empty, over.partitions, balanced, refl, refl) in
+          told ∙ ap (λ (q : Option Refused). is_none q) (no_cause_if_step w.setup (world_of w) w.events (Event.Plan i table) w' Answer.Done (reached_fits w reached) room step),
+    )
+
+-- where the node isn't Planning, no plan is possible
+pub no-plan : (w : WorldState) (i : ℕ) → IsReached w → (state_at w i).point ≢ Point.Planning → (false ≡ true) ↔ IsPossible w i Deed.Plan
+no-plan w i reached other = (
+  λ e. absurd (cc e),
+  λ possible.
+      let needs = plan_needs w i possible.event reached possible.node possible.is possible.free in
+      absurd (other (sym (ap (λ (m : Member). m.point) (member-members_of w.members i)) ∙ needs.1)),
+)
+
+-- ---- all deeds
+
+-- an event of node i that is this deed is the one that the deed names
+same_event : (i : ℕ) (deed : Deed) (f : Event) → node_of f ≡ i → deed_of f ≡ deed → IfSome (event_at deed i) (λ e. f ≡ e)
+same_event i deed (Event.Recover j) at is = rw (← is) (ap (λ (k : ℕ). Event.Recover k) at)
+same_event i deed (Event.Crash j) at is = rw (← is) (ap (λ (k : ℕ). Event.Crash k) at)
+same_event i deed (Event.Check j) at is = rw (← is) (ap (λ (k : ℕ). Event.Check k) at)
+same_event i deed (Event.Timeout j) at is = rw (← is) (ap (λ (k : ℕ). Event.Timeout k) at)
+same_event i deed (Event.Start j) at is = rw (← is) (ap (λ (k : ℕ). Event.Start k) at)
+same_event i deed (Event.Run j) at is = rw (← is) (ap (λ (k : ℕ). Event.Run k) at)
+same_event i deed (Event.Lose j) at is = rw (← is) (ap (λ (k : ℕ). Event.Lose k) at)
+same_event i deed (Event.Return j) at is = rw (← is) (ap (λ (k : ℕ). Event.Return k) at)
+same_event i deed (Event.Drop j) at is = rw (← is) (ap (λ (k : ℕ). Event.Drop k) at)
+same_event i deed (Event.Move j) at is = rw (← is) (ap (λ (k : ℕ). Event.Move k) at)
+same_event i deed (Event.Plan j table) at is = rw (← is) tt
+
+-- the only event that is this deed has no cause exactly where the deed is possible
+plain : (w : WorldState) (i : ℕ) (deed : Deed) (e : Event) → node_of e ≡ i → deed_of e ≡ deed → ((f : Event) → node_of f ≡ i → deed_of f ≡ deed → f ≡ e)
+    → (is_none (cause_in w e) ≡ true) ↔ IsPossible w i deed
+plain w i deed e at is only = (
+  λ passed. record { event = e; node = at; is = is; free = none_if (cause_in w e) passed },
+  λ possible. ap (λ (q : Option Refused). is_none q) (subst (λ (f : Event). cause_in w f ≡ None) (only possible.event possible.node possible.is) possible.free),
+)
+
+tells : (w : WorldState) (i : ℕ) (can : Bool) → ((can ≡ true) ↔ IsPossible w i Deed.Plan) → TellsPossible w i (λ deed. passes w i can deed)
+tells w i can plan Deed.Recover = plain w i Deed.Recover (Event.Recover i) refl refl (same_event i Deed.Recover)
+tells w i can plan Deed.Crash = plain w i Deed.Crash (Event.Crash i) refl refl (same_event i Deed.Crash)
+tells w i can plan Deed.Check = plain w i Deed.Check (Event.Check i) refl refl (same_event i Deed.Check)
+tells w i can plan Deed.Timeout = plain w i Deed.Timeout (Event.Timeout i) refl refl (same_event i Deed.Timeout)
+tells w i can plan Deed.Start = plain w i Deed.Start (Event.Start i) refl refl (same_event i Deed.Start)
+tells w i can plan Deed.Run = plain w i Deed.Run (Event.Run i) refl refl (same_event i Deed.Run)
+tells w i can plan Deed.Lose = plain w i Deed.Lose (Event.Lose i) refl refl (same_event i Deed.Lose)
+tells w i can plan Deed.Return = plain w i Deed.Return (Event.Return i) refl refl (same_event i Deed.Return)
+tells w i can plan Deed.Drop = plain w i Deed.Drop (Event.Drop i) refl refl (same_event i Deed.Drop)
+tells w i can plan Deed.Move = plain w i Deed.Move (Event.Move i) refl refl (same_event i Deed.Move)
+tells w i can plan Deed.Plan = plan
+
+-- the deeds that pass are those that are possible
+passing-possible : (w : WorldState) (i : ℕ) (can : Bool) (deeds : List Deed) → ((can ≡ true) ↔ IsPossible w i Deed.Plan)
+    → deeds ≡ filter (λ deed. passes w i can deed) every_deed → ArePossible w i deeds
+passing-possible w i can deeds plan listed = (λ deed. passes w i can deed, tells w i can plan, listed)
+
+-- the same of what a call gave, which may be that memory is short
+pub passing-listed : {E : Type 0} (w : WorldState) (i : ℕ) (can : Bool) (r : Result (Vec Deed) E) → ((can ≡ true) ↔ IsPossible w i Deed.Plan)
+    → IfOk r (λ deeds. deeds.items ≡ filter (λ deed. passes w i can deed) every_deed) → IfOk r (λ deeds. ArePossible w i deeds.items)
+passing-listed w i can (Ok deeds) plan listed = passing-possible w i can deeds.items plan listed
+passing-listed w i can (Err short) plan listed = tt

@@ -1,0 +1,43 @@
+-- What is told of a text, from what its rows came to.
+use Rattle.std.proofs.Common.{◌≡◌, ℕ, true, List, Option, Some, None, Result, Ok, Err, refl}
+use Rattle.std.specs.Prelude.{IfOk, IfErr}
+use Rattle.bully_base.specs.Setup.{Setup}
+use Rattle.bully_world.specs.State.{IsReached, world_of}
+use Rattle.bully_world.specs.World.{first_world}
+use Rattle.bully_rows.specs.declared.trace.Row.{Row}
+use Rattle.bully_rows.specs.declared.trace.TraceFault.{TraceFault}
+use Rattle.bully_trace.specs.declared.verdict.Verdict.{Verdict}
+use Rattle.bully_trace.specs.Judging.{AreAllJudged, HasJudged, JudgeState}
+use Rattle.bully_rows.specs.RecordsLeft.{EndsReading}
+use Rattle.bully_rows.specs.Rows.{OfTrace, is_of_form, no_memory}
+use Rattle.bully_trace.specs.Verdict.{IsJudged}
+use Rattle.bully_rows.proofs.TraceLemmas.{memory-ends}
+use Rattle.bully_account.specs.declared.showing.NodeSheet.{NodeSheet}
+use Rattle.bully_account.specs.Told.{Explains, IsUntold}
+use Rattle.bully_account.specs.Shown.{ShowsAll}
+
+-- the verdict on all rows of a text is that on its trace, and its world the one that is shown
+pub verdict-told : (known : Option (List ℕ)) (setup : Setup) (judge : JudgeState) (verdict : Verdict) (sheets : List NodeSheet)
+    → ((setup : Setup) (rows : List Row) → HasJudged setup rows judge → IsJudged setup (first_world setup) 0 2 rows verdict (world_of judge.world))
+    → IsReached judge.world → ShowsAll judge.world sheets → AreAllJudged known setup judge → OfTrace known (Explains verdict sheets)
+verdict-told None setup judge verdict sheets says reached shown all = tt
+verdict-told (Some bytes) setup judge verdict sheets says reached shown (version, rows, is, judged) = (
+  record { version = version; setup = setup; rows = rows },
+  is,
+  record { world = judge.world; reached = reached; same = judged.same; judged = says setup rows judged; shown = shown },
+)
+
+-- a verdict is no fault
+pub verdict-formed : {A : Type 0} (told : A → Result Verdict TraceFault) (r : Result A TraceFault) → IfOk r (λ a. (verdict : Verdict) × (told a ≡ Ok verdict))
+    → IfOk r (λ a. IfErr (told a) (λ fault. is_of_form fault.cause ≡ true))
+verdict-formed told (Ok a) (verdict, same) = rw same tt
+verdict-formed told (Err other) is = tt
+
+-- want of memory
+pub short-ends : {A : Type 0} (known : Option (List ℕ)) (r : Result A TraceFault) → IfErr r (λ fault. fault ≡ no_memory) → IfErr r (EndsReading known)
+short-ends known (Ok a) is = tt
+short-ends known (Err fault) is = rw is (memory-ends known)
+
+pub short-untold : {A : Type 0} (r : Result A TraceFault) → IfErr r (λ fault. fault ≡ no_memory) → IfErr r IsUntold
+short-untold (Ok a) is = tt
+short-untold (Err fault) is = rw is refl

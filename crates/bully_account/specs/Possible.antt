@@ -1,0 +1,60 @@
+-- What may come next at a node: the deeds that nothing refuses there.
+use Rattle.std.specs.Prelude.{◌≡◌, ◌↔◌, ℕ, Bool, true, List, [], ◌∷◌, Option, Some, None, filter, is_none}
+use Rattle.std.specs.Option.{option_map_or}
+use Rattle.bully_world.specs.declared.event.Event.{Event}
+use Rattle.bully_world.specs.Cause.{node_of}
+use Rattle.bully_world.specs.State.{WorldState, cause_in}
+use Rattle.bully_account.specs.declared.deed.Deed.{Deed}
+
+-- what the event is, but for its node and for the table of a plan
+abbrev pub deed_of : Event → Deed
+deed_of (Event.Recover i) = Deed.Recover
+deed_of (Event.Crash i) = Deed.Crash
+deed_of (Event.Check i) = Deed.Check
+deed_of (Event.Timeout i) = Deed.Timeout
+deed_of (Event.Start i) = Deed.Start
+deed_of (Event.Run i) = Deed.Run
+deed_of (Event.Lose i) = Deed.Lose
+deed_of (Event.Return i) = Deed.Return
+deed_of (Event.Drop i) = Deed.Drop
+deed_of (Event.Move i) = Deed.Move
+deed_of (Event.Plan i table) = Deed.Plan
+
+-- the event of node i that is this deed; none for a plan, which has a table, too
+abbrev pub event_at : Deed → ℕ → Option Event
+event_at Deed.Recover i = Some (Event.Recover i)
+event_at Deed.Crash i = Some (Event.Crash i)
+event_at Deed.Check i = Some (Event.Check i)
+event_at Deed.Timeout i = Some (Event.Timeout i)
+event_at Deed.Start i = Some (Event.Start i)
+event_at Deed.Run i = Some (Event.Run i)
+event_at Deed.Lose i = Some (Event.Lose i)
+event_at Deed.Return i = Some (Event.Return i)
+event_at Deed.Drop i = Some (Event.Drop i)
+event_at Deed.Move i = Some (Event.Move i)
+event_at Deed.Plan i = None
+
+-- all deeds, in the order of the table of rows
+abbrev pub every_deed : List Deed
+every_deed =
+    Deed.Recover ∷ Deed.Crash ∷ Deed.Check ∷ Deed.Timeout ∷ Deed.Start ∷ Deed.Run ∷ Deed.Lose ∷ Deed.Return ∷ Deed.Drop
+    ∷ Deed.Move ∷ Deed.Plan ∷ []
+
+-- some event of node i is this deed, and nothing refuses it there
+pub record IsPossible (w : WorldState) (i : ℕ) (deed : Deed) : Type 0 where
+  pub event : Event
+  pub node : node_of event ≡ i
+  pub is : deed_of event ≡ deed
+  pub free : cause_in w event ≡ None
+
+-- the test tells exactly which deeds of node i are possible
+abbrev pub TellsPossible : WorldState → ℕ → (Deed → Bool) → Type 0
+TellsPossible w i test = (deed : Deed) → (test deed ≡ true) ↔ IsPossible w i deed
+
+-- these are the deeds of node i that are possible, each once and in their order
+abbrev pub ArePossible : WorldState → ℕ → List Deed → Type 0
+ArePossible w i deeds = (test : Deed → Bool) × TellsPossible w i test × (deeds ≡ filter test every_deed)
+
+-- nothing refuses the event that is this deed; a plan is judged by whether some table can be planned
+abbrev pub passes : WorldState → ℕ → Bool → Deed → Bool
+passes w i can_plan deed = option_map_or (λ e. is_none (cause_in w e)) (event_at deed i) can_plan

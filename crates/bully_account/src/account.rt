@@ -1,0 +1,175 @@
+use crate::lines::Lines;
+use crate::memory::Memories;
+use crate::moving::moves_point;
+use crate::showing::node_sheets;
+use crate::{Memory, NodeSheet};
+use bully_base::{Node, OutOfMemory};
+use bully_rows::{Header, Row, RowReader, Version};
+use bully_trace::{Judge, Verdict};
+use bully_world::World;
+use std::alloc::Global;
+use std::io::Read;
+use std::marker::Model;
+
+/// The row that decided: its number and the line at which it starts, both counted from 1, and what it says.
+#[derive(Drop, Debug)]
+pub struct Stop {
+    pub number: u32,
+    pub line: u64,
+    pub row: Row,
+}
+
+/// What the rows of a trace came to: the judge that took them, what is remembered of each node's rows, and the row that
+/// decided, where one did. Contracts see the judge.
+#[derive(Drop)]
+pub struct Account {
+    judge: Judge,
+    memories: Memories,
+    stop: Option<Stop>,
+}
+
+impl Model for Account {
+    ghost use Rattle.bully_trace.specs.Judging.{JudgeState};
+
+    ghost Value = { JudgeState };
+
+    ghost view = { λ a. a.judge };
+}
+
+impl Account {
+    ghost use Rattle.std.specs.Prelude.{◌≡◌, ◌+◌, ◌++◌, ◌∷◌, [], List, length, IfOk};
+    ghost use Rattle.bully_account.specs.Shown.{ShowsAll};
+    ghost use Rattle.bully_base.specs.Setup.{Setup as SetupState};
+    ghost use Rattle.bully_rows.specs.declared.trace.Row.{Row as RowState};
+    ghost use Rattle.bully_trace.specs.Judging.{HasJudged};
+    ghost use Rattle.bully_trace.specs.Verdict.{IsJudged};
+    ghost use Rattle.bully_world.specs.State.{world_of};
+    ghost use Rattle.bully_world.specs.World.{first_world};
+
+    /// An account behind this header, before any row. Refused where an allocation fails.
+    pub fn new(alloc: Global, header: Header) -> Result<Account, OutOfMemory>
+        ensures judged { IfOk result (HasJudged header.setup []) }
+        ensures version { IfOk result (λ account. account.version ≡ header.version) }
+    {
+        let memories = Memories::new(alloc, &header.setup)?;
+        Ok(Account {
+            judge: Judge::new(alloc, header)?,
+            memories,
+            stop: None,
+        })
+    }
+
+    /// Takes the row that was read last. The first event that the world refuses, or the first claim or detail that is
+    /// false of it, decides: that row is kept, and no later one changes anything.
+    pub fn take_row<R: Read + Drop>(&mut self, rows: &RowReader<Lines<R>>, row: Row)
+        ensures version { self.new.version ≡ self.old.version }
+        ensures judged { (setup : SetupState) (before : List RowState) → length before + 2 ≡ rows.now.number → HasJudged setup before self.old → HasJudged setup (before ++ row ∷ []) self.new }
+    {
+        let number = rows.number();
+        let moves = moves_point_by(self.judge.world(), &row);
+        self.judge.take_row(number, &row);
+        if self.judge.stopped().is_some() {
+            self.keep(rows, row);
+        } else {
+            self.remember(number, &row, moves);
+        }
+    }
+
+    // Keeps the row as the one that decided, where none was kept yet.
+    fn keep<R: Read + Drop>(&mut self, rows: &RowReader<Lines<R>>, row: Row)
+        ensures { self.new ≡ self.old }
+    {
+        if self.stop.is_some() {
+            return;
+        }
+        let number = rows.number();
+        let line = line_of(rows);
+        self.stop = Some(Stop { number, line, row });
+    }
+
+    // Remembers the row of this number, which the judge took; whether it moved its node is told, where that was seen before.
+    fn remember(&mut self, number: u32, row: &Row, moves: Option<bool>)
+        ensures { self.new ≡ self.old }
+    {
+        let world = self.judge.world();
+        match row {
+            Row::Event(event) => self.memories.take(world, number, event, moves),
+            Row::Detailed(event) => self.memories.take(world, number, &event.event(), moves),
+            Row::Claim(_) | Row::Whole(_) => {}
+        }
+    }
+
+    /// The version of the trace.
+    pub fn version(&self) -> Version
+        ensures { result ≡ self.now.version }
+    {
+        self.judge.version()
+    }
+
+    /// The verdict on the rows that were taken.
+    pub fn verdict(&self) -> Verdict
+        ensures { (setup : SetupState) (rows : List RowState) → HasJudged setup rows self.now → IsJudged setup (first_world setup) 0 2 rows result (world_of self.now.world) }
+    {
+        self.judge.verdict()
+    }
+
+    /// The world that the rows were taken to: where one decided, that before it.
+    pub fn world(&self) -> &World
+        ensures { result.now ≡ self.now.world }
+    {
+        self.judge.world()
+    }
+
+    /// What the world that the rows were taken to has of each node, from node 1 on: where a row decided, the world before it.
+    /// Refused where an allocation fails.
+    pub fn nodes(&self, alloc: Global) -> Result<Vec<NodeSheet>, OutOfMemory>
+        ensures { IfOk result (λ sheets. ShowsAll self.now.world sheets.items) }
+    {
+        node_sheets(alloc, self.world())
+    }
+
+    /// The row that decided; none where the trace is lawful.
+    pub fn stop(&self) -> Option<&Stop> {
+        self.stop.as_ref()
+    }
+
+    /// What is remembered of the node's rows; none of a node that the group doesn't have.
+    pub fn memory(&self, node: Node) -> Option<&Memory> {
+        self.memories.of(node)
+    }
+}
+
+// Whether the row takes its node to another point; none where that is seen behind it alone.
+fn moves_point_by(world: &World, row: &Row) -> Option<bool> {
+    match row {
+        Row::Event(event) => moves_point(world, event),
+        Row::Detailed(event) => moves_point(world, &event.event()),
+        Row::Claim(_) | Row::Whole(_) => Some(false),
+    }
+}
+
+/// The line at which the row that was read last starts, counted from 1 by line feeds.
+pub fn line_of<R: Read + Drop>(rows: &RowReader<Lines<R>>) -> u64 {
+    let end = rows.end();
+    let ended = rows.source().ends_line(end.byte().saturating_sub(1));
+    end.line()
+        .saturating_sub(ended as u64)
+        .saturating_sub(lines_within(rows))
+}
+
+// How many line feeds there are within the fields of the row that was read last.
+fn lines_within<R: Read + Drop>(rows: &RowReader<Lines<R>>) -> u64 {
+    let fields = rows.fields();
+    let mut count = 0u64;
+    for place in 0..fields.len() {
+        if let Some(field) = fields.get(place) {
+            count = count.saturating_add(line_feeds(field) as u64);
+        }
+    }
+    count
+}
+
+// How many line feeds there are.
+fn line_feeds(text: &[u8]) -> usize {
+    text.iter().filter(|byte| **byte == b'\n').count()
+}

@@ -1,0 +1,243 @@
+ghost use Rattle.std.specs.Prelude.{◌≡◌, ◌+◌, ◌<◌, ◌≤◌, remove, vec_capacity, vec_len};
+ghost use Rattle.bully_account.specs.Remembered.{noted};
+
+use crate::moving::is_idle;
+use crate::{Deed, ROWS_KEPT};
+use bully_base::{Node, OutOfMemory, Setup};
+use bully_calls::{Call, CallKind};
+use bully_table::{Table, TableRoom};
+use bully_world::{Event, World};
+use std::alloc::Global;
+use std::marker::Model;
+
+/// What a row did to a node.
+#[derive(Clone, Copy, PartialEq, Eq, Debug)]
+pub enum What {
+    /// An event of the node, other than the start of a call.
+    Did(Deed),
+    /// The node started this call.
+    Started(Call),
+    /// A Halt of this other node ran at it.
+    HaltedBy(Node),
+}
+
+/// A row that a node has remembered.
+#[derive(Clone, Copy, PartialEq, Eq, Debug)]
+pub struct Note {
+    /// The number of the row, from 2.
+    pub row: u32,
+    pub what: What,
+    /// Whether the node's point is another one since.
+    pub moved: bool,
+}
+
+/// What is remembered of a node's rows: the last [`ROWS_KEPT`], in which row its last call was started, and the table of
+/// its last plan.
+#[derive(Drop, Debug)]
+pub struct Memory {
+    notes: Vec<Note>,
+    started: Option<u32>,
+    planned: TableRoom,
+    partitions: u16, // for which there is room
+}
+
+impl Model for Memory {
+    ghost use Rattle.std.specs.Prelude.{◌≡◌, ◌≤◌, vec_capacity, vec_len};
+    ghost use Rattle.bully_account.specs.declared.TheConstants.{ROWS_KEPT};
+    ghost use Rattle.bully_account.specs.Remembered.{Remembered};
+
+    ghost Value = { Remembered };
+
+    ghost view = { λ m. record { notes = m.notes.items; started = m.started; planned = m.planned.table; room = m.planned.size } };
+
+    ghost invariant = { λ m. (vec_len m.notes ≤ ROWS_KEPT) × (ROWS_KEPT ≤ vec_capacity m.notes) × (m.planned.size ≡ m.partitions) };
+}
+
+impl Memory {
+    ghost use Rattle.std.specs.Prelude.{◌≡◌, ◌==◌, [], length, IfOk, Some, None, if◌then◌else◌};
+    ghost use Rattle.std.specs.Option.{option_copied};
+    ghost use Rattle.bully_account.specs.Remembered.{noted};
+
+    /// What is remembered before any row. It reserves all memory that it will need. Refused where an allocation fails.
+    pub fn new(alloc: Global, setup: &Setup) -> Result<Memory, OutOfMemory>
+        ensures { IfOk result (λ m. m ≡ record { notes = []; started = None; planned = None; room = setup.now.partitions }) }
+    {
+        Ok(Memory {
+            notes: Vec::with_capacity(alloc, ROWS_KEPT)?,
+            started: None,
+            planned: TableRoom::new(alloc, setup)?,
+            partitions: setup.partitions(),
+        })
+    }
+
+    /// The last rows, the oldest first: at most [`ROWS_KEPT`].
+    pub fn notes(&self) -> &[Note]
+        ensures { result.now ≡ self.now.notes }
+    {
+        self.notes.as_slice()
+    }
+
+    /// The row in which the node's last call was started.
+    pub fn started(&self) -> Option<u32>
+        ensures { result ≡ self.now.started }
+    {
+        self.started
+    }
+
+    /// The table of the node's last plan.
+    pub fn planned(&self) -> Option<&Table>
+        ensures { option_copied result ≡ self.now.planned }
+    {
+        self.planned.table()
+    }
+
+    /// One more row, in the place of the oldest one where there is no more room. It takes no memory.
+    pub fn note(&mut self, note: &Note)
+        ensures { self.new ≡ record self.old { notes = noted self.old.notes note.now } }
+    {
+        push_last(&mut self.notes, note);
+    }
+
+    /// A call was started in this row.
+    pub fn start(&mut self, row: u32)
+        ensures { self.new ≡ record self.old { started = Some row } }
+    {
+        self.started = Some(row);
+    }
+
+    /// This table was planned. One of another number of partitions than there is room for is passed over.
+    pub fn plan(&mut self, table: &Table)
+        ensures { self.new ≡ (if length table.now == self.old.room then record self.old { planned = Some table.now } else self.old) }
+    {
+        if table.len() == usize::from(self.partitions) {
+            self.planned.put(table);
+        }
+    }
+}
+
+// Appends the row, in the place of the first one where there are as many as are kept.
+#[tactic(auto, using(crate::proofs::MemoryLemmas::noted_more, crate::proofs::MemoryLemmas::noted_full))]
+fn push_last(notes: &mut Vec<Note>, note: &Note)
+    requires few { vec_len notes.old ≤ ROWS_KEPT }
+    requires room { ROWS_KEPT ≤ vec_capacity notes.old }
+    ensures notes { notes.new.items ≡ noted notes.old.items note.now }
+    ensures few { vec_len notes.new ≤ ROWS_KEPT }
+    ensures room { ROWS_KEPT ≤ vec_capacity notes.new }
+{
+    let what = note.what;
+    let kept = Note {
+        row: note.row,
+        what,
+        moved: note.moved,
+    };
+    if notes.len() < ROWS_KEPT {
+        notes.push_reserved(kept);
+    } else {
+        forget_first(notes);
+        notes.push_reserved(kept);
+    }
+}
+
+// Forgets the first of the rows, of which there is one.
+fn forget_first(notes: &mut Vec<Note>)
+    requires { 0 < vec_len notes.old }
+    ensures notes { notes.new.items ≡ remove notes.old.items 0 }
+    ensures count { vec_len notes.new + 1 ≡ vec_len notes.old }
+    ensures room { vec_capacity notes.new ≡ vec_capacity notes.old }
+{
+    let _first = notes.remove(0);
+}
+
+// What the event did to its node, in whose slot this call is afterwards.
+fn what_of(event: &Event, call: Option<Call>) -> What {
+    match event {
+        Event::Start(_) => match call {
+            Some(call) => What::Started(call),
+            None => What::Did(Deed::Start),
+        },
+        _ => What::Did(Deed::of(event)),
+    }
+}
+
+/// What is remembered of each node's rows, from node 1 on.
+#[derive(Drop, Debug)]
+pub struct Memories {
+    nodes: Vec<Memory>,
+}
+
+impl Memories {
+    /// Before any row. Refused where an allocation fails.
+    pub fn new(alloc: Global, setup: &Setup) -> Result<Memories, OutOfMemory> {
+        let mut nodes = Vec::with_capacity(alloc, usize::from(setup.nodes()))?;
+        for _ in 0..setup.nodes() {
+            nodes.push(Memory::new(alloc, setup)?)?;
+        }
+        Ok(Memories { nodes })
+    }
+
+    /// What is remembered of the node's rows; none of a node that the group doesn't have.
+    pub fn of(&self, node: Node) -> Option<&Memory> {
+        self.nodes.get(usize::from(node.number() - 1))
+    }
+
+    /// Remembers the event of this row, which led to the world, and whether it took its node to another point; where that isn't
+    /// told, it did if the node isn't idle now. A Halt that ran is remembered of the callee, too.
+    pub fn take(&mut self, world: &World, row: u32, event: &Event, moves: Option<bool>) {
+        let node = event.node();
+        if node.number() > world.setup().nodes() {
+            return;
+        }
+        let moved = match moves {
+            Some(moves) => moves,
+            None => !is_idle(world, node),
+        };
+        let call = world.slot(node).call();
+        let what = what_of(event, call);
+        self.note(node, &Note { row, what, moved });
+        match event {
+            Event::Start(_) => self.start(node, row),
+            Event::Run(_) => {
+                let ran = world.slot(node).call();
+                self.halt(node, ran, row);
+            }
+            Event::Plan(_, table) => self.plan(node, table),
+            _ => {}
+        }
+    }
+
+    // The call of the caller ran in this row: a Halt stopped its callee.
+    fn halt(&mut self, caller: Node, call: Option<Call>, row: u32) {
+        let Some(call) = call else {
+            return;
+        };
+        if call.kind == CallKind::Halt {
+            let what = What::HaltedBy(caller);
+            let moved = true;
+            self.note(call.callee, &Note { row, what, moved });
+        }
+    }
+
+    // One more row of the node.
+    fn note(&mut self, node: Node, note: &Note) {
+        let place = usize::from(node.number() - 1);
+        if place < self.nodes.len() {
+            self.nodes[place].note(note);
+        }
+    }
+
+    // The node started a call in this row.
+    fn start(&mut self, node: Node, row: u32) {
+        let place = usize::from(node.number() - 1);
+        if place < self.nodes.len() {
+            self.nodes[place].start(row);
+        }
+    }
+
+    // The node planned this table.
+    fn plan(&mut self, node: Node, table: &Table) {
+        let place = usize::from(node.number() - 1);
+        if place < self.nodes.len() {
+            self.nodes[place].plan(table);
+        }
+    }
+}

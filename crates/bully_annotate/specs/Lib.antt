@@ -1,0 +1,4 @@
+pub mod Annotated
+pub mod Annotation
+pub mod Says
+pub mod Shown

@@ -1,0 +1,26 @@
+-- What claims of whole vectors show: behind an event each vector that it changed, and of a node all of its vector.
+use Rattle.std.specs.Prelude.{◌≡◌, ◌↔◌, ◌⊎◌, ℕ, true, List, [], ◌∷◌}
+use Rattle.bully_base.specs.NodeSet.{IsFallingBelow}
+use Rattle.bully_base.specs.Setup.{IsNode, Setup}
+use Rattle.bully_calls.specs.declared.call.Answer.{Answer}
+use Rattle.bully_world.specs.declared.event.Event.{Event}
+use Rattle.bully_world.specs.Lawful.{IsLawful}
+use Rattle.bully_world.specs.Step.{Step}
+use Rattle.bully_world.specs.World.{World, vector}
+use Rattle.bully_rows.specs.Whole.{Whole, whole_of}
+use Rattle.bully_trace.specs.Details.{is_whole}
+use Rattle.bully_annotate.specs.Annotated.{place_of, shown_change, shown_row}
+
+-- behind each event that is possible after a lawful list the vector of each node that it changed is shown
+abbrev pub ShowsEachChange : Type 0
+ShowsEachChange =
+    (setup : Setup) (events : List Event) (answers : List Answer) (w : World) (e : Event) (w' : World) (a : Answer)
+    → IsLawful setup events answers w → Step setup w e w' a
+    → (j : ℕ) → (vector w' j ≡ vector w j) ⊎ (shown_change w w' (place_of w e) ≡ shown_row w' j ∷ [])
+
+-- a claim that tells all of a vector is true exactly where it is all of that node's vector
+abbrev pub TellsTheVector : Type 0
+TellsTheVector =
+    (setup : Setup) (events : List Event) (answers : List Answer) (w : World) (whole : Whole) (bound : ℕ)
+    → IsLawful setup events answers w → IsFallingBelow bound whole.up
+    → (is_whole setup w whole ≡ true) ↔ (IsNode setup whole.claim.node × (whole ≡ whole_of whole.claim.node (vector w whole.claim.node)))

@@ -1,0 +1,27 @@
+//! Traces with everything said.
+//!
+//! It stands on bully_trace and the crates below it. The crates above rely on an annotated trace being as lawful as the one
+//! that was read.
+#![tactic(auto)]
+
+ghost use Rattle.bully_annotate.specs.Shown.{ShowsEachChange, TellsTheVector};
+
+mod annotation;
+mod annotator;
+mod saying;
+mod seen;
+mod writing;
+
+pub use annotation::{Annotation, annotate};
+
+/// The law of what is shown behind an event. In a world that a lawful list leads to, an event that is possible changes the vector of
+/// one node at most, and behind it the vector of each node that it changed is shown.
+pub fn changes_shown()
+    ensures { ShowsEachChange }
+{}
+
+/// The law of claims that tell all of a vector. In a world that a lawful list leads to, such a claim is true, as
+/// [`bully_trace::check`] asks, exactly where the group has the node and the claim is all of that node's vector.
+pub fn vector_told()
+    ensures { TellsTheVector }
+{}

@@ -1,6 +1,0 @@
--- An answer by name: an edit that breaks it is refused at once.
-use Rattle.std.proofs.Common.{rules}
-use Rattle.bully_explain.proofs.account.Account.verdict.Goals as goal
-
-pub returns : goal.returns
-returns c = search rules

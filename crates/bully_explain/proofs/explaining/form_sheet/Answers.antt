@@ -1,6 +1,0 @@
--- An answer by name: an edit that breaks it is refused at once.
-use Rattle.std.proofs.Common.{rules}
-use Rattle.bully_explain.proofs.explaining.form_sheet.Goals as goal
-
-pub returns-clause-told : goal.returns-clause-told
-returns-clause-told g c = search rules

@@ -1,6 +1,0 @@
-use Rattle.std.proofs.Common.{IfOk, rules}
-use Rattle.bully_explain.proofs.PossibleLemmas.{passing-listed}
-use Rattle.bully_explain.proofs.possible.possible_now.Goals as goal
-
-pub returns : goal.returns
-returns c = passing-listed c.args.world.now c.args.node c.in_ok-can_plan.can_plan c.deeds_passing.result c.in_ok-can_plan.ensures c.deeds_passing.ensures

@@ -1,0 +1,9 @@
+pub mod Words
+pub mod Headers
+pub mod Whole
+pub mod EventsTold
+pub mod Trace
+pub mod Rows
+pub mod RecordsLeft
+pub mod TraceText
+pub mod NodeEvents

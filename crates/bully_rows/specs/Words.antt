@@ -1,0 +1,95 @@
+-- The words of a trace and of a verdict, each once: for reading and for writing.
+use Rattle.std.specs.Prelude.{ℕ, Bool, true, false, List, [], ◌∷◌, Option, Some, None, codes, if◌then◌else◌}
+use Rattle.std.specs.Str.{bytes_eq}
+use Rattle.bully_base.specs.declared.node.Status.{Status}
+use Rattle.bully_base.specs.declared.node.Status.TheVariants.{Down, Election, Reorganization, Normal}
+use Rattle.bully_calls.specs.declared.call.Answer.{Answer}
+use Rattle.bully_calls.specs.declared.call.Answer.TheVariants.{Done, Yes, No, Failed, Discarded}
+use Rattle.bully_calls.specs.declared.call.CallKind.{CallKind}
+use Rattle.bully_calls.specs.declared.call.CallKind.TheVariants.{AreYouUp, AreYouNormal, Halt, NewCoordinator, Ready}
+use Rattle.bully_world.specs.declared.event.Event.{Event}
+use Rattle.bully_world.specs.declared.event.Refused.{Refused}
+use Rattle.bully_world.specs.declared.event.Refused.TheVariants.{Full, BadNode, IsDown, IsUp, Busy, NoStep, SlotBusy, NoCall, CalleeDown, CalleeUp, BadTable, NotOrphan}
+
+abbrev pub plan_word : List ℕ
+plan_word = codes "plan"
+
+abbrev pub event_word : Event → List ℕ
+event_word (Event.Recover i) = codes "recover"
+event_word (Event.Crash i) = codes "crash"
+event_word (Event.Check i) = codes "check"
+event_word (Event.Timeout i) = codes "timeout"
+event_word (Event.Start i) = codes "start"
+event_word (Event.Run i) = codes "run"
+event_word (Event.Lose i) = codes "lose"
+event_word (Event.Return i) = codes "return"
+event_word (Event.Drop i) = codes "drop"
+event_word (Event.Move i) = codes "move"
+event_word (Event.Plan i table) = plan_word
+
+abbrev pub status_word : Status → List ℕ
+status_word Down = codes "down"
+status_word Election = codes "election"
+status_word Reorganization = codes "reorganization"
+status_word Normal = codes "normal"
+
+-- whether tasks are kept over a crash, as a header says it
+abbrev pub keeps_word : Bool → List ℕ
+keeps_word true = codes "keep"
+keeps_word false = codes "clear"
+
+abbrev pub call_word : CallKind → List ℕ
+call_word AreYouUp = codes "are-you-up"
+call_word AreYouNormal = codes "are-you-normal"
+call_word Halt = codes "halt"
+call_word NewCoordinator = codes "new-coordinator"
+call_word Ready = codes "ready"
+
+abbrev pub answer_word : Answer → List ℕ
+answer_word Done = codes "done"
+answer_word Yes = codes "yes"
+answer_word No = codes "no"
+answer_word Failed = codes "failed"
+answer_word Discarded = codes "discarded"
+
+abbrev pub cause_word : Refused → List ℕ
+cause_word Full = codes "Full"
+cause_word BadNode = codes "BadNode"
+cause_word IsDown = codes "IsDown"
+cause_word IsUp = codes "IsUp"
+cause_word Busy = codes "Busy"
+cause_word NoStep = codes "NoStep"
+cause_word SlotBusy = codes "SlotBusy"
+cause_word NoCall = codes "NoCall"
+cause_word CalleeDown = codes "CalleeDown"
+cause_word CalleeUp = codes "CalleeUp"
+cause_word BadTable = codes "BadTable"
+cause_word NotOrphan = codes "NotOrphan"
+
+-- the first of these that has the word
+abbrev pub first_named : {A : Type 0} → (A → List ℕ) → List ℕ → List A → Option A
+first_named word_of word [] = None
+first_named word_of word (x ∷ xs) = if bytes_eq word (word_of x) then Some x else first_named word_of word xs
+
+-- the event of this word at node i, where it is one that names a node and no more
+abbrev pub event_named : List ℕ → ℕ → Option Event
+event_named word i =
+    first_named event_word word (Event.Recover i ∷ Event.Crash i ∷ Event.Check i ∷ Event.Timeout i ∷ Event.Start i
+    ∷ Event.Run i ∷ Event.Lose i ∷ Event.Return i ∷ Event.Drop i ∷ Event.Move i ∷ [])
+
+abbrev pub status_named : List ℕ → Option Status
+status_named word = first_named status_word word (Down ∷ Election ∷ Reorganization ∷ Normal ∷ [])
+
+abbrev pub call_named : List ℕ → Option CallKind
+call_named word = first_named call_word word (AreYouUp ∷ AreYouNormal ∷ Halt ∷ NewCoordinator ∷ Ready ∷ [])
+
+-- what a call is answered where it runs
+abbrev pub reply_named : List ℕ → Option Answer
+reply_named word = first_named answer_word word (Done ∷ Yes ∷ No ∷ [])
+
+-- what a call that returns brings
+abbrev pub outcome_named : List ℕ → Option Answer
+outcome_named word = first_named answer_word word (Failed ∷ Discarded ∷ Done ∷ Yes ∷ No ∷ [])
+
+abbrev pub keeps_named : List ℕ → Option Bool
+keeps_named word = first_named keeps_word word (true ∷ false ∷ [])
