@@ -25,7 +25,7 @@ pub mod Dropping
 pub mod Moving
 pub mod Planning
 
-own_laws : (setup : Setup) (e : Event) → IsNoRun e → OwnLaws setup e
+pub own_laws : (setup : Setup) (e : Event) → IsNoRun e → OwnLaws setup e
 own_laws setup (Event.Recover i) other = recover_laws setup i
 own_laws setup (Event.Crash i) other = crash_laws setup i
 own_laws setup (Event.Check i) other = check_laws setup i

@@ -19,7 +19,7 @@ pub content_test : (test : Phase → Bool) (g : ℕ) (q : Option SlotCall) → i
 content_test test g None t = absurd (cc t)
 content_test test g (Some p) t = t
 
-phased_is : (m : MemberState) (p : SlotCall) (f : Phase) → m.slot.content ≡ Some p → member_of (phased_state f m) ≡ record (member_of m) { pending = Some (record (pending_of m.generation p) { phase = f }) }
+pub phased_is : (m : MemberState) (p : SlotCall) (f : Phase) → m.slot.content ≡ Some p → member_of (phased_state f m) ≡ record (member_of m) { pending = Some (record (pending_of m.generation p) { phase = f }) }
 phased_is m p f e = grind (arith, e)
 
 pub phased_tag : (f : Phase) (m : MemberState) → tag_in (phased_state f m) ≡ tag_in m

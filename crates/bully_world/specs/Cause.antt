@@ -28,6 +28,12 @@ node_of (Event.Drop i) = i
 node_of (Event.Move i) = i
 node_of (Event.Plan i table) = i
 
+-- why the event is refused stands in the member of its node alone
+abbrev pub IsToldByNode : Event → Type 0
+IsToldByNode (Event.Run i) = ⊥
+IsToldByNode (Event.Lose i) = ⊥
+IsToldByNode e = Unit {0}
+
 abbrev pub is_down_at : World → ℕ → Bool
 is_down_at w i = is_down (vector w i).status
 

@@ -13,7 +13,7 @@ use Rattle.bully_calls.specs.declared.call.Phase.{Phase}
 use Rattle.bully_calls.specs.Pending.{outcome_of, answer_of, is_sent, is_failed}
 use Rattle.bully_calls.specs.Slot.{SlotCall, phased, CarriesFor, holds_call, outcome_in}
 use Rattle.bully_handlers.specs.Handler.{callee_after, reply}
-use Rattle.bully_handlers.specs.Vector.{Vector, crashed, recovered}
+use Rattle.bully_handlers.specs.Vector.{Vector, crashed, empty_vector, recovered}
 use Rattle.bully_steps.specs.declared.point.Point.{Point}
 use Rattle.bully_steps.specs.declared.point.Point.TheVariants.{Idle, Halting, Readying}
 use Rattle.bully_steps.specs.declared.point.Want.{Want}
@@ -22,7 +22,7 @@ use Rattle.bully_steps.specs.Point.{offered, IsPointOf}
 use Rattle.bully_steps.specs.ProcedureState.{IsCall}
 use Rattle.bully_world.specs.declared.event.Event.{Event}
 use Rattle.bully_world.specs.Cause.{node_of}
-use Rattle.bully_world.specs.State.{MemberState, kept_of}
+use Rattle.bully_world.specs.State.{MemberState, empty_state, kept_of}
 use Rattle.bully_world.specs.Step.{carried}
 
 abbrev pub with_vector : Vector → MemberState → MemberState
@@ -30,6 +30,10 @@ with_vector v m = record m { vector = record m.vector { vector = v } }
 
 abbrev pub with_content : Option SlotCall → MemberState → MemberState
 with_content p m = record m { slot = record m.slot { content = p } }
+
+-- a node that is Down and has this task, with room for a table of so many partitions
+abbrev pub down_state : ℕ → Option (List ℕ) → MemberState
+down_state room task = with_vector (record empty_vector { task = task }) (empty_state room)
 
 abbrev pub recovered_state : Setup → ℕ → MemberState → MemberState
 recovered_state setup i m = record (with_vector (recovered setup m.vector.vector) m) { point = election i }
@@ -68,9 +72,13 @@ stopped_state_by Halt m = record m { point = Idle; generation = m.generation + 1
 stopped_state_by NewCoordinator m = m
 stopped_state_by Ready m = m
 
--- the callee after the call from node i
+-- the callee after the call from node i, with the table that a Ready carries
+abbrev pub heard_state : ℕ → Call → Option (List ℕ) → MemberState → MemberState
+heard_state i call table m = stopped_state_by call.kind (with_vector (callee_after i call.kind table m.vector.vector) m)
+
+-- the callee after the call in the slot of node i
 abbrev pub callee_state_after : ℕ → SlotCall → MemberState → MemberState
-callee_state_after i p m = stopped_state_by p.call.kind (with_vector (callee_after i p.call.kind p.table m.vector.vector) m)
+callee_state_after i p m = heard_state i p.call p.table m
 
 -- the node that a point halts next, or 0
 abbrev pub halted_number : Point → ℕ

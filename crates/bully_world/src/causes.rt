@@ -3,10 +3,10 @@ ghost use Rattle.bully_base.specs.NodeSet.{with_node, IsFallingBelow};
 ghost use Rattle.bully_table.specs.Balance.{is_balanced};
 ghost use Rattle.bully_calls.specs.Pending.{is_sent, is_failed};
 ghost use Rattle.bully_steps.specs.Point.{offered, IsPointOf};
-ghost use Rattle.bully_world.specs.Cause.{refuses, first_of, later_refusals, cause, is_idle, is_call, is_move, is_plan, node_of, in_phase, is_pending, is_live_in, callee_is_down};
-ghost use Rattle.bully_world.specs.NodeInvariant.{WorldInvariant};
+ghost use Rattle.bully_world.specs.Cause.{refuses, first_of, later_refusals, cause, is_idle, is_call, is_move, is_plan, node_of, in_phase, is_pending, is_live_in, callee_is_down, IsToldByNode};
+ghost use Rattle.bully_world.specs.NodeInvariant.{NodeInvariant, WorldInvariant};
 ghost use Rattle.bully_world.specs.State.{member_of, members_of};
-ghost use Rattle.bully_world.specs.World.{member};
+ghost use Rattle.bully_world.specs.World.{World, member};
 
 use crate::event::{Event, Refused};
 use crate::member::Member;
@@ -54,16 +54,33 @@ fn later_cause(setup: &Setup, members: &[Member], named: &Member, event: &Event)
     ensures { (count : ℕ) → result ≡ first_of (refuses setup.now (members_of members.now) count event.now) later_refusals }
 {
     match event {
+        Event::Run(_) => run_cause(members, named),
+        Event::Lose(_) => lose_cause(members, named),
+        _ => own_cause(setup, named, event),
+    }
+}
+
+/// Why an event of a node that is up is refused, as far as `named`, the member of that node, tells it: the first refusal
+/// behind IsUp that holds. Of a Run and of a Lose no member tells it alone.
+// (inlined, as `World::cause` is)
+#[inline(always)]
+pub fn own_cause(setup: &Setup, named: &Member, event: &Event) -> Option<Refused>
+    requires own { IsToldByNode event.now }
+    requires fits { NodeInvariant setup.now (node_of event.now) (member_of named.now) }
+    requires node { node_of event.now ≤ setup.now.nodes }
+    ensures { (w : World) (count : ℕ) → member w (node_of event.now) ≡ member_of named.now → result ≡ first_of (refuses setup.now w count event.now) later_refusals }
+{
+    match event {
         Event::Recover(_) | Event::Crash(_) => None,
         Event::Check(_) => refused_if(!is_at_rest(named.standing()), Refused::Busy),
         Event::Timeout(_) => refused_if(!is_at_rest(named.standing()), Refused::Busy),
         Event::Start(node) => step_cause(named, offers_call(named.offer(setup, *node))),
         Event::Move(node) => step_cause(named, offers_move(named.offer(setup, *node))),
         Event::Plan(node, table) => plan_cause(setup, named, *node, table),
-        Event::Run(_) => run_cause(members, named),
-        Event::Lose(_) => lose_cause(members, named),
         Event::Return(_) => { refused_if(!has_come(named), Refused::NoCall) }
         Event::Drop(_) => drop_cause(named),
+        Event::Run(_) => unreachable!(),
+        Event::Lose(_) => unreachable!(),
     }
 }
 

@@ -14,7 +14,9 @@ mod take;
 mod turn;
 mod world;
 
+pub use causes::own_cause;
 pub use event::{Event, Refused};
+pub use member::Member;
 pub use take::TakenStep;
 pub use turn::{Next, StepKind};
 pub use world::World;

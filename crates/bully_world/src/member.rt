@@ -10,7 +10,7 @@ ghost use Rattle.bully_world.specs.Cause.{node_of};
 ghost use Rattle.bully_world.specs.State.{empty_state};
 ghost use Rattle.bully_world.specs.Step.{carried};
 ghost use Rattle.bully_world.specs.Waiting.{sent_in};
-ghost use Rattle.bully_world.specs.StateAfter.{with_vector, with_content, halted_number, recovered_state, crashed_state, opened_state, phased_state, callee_state_after, proceeded_state, node_after_return, return_answer, planned_state, started_state, node_after, node_answer, MayApply};
+ghost use Rattle.bully_world.specs.StateAfter.{with_vector, with_content, down_state, halted_number, recovered_state, crashed_state, opened_state, phased_state, callee_state_after, heard_state, proceeded_state, node_after_return, return_answer, planned_state, started_state, node_after, node_answer, MayApply};
 
 use crate::event::Event;
 use bully_base::{Node, OutOfMemory, Setup, Status};
@@ -49,6 +49,22 @@ impl Member {
             slot: Slot::new(alloc, *setup)?,
             generation: 0,
         })
+    }
+
+    /// A node that is Down and has kept this task, if any; that has the setup's partitions. Refused where an allocation fails.
+    pub fn restored(
+        alloc: Global,
+        setup: &Setup,
+        task: Option<&Table>,
+    ) -> Result<Member, OutOfMemory>
+        requires { IfSome (option_copied task) (λ t. length t ≡ setup.now.partitions) }
+        ensures { IfOk result (λ m. m ≡ down_state setup.now.partitions (option_copied task.entry)) }
+    {
+        let mut member = Member::new(alloc, setup)?;
+        if let Some(task) = task {
+            member.vector.plan(task);
+        }
+        Ok(member)
     }
 
     /// The node's vector.
@@ -173,7 +189,18 @@ impl Member {
         ensures after { IfSome slot.now.content (λ p. self.new ≡ callee_state_after caller p self.old) }
         ensures answer { IfSome slot.now.content (λ p. result ≡ reply p.call.kind self.old.vector.vector) }
     {
-        match slot.call().unwrap().kind {
+        self.hear(caller, slot.call().unwrap(), slot.table())
+    }
+
+    /// The call, with the table that a Ready carries, runs at this node, which isn't Down. A Halt stops its procedure.
+    pub fn hear(&mut self, caller: Node, call: Call, table: Option<&Table>) -> Answer
+        requires up { self.old.vector.vector.status ≢ Status.Down }
+        requires room { self.old.generation + 1 < 2 ^ 32 }
+        requires carries { CarriesFor call (option_copied table) self.old.vector.room }
+        ensures after { self.new ≡ heard_state caller call (option_copied table.entry) self.old }
+        ensures answer { result ≡ reply call.kind self.old.vector.vector }
+    {
+        match call.kind {
             CallKind::AreYouUp => self.vector.are_you_up(),
             CallKind::AreYouNormal => self.vector.are_you_normal(),
             CallKind::Halt => {
@@ -182,7 +209,7 @@ impl Member {
                 self.vector.halt(caller)
             }
             CallKind::NewCoordinator => self.vector.new_coordinator(caller),
-            CallKind::Ready => self.vector.ready(caller, slot.table().unwrap()),
+            CallKind::Ready => self.vector.ready(caller, table.unwrap()),
         }
     }
 

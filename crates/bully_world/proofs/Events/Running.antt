@@ -37,7 +37,7 @@ use Rattle.bully_world.proofs.WriteLemmas.{raised, put_keeps, put_raised}
 run_facts : (setup : Setup) (w : World) (count i : ℕ) → cause setup w count (Event.Run i) ≡ None → (in_phase is_sent (pending w i) ≡ true) × (callee_is_down w (pending w i) ≡ false)
 run_facts setup w count i n = (grind (arith, n), grind (arith, n))
 
-sent_is : (f : Phase) → is_sent f ≡ true → f ≡ Phase.Sent
+pub sent_is : (f : Phase) → is_sent f ≡ true → f ≡ Phase.Sent
 sent_is f t = grind arith
 
 callee_is_up : (w : World) (q : Option Pending) (c : Pending) → q ≡ Some c → callee_is_down w q ≡ false → IsUp w c.call.callee
@@ -57,10 +57,10 @@ run_possible setup i w count all n =
 -- What it makes of the callee's member.
 
 -- the tag in a node's slot is of a generation that the node has had
-abbrev IsTagged : MemberState → Type 0
+abbrev pub IsTagged : MemberState → Type 0
 IsTagged m = IfSome m.slot.content (λ p. p.tag.generation ≤ m.generation)
 
-phased_tagged : (m : MemberState) (f : Phase) → IsTagged m → IsTagged (phased_state f m)
+pub phased_tagged : (m : MemberState) (f : Phase) → IsTagged m → IsTagged (phased_state f m)
 phased_tagged m f h = by_content m.slot.content h
   where
     by_content : (q : Option SlotCall) → IfSome q (λ p. p.tag.generation ≤ m.generation) → IfSome (option_map (phased f) q) (λ p. p.tag.generation ≤ m.generation)
@@ -80,7 +80,7 @@ orphans : (q : Option SlotCall) (g : ℕ) → IfSome q (λ p. p.tag.generation �
 orphans None g h = refl
 orphans (Some p) g h = grind (arith, nat_tests, h)
 
-callee_after_is : (i : ℕ) (p : SlotCall) (g : ℕ) (m : MemberState) → IsTagged m → member_of (callee_state_after i p m) ≡ called i (pending_of g p) (member_of m)
+pub callee_after_is : (i : ℕ) (p : SlotCall) (g : ℕ) (m : MemberState) → IsTagged m → member_of (callee_state_after i p m) ≡ called i (pending_of g p) (member_of m)
 callee_after_is i p g m h = by_kind p.call.kind
   where
     by_kind : (kind : CallKind) → member_of (stopped_state_by kind (with_vector (callee_after i kind p.table m.vector.vector) m)) ≡ stopped_by kind (record (member_of m) { vector = callee_after i kind p.table m.vector.vector })
@@ -90,7 +90,7 @@ callee_after_is i p g m h = by_kind p.call.kind
     by_kind NewCoordinator = refl
     by_kind Ready = refl
 
-kept_callee : (setup : Setup) (events i j : ℕ) (p : SlotCall) (m : MemberState) → IsKept setup events j m → IsKept setup (events + 1) j (callee_state_after i p m)
+pub kept_callee : (setup : Setup) (events i j : ℕ) (p : SlotCall) (m : MemberState) → IsKept setup events j m → IsKept setup (events + 1) j (callee_state_after i p m)
 kept_callee setup events i j p m k = by_kind p.call.kind (callee_after i p.call.kind p.table m.vector.vector)
   where
     by_kind : (kind : CallKind) (v : Vector) → IsKept setup (events + 1) j (stopped_state_by kind (with_vector v m))
@@ -110,7 +110,7 @@ callee_raised i p m = by_kind p.call.kind (callee_after i p.call.kind p.table m.
     by_kind NewCoordinator v = omega arith
     by_kind Ready v = omega arith
 
-callee_slot : (i : ℕ) (p : SlotCall) (m : MemberState) → (callee_state_after i p m).slot ≡ m.slot
+pub callee_slot : (i : ℕ) (p : SlotCall) (m : MemberState) → (callee_state_after i p m).slot ≡ m.slot
 callee_slot i p m = by_kind p.call.kind (callee_after i p.call.kind p.table m.vector.vector)
   where
     by_kind : (kind : CallKind) (v : Vector) → (stopped_state_by kind (with_vector v m)).slot ≡ m.slot

@@ -1,0 +1,141 @@
+//! Worked cases of nodes on their own, and of their lines.
+
+mod cluster;
+
+use bully_base::{Setup, Status};
+use bully_lines::{ReplyFault, RequestFault, push_reply, push_request, read_reply, read_request};
+use bully_table::TableFault;
+use cluster::Cluster;
+use std::alloc::Global;
+use std::test::Fail;
+
+/// Lines of requests in a group of three nodes with three partitions and 1,000 events, which are written as they are read.
+const REQUESTS: [&str; 5] = [
+    "ask,3,0,1,are_you_up",
+    "ask,1,17,3,are_you_normal",
+    "ask,3,999,2,halt",
+    "ask,2,5,1,new_coordinator",
+    "ask,3,5,1,ready,1 2 3",
+];
+
+/// Lines that are no requests there, and why.
+const NO_REQUESTS: [(&str, RequestFault); 18] = [
+    ("", RequestFault::Word),
+    ("tell,3,0,yes", RequestFault::Word),
+    ("ask", RequestFault::Caller),
+    ("ask,0,0,1,halt", RequestFault::Caller),
+    ("ask,4,0,1,halt", RequestFault::Caller),
+    ("ask,03,0,1,halt", RequestFault::Caller),
+    ("ask,3", RequestFault::Number),
+    ("ask,3,,1,halt", RequestFault::Number),
+    ("ask,3,1000,1,halt", RequestFault::Number),
+    ("ask,3,4294967297,1,halt", RequestFault::Number),
+    ("ask,3,00,1,halt", RequestFault::Number),
+    ("ask,3,0,4,halt", RequestFault::Callee),
+    ("ask,3,0,1", RequestFault::Kind),
+    ("ask,3,0,1,Halt", RequestFault::Kind),
+    ("ask,3,0,1,halt,1 2 3", RequestFault::Kind),
+    ("ask,3,0,1,ready", RequestFault::Table(TableFault::Length)),
+    (
+        "ask,3,0,1,ready,1 2 4",
+        RequestFault::Table(TableFault::Owner),
+    ),
+    (
+        "ask,3,0,1,ready,1 2 x",
+        RequestFault::Table(TableFault::Syntax),
+    ),
+];
+
+/// Lines of replies, which are written as they are read.
+const REPLIES: [&str; 2] = ["tell,3,0,yes", "tell,1,999,no"];
+
+/// Lines that are no replies, and why.
+const NO_REPLIES: [(&str, ReplyFault); 6] = [
+    ("ask,3,0,yes", ReplyFault::Word),
+    ("tell,4,0,yes", ReplyFault::Caller),
+    ("tell,3,1000,yes", ReplyFault::Number),
+    ("tell,3,0", ReplyFault::Answer),
+    ("tell,3,0,maybe", ReplyFault::Answer),
+    ("tell,3,0,yes,no", ReplyFault::Answer),
+];
+
+// The request's line, read and written again.
+fn request_again(alloc: Global, setup: &Setup, line: &str) -> Option<String> {
+    let request = read_request(alloc, setup, line).ok()?;
+    let mut text = String::new(alloc);
+    push_request(&mut text, &request).ok()?;
+    Some(text)
+}
+
+// The reply's line, read and written again.
+fn reply_again(alloc: Global, setup: &Setup, line: &str) -> Option<String> {
+    let reply = read_reply(setup, line).ok()?;
+    let mut text = String::new(alloc);
+    push_reply(&mut text, reply).ok()?;
+    Some(text)
+}
+
+#[test]
+fn lines_of_requests(rt: HostRuntime) -> Result<(), Fail> {
+    let setup = Setup::new(3, 3, 1000)?;
+    for line in REQUESTS.iter() {
+        let again = request_again(rt.alloc(), &setup, *line);
+        assert!(rt; again.is_some_and(|text| text.as_str() == *line), "{line}");
+    }
+    for (line, fault) in NO_REQUESTS.iter() {
+        let read = read_request(rt.alloc(), &setup, *line);
+        assert_eq!(rt; read.err(), Some(*fault), "{line}");
+    }
+    Ok(())
+}
+
+#[test]
+fn lines_of_replies(rt: HostRuntime) -> Result<(), Fail> {
+    let setup = Setup::new(3, 3, 1000)?;
+    for line in REPLIES.iter() {
+        let again = reply_again(rt.alloc(), &setup, *line);
+        assert!(rt; again.is_some_and(|text| text.as_str() == *line), "{line}");
+    }
+    for (line, fault) in NO_REPLIES.iter() {
+        assert_eq!(rt; read_reply(&setup, *line).err(), Some(*fault), "{line}");
+    }
+    Ok(())
+}
+
+/// A node's status, and its coordinator's number.
+type Shown = (Status, Option<u16>);
+
+// What the nodes are: all recover and come to rest, then the last one crashes, and the second one hears nothing of it for
+// too long.
+fn rested(alloc: Global) -> Option<[Shown; 3]> {
+    let mut cluster = Cluster::new(alloc, &Setup::new(3, 3, 1000).ok()?)?;
+    for place in 0..3 {
+        cluster.recover(place)?;
+    }
+    cluster.rest()?;
+    cluster.crash(2)?;
+    cluster.timeout(1)?;
+    cluster.rest()?;
+    Some([cluster.shown(0)?, cluster.shown(1)?, cluster.shown(2)?])
+}
+
+#[test]
+fn three_nodes_are_those_of_a_world(rt: HostRuntime) {
+    let follows = (Status::Normal, Some(2));
+    assert_eq!(rt;
+        rested(rt.alloc()),
+        Some([follows, follows, (Status::Down, None)])
+    );
+}
+
+// A reply to another call is refused.
+fn stale(alloc: Global) -> Option<bool> {
+    let mut cluster = Cluster::new(alloc, &Setup::new(2, 1, 100).ok()?)?;
+    cluster.recover(0)?;
+    cluster.stale_reply(0)
+}
+
+#[test]
+fn a_reply_to_another_call(rt: HostRuntime) {
+    assert_eq!(rt; stale(rt.alloc()), Some(true));
+}

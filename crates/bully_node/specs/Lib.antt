@@ -1,0 +1,4 @@
+pub mod Part
+pub mod Agent
+pub mod Calls
+pub mod Laws
