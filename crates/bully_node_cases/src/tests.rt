@@ -1,6 +1,7 @@
 //! What `play` writes of the worked configurations, with the bytes that this project's profile gives, and what the
-//! checker says of it; and what node threads do.
+//! checker says of it; what node threads do; and nodes on their own.
 
+mod agents;
 mod configurations;
 mod gates;
 mod paper;
