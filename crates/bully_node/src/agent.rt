@@ -102,9 +102,10 @@ impl Agent {
         &self.setup
     }
 
-    /// The node.
+    /// The node. It is at most the setup's last.
     pub fn node(&self) -> Node
-        ensures { result ≡ self.now.node }
+        ensures node { result ≡ self.now.node }
+        ensures within { result ≤ self.now.setup.nodes }
     {
         self.node
     }
@@ -123,9 +124,10 @@ impl Agent {
         self.number
     }
 
-    /// The node's vector.
+    /// The node's vector. A task has the setup's partitions.
     pub fn vector(&self) -> &Vector
-        ensures { result.now ≡ self.now.member.vector }
+        ensures vector { result.now ≡ self.now.member.vector }
+        ensures task { IfSome result.now.vector.task (λ t. length t ≡ self.now.setup.partitions) }
     {
         self.member.vector()
     }

@@ -1,5 +1,6 @@
 -- What is read of a world where one node was written anew.
-use Rattle.std.proofs.Common.{◌≡◌, ◌≢◌, ℕ, Some, ◌⊎◌, arith, subst, sym, ◌∙◌, inl, inr}
+use Rattle.std.proofs.Common.{◌≡◌, ◌≢◌, ℕ, List, length, Option, Some, None, ◌⊎◌, arith, refl, subst, sym, ◌∙◌, inl, inr}
+use Rattle.std.specs.Prelude.{IfSome}
 use Rattle.bully_base.specs.declared.node.Status.TheVariants.{Down}
 use Rattle.bully_base.specs.Setup.{Setup, IsNode}
 use Rattle.bully_base.proofs.PlaceLemmas.{at_node_same, at_node_other, length-put_node}
@@ -30,6 +31,14 @@ node_of_fits setup i m fits up = by_case fits.a_node
     by_case : (m.vector.status ≡ Down) ⊎ IsNode setup i → IsNode setup i
     by_case (inl e) = absurd (up e)
     by_case (inr node) = node
+
+-- a node's task has the setup's partitions
+pub task_of_fits : (setup : Setup) (i : ℕ) (m : Member) → NodeInvariant setup i m → IfSome m.vector.task (λ t. length t ≡ setup.partitions)
+task_of_fits setup i m fits = sized m.vector.task fits.by_setup.task
+  where
+    sized : (task : Option (List ℕ)) → ((table : List ℕ) → task ≡ Some table → length table ≡ setup.partitions) → IfSome task (λ t. length t ≡ setup.partitions)
+    sized None each = tt
+    sized (Some table) each = each table refl
 
 -- a node with a call isn't Down
 pub up_of_fits : (setup : Setup) (i : ℕ) (m : Member) (c : Pending) → NodeInvariant setup i m → m.pending ≡ Some c → m.vector.status ≢ Down
