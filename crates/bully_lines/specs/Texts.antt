@@ -15,7 +15,8 @@ use Rattle.bully_lines.specs.declared.fault.ReplyFault.{ReplyFault}
 use Rattle.bully_lines.specs.declared.fault.RequestFault.{RequestFault}
 use Rattle.bully_messages.specs.declared.message.Reply.{Reply}
 use Rattle.bully_messages.specs.declared.message.Request.{Request}
-use Rattle.bully_lines.specs.Words.{answer_named, answer_word, call_named, call_word}
+use Rattle.bully_rows.specs.Words.{answer_word, call_named, call_word}
+use Rattle.bully_lines.specs.Words.{answer_named}
 
 -- What is written.
 
@@ -109,18 +110,3 @@ abbrev pub reply_of_text : Setup → List ℕ → Result Reply ReplyFault
 reply_of_text setup line =
     if bytes_eq (field line) (codes "tell") then reply_by_caller setup (node_in setup (field (behind line))) (behind (behind line))
     else Err ReplyFault.Word
-
--- the name of a fault
-abbrev pub request_fault_text : RequestFault → List ℕ
-request_fault_text RequestFault.Word = codes "Word"
-request_fault_text RequestFault.Caller = codes "Caller"
-request_fault_text RequestFault.Number = codes "Number"
-request_fault_text RequestFault.Callee = codes "Callee"
-request_fault_text RequestFault.Kind = codes "Kind"
-request_fault_text (RequestFault.Table fault) = codes "Table"
-
-abbrev pub reply_fault_text : ReplyFault → List ℕ
-reply_fault_text ReplyFault.Word = codes "Word"
-reply_fault_text ReplyFault.Caller = codes "Caller"
-reply_fault_text ReplyFault.Number = codes "Number"
-reply_fault_text ReplyFault.Answer = codes "Answer"

@@ -1,7 +1,7 @@
 //! A line of text for each request and each reply.
 //!
-//! It stands on bully_messages and the crates below it. Whoever carries lines relies on a line being read as the request or
-//! the reply that it spells, or being refused by its first fault.
+//! It stands on bully_messages, on bully_rows for the words of calls and answers, and on the crates below them. Whoever carries
+//! lines relies on a line being read as the request or the reply that it spells, or being refused by its first fault.
 #![tactic(auto)]
 
 mod fault;

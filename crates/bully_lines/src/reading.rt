@@ -4,10 +4,11 @@ ghost use Rattle.bully_lines.specs.Texts.{IsRequestFault, reply_of_text, request
 
 use crate::fault::{ReplyFault, RequestFault};
 use crate::fields::{first_field, read_call_number, read_node};
-use crate::words::{ASK, TELL, answer_named, call_named, call_word};
+use crate::words::{ASK, TELL, answer_named};
 use bully_base::{Node, Setup};
 use bully_calls::{Call, CallKind};
 use bully_messages::{Reply, Request};
+use bully_rows::{call_named, call_word};
 use bully_table::Table;
 use std::alloc::Global;
 
@@ -59,7 +60,7 @@ fn read_call(
             Err(fault) => Err(RequestFault::Table(fault)),
         };
     }
-    match call_named(text) {
+    match call_named(text.as_bytes()) {
         Some(kind) => Ok((Call { callee, kind }, None)),
         None => Err(RequestFault::Kind),
     }

@@ -1,9 +1,10 @@
 ghost use Rattle.std.specs.Prelude.{◌≡◌, ◌++◌, OnOk, string_bytes};
 ghost use Rattle.bully_lines.specs.Texts.{reply_text, request_text};
 
-use crate::words::{ASK, TELL, answer_word, call_word};
+use crate::words::{ASK, TELL};
 use bully_base::OutOfMemory;
 use bully_messages::{Reply, Request};
+use bully_rows::{answer_word, call_word};
 use bully_table::push_owners;
 
 /// Appends the line of the request, without its end. Refused where an allocation fails.

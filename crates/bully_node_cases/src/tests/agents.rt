@@ -7,14 +7,13 @@ use bully_lines::{ReplyFault, RequestFault, push_reply, push_request, read_reply
 use bully_table::TableFault;
 use cluster::Cluster;
 use std::alloc::Global;
-use std::test::Fail;
 
 /// Lines of requests in a group of three nodes with three partitions and 1,000 events, which are written as they are read.
 const REQUESTS: [&str; 5] = [
-    "ask,3,0,1,are_you_up",
-    "ask,1,17,3,are_you_normal",
+    "ask,3,0,1,are-you-up",
+    "ask,1,17,3,are-you-normal",
     "ask,3,999,2,halt",
-    "ask,2,5,1,new_coordinator",
+    "ask,2,5,1,new-coordinator",
     "ask,3,5,1,ready,1 2 3",
 ];
 
@@ -50,56 +49,71 @@ const NO_REQUESTS: [(&str, RequestFault); 18] = [
 const REPLIES: [&str; 2] = ["tell,3,0,yes", "tell,1,999,no"];
 
 /// Lines that are no replies, and why.
-const NO_REPLIES: [(&str, ReplyFault); 6] = [
+const NO_REPLIES: [(&str, ReplyFault); 7] = [
     ("ask,3,0,yes", ReplyFault::Word),
     ("tell,4,0,yes", ReplyFault::Caller),
     ("tell,3,1000,yes", ReplyFault::Number),
     ("tell,3,0", ReplyFault::Answer),
     ("tell,3,0,maybe", ReplyFault::Answer),
+    ("tell,3,0,done", ReplyFault::Answer),
     ("tell,3,0,yes,no", ReplyFault::Answer),
 ];
 
+// The group of these lines.
+fn group() -> Option<Setup> {
+    Setup::new(3, 3, 1000).ok()
+}
+
 // The request's line, read and written again.
-fn request_again(alloc: Global, setup: &Setup, line: &str) -> Option<String> {
-    let request = read_request(alloc, setup, line).ok()?;
+fn request_again(alloc: Global, line: &str) -> Option<String> {
+    let request = read_request(alloc, &group()?, line).ok()?;
     let mut text = String::new(alloc);
     push_request(&mut text, &request).ok()?;
     Some(text)
 }
 
 // The reply's line, read and written again.
-fn reply_again(alloc: Global, setup: &Setup, line: &str) -> Option<String> {
-    let reply = read_reply(setup, line).ok()?;
+fn reply_again(alloc: Global, line: &str) -> Option<String> {
+    let reply = read_reply(&group()?, line).ok()?;
     let mut text = String::new(alloc);
     push_reply(&mut text, reply).ok()?;
     Some(text)
 }
 
-#[test]
-fn lines_of_requests(rt: HostRuntime) -> Result<(), Fail> {
-    let setup = Setup::new(3, 3, 1000)?;
-    for line in REQUESTS.iter() {
-        let again = request_again(rt.alloc(), &setup, *line);
-        assert!(rt; again.is_some_and(|text| text.as_str() == *line), "{line}");
+// Whether this is the line.
+fn is_line(again: Option<String>, line: &str) -> bool {
+    match again {
+        Some(text) => text.as_str() == line,
+        None => false,
     }
-    for (line, fault) in NO_REQUESTS.iter() {
-        let read = read_request(rt.alloc(), &setup, *line);
-        assert_eq!(rt; read.err(), Some(*fault), "{line}");
-    }
-    Ok(())
+}
+
+fn request_fault(alloc: Global, line: &str) -> Option<RequestFault> {
+    read_request(alloc, &group()?, line).err()
+}
+
+fn reply_fault(line: &str) -> Option<ReplyFault> {
+    read_reply(&group()?, line).err()
 }
 
 #[test]
-fn lines_of_replies(rt: HostRuntime) -> Result<(), Fail> {
-    let setup = Setup::new(3, 3, 1000)?;
+fn lines_of_requests(rt: HostRuntime) {
+    for line in REQUESTS.iter() {
+        assert!(rt; is_line(request_again(rt.alloc(), *line), *line), "{line}");
+    }
+    for (line, fault) in NO_REQUESTS.iter() {
+        assert_eq!(rt; request_fault(rt.alloc(), *line), Some(*fault), "{line}");
+    }
+}
+
+#[test]
+fn lines_of_replies(rt: HostRuntime) {
     for line in REPLIES.iter() {
-        let again = reply_again(rt.alloc(), &setup, *line);
-        assert!(rt; again.is_some_and(|text| text.as_str() == *line), "{line}");
+        assert!(rt; is_line(reply_again(rt.alloc(), *line), *line), "{line}");
     }
     for (line, fault) in NO_REPLIES.iter() {
-        assert_eq!(rt; read_reply(&setup, *line).err(), Some(*fault), "{line}");
+        assert_eq!(rt; reply_fault(*line), Some(*fault), "{line}");
     }
-    Ok(())
 }
 
 /// A node's status, and its coordinator's number.
