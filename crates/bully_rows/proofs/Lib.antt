@@ -6,3 +6,10 @@ pub mod RowsLemmas
 pub mod TraceLemmas
 pub mod TextLemmas
 pub mod SetTextLemmas
+pub mod NumberTexts
+pub mod ListTexts
+pub mod RowTexts
+pub mod HeaderTexts
+pub mod LineTexts
+pub mod RowLines
+pub mod ReadBackLemmas

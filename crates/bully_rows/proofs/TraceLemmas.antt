@@ -13,7 +13,7 @@ use Rattle.bully_rows.specs.RecordsLeft.{EndsReading, HasRead, HasTaken, IsOutsi
 use Rattle.bully_rows.specs.Trace.{headed}
 use Rattle.bully_rows.proofs.RowsLemmas.{bad-first, good-first, late-first, rows-behind}
 
-header-first : (header : Header) (first : Record) (rest : List Record) → header_of first ≡ Some header
+pub header-first : (header : Header) (first : Record) (rest : List Record) → header_of first ≡ Some header
     → trace_of (first ∷ rest) ≡ read_as (headed header) (rows_from header 2 rest)
 header-first header first rest e = rw (e, trace_of) refl
 

@@ -6,4 +6,5 @@ pub mod Trace
 pub mod Rows
 pub mod RecordsLeft
 pub mod TraceText
+pub mod ReadBack
 pub mod NodeEvents

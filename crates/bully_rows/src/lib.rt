@@ -7,6 +7,7 @@
 
 ghost use Rattle.std.specs.Prelude.{◌≡◌};
 ghost use Rattle.bully_rows.specs.declared.TheConstants.{ROWS_MAX, FIRST_NODES_MAX, FIRST_PARTITIONS_MAX};
+ghost use Rattle.bully_rows.specs.ReadBack.{ReadsBack};
 
 mod detail;
 mod header;
@@ -52,4 +53,10 @@ pub fn limits()
     ensures rows { ROWS_MAX ≡ 1000000 }
     ensures first_nodes { FIRST_NODES_MAX ≡ 64 }
     ensures first_partitions { FIRST_PARTITIONS_MAX ≡ 256 }
+{}
+
+/// The law of what is written and read. What [`write_trace`] writes of a trace that a text can tell means that very trace to
+/// [`read_trace`].
+pub fn read_back()
+    ensures { ReadsBack }
 {}
