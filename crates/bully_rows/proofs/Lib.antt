@@ -13,3 +13,5 @@ pub mod HeaderTexts
 pub mod LineTexts
 pub mod RowLines
 pub mod ReadBackLemmas
+pub mod ToldRows
+pub mod ToldTraces

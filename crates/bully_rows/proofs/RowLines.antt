@@ -12,6 +12,7 @@ use Rattle.bully_calls.specs.declared.call.Answer.TheVariants.{Done, Yes, No, Fa
 use Rattle.bully_calls.specs.declared.call.CallKind.{CallKind}
 use Rattle.bully_calls.specs.declared.call.CallKind.TheVariants.{AreYouUp, AreYouNormal, Halt, NewCoordinator, Ready}
 use Rattle.bully_world.specs.declared.event.Event.{Event}
+use Rattle.bully_world.specs.Cause.{node_of}
 use Rattle.bully_table.specs.TableText.{owners_text}
 use Rattle.bully_rows.specs.declared.detail.Detail.{Detail}
 use Rattle.bully_rows.specs.declared.header.Version.{Version}
@@ -72,18 +73,9 @@ bare-task setup (Some owners) within are = bare-numbers owners (owners-small set
 -- ---- rows
 
 event-line : (version : Version) (setup : Setup) (e : Event) → IsSetup setup → IsEventTold version setup e → IsLine (event_fields e)
-event-line version setup (Event.Recover i) within told = (refl, (bare-named version i told, tt))
-event-line version setup (Event.Crash i) within told = (refl, (bare-named version i told, tt))
-event-line version setup (Event.Check i) within told = (refl, (bare-named version i told, tt))
-event-line version setup (Event.Timeout i) within told = (refl, (bare-named version i told, tt))
-event-line version setup (Event.Start i) within told = (refl, (bare-named version i told, tt))
-event-line version setup (Event.Run i) within told = (refl, (bare-named version i told, tt))
-event-line version setup (Event.Lose i) within told = (refl, (bare-named version i told, tt))
-event-line version setup (Event.Return i) within told = (refl, (bare-named version i told, tt))
-event-line version setup (Event.Drop i) within told = (refl, (bare-named version i told, tt))
-event-line version setup (Event.Move i) within told = (refl, (bare-named version i told, tt))
 event-line version setup (Event.Plan i table) within told =
     (refl, (bare-named version i told.0, (bare-numbers table (owners-small setup table within told.1.1), tt)))
+event-line version setup e within told = (refl, (bare-named version (node_of e) told, tt))
 
 detail-line : (version : Version) (i : ℕ) (detail : Detail) → IsNamed version i → IsDetailTold version detail
     → IsLine (row_fields (Row.Detailed (record { node = i; detail = detail })))

@@ -11,6 +11,7 @@ use Rattle.bully_calls.specs.declared.call.Call.{Call}
 use Rattle.bully_calls.specs.declared.call.CallKind.{CallKind}
 use Rattle.bully_calls.specs.declared.call.CallKind.TheVariants.{AreYouUp, AreYouNormal, Halt, NewCoordinator, Ready}
 use Rattle.bully_world.specs.declared.event.Event.{Event}
+use Rattle.bully_world.specs.Cause.{node_of}
 use Rattle.bully_rows.specs.declared.detail.Detail.{Detail}
 use Rattle.bully_rows.specs.declared.header.Version.{Version}
 use Rattle.bully_rows.specs.declared.trace.Claim.{Claim}
@@ -57,17 +58,8 @@ outcome-read Discarded = refl
 -- ---- events
 
 event-read : (version : Version) (setup : Setup) (e : Event) → IsSetup setup → IsEventTold version setup e → row_of version setup (event_fields e) ≡ Some (Row.Event e)
-event-read version setup (Event.Recover i) within told = rw (node-read version i told) refl
-event-read version setup (Event.Crash i) within told = rw (node-read version i told) refl
-event-read version setup (Event.Check i) within told = rw (node-read version i told) refl
-event-read version setup (Event.Timeout i) within told = rw (node-read version i told) refl
-event-read version setup (Event.Start i) within told = rw (node-read version i told) refl
-event-read version setup (Event.Run i) within told = rw (node-read version i told) refl
-event-read version setup (Event.Lose i) within told = rw (node-read version i told) refl
-event-read version setup (Event.Return i) within told = rw (node-read version i told) refl
-event-read version setup (Event.Drop i) within told = rw (node-read version i told) refl
-event-read version setup (Event.Move i) within told = rw (node-read version i told) refl
 event-read version setup (Event.Plan i table) within told = rw (node-read version i told.0, table-read setup table within told.1) refl
+event-read version setup e within told = rw (node-read version (node_of e) told) refl
 
 -- ---- details
 

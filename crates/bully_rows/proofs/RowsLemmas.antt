@@ -38,7 +38,7 @@ read-cons row rows all (Ok xs) e = ap (λ ys. Ok (ys ++ xs)) e
 read-cons row rows all (Err f) e = refl
 
 -- rows that begin with one are others behind it
-read-under : (row : Row) (all : List Row) (r : Result (List Row) TraceFault) → read_as (λ xs. row ∷ xs) r ≡ Ok all
+pub read-under : (row : Row) (all : List Row) (r : Result (List Row) TraceFault) → read_as (λ xs. row ∷ xs) r ≡ Ok all
     → (rows : List Row) × (r ≡ Ok rows) × (row ∷ rows ≡ all)
 read-under row all (Ok rows) e = (rows, refl, cc e)
 read-under row all (Err f) e = absurd (cc e)

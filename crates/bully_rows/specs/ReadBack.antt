@@ -13,9 +13,9 @@ use Rattle.bully_rows.specs.declared.header.Version.{Version}
 use Rattle.bully_rows.specs.declared.trace.Claim.{Claim}
 use Rattle.bully_rows.specs.declared.trace.Row.{Row}
 use Rattle.bully_rows.specs.EventsTold.{call_told}
-use Rattle.bully_rows.specs.Headers.{IsVersionFor, nodes_max}
+use Rattle.bully_rows.specs.Headers.{IsVersionFor, Record, nodes_max}
 use Rattle.bully_rows.specs.Rows.{records_of, trace_of}
-use Rattle.bully_rows.specs.Trace.{AreRowsFor, Trace}
+use Rattle.bully_rows.specs.Trace.{AreRowsFor, Trace, upgraded}
 use Rattle.bully_rows.specs.TraceText.{trace_text}
 use Rattle.bully_rows.specs.Whole.{Whole}
 
@@ -72,3 +72,7 @@ pub record IsTold (trace : Trace) : Type 0 where
 -- what is written of each such trace means that very trace
 abbrev pub ReadsBack : Type 0
 ReadsBack = (trace : Trace) → IsTold trace → trace_of (records_of (trace_text trace)) ≡ Ok trace
+
+-- each trace that is read is such a one, and so is the upgraded one
+abbrev pub ReadsTold : Type 0
+ReadsTold = (records : List Record) (trace : Trace) → trace_of records ≡ Ok trace → IsTold trace × IsTold (upgraded trace)

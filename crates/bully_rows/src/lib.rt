@@ -7,7 +7,7 @@
 
 ghost use Rattle.std.specs.Prelude.{◌≡◌};
 ghost use Rattle.bully_rows.specs.declared.TheConstants.{ROWS_MAX, FIRST_NODES_MAX, FIRST_PARTITIONS_MAX};
-ghost use Rattle.bully_rows.specs.ReadBack.{ReadsBack};
+ghost use Rattle.bully_rows.specs.ReadBack.{ReadsBack, ReadsTold};
 
 mod detail;
 mod header;
@@ -56,7 +56,8 @@ pub fn limits()
 {}
 
 /// The law of what is written and read. What [`write_trace`] writes of a trace that a text can tell means that very trace to
-/// [`read_trace`].
+/// [`read_trace`]. Each trace that is read is one that a text can tell, and so is the upgraded one.
 pub fn read_back()
-    ensures { ReadsBack }
+    ensures written { ReadsBack }
+    ensures read { ReadsTold }
 {}
