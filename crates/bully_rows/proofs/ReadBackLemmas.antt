@@ -1,7 +1,9 @@
 -- What is written of a trace means that trace.
-use Rattle.std.proofs.Common.{◌≡◌, ◌∙◌, ℕ, ◌+◌, ◌≤◌, ◌++◌, List, [], ◌∷◌, length, map, Ok, All, arith, refl, ap}
+use Rattle.std.proofs.Common.{◌≡◌, ◌∙◌, ℕ, ◌+◌, ◌≤◌, ◌++◌, List, [], ◌∷◌, length, map, Option, Some, None, Result, Ok, Err, OnOk, All, arith, refl, ap}
+use Rattle.std.specs.Io.KnownBytes.{Appends}
 use Rattle.std.proofs.lemmas.Bool.{and_parts}
 use Rattle.std.proofs.lemmas.List.Elements.{All-head, All-tail}
+use Rattle.std.proofs.lemmas.Option.{same_Some}
 use Rattle.csv.specs.Reading.{strip_bom}
 use Rattle.bully_base.specs.Setup.{IsSetup, Setup}
 use Rattle.bully_rows.specs.declared.TheConstants.{ROWS_MAX}
@@ -10,7 +12,7 @@ use Rattle.bully_rows.specs.declared.header.Version.{Version}
 use Rattle.bully_rows.specs.declared.trace.Row.{Row}
 use Rattle.bully_rows.specs.Headers.{header_with}
 use Rattle.bully_rows.specs.ReadBack.{IsRowTold, IsTold, ReadsBack}
-use Rattle.bully_rows.specs.Rows.{read_as, records_of, rows_from, trace_of}
+use Rattle.bully_rows.specs.Rows.{IsTraceOf, read_as, records_of, rows_from, trace_of}
 use Rattle.bully_rows.specs.Trace.{AreRowsFor, Trace, are_short, headed, is_short}
 use Rattle.bully_rows.specs.TraceText.{header_fields, line_of, row_fields, rows_text, trace_text}
 use Rattle.bully_rows.proofs.HeaderTexts.{header-read}
@@ -59,3 +61,17 @@ reads-back trace told =
     let rows = rows-read header 2 trace.rows told.setup told.forms told.rows (omega arith) in
     ap trace_of (records-read trace told) ∙ header-first header first rest (header-read trace.version trace.setup told.setup told.events told.version)
     ∙ ap (read_as (headed header)) rows
+
+-- the bytes of a writer in which nothing stood before
+text-means : (trace : Trace) (old new : Option (List ℕ)) → Appends old new (trace_text trace) → old ≡ Some [] → IsTold trace → IsTraceOf new trace
+text-means trace None new grows none told = absurd (cc none)
+text-means trace (Some xs) None grows none told = tt
+text-means trace (Some xs) (Some ys) grows none told =
+    let empty = same_Some xs [] none in
+    let is : ys ≡ trace_text trace = rw empty at grows in
+    ap (λ (text : List ℕ). trace_of (records_of text)) is ∙ reads-back trace told
+
+pub written-means : {E : Type 0} (written : Result (Unit {0}) E) (trace : Trace) (old new : Option (List ℕ)) → OnOk written (Appends old new (trace_text trace))
+    → OnOk written (old ≡ Some [] → IsTold trace → IsTraceOf new trace)
+written-means (Ok done) trace old new grows = text-means trace old new grows
+written-means (Err why) trace old new grows = tt

@@ -1,7 +1,8 @@
-ghost use Rattle.std.specs.Prelude.{◌≡◌, IfErr, IfOk, OnOk};
+ghost use Rattle.std.specs.Prelude.{◌≡◌, [], Some, IfErr, IfOk, OnOk};
 ghost use Rattle.std.specs.Io.KnownBytes.{Appends};
 ghost use Rattle.std.specs.String.{string_bytes};
-ghost use Rattle.bully_rows.specs.Rows.{IsOfWriting};
+ghost use Rattle.bully_rows.specs.ReadBack.{IsTold};
+ghost use Rattle.bully_rows.specs.Rows.{IsOfWriting, IsTraceOf};
 ghost use Rattle.bully_rows.specs.TraceText.{trace_text};
 
 use crate::text::{push_header, push_row};
@@ -11,12 +12,15 @@ use std::alloc::Global;
 use std::io;
 use std::io::Write;
 
-/// Writes the trace's text: the header of its version and its rows, a line each. The text is made before it is written.
+/// Writes the trace's text: the header of its version and its rows, a line each. The text is made before it is written. Where
+/// nothing stood before, what is written means this very trace, if it is one that a text can tell.
 /// Refused as `Write` where the writer fails, and then a prefix of the text may have been written; as
 /// `OutOfMemory` where an allocation fails, and then nothing was written. Each is at row 0.
 pub fn write_trace<W: Write>(alloc: Global, writer: &mut W, trace: &Trace) -> Result<(), TraceFault>
     ensures ok { OnOk result
         (Appends (W.contents writer.old) (W.contents writer.new) (trace_text trace.now)) }
+    ensures read_back { OnOk result
+        (W.contents writer.old ≡ Some [] → IsTold trace.now → IsTraceOf (W.contents writer.new) trace.now) }
     ensures err { IfErr result IsOfWriting }
     ensures memory { IfErr result (λ fault.
         fault.cause ≡ TraceCause.OutOfMemory → writer.new ≡ writer.old) }
