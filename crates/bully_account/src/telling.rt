@@ -1,4 +1,4 @@
-ghost use Rattle.std.specs.Prelude.{◌≡◌, ℕ, List, Option, None, true, IfErr, IfOk};
+ghost use Rattle.std.specs.Prelude.{◌≡◌, ℕ, List, [], Option, None, true, IfErr, IfOk, IsSome};
 ghost use Rattle.bully_account.specs.Told.{IsToldOf, IsUntold};
 ghost use Rattle.bully_trace.specs.Judging.{AreAllJudged};
 ghost use Rattle.bully_rows.specs.RecordsLeft.{EndsReading, IsUnread};
@@ -21,7 +21,7 @@ pub struct Told {
 }
 
 /// Takes all rows of a text, of which none was read, to the account, which the header makes, and tells the verdict as `check`
-/// does, or the first fault of form. Refused where there is nothing to tell: as `Read` where the reader fails, at the row behind
+/// does, or the first fault of form. With a verdict the account is there. Refused where there is nothing to tell: as `Read` where the reader fails, at the row behind
 /// those that were read; and as `OutOfMemory`, at row 0, where the account or what is shown can't be made.
 pub fn tell<R: Read + Drop>(
     alloc: Global,
@@ -31,6 +31,7 @@ pub fn tell<R: Read + Drop>(
     requires { account.old ≡ None }
     ensures told { (known : Option (List ℕ)) → IsUnread known rows.old → IfOk result (λ told. IsToldOf known told.nodes.items told.verdict) }
     ensures form { IfOk result (λ told. IfErr told.verdict (λ fault. is_of_form fault.cause ≡ true)) }
+    ensures account { IfOk result (λ told. IfOk told.verdict (λ verdict. IsSome account.new)) }
     ensures fault { (known : Option (List ℕ)) → IsUnread known rows.old → IfErr result (EndsReading known) }
     ensures untold { IfErr result IsUntold }
 {
@@ -60,7 +61,7 @@ fn verdict_told(alloc: Global, account: &Account) -> Result<Told, TraceFault>
 
 // The fault, where it is one of form; another one isn't told.
 fn fault_told(alloc: Global, fault: TraceFault) -> Result<Told, TraceFault>
-    ensures told { IfOk result (λ told. (told.verdict ≡ Err fault) × (is_of_form fault.cause ≡ true)) }
+    ensures told { IfOk result (λ told. (told.verdict ≡ Err fault) × (told.nodes.items ≡ []) × (is_of_form fault.cause ≡ true)) }
     ensures other { IfErr result (λ other. (other ≡ fault) × IsUntold fault) }
 {
     if !is_of_form(fault.cause) {

@@ -41,13 +41,13 @@ use Rattle.bully_annotate.specs.Annotated.{annotated, callee_or, event_rows, pla
 
 -- ---- what is shown is true
 
+pub set-itself : (s : List ℕ) → (same_set s s && true) ≡ true
+set-itself s = grind (arith, nat_tests)
+
 pub shown-true : (setup : Setup) (w : World) (i : ℕ) → IsNode setup i → is_whole setup w (whole_of i (vector w i)) ≡ true
 shown-true setup w i node =
     let v = vector w i in
     rw (is-node setup i node, status-itself v.status, node-itself v.coordinator, node-itself v.halter, task-itself v.task) (set-itself v.up)
-  where
-    set-itself : (s : List ℕ) → (same_set s s && true) ≡ true
-    set-itself s = grind (arith, nat_tests)
 
 -- ---- what is said is so
 

@@ -22,10 +22,10 @@ use Rattle.bully_world.proofs.MemberLemmas.{member_other}
 use Rattle.bully_world.proofs.RunInvariant.{ran_here, ran_other}
 use Rattle.bully_rows.specs.Whole.{Whole, whole_of}
 use Rattle.bully_trace.specs.Details.{is_true, is_whole, same_status, same_task}
-use Rattle.bully_trace.proofs.SameLemmas.{node-is, node-within, status-is, task-is}
+use Rattle.bully_trace.proofs.SameLemmas.{node-is, node-itself, node-within, status-is, status-itself, task-is, task-itself}
 use Rattle.bully_annotate.specs.Annotated.{callee_or, place_of, same_vector, shown_change, shown_row, shown_unless}
-use Rattle.bully_annotate.specs.Shown.{ShowsEachChange, TellsTheVector}
-use Rattle.bully_annotate.proofs.SaidLemmas.{shown-true}
+use Rattle.bully_annotate.specs.Shown.{ShowsEachChange, ShowsNoMore, TellsTheVector}
+use Rattle.bully_annotate.proofs.SaidLemmas.{set-itself, shown-true}
 
 -- ---- what is the same
 
@@ -114,6 +114,12 @@ shows-each-change setup events answers w e w' a lawful step j = by_case (grind a
     by_case (inl is) =
         rw is (place-shown w w' (place_of w e) (before.fits (place_of w e)).by_setup.up (after.fits (place_of w e)).by_setup.up)
     by_case (inr other) = inl (others-stay setup w e w' a j before step other)
+
+vector-itself : (v : Vector) → same_vector v v ≡ true
+vector-itself v = rw (status-itself v.status, node-itself v.coordinator, node-itself v.halter, task-itself v.task) (set-itself v.up)
+
+pub shows-no-more : ShowsNoMore
+shows-no-more w w' i same = rw (same, vector-itself (vector w i)) refl
 
 abbrev whole_with : ℕ → Status → Option ℕ → Option ℕ → List ℕ → Option (List ℕ) → Whole
 whole_with i status coordinator halter up task = whole_of i (vector_with status coordinator halter up task)

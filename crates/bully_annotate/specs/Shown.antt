@@ -18,6 +18,10 @@ ShowsEachChange =
     → IsLawful setup events answers w → Step setup w e w' a
     → (j : ℕ) → (vector w' j ≡ vector w j) ⊎ (shown_change w w' (place_of w e) ≡ shown_row w' j ∷ [])
 
+-- where the node's vector is the one before, nothing is shown
+abbrev pub ShowsNoMore : Type 0
+ShowsNoMore = (w : World) (w' : World) (i : ℕ) → vector w' i ≡ vector w i → shown_change w w' i ≡ []
+
 -- a claim that tells all of a vector is true exactly where it is all of that node's vector
 abbrev pub TellsTheVector : Type 0
 TellsTheVector =

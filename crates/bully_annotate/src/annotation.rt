@@ -24,13 +24,14 @@ pub enum Annotation {
     TooLong,
 }
 
-/// Annotates a lawful trace: reads one of any version, and writes the one of version 3 with the same setup and the same events in
+/// Annotates a lawful trace: reads one of any version, and writes the one of version 3 with the same setup and the same events, in
 /// which everything is said: of each event of a call which call it is and what was answered; each claim with all of its
 /// node's vector; and behind each event such a claim of the node whose vector it changed, if it changed one. Where the trace isn't
 /// lawful, its verdict is told and nothing is written, nor where that would have more rows than a trace may.
 /// Refused as [`bully_rows::read_trace`] refuses the trace, and then nothing was written; as `OutOfMemory` where the world or the
 /// text can't be made, with nothing written; then as `Write`, and then a prefix of the text may have been written. The last
-/// two are at row 0. This project's profile: docs/FORMATS.md.
+/// two are at row 0. All rows are kept, and then their text, in which each claim of a large group's Normal node is some 20 KB; where
+/// that doesn't fit, `OutOfMemory` may also come of a trace that would be too long. This project's profile: docs/FORMATS.md.
 pub fn annotate<R: Read + Drop, W: Write>(
     alloc: Global,
     reader: R,

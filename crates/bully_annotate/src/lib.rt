@@ -4,7 +4,7 @@
 //! that was read.
 #![tactic(auto)]
 
-ghost use Rattle.bully_annotate.specs.Shown.{ShowsEachChange, TellsTheVector};
+ghost use Rattle.bully_annotate.specs.Shown.{ShowsEachChange, ShowsNoMore, TellsTheVector};
 
 mod annotation;
 mod annotator;
@@ -15,13 +15,15 @@ mod writing;
 pub use annotation::{Annotation, annotate};
 
 /// The law of what is shown behind an event. In a world that a lawful list leads to, an event that is possible changes the vector of
-/// one node at most, and behind it the vector of each node that it changed is shown.
+/// one node at most, and behind it the vector of each node that it changed is shown, and no other one.
 pub fn changes_shown()
-    ensures { ShowsEachChange }
+    ensures each { ShowsEachChange }
+    ensures no_more { ShowsNoMore }
 {}
 
-/// The law of claims that tell all of a vector. In a world that a lawful list leads to, such a claim is true, as
-/// [`bully_trace::check`] asks, exactly where the group has the node and the claim is all of that node's vector.
+/// The law of claims that tell all of a vector, the up set in falling order, as that of each `NodeSet`. In a world that a lawful
+/// list leads to, such a claim is true, as [`bully_trace::check`] asks, exactly where the group has the node and the claim is all
+/// of that node's vector.
 pub fn vector_told()
     ensures { TellsTheVector }
 {}

@@ -1,4 +1,4 @@
-ghost use Rattle.std.specs.Prelude.{◌≡◌, ℕ, List, Option, true, IfErr, IfOk};
+ghost use Rattle.std.specs.Prelude.{◌≡◌, ℕ, List, Option, true, IfErr, IfOk, IsSome};
 ghost use Rattle.bully_account.specs.Told.{IsToldOf, IsUntold};
 ghost use Rattle.bully_rows.specs.RecordsLeft.{EndsReading, IsUnread};
 ghost use Rattle.bully_rows.specs.Rows.{is_of_form};
@@ -61,10 +61,12 @@ fn text_of<R: Read + Drop>(
     rows: &RowReader<Lines<R>>,
     account: &Option<Account>,
     told: &Told,
-) -> Result<String, OutOfMemory> {
+) -> Result<String, OutOfMemory>
+    requires { IfOk told.now.verdict (λ verdict. IsSome account.now) }
+{
     match (&told.verdict, account) {
         (Err(fault), _) => form_text(alloc, rows, account, *fault),
         (Ok(_), Some(account)) => sheet_text(alloc, account, told.nodes.as_slice()),
-        (Ok(_), None) => Ok(String::new(alloc)),
+        (Ok(_), None) => unreachable!(),
     }
 }

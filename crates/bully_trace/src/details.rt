@@ -31,7 +31,7 @@ pub fn holds(world: &World, claim: &Claim) -> bool
 
 /// Whether all that the claim tells of a vector is true of the world.
 pub fn is_whole(world: &World, whole: &WholeClaim) -> bool
-    ensures { result ≡ is_whole world.now.setup (world_of world.now) whole.now }
+    ensures whole { result ≡ is_whole world.now.setup (world_of world.now) whole.now }
 {
     let claim = whole.claim();
     if !holds(world, &claim) {
@@ -69,7 +69,7 @@ pub fn is_so(world: &World, event: &DetailedEvent) -> bool
 fn says(world: &World, node: Node, detail: &Detail) -> bool
     requires node { node ≤ world.now.setup.nodes }
     requires callee { (call_told detail.now).callee ≤ world.now.setup.nodes }
-    ensures { result ≡ says world.now.setup (world_of world.now) node detail.now }
+    ensures says { result ≡ says world.now.setup (world_of world.now) node detail.now }
 {
     match detail {
         Detail::Start(call) => offers_call(offer_of(world, node), *call),
