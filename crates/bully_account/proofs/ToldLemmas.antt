@@ -28,10 +28,10 @@ verdict-told (Some bytes) setup judge verdict sheets says reached shown (version
 )
 
 -- a verdict is no fault
-pub verdict-formed : {A : Type 0} (told : A → Result Verdict TraceFault) (r : Result A TraceFault) → IfOk r (λ a. (verdict : Verdict) × (told a ≡ Ok verdict))
-    → IfOk r (λ a. IfErr (told a) (λ fault. is_of_form fault.cause ≡ true))
-verdict-formed told (Ok a) (verdict, same) = rw same tt
-verdict-formed told (Err other) is = tt
+pub no-fault : {A : Type 0} (told : A → Result Verdict TraceFault) (P : A → TraceFault → Type 0) (r : Result A TraceFault)
+    → IfOk r (λ a. (verdict : Verdict) × (told a ≡ Ok verdict)) → IfOk r (λ a. IfErr (told a) (P a))
+no-fault told P (Ok a) (verdict, same) = rw same tt
+no-fault told P (Err other) is = tt
 
 -- want of memory
 pub short-ends : {A : Type 0} (known : Option (List ℕ)) (r : Result A TraceFault) → IfErr r (λ fault. fault ≡ no_memory) → IfErr r (EndsReading known)

@@ -1,5 +1,5 @@
 -- What is told of a text: the verdict on its trace, or the fault that ends its reading.
-use Rattle.std.specs.Prelude.{◌≡◌, ℕ, false, List, [], Option, Result, MatchResult}
+use Rattle.std.specs.Prelude.{◌≡◌, ℕ, false, List, Option, Result, MatchResult}
 use Rattle.bully_world.specs.State.{IsReached, WorldState, world_of}
 use Rattle.bully_rows.specs.declared.trace.TraceFault.{TraceFault}
 use Rattle.bully_trace.specs.declared.verdict.Verdict.{Verdict}
@@ -19,11 +19,9 @@ pub record Explains (verdict : Verdict) (sheets : List NodeSheet) (trace : Trace
   pub judged : IsVerdict trace verdict (world_of world)
   pub shown : ShowsAll world sheets
 
--- where the bytes are known: the verdict on the trace that they mean, with these sheets; or the fault that ends their reading, and no
--- sheet
+-- where the bytes are known: the verdict on the trace that they mean, with these sheets; or the fault that ends their reading
 abbrev pub IsToldOf : Option (List ℕ) → List NodeSheet → Result Verdict TraceFault → Type 0
-IsToldOf known sheets told =
-    MatchResult told (λ verdict. OfTrace known (Explains verdict sheets)) (λ fault. (sheets ≡ []) × EndsReading known fault)
+IsToldOf known sheets told = MatchResult told (λ verdict. OfTrace known (Explains verdict sheets)) (EndsReading known)
 
 -- a fault of which no sheet is made: the reader failed, or memory was short
 abbrev pub IsUntold : TraceFault → Type 0

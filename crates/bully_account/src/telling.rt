@@ -32,6 +32,7 @@ pub fn tell<R: Read + Drop>(
     ensures told { (known : Option (List ℕ)) → IsUnread known rows.old → IfOk result (λ told. IsToldOf known told.nodes.items told.verdict) }
     ensures form { IfOk result (λ told. IfErr told.verdict (λ fault. is_of_form fault.cause ≡ true)) }
     ensures account { IfOk result (λ told. IfOk told.verdict (λ verdict. IsSome account.new)) }
+    ensures sheets { IfOk result (λ told. IfErr told.verdict (λ fault. told.nodes.items ≡ [])) }
     ensures fault { (known : Option (List ℕ)) → IsUnread known rows.old → IfErr result (EndsReading known) }
     ensures untold { IfErr result IsUntold }
 {

@@ -1,4 +1,4 @@
-ghost use Rattle.std.specs.Prelude.{◌≡◌, ℕ, List, Option, true, IfErr, IfOk, IsSome};
+ghost use Rattle.std.specs.Prelude.{◌≡◌, ℕ, List, [], Option, true, IfErr, IfOk, IsSome};
 ghost use Rattle.bully_account.specs.Told.{IsToldOf, IsUntold};
 ghost use Rattle.bully_rows.specs.RecordsLeft.{EndsReading, IsUnread};
 ghost use Rattle.bully_rows.specs.Rows.{is_of_form};
@@ -28,6 +28,7 @@ pub struct Sheet {
 pub fn explain<R: Read + Drop>(alloc: Global, reader: R) -> Result<Sheet, TraceFault>
     ensures told { IfOk result (λ sheet. IsToldOf (R.remaining reader) sheet.nodes.items sheet.told) }
     ensures form { IfOk result (λ sheet. IfErr sheet.told (λ fault. is_of_form fault.cause ≡ true)) }
+    ensures sheets { IfOk result (λ sheet. IfErr sheet.told (λ fault. sheet.nodes.items ≡ [])) }
     ensures fault { IfErr result (EndsReading (R.remaining reader)) }
     ensures untold { IfErr result IsUntold }
 {
@@ -42,6 +43,7 @@ fn read_sheet<R: Read + Drop>(
 ) -> Result<Sheet, TraceFault>
     ensures told { (known : Option (List ℕ)) → IsUnread known rows.old → IfOk result (λ sheet. IsToldOf known sheet.nodes.items sheet.told) }
     ensures form { IfOk result (λ sheet. IfErr sheet.told (λ fault. is_of_form fault.cause ≡ true)) }
+    ensures sheets { IfOk result (λ sheet. IfErr sheet.told (λ fault. sheet.nodes.items ≡ [])) }
     ensures fault { (known : Option (List ℕ)) → IsUnread known rows.old → IfErr result (EndsReading known) }
     ensures untold { IfErr result IsUntold }
 {
