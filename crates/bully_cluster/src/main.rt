@@ -1,32 +1,27 @@
-//! Nodes on their own over a simulated network, which delays what they tell each other, while nodes crash and recover.
-//! `trace NODES SEED STEPS` writes the trace of what they did, and `seeds COUNT STEPS` says of so many networks, of 2 to 16
-//! nodes, how many were lawful, refused, or left a node that isn't that of the world. A last word breaks a premise on
-//! purpose: `slow` takes calls as failed while their callees are up, `invented` makes up replies, `late` delivers the requests
-//! of crashed nodes. Its status is 0, 2 for bad words, or 4.
+//! Nodes on their own: over a simulated network, which delays what they tell each other while nodes crash and recover; and
+//! beside a world, where they do what a trace says. `bully check` judges the traces of the network, and scripts measure both.
 //!
 //! It stands on bully_node and bully_rows. Nothing stands on it.
 #![tactic(auto)]
 
-mod judging;
+mod following;
 mod network;
 mod random;
 
-use crate::judging::{Verdicts, judge_seeds};
+use crate::following::{Following, events_of, follow};
 use crate::network::{Breach, Network};
-use bully_base::{EVENTS_MAX, PARTITIONS_MAX, Setup};
-use bully_rows::{Rows, Trace, write_trace};
+use bully_base::{EVENTS_MAX, Setup};
+use bully_rows::{ROWS_MAX, Row, Rows, Trace, read_trace, write_trace};
 use std::alloc::Global;
 use std::env;
 use std::process::ExitCode;
-
-/// The most steps of a run.
-const STEPS_MAX: u32 = 100_000;
 
 /// What is asked for.
 #[derive(Clone, Copy)]
 enum Task {
     Trace(u16, u64, u32, Breach),
-    Seeds(u32, u32, Breach),
+    Requests(u16, u32),
+    Follow(Following),
 }
 
 fn main(rt: HostRuntime) -> ExitCode {
@@ -34,9 +29,8 @@ fn main(rt: HostRuntime) -> ExitCode {
         Some(Task::Trace(nodes, seed, steps, breach)) => {
             answer_trace(&rt, rt.alloc(), nodes, seed, steps, breach)
         }
-        Some(Task::Seeds(count, steps, breach)) => {
-            answer_seeds(&rt, rt.alloc(), count, steps, breach)
-        }
+        Some(Task::Requests(nodes, steps)) => answer_requests(&rt, rt.alloc(), nodes, steps),
+        Some(Task::Follow(following)) => answer_follow(&rt, rt.alloc(), following),
         None => return ExitCode::from(2),
     };
     match done {
@@ -45,27 +39,41 @@ fn main(rt: HostRuntime) -> ExitCode {
     }
 }
 
-// What the words behind the program's name ask for.
+// What the words behind the program's name ask for: `trace NODES SEED STEPS [BREACH]`, `requests NODES STEPS`, or `follow`,
+// `agents`, `world` or `read`.
 fn task_asked(rt: &HostRuntime) -> Option<Task> {
     let mut words = env::args(rt).ok()?;
     let task = words.nth(1)?;
-    let first = words.next()?.as_str().parse::<u32>().ok()?;
-    let second = words.next()?.as_str().parse::<u32>().ok()?;
     match task.as_str() {
         "trace" => {
-            let nodes = u16::try_from(first).ok()?;
-            let steps = words.next()?.as_str().parse::<u32>().ok()?;
+            let (nodes, seed) = (number_in(words.next())?, number_in(words.next())?);
+            let steps = number_in(words.next())?;
             let breach = breach_named(words.next())?;
-            Some(Task::Trace(nodes, u64::from(second), steps.min(STEPS_MAX), breach))
+            Some(Task::Trace(u16::try_from(nodes).ok()?, u64::from(seed), steps, breach))
         }
-        "seeds" => {
-            let breach = breach_named(words.next())?;
-            Some(Task::Seeds(first, second.min(STEPS_MAX), breach))
+        "requests" => {
+            let (nodes, steps) = (number_in(words.next())?, number_in(words.next())?);
+            Some(Task::Requests(u16::try_from(nodes).ok()?, steps))
         }
+        other => following_named(other),
+    }
+}
+
+fn number_in(word: Option<String>) -> Option<u32> {
+    word?.as_str().parse::<u32>().ok()
+}
+
+fn following_named(word: &str) -> Option<Task> {
+    match word {
+        "follow" => Some(Task::Follow(Following::Both)),
+        "agents" => Some(Task::Follow(Following::Agents)),
+        "world" => Some(Task::Follow(Following::World)),
+        "read" => Some(Task::Follow(Following::Nobody)),
         _ => None,
     }
 }
 
+// The premise that is broken on purpose; without a word none is.
 fn breach_named(word: Option<String>) -> Option<Breach> {
     let Some(word) = word else {
         return Some(Breach::Nothing);
@@ -74,11 +82,30 @@ fn breach_named(word: Option<String>) -> Option<Breach> {
         "slow" => Some(Breach::Slow),
         "invented" => Some(Breach::Invented),
         "late" => Some(Breach::Late),
+        "twice" => Some(Breach::Twice),
         _ => None,
     }
 }
 
-// Writes the trace of a run.
+// A network of this seed, behind so many steps, with as many partitions as nodes; of an even seed tasks are kept over a crash.
+fn network_of(
+    alloc: Global,
+    nodes: u16,
+    seed: u64,
+    steps: u32,
+    breach: Breach,
+) -> Option<(Setup, Network)> {
+    let ones = [1; 16];
+    let weights = ones.get(..usize::from(nodes))?;
+    let setup = Setup::weighted(nodes, nodes, EVENTS_MAX, weights, seed % 2 == 0).ok()?;
+    let mut network = Network::new(alloc, &setup, seed, breach)?;
+    for _ in 0..steps {
+        network.step()?;
+    }
+    Some((setup, network))
+}
+
+// Writes the trace of a network, at whose end each node's vector stands.
 fn answer_trace(
     rt: &HostRuntime,
     alloc: Global,
@@ -87,27 +114,32 @@ fn answer_trace(
     steps: u32,
     breach: Breach,
 ) -> Option<()> {
-    let setup = Setup::new(nodes, nodes.min(PARTITIONS_MAX), EVENTS_MAX).ok()?;
-    let mut network = Network::new(alloc, &setup, seed, breach)?;
-    for _ in 0..steps {
-        network.step()?;
-    }
-    let trace = Trace::new(setup, Rows::from_vec(network.into_rows()));
+    let (setup, mut network) = network_of(alloc, nodes, seed, steps, breach)?;
+    network.claim_all()?;
+    let trace = trace_of(setup, network.into_rows())?;
     write_trace(alloc, &mut rt.stdout(), &trace).ok()
 }
 
-// Prints what became of so many networks.
-fn answer_seeds(
-    rt: &HostRuntime,
-    alloc: Global,
-    count: u32,
-    steps: u32,
-    breach: Breach,
-) -> Option<()> {
-    let Verdicts {
-        lawful,
-        refused,
-        differing,
-    } = judge_seeds(alloc, count, steps, breach)?;
-    println!(rt; "lawful {lawful}\nrefused {refused}\ndiffering {differing}").ok()
+// The trace with these rows; none where they are too many.
+fn trace_of(setup: Setup, rows: Vec<Row>) -> Option<Trace> {
+    if rows.len() <= ROWS_MAX as usize {
+        Some(Trace::new(setup, Rows::from_vec(rows)))
+    } else {
+        None
+    }
+}
+
+// Prints how many requests ran in a network.
+fn answer_requests(rt: &HostRuntime, alloc: Global, nodes: u16, steps: u32) -> Option<()> {
+    let (_, network) = network_of(alloc, nodes, 1, steps, Breach::Nothing)?;
+    let requests = network.requests();
+    println!(rt; "requests {requests}").ok()
+}
+
+// Prints how many events of the trace on standard input were followed.
+fn answer_follow(rt: &HostRuntime, alloc: Global, following: Following) -> Option<()> {
+    let Trace { setup, rows, .. } = read_trace(alloc, rt.stdin()).ok()?;
+    let events = events_of(alloc, rows.into_vec())?;
+    let count = follow(alloc, &setup, &events, following)?;
+    println!(rt; "followed {count}").ok()
 }
