@@ -4,6 +4,7 @@
 //! tried with the program itself. Nothing stands on it.
 #![tactic(auto)]
 
+mod agents;
 mod finished;
 mod groups;
 mod opened;
@@ -13,6 +14,7 @@ mod trying;
 mod watched;
 mod worlds;
 
+use crate::agents::agent_call;
 use crate::groups::group_call;
 use crate::tables::{new_call, table_call};
 use crate::texts::text_call;
@@ -48,6 +50,12 @@ view
 Walk::new
 Walk::apply
 Walk::view
+Agent::new
+Agent::request
+Agent::prepare
+read_request
+push_request
+push_reply
 Entry::copy
 Publisher::open
 Publisher::publish
@@ -122,12 +130,13 @@ enum Kind {
     Table,
     New,
     Event,
+    Agent,
     Watched,
     Text,
 }
 
 // Each call that isn't one on a group that nobody watches.
-const KINDS: [(&str, Kind); 43] = [
+const KINDS: [(&str, Kind); 49] = [
     ("Setup::weighted", Kind::Table),
     ("Table::read", Kind::Table),
     ("Table::read_in", Kind::Table),
@@ -152,6 +161,12 @@ const KINDS: [(&str, Kind); 43] = [
     ("view", Kind::Event),
     ("Walk::view", Kind::Event),
     ("Walk::apply", Kind::Event),
+    ("Agent::new", Kind::Agent),
+    ("Agent::request", Kind::Agent),
+    ("Agent::prepare", Kind::Agent),
+    ("read_request", Kind::Agent),
+    ("push_request", Kind::Agent),
+    ("push_reply", Kind::Agent),
     ("Publisher::open", Kind::Watched),
     ("Observer::look", Kind::Watched),
     ("Locked::publish", Kind::Watched),
@@ -188,6 +203,7 @@ fn outcome_of<R: Print + Wait>(trial: &Trial<R>, name: &str) -> Option<Outcome> 
         Some(Kind::Table) => table_call(trial, name),
         Some(Kind::New) => new_call(trial, name),
         Some(Kind::Event) => event_call(trial, name),
+        Some(Kind::Agent) => agent_call(trial, name),
         Some(Kind::Watched) => watched_call(trial, name),
         Some(Kind::Text) => text_call(trial, name),
         None => group_call(trial, name),
