@@ -9,17 +9,15 @@ use bully_world::{Event, Refused, TakenStep, World};
 use std::alloc::Global;
 use std::mem;
 
-/// Who follows a trace.
+/// What follows on a trace that nodes on their own did, and a world.
 #[derive(Clone, Copy)]
-pub enum Following {
-    /// Nodes on their own beside a world, and after each event they have to be those of the world.
-    Both,
-    /// Nodes on their own.
-    Agents,
-    /// A world.
-    World,
-    /// Nobody.
-    Nobody,
+pub enum Turns {
+    /// Nothing.
+    None,
+    /// So many turns of two nodes on their own.
+    OfAgents(u32),
+    /// So many of the same turns in the world.
+    OfWorld(u32),
 }
 
 /// The events of these rows.
@@ -35,36 +33,18 @@ pub fn events_of(alloc: Global, rows: Vec<Row>) -> Option<Vec<Event>> {
     Some(events)
 }
 
-/// How many of the events were followed, up to one that is refused. None where nodes on their own aren't those of the world,
-/// or where memory is refused.
-pub fn follow(
-    alloc: Global,
-    setup: &Setup,
-    events: &[Event],
-    following: Following,
-) -> Option<usize> {
+/// How many of the events were followed, up to one that is refused, before these turns were taken. None where nodes on their own
+/// aren't those of the world, where a turn is refused, or where memory is.
+pub fn follow(alloc: Global, setup: &Setup, events: &[Event], turns: Turns) -> Option<usize> {
     let mut actors = actors_of(alloc, setup)?;
     let mut world = World::new(alloc, *setup).ok()?;
-    match following {
-        Following::Both => both_follow(&mut actors, &mut world, events),
-        Following::Agents => agents_follow(&mut actors, events),
-        Following::World => world_follows(&mut world, events),
-        Following::Nobody => Some(0),
+    let count = both_follow(&mut actors, &mut world, events)?;
+    match turns {
+        Turns::None => {}
+        Turns::OfAgents(number) => agents_turn(&mut actors, number)?,
+        Turns::OfWorld(number) => world_turns(&mut world, Node::new(1)?, number)?,
     }
-}
-
-fn world_follows(world: &mut World, events: &[Event]) -> Option<usize> {
-    for event in events {
-        world.apply(event).ok()?;
-    }
-    Some(events.len())
-}
-
-fn agents_follow(actors: &mut [Actor], events: &[Event]) -> Option<usize> {
-    for event in events {
-        take(actors, event)?.ok()?;
-    }
-    Some(events.len())
+    Some(count)
 }
 
 fn both_follow(actors: &mut [Actor], world: &mut World, events: &[Event]) -> Option<usize> {
@@ -74,6 +54,42 @@ fn both_follow(actors: &mut [Actor], world: &mut World, events: &[Event]) -> Opt
         }
     }
     Some(events.len())
+}
+
+// Turns of the first node, which asks whether the last one is up, its coordinator.
+fn agents_turn(actors: &mut [Actor], number: u32) -> Option<()> {
+    let (first, others) = actors.split_first_mut()?;
+    let last = others.last_mut()?;
+    for _ in 0..number {
+        turn(&mut first.agent, &mut last.agent)?;
+    }
+    Some(())
+}
+
+fn turn(caller: &mut Agent, callee: &mut Agent) -> Option<()> {
+    caller.timeout().ok()?;
+    caller.start().ok()?;
+    let reply = asked(callee, caller.request().ok()??)?;
+    caller.replied(reply).ok()?;
+    Some(())
+}
+
+fn asked(callee: &mut Agent, request: Request) -> Option<Reply> {
+    match callee.serve(&request) {
+        Ok(served) => Some(served.reply),
+        Err(_) => None,
+    }
+}
+
+// The same turns in the world.
+fn world_turns(world: &mut World, node: Node, number: u32) -> Option<()> {
+    for _ in 0..number {
+        world.apply(&Event::Timeout(node)).ok()?;
+        world.apply(&Event::Start(node)).ok()?;
+        world.apply(&Event::Run(node)).ok()?;
+        world.apply(&Event::Return(node)).ok()?;
+    }
+    Some(())
 }
 
 // Whether both take the event, or refuse it; none where they don't do the same.

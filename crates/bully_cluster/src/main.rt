@@ -8,7 +8,7 @@ mod following;
 mod network;
 mod random;
 
-use crate::following::{Following, events_of, follow};
+use crate::following::{Turns, events_of, follow};
 use crate::network::{Breach, Network};
 use bully_base::{EVENTS_MAX, Setup};
 use bully_rows::{ROWS_MAX, Row, Rows, Trace, read_trace, write_trace};
@@ -21,7 +21,7 @@ use std::process::ExitCode;
 enum Task {
     Trace(u16, u64, u32, Breach),
     Requests(u16, u32),
-    Follow(Following),
+    Follow(Turns),
 }
 
 fn main(rt: HostRuntime) -> ExitCode {
@@ -30,7 +30,7 @@ fn main(rt: HostRuntime) -> ExitCode {
             answer_trace(&rt, rt.alloc(), nodes, seed, steps, breach)
         }
         Some(Task::Requests(nodes, steps)) => answer_requests(&rt, rt.alloc(), nodes, steps),
-        Some(Task::Follow(following)) => answer_follow(&rt, rt.alloc(), following),
+        Some(Task::Follow(turns)) => answer_follow(&rt, rt.alloc(), turns),
         None => return ExitCode::from(2),
     };
     match done {
@@ -39,8 +39,8 @@ fn main(rt: HostRuntime) -> ExitCode {
     }
 }
 
-// What the words behind the program's name ask for: `trace NODES SEED STEPS [BREACH]`, `requests NODES STEPS`, or `follow`,
-// `agents`, `world` or `read`.
+// What the words behind the program's name ask for: `trace NODES SEED STEPS [BREACH]`, `requests NODES STEPS`, `follow`, `agents
+// TURNS` or `world TURNS`.
 fn task_asked(rt: &HostRuntime) -> Option<Task> {
     let mut words = env::args(rt).ok()?;
     let task = words.nth(1)?;
@@ -55,22 +55,15 @@ fn task_asked(rt: &HostRuntime) -> Option<Task> {
             let (nodes, steps) = (number_in(words.next())?, number_in(words.next())?);
             Some(Task::Requests(u16::try_from(nodes).ok()?, steps))
         }
-        other => following_named(other),
+        "follow" => Some(Task::Follow(Turns::None)),
+        "agents" => Some(Task::Follow(Turns::OfAgents(number_in(words.next())?))),
+        "world" => Some(Task::Follow(Turns::OfWorld(number_in(words.next())?))),
+        _ => None,
     }
 }
 
 fn number_in(word: Option<String>) -> Option<u32> {
     word?.as_str().parse::<u32>().ok()
-}
-
-fn following_named(word: &str) -> Option<Task> {
-    match word {
-        "follow" => Some(Task::Follow(Following::Both)),
-        "agents" => Some(Task::Follow(Following::Agents)),
-        "world" => Some(Task::Follow(Following::World)),
-        "read" => Some(Task::Follow(Following::Nobody)),
-        _ => None,
-    }
 }
 
 // The premise that is broken on purpose; without a word none is.
@@ -137,9 +130,9 @@ fn answer_requests(rt: &HostRuntime, alloc: Global, nodes: u16, steps: u32) -> O
 }
 
 // Prints how many events of the trace on standard input were followed.
-fn answer_follow(rt: &HostRuntime, alloc: Global, following: Following) -> Option<()> {
+fn answer_follow(rt: &HostRuntime, alloc: Global, turns: Turns) -> Option<()> {
     let Trace { setup, rows, .. } = read_trace(alloc, rt.stdin()).ok()?;
     let events = events_of(alloc, rows.into_vec())?;
-    let count = follow(alloc, &setup, &events, following)?;
+    let count = follow(alloc, &setup, &events, turns)?;
     println!(rt; "followed {count}").ok()
 }

@@ -354,6 +354,8 @@ impl Agent {
     }
 
     // An event that the node takes by itself.
+    // (inlined with what it calls, so that each call of the agent has what its own event needs, and no more)
+    #[inline(always)]
     fn take(&mut self, event: Event) -> Result<TakenStep, Refused>
         requires alone { IsAlone event }
         requires named { node_of event ≡ self.old.node }

@@ -10,6 +10,8 @@ use bully_calls::Answer;
 use bully_world::{Event, Member, Refused, own_cause};
 
 /// Why such an event is refused, with so many events told; none where it isn't. `member` is that of the event's node.
+// (inlined, as `Agent::take` is)
+#[inline(always)]
 pub fn alone_cause(setup: &Setup, events: u32, member: &Member, event: &Event) -> Option<Refused>
     requires own { IsAlone event.now }
     requires is { IsAgentOf setup.now (node_of event.now) events member.now }
@@ -35,6 +37,8 @@ fn recover_cause(is_down: bool) -> Option<Refused>
 }
 
 /// Such an event is taken, where nothing refuses it. `member` is that of the event's node, which told so many events.
+// (inlined, as `Agent::take` is)
+#[inline(always)]
 pub fn take_alone(
     setup: &Setup,
     events: u32,

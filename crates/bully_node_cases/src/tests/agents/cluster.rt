@@ -110,26 +110,40 @@ impl Cluster {
         self.is_same(place)
     }
 
-    // The node starts its call, which runs at its callee and returns, or fails where that is Down.
+    // The node starts its call, which comes back before anything else happens.
     fn call(&mut self, place: usize) -> Option<bool> {
         let started = self.agents.get_mut(place)?.start().ok()?;
         self.log_step(&started)?;
         let request = self.agents.get(place)?.request().ok()??;
+        self.send(place, &request)
+    }
+
+    // The request of the node runs at its callee and is answered, or fails where that is Down.
+    fn send(&mut self, place: usize, request: &Request) -> Option<bool> {
         let callee = usize::from(request.call.callee.number() - 1);
         if self.agents.get(callee)?.vector().status() == Status::Down {
-            let failed = self.agents.get_mut(place)?.failed(request.number).ok()?;
-            self.log(&failed.lost, Answer::Done)?;
-            self.log_step(&failed.returned)?;
-            return self.is_same(place);
+            return self.fail(place, request.number);
         }
-        let request = self.carried(&request)?;
-        let served = self.agents.get_mut(callee)?.serve(&request).ok()?;
-        self.log(&served.event, served.reply.answer)?;
-        self.is_same(callee)?;
-        let reply = self.carried_back(served.reply)?;
+        let carried = self.carried(request)?;
+        let reply = self.serve(callee, &carried)?;
         let returned = self.agents.get_mut(place)?.replied(reply).ok()?;
         self.log_step(&returned)?;
         self.is_same(place)
+    }
+
+    fn fail(&mut self, place: usize, number: u32) -> Option<bool> {
+        let failed = self.agents.get_mut(place)?.failed(number).ok()?;
+        self.log(&failed.lost, Answer::Done)?;
+        self.log_step(&failed.returned)?;
+        self.is_same(place)
+    }
+
+    // The request runs at this node: its reply, carried back.
+    fn serve(&mut self, callee: usize, request: &Request) -> Option<Reply> {
+        let served = self.agents.get_mut(callee)?.serve(request).ok()?;
+        self.log(&served.event, served.reply.answer)?;
+        self.is_same(callee)?;
+        self.carried_back(served.reply)
     }
 
     // The request, carried as a line.
