@@ -1,5 +1,5 @@
 -- What an agent keeps of its node, and the events that it takes by itself.
-use Rattle.std.specs.Prelude.{◌≡◌, ◌+◌, ℕ, List, Option, None, is_some, if◌then◌else◌}
+use Rattle.std.specs.Prelude.{◌≡◌, ◌<◌, ◌+◌, ℕ, List, Option, None, is_some, if◌then◌else◌}
 use Rattle.bully_base.specs.Setup.{Setup, IsNode}
 use Rattle.bully_calls.specs.declared.call.Answer.{Answer}
 use Rattle.bully_handlers.specs.Vector.{empty_vector}
@@ -77,9 +77,10 @@ number_after e events number = number
 abbrev pub agent_after : Event → AgentState → AgentState
 agent_after e a = record a { events = a.events + 1; number = number_after e a.events a.number; member = node_after a.setup e a.member }
 
--- the agent took the event: it tells event and answer, is what the event makes of it, and the event leads on in every
--- world of which it may be a part
+-- the agent took the event, for which there was room: it tells event and answer, is what the event makes of it, and the
+-- event leads on in every world of which it may be a part
 pub record IsTaken (old : AgentState) (e : Event) (new : AgentState) (taken : TakenStep) : Type 0 where
+  pub room : old.events < old.setup.events_max
   pub event : taken.event ≡ e
   pub answer : taken.answer ≡ node_answer e old.member
   pub after : new ≡ agent_after e old

@@ -52,9 +52,19 @@ pub record CanServe (setup : Setup) (i events : ℕ) (m : MemberState) (request 
   pub suits : SuitsNode setup i request
   pub up : m.vector.vector.status ≢ Down
 
--- the request ran at the agent: it tells the event and the reply, is what the call makes of it, and the event leads on in
--- every world of which it may be a part, and in which this is the caller's call
+-- why a request is refused, the first of these that holds: no room for the event, a caller above the setup's last node, a
+-- request that may not come to node i, a node that is Down
+abbrev pub RefusesRequest : Setup → ℕ → ℕ → MemberState → Request → Refused → Type 0
+RefusesRequest setup i events m r Refused.Full = setup.events_max ≤ events
+RefusesRequest setup i events m r Refused.BadNode = (events < setup.events_max) × (setup.nodes < r.caller)
+RefusesRequest setup i events m r Refused.NoCall = (events < setup.events_max) × IsNode setup r.caller × (SuitsNode setup i r → ⊥)
+RefusesRequest setup i events m r Refused.CalleeDown = (events < setup.events_max) × IsNode setup r.caller × SuitsNode setup i r × (m.vector.vector.status ≡ Down)
+RefusesRequest setup i events m r _ = ⊥
+
+-- the request ran at the agent, where nothing refused it: it tells the event and the reply, is what the call makes of it,
+-- and the event leads on in every world of which it may be a part, and in which this is the caller's call
 pub record IsServed (old : AgentState) (request : Request) (new : AgentState) (served : Served) : Type 0 where
+  pub can : CanServe old.setup old.node old.events old.member request
   pub event : served.event ≡ Event.Run request.caller
   pub answered : served.reply ≡ record { caller = request.caller; number = request.number; answer = reply request.call.kind old.member.vector.vector }
   pub after : new ≡ record old { events = old.events + 1; member = heard_state request.caller request.call request.table old.member }
@@ -85,8 +95,10 @@ returned_by setup i f m = node_after setup (Event.Return i) (phased_state f m)
 abbrev pub returned_answer : ℕ → Phase → MemberState → Answer
 returned_answer i f m = node_answer (Event.Return i) (phased_state f m)
 
--- the agent's call returned with the reply
+-- the agent's call returned with the reply, which is one to it, and for which there was room
 pub record IsReturned (old : AgentState) (reply : Reply) (new : AgentState) (taken : TakenStep) : Type 0 where
+  pub room : old.events < old.setup.events_max
+  pub due : IsDue old reply
   pub event : taken.event ≡ Event.Return old.node
   pub answer : taken.answer ≡ returned_answer old.node (Phase.Ran reply.answer) old.member
   pub after : new ≡ record old { events = old.events + 1; member = returned_by old.setup old.node (Phase.Ran reply.answer) old.member }
@@ -107,9 +119,11 @@ pub record IsAwaited (a : AgentState) (number : ℕ) : Type 0 where
   pub number_is : number ≡ a.number
   pub sent : holds_call is_sent a.member.slot ≡ true
 
--- the agent's call failed, which leads on in every world of which the agent may be a part and where the callee is Down,
--- and returned, which leads on from there
-pub record IsFailed (old : AgentState) (new : AgentState) (failed : FailedCall) : Type 0 where
+-- the agent's call, the one of this number, failed, which leads on in every world of which the agent may be a part and where
+-- the callee is Down, and returned, which leads on from there; there was room for both events
+pub record IsFailed (old : AgentState) (number : ℕ) (new : AgentState) (failed : FailedCall) : Type 0 where
+  pub room : old.events + 1 < old.setup.events_max
+  pub awaited : IsAwaited old number
   pub lost : failed.lost ≡ Event.Lose old.node
   pub event : failed.returned.event ≡ Event.Return old.node
   pub answer : failed.returned.answer ≡ returned_answer old.node Phase.Failed old.member

@@ -6,7 +6,7 @@ ghost use Rattle.bully_base.specs.NodeSet.{with_node};
 ghost use Rattle.bully_table.specs.Planning.{planned};
 ghost use Rattle.bully_world.specs.Cause.{node_of};
 ghost use Rattle.bully_node.specs.Agent.{IsAlone, IsRefused, IsTaken, PartOf, down_member, new_agent, number_after, wanted};
-ghost use Rattle.bully_node.specs.Calls.{IsAwaited, IsDue, IsFailed, IsRequested, IsReturned, IsServed, RefusesFailure, RefusesReply, request_of};
+ghost use Rattle.bully_node.specs.Calls.{IsAwaited, IsDue, IsFailed, IsRequested, IsReturned, IsServed, RefusesFailure, RefusesReply, RefusesRequest, request_of};
 ghost use Rattle.bully_node.specs.Part.{Always};
 
 use crate::due::{can_return, is_under_way};
@@ -279,6 +279,7 @@ impl Agent {
     pub fn serve(&mut self, request: &Request) -> Result<Served, Refused>
         ensures served { IfOk result (IsServed self.old request.now self.new) }
         ensures why { IfErr result (IsRefused (IsRequested self.old.node request.now) self.old (Event.Run request.now.caller)) }
+        ensures refusal { IfErr result (RefusesRequest self.old.setup self.old.node self.old.events self.old.member request.now) }
         ensures unchanged { IfErr result (λ _. self.new ≡ self.old) }
     {
         let cause = request_cause(&self.setup, self.node, self.events, &self.member, request);
@@ -332,7 +333,7 @@ impl Agent {
     ///
     /// Premise: the callee is Down.
     pub fn failed(&mut self, number: u32) -> Result<FailedCall, Refused>
-        ensures failed { IfOk result (IsFailed self.old self.new) }
+        ensures failed { IfOk result (IsFailed self.old number self.new) }
         ensures why { IfErr result (RefusesFailure self.old number) }
         ensures unchanged { IfErr result (λ _. self.new ≡ self.old) }
     {

@@ -6,7 +6,7 @@ ghost use Rattle.bully_world.specs.declared.event.Event.{Event};
 ghost use Rattle.bully_world.specs.NodeInvariant.{SuitsCallee, SuitsTable};
 ghost use Rattle.bully_world.specs.StateAfter.{heard_state};
 ghost use Rattle.bully_node.specs.Agent.{IsAgentOf};
-ghost use Rattle.bully_node.specs.Calls.{IsRequested, SuitsNode, CanServe};
+ghost use Rattle.bully_node.specs.Calls.{IsRequested, SuitsNode, CanServe, RefusesRequest};
 ghost use Rattle.bully_node.specs.Part.{FollowsAt, IsRefusedAt};
 
 use bully_base::{Node, Setup};
@@ -24,6 +24,7 @@ pub fn request_cause(
     request: &Request,
 ) -> Option<Refused>
     ensures why { IfSome result (IsRefusedAt (IsRequested node request.now) setup.now node events member.now (Event.Run request.now.caller)) }
+    ensures refusal { IfSome result (RefusesRequest setup.now node events member.now request.now) }
     ensures can { IfNone result (CanServe setup.now node events member.now request.now) }
     ensures small { IfNone result (events + 1 < 2 ^ 32) }
 {

@@ -16,6 +16,7 @@ pub fn alone_cause(setup: &Setup, events: u32, member: &Member, event: &Event) -
     requires own { IsAlone event.now }
     requires is { IsAgentOf setup.now (node_of event.now) events member.now }
     ensures cause { CauseAt Always setup.now (node_of event.now) events member.now event.now result }
+    ensures room { result ≡ None → events < setup.now.events_max }
     ensures small { result ≡ None → events + 1 < 2 ^ 32 }
 {
     if events >= setup.events_max() {
@@ -49,6 +50,7 @@ pub fn take_alone(
     requires is { IsAgentOf setup.now (node_of event.now) events member.old }
     ensures after { OnOk result (member.new ≡ node_after setup.now event.now member.old) }
     ensures answer { IfOk result (λ answer. answer ≡ node_answer event.now member.old) }
+    ensures room { OnOk result (events < setup.now.events_max) }
     ensures small { OnOk result (events + 1 < 2 ^ 32) }
     ensures is { OnOk result (IsAgentOf setup.now (node_of event.now) (events + 1) member.new) }
     ensures follows { IfOk result (λ answer. FollowsAt Always setup.now (node_of event.now) member.old event.now answer member.new) }

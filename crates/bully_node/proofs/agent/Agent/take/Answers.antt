@@ -16,4 +16,4 @@ returns-clause-taken c =
     let a = c.self.inside in
     let named : node_of c.args.event ≡ a.node = c.requires.named ∙ ap (λ (s : AgentState). s.node) (sym c.self.view_is) in
     rw (← c.self.view_is)
-    (taken_is a.setup a.node a.events a.number a.member c.take_alone.new.member c.args.event c.number_after-self-inside.result (record { event = c.args.event; answer = c.in_ok-answer.answer }) named refl c.in_ok-answer.ensures.after c.in_ok-answer.ensures.answer c.number_after-self-inside.ensures c.in_ok-answer.ensures.follows)
+    (taken_is a.setup a.node a.events a.number a.member c.take_alone.new.member c.args.event c.number_after-self-inside.result (record { event = c.args.event; answer = c.in_ok-answer.answer }) c.in_ok-answer.ensures.room named refl c.in_ok-answer.ensures.after c.in_ok-answer.ensures.answer c.number_after-self-inside.ensures c.in_ok-answer.ensures.follows)
