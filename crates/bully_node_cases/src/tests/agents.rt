@@ -2,9 +2,13 @@
 
 mod cluster;
 
-use bully_base::{Setup, Status};
+use bully_base::{Node, Setup, Status};
+use bully_calls::{Call, CallKind};
 use bully_lines::{ReplyFault, RequestFault, push_reply, push_request, read_reply, read_request};
+use bully_messages::Request;
+use bully_node::Agent;
 use bully_table::TableFault;
+use bully_world::Refused;
 use cluster::Cluster;
 use std::alloc::Global;
 
@@ -152,4 +156,73 @@ fn stale(alloc: Global) -> Option<bool> {
 #[test]
 fn a_reply_to_another_call(rt: HostRuntime) {
     assert_eq!(rt; stale(rt.alloc()), Some(true));
+}
+
+/// A request without a table: its caller, its call and the callee.
+type Asked = (u16, CallKind, u16);
+
+/// What comes to the second node of that group, with so many events told before it was made, and whether it then recovers;
+/// and why the request is refused.
+const REFUSED: [(u32, bool, Asked, Refused); 9] = [
+    (999, true, (3, CallKind::Halt, 2), Refused::Full),
+    (999, true, (4, CallKind::Halt, 2), Refused::Full),
+    (0, true, (4, CallKind::Halt, 2), Refused::BadNode),
+    (0, true, (4, CallKind::Halt, 1), Refused::BadNode),
+    (0, true, (3, CallKind::Halt, 1), Refused::NoCall),
+    (0, true, (1, CallKind::Halt, 2), Refused::NoCall),
+    (0, true, (3, CallKind::Ready, 2), Refused::NoCall),
+    (0, false, (1, CallKind::Halt, 2), Refused::NoCall),
+    (0, false, (3, CallKind::Halt, 2), Refused::CalleeDown),
+];
+
+// The second node of the group, as it comes to the request.
+fn second(alloc: Global, told: u32, recovers: bool) -> Option<Agent> {
+    let setup = group()?;
+    let node = Node::new(2)?;
+    if node.number() > setup.nodes() {
+        return None;
+    }
+    let mut agent = Agent::new(alloc, &setup, node, told, None).ok()?;
+    if recovers {
+        agent.recover().ok()?;
+    }
+    Some(agent)
+}
+
+// Why the request is refused; none where it isn't, or where it changes the node.
+fn refusal(agent: &mut Agent, asked: Asked) -> Option<Refused> {
+    let (caller, kind, callee) = asked;
+    let request = Request {
+        caller: Node::new(caller)?,
+        number: 0,
+        call: Call {
+            callee: Node::new(callee)?,
+            kind,
+        },
+        table: None,
+    };
+    let before = kept(agent);
+    let why = agent.serve(&request).err()?;
+    if kept(agent) == before {
+        Some(why)
+    } else {
+        None
+    }
+}
+
+// What a request that ran would change of a node.
+fn kept(agent: &Agent) -> (u32, u32, Status) {
+    (agent.events(), agent.generation(), agent.vector().status())
+}
+
+// Why the second node refuses the request.
+fn refused(alloc: Global, told: u32, recovers: bool, asked: Asked) -> Option<Refused> {
+    refusal(&mut second(alloc, told, recovers)?, asked)
+}
+
+#[test]
+fn requests_that_are_refused(rt: HostRuntime) {
+    for (told, recovers, asked, why) in REFUSED.iter() {
+        assert_eq!(rt; refused(rt.alloc(), *told, *recovers, *asked), Some(*why));
+    }
 }
