@@ -68,8 +68,8 @@ pub struct FailedCall {
 
 impl Agent {
     /// The agent of a node, which is at most the setup's last, while the node is Down. The node's log has so many events,
-    /// none at first; and it has kept this task, if any, which has the setup's partitions. It reserves all memory that it
-    /// will need. Refused where an allocation fails.
+    /// none at first; and it has kept this task, if any, which has the setup's partitions. It reserves room for a task and for a
+    /// call's table, so that no call which changes it takes memory. Refused where an allocation fails.
     pub fn new(
         alloc: Global,
         setup: &Setup,
@@ -146,7 +146,7 @@ impl Agent {
         self.member.slot()
     }
 
-    /// How often the node was stopped or crashed.
+    /// How often the node was stopped or crashed since the agent was made.
     pub fn generation(&self) -> u32
         ensures { result ≡ self.now.member.generation }
     {
