@@ -5,3 +5,4 @@ pub mod PlanText
 pub mod RefusalText
 pub mod Wanted
 pub mod ConfigAnswer
+pub mod DrawAnswer

@@ -1,13 +1,15 @@
 ghost use Rattle.std.specs.Prelude.{◌≡◌, ◌≤◌, ◌⊎◌, ◌∷◌, ℕ, List, [], None, Some, true, false, codes, map, IfSome};
 ghost use Rattle.clap.specs.Words.{kind_of};
-ghost use Rattle.bully_words.specs.Words.{annotating, checking, explaining, planning, playing, running, texts_of, upgrading, ParsesAsAnnotate, ParsesAsCheck, ParsesAsExplain, ParsesAsPlay, ParsesAsRun, ParsesAsTable, ParsesAsUpgrade, is_help, is_mistake, asks_for_help};
+ghost use Rattle.bully_words.specs.Words.{annotating, checking, drawing, explaining, planning, playing, running, texts_of, upgrading, ParsesAsAnnotate, ParsesAsCheck, ParsesAsDraw, ParsesAsExplain, ParsesAsPlay, ParsesAsRun, ParsesAsTable, ParsesAsUpgrade, is_help, is_mistake, asks_for_help};
 ghost use Rattle.bully.specs.Answer.{IsAnswer, IsUpgradeAnswer, Tells, stop_line};
 ghost use Rattle.bully.specs.AnnotateAnswer.{IsAnnotateAnswer};
+ghost use Rattle.bully.specs.DrawAnswer.{IsDrawAnswer};
 ghost use Rattle.bully.specs.ExplainAnswer.{IsConfigExplainAnswer, IsExplainAnswer};
 ghost use Rattle.bully.specs.ConfigAnswer.{IsPlayAnswer, IsRunAnswer, IsTableAnswer};
 
 use crate::annotating::answer_annotate;
 use crate::checking::answer_check;
+use crate::drawing::answer_draw;
 use crate::explaining::{answer_explain, answer_explain_config};
 use crate::playing::answer_play;
 use crate::running::answer_run;
@@ -46,6 +48,7 @@ pub fn answer<
     ensures explain_config { (path : _) → ParsesAsExplain (map S.text words.now) (Some path) → (bytes : List ℕ) × IsConfigExplainAnswer bytes (W.contents output.old) (W.contents output.new) (E.contents errors.old) (E.contents errors.new) result }
     ensures upgrade { ParsesAsUpgrade (map S.text words.now) → IfSome (R.remaining input) (λ bytes. IsUpgradeAnswer bytes (W.contents output.old) (W.contents output.new) (E.contents errors.old) (E.contents errors.new) result) }
     ensures annotate { ParsesAsAnnotate (map S.text words.now) → IfSome (R.remaining input) (λ bytes. IsAnnotateAnswer bytes (W.contents output.old) (W.contents output.new) (E.contents errors.old) (E.contents errors.new) result) }
+    ensures draw { (rows : _) (text : _) (names : _) → ParsesAsDraw (map S.text words.now) rows text names → IfSome (R.remaining input) (λ bytes. IsDrawAnswer bytes (W.contents output.old) (W.contents output.new) (E.contents errors.old) (E.contents errors.new) result) }
     ensures play { (path : _) → ParsesAsPlay (map S.text words.now) path → (bytes : List ℕ) × IsPlayAnswer bytes (W.contents output.old) (W.contents output.new) (E.contents errors.old) (E.contents errors.new) result }
     ensures run { (path : _) → ParsesAsRun (map S.text words.now) path → (bytes : List ℕ) × IsRunAnswer bytes (W.contents output.old) (W.contents output.new) (E.contents errors.old) (E.contents errors.new) result }
     ensures table { (path : _) (members : _) (old : _) → ParsesAsTable (map S.text words.now) path members old → (bytes : List ℕ) × IsTableAnswer bytes members old (W.contents output.old) (W.contents output.new) (E.contents errors.old) (E.contents errors.new) result }
@@ -73,6 +76,7 @@ fn act<H: Files + AllocGlobal + Threads + Wait + Sync, R: Read + Drop, W: Write,
     ensures explain_config { (path : _) → texts_of action.now ≡ explaining (Some path) → (bytes : List ℕ) × IsConfigExplainAnswer bytes (W.contents output.old) (W.contents output.new) (E.contents errors.old) (E.contents errors.new) result }
     ensures upgrade { texts_of action.now ≡ upgrading → IfSome (R.remaining input) (λ bytes. IsUpgradeAnswer bytes (W.contents output.old) (W.contents output.new) (E.contents errors.old) (E.contents errors.new) result) }
     ensures annotate { texts_of action.now ≡ annotating → IfSome (R.remaining input) (λ bytes. IsAnnotateAnswer bytes (W.contents output.old) (W.contents output.new) (E.contents errors.old) (E.contents errors.new) result) }
+    ensures draw { (rows : _) (text : _) (names : _) → texts_of action.now ≡ drawing rows text names → IfSome (R.remaining input) (λ bytes. IsDrawAnswer bytes (W.contents output.old) (W.contents output.new) (E.contents errors.old) (E.contents errors.new) result) }
     ensures play { (path : _) → texts_of action.now ≡ playing path → (bytes : List ℕ) × IsPlayAnswer bytes (W.contents output.old) (W.contents output.new) (E.contents errors.old) (E.contents errors.new) result }
     ensures run { (path : _) → texts_of action.now ≡ running path → (bytes : List ℕ) × IsRunAnswer bytes (W.contents output.old) (W.contents output.new) (E.contents errors.old) (E.contents errors.new) result }
     ensures table { (path : _) (members : _) (old : _) → texts_of action.now ≡ planning path members old → (bytes : List ℕ) × IsTableAnswer bytes members old (W.contents output.old) (W.contents output.new) (E.contents errors.old) (E.contents errors.new) result }
@@ -85,6 +89,7 @@ fn act<H: Files + AllocGlobal + Threads + Wait + Sync, R: Read + Drop, W: Write,
         Action::Explain(Some(path)) => answer_explain_config(rt, path, output, errors),
         Action::Upgrade => answer_upgrade(rt.alloc(), input, output, errors),
         Action::Annotate => answer_annotate(rt.alloc(), input, output, errors),
+        Action::Draw(words) => answer_draw(rt, words, input, output, errors),
         Action::Play(path) => answer_play(rt, path, output, errors),
         Action::Run(path) => answer_run(rt, path, output, errors),
         Action::Table(words) => answer_table(rt, words, output, errors),

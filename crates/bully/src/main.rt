@@ -11,6 +11,7 @@ mod annotating;
 mod answering;
 mod checking;
 mod configs;
+mod drawing;
 mod explaining;
 mod playing;
 mod refusals;

@@ -23,3 +23,4 @@ pub use bully_account::{
 };
 pub use config::{ConfigSheet, explain_config};
 pub use explaining::{Sheet, explain};
+pub use sheet_text::reason;

@@ -1,11 +1,14 @@
 use crate::differing::{push_claimed, push_detailed, push_whole_claimed};
 use crate::sentences::push_refused;
 use crate::words::{push_held, push_note, push_offer, push_point, push_vector};
-use bully_account::{Account, Deed, Memory, NodeSheet, Note, Shown, ShownCall, Stop};
+use bully_account::{
+    Account, Deed, Memory, NodeSheet, Note, Shown, ShownCall, Stop, node_sheet,
+};
 use bully_base::{NODES_MAX, Node, OutOfMemory, Status};
 use bully_rows::{Row, push_row};
 use bully_steps::Point;
 use bully_trace::Verdict;
+use bully_world::World;
 use std::alloc::Global;
 
 /// The sheet of the account's verdict as text, with what it shows of each node, from node 1 on.
@@ -36,7 +39,13 @@ fn push_stopped(
 ) -> Result<(), OutOfMemory> {
     push_start(text, stop)?;
     let node = node_of(&stop.row);
-    push_reason(text, account, stop, sheet_of(nodes, node))?;
+    push_reason(
+        text,
+        account.world(),
+        account.verdict(),
+        &stop.row,
+        sheet_of(nodes, node),
+    )?;
     if let Some(sheet) = sheet_of(nodes, node) {
         text.push('\n')?;
         push_node(text, node, sheet, account.memory(node))?;
@@ -54,17 +63,16 @@ fn node_of(row: &Row) -> Node {
     }
 }
 
-// Appends why the row decided, whose node has this sheet.
+// Appends why the row decided in this world, by this verdict. Its node has this sheet.
 fn push_reason(
     text: &mut String,
-    account: &Account,
-    stop: &Stop,
+    world: &World,
+    verdict: Verdict,
+    row: &Row,
     sheet: Option<&NodeSheet>,
 ) -> Result<(), OutOfMemory> {
-    let world = account.world();
     let setup = world.setup();
-    let verdict = account.verdict();
-    match &stop.row {
+    match row {
         Row::Event(event) => push_refused(text, setup, event, verdict, sheet),
         Row::Detailed(event) if matches!(verdict, Verdict::Differs(_)) => {
             push_detailed(text, world, event)
@@ -73,6 +81,26 @@ fn push_reason(
         Row::Claim(claim) => push_claimed(text, setup, *claim, sheet),
         Row::Whole(whole) => push_whole_claimed(text, world, whole, sheet),
     }
+}
+
+/// Why the row decided, by this verdict, in the world before it: its text, the cause, and what it speaks of, as a sheet has them. Refused
+/// where an allocation fails.
+pub fn reason(
+    alloc: Global,
+    world: &World,
+    verdict: Verdict,
+    row: &Row,
+) -> Result<String, OutOfMemory> {
+    let mut text = String::new(alloc);
+    push_row(&mut text, row)?;
+    let node = node_of(row);
+    if node.number() > world.setup().nodes() {
+        push_reason(&mut text, world, verdict, row, None)?;
+        return Ok(text);
+    }
+    let sheet = node_sheet(alloc, world, node)?;
+    push_reason(&mut text, world, verdict, row, Some(&sheet))?;
+    Ok(text)
 }
 
 // Appends the row: its number, the line at which it starts, and its text.

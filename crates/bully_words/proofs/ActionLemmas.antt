@@ -7,7 +7,7 @@ use Rattle.clap.specs.declared.error.kind.ErrorKind.TheVariants as kind
 use Rattle.clap.specs.declared.parser.matches.Found.{Found}
 use Rattle.clap.proofs.WalkLemmas.{first_value-rows, raw_values-rows}
 use Rattle.bully_words.specs.declared.action.Action.{Action}
-use Rattle.bully_words.specs.Words.{Asked, asked_by, asked_in, checking, planning, planning_in, planning_of, texts_of}
+use Rattle.bully_words.specs.Words.{Asked, asked_by, asked_in, checking, drawing, planning, planning_in, planning_of, texts_of}
 
 -- a value, and the values, that the readers give
 abbrev text_now : Bor Text → Text
@@ -50,6 +50,15 @@ module _ (f : Found) where
       ∙ (ap (λ x. planning_of (Some path.now) x (first_of (codes "old") (rows_of f))) names
       ∙ ap (λ x. planning_of (Some path.now) (Some (map text_now members.now)) x) (value_is _ old olds)))
 
+  pub words-drawn : (r t n : Option (Bor Text)) → option_map text_now r ≡ first_value f (codes "rows") → option_map text_now t ≡ first_value f (codes "text")
+      → option_map text_now n ≡ first_value f (codes "names")
+      → drawing (option_map text_now r) (option_map text_now t) (option_map text_now n)
+          ≡ drawing (first_of (codes "rows") (rows_of f)) (first_of (codes "text") (rows_of f)) (first_of (codes "names") (rows_of f))
+  words-drawn r t n rows text names =
+      ap (λ x. drawing x (option_map text_now t) (option_map text_now n)) (sym (value_is _ r rows))
+      ∙ ap (λ x. drawing (first_of (codes "rows") (rows_of f)) x (option_map text_now n)) (sym (value_is _ t text))
+      ∙ ap (λ x. drawing (first_of (codes "rows") (rows_of f)) (first_of (codes "text") (rows_of f)) x) (sym (value_is _ n names))
+
 -- ---- an answer by what the words ask for
 
 -- the answer is what is asked for, or memory was refused
@@ -71,6 +80,7 @@ checked Action.Check e = refl
 checked (Action.Explain path) e = absurd (grind (arith, e))
 checked Action.Upgrade e = absurd (grind (arith, e))
 checked Action.Annotate e = absurd (grind (arith, e))
+checked (Action.Draw words) e = absurd (grind (arith, e))
 checked (Action.Play path) e = absurd (grind (arith, e))
 checked (Action.Run path) e = absurd (grind (arith, e))
 checked (Action.Table words) e = absurd (grind (arith, e))

@@ -4,7 +4,7 @@ use Rattle.std.specs.List.{list_all}
 use Rattle.std.specs.Str.{bytes_eq}
 use Rattle.std.specs.declared.alloc.AllocError.{AllocError}
 use Rattle.clap.specs.Words.{App, app_of, Row, Rule, Text, Kinds, all_of, fault_of, first_of, new_app, new_rule, subcommand_of, takes, with_rule, with_subcommand}
-use Rattle.clap.specs.declared.builder.action.ArgAction.TheVariants.{Append, Set}
+use Rattle.clap.specs.declared.builder.action.ArgAction.TheVariants.{Append, Set, SetTrue}
 use Rattle.clap.specs.declared.builder.command.Command.{Command}
 use Rattle.clap.specs.declared.builder.command.Command.TheViews.{out-Command as fields_of}
 use Rattle.clap.specs.declared.error.kind.ErrorKind.{ErrorKind}
@@ -31,6 +31,18 @@ old_rule = record (new_rule (codes "old")) { long = Some (codes "old"); value_na
 abbrev pub explained_rule : Rule
 explained_rule = record (new_rule (codes "config")) { long = Some (codes "config"); value_names = 1; action = Some Set }
 
+-- which rows are drawn, where that is said
+abbrev pub rows_rule : Rule
+rows_rule = record (new_rule (codes "rows")) { long = Some (codes "rows"); value_names = 1; action = Some Set }
+
+-- that the picture is drawn as text
+abbrev pub text_rule : Rule
+text_rule = record (new_rule (codes "text")) { long = Some (codes "text"); action = Some SetTrue }
+
+-- the path of the configuration whose names stand over the lanes, where there is one
+abbrev pub names_rule : Rule
+names_rule = record (new_rule (codes "names")) { long = Some (codes "names"); value_names = 1; action = Some Set }
+
 abbrev pub check_app : App
 check_app = new_app (codes "check")
 
@@ -42,6 +54,9 @@ upgrade_app = new_app (codes "upgrade")
 
 abbrev pub annotate_app : App
 annotate_app = new_app (codes "annotate")
+
+abbrev pub draw_app : App
+draw_app = with_rule (with_rule (with_rule (new_app (codes "draw")) rows_rule) text_rule) names_rule
 
 abbrev pub play_app : App
 play_app = with_rule (new_app (codes "play")) config_rule
@@ -55,8 +70,8 @@ table_app = with_rule (with_rule (with_rule (new_app (codes "table")) config_rul
 -- the program with all of its commands
 abbrev pub program : App
 program =
-    with_subcommand (with_subcommand (with_subcommand (with_subcommand (with_subcommand (with_subcommand (with_subcommand bare check_app.top) explain_app.top) upgrade_app.top)
-    annotate_app.top) play_app.top) run_app.top) table_app.top
+    with_subcommand (with_subcommand (with_subcommand (with_subcommand (with_subcommand (with_subcommand (with_subcommand (with_subcommand bare check_app.top) explain_app.top) upgrade_app.top)
+    annotate_app.top) draw_app.top) play_app.top) run_app.top) table_app.top
 
 -- where the command was made, it reads words as this
 abbrev pub ReadsAs : App → Result Command AllocError → Type 0
@@ -71,13 +86,14 @@ abbrev pub command_named : List Text → Option Text
 command_named words = option_map (λ p. p.0) (subcommand_of program words)
 
 -- what words ask for: to judge the input; to explain the verdict on it, or the configuration at a path; to upgrade the
--- input, or to annotate it; to play the configuration at a path, or to run its node threads; or to plan a table for the configuration at a
+-- input, or to annotate it; to draw it, with the values of `--rows`, `--text` and `--names`; to play the configuration at a path, or to run its node threads; or to plan a table for the configuration at a
 -- path, members by name, and the owners in an old table
 pub data Asked : Type 0 where
   checking : Asked
   explaining : Option Text → Asked
   upgrading : Asked
   annotating : Asked
+  drawing : Option Text → Option Text → Option Text → Asked
   playing : Text → Asked
   running : Text → Asked
   planning : Text → List Text → Option Text → Asked
@@ -97,6 +113,7 @@ asked_by name rows =
     else if bytes_eq name (codes "explain") then Some (explaining (first_of (codes "config") rows))
     else if bytes_eq name (codes "upgrade") then Some upgrading
     else if bytes_eq name (codes "annotate") then Some annotating
+    else if bytes_eq name (codes "draw") then Some (drawing (first_of (codes "rows") rows) (first_of (codes "text") rows) (first_of (codes "names") rows))
     else if bytes_eq name (codes "play") then option_map playing (first_of (codes "CONFIG") rows)
     else if bytes_eq name (codes "run") then option_map running (first_of (codes "CONFIG") rows)
     else if bytes_eq name (codes "table") then planning_in rows
@@ -115,6 +132,7 @@ texts_of Action.Check = checking
 texts_of (Action.Explain path) = explaining (option_map (λ s. s.now) path)
 texts_of Action.Upgrade = upgrading
 texts_of Action.Annotate = annotating
+texts_of (Action.Draw words) = drawing (option_map (λ s. s.now) words.rows) (option_map (λ s. s.now) words.text) (option_map (λ s. s.now) words.names)
 texts_of (Action.Play path) = playing path.now
 texts_of (Action.Run path) = running path.now
 texts_of (Action.Table words) = planning words.config.now (map (λ s. s.now) words.members.items) (option_map (λ s. s.now) words.old)
@@ -134,6 +152,10 @@ ParsesAsUpgrade words = (takes program words ≡ true) × (asked_for words ≡ S
 -- the words are good, and they are those of `annotate`
 abbrev pub ParsesAsAnnotate : List Text → Type 0
 ParsesAsAnnotate words = (takes program words ≡ true) × (asked_for words ≡ Some annotating)
+
+-- the words are good, and they are those of `draw` with these values
+abbrev pub ParsesAsDraw : List Text → Option Text → Option Text → Option Text → Type 0
+ParsesAsDraw words rows text names = (takes program words ≡ true) × (asked_for words ≡ Some (drawing rows text names))
 
 -- the words are good, and they are those of `play` with this CONFIG
 abbrev pub ParsesAsPlay : List Text → Text → Type 0

@@ -1,6 +1,6 @@
 ghost use Rattle.std.specs.Prelude.{◌≡◌, ◌≢◌, ◌⊎◌, [], codes, true, None, Some, map, option_map, IfOk, IfErr, IsErrAnd, MatchResult};
 ghost use Rattle.clap.specs.Words.{fault_of, first_of, found_of, kind_of, rows_of, subcommand_of, subcommand_rows_of, takes, FailsBy, HasKind};
-ghost use Rattle.bully_words.specs.Words.{annotating, asked_by, asked_for, asked_in, explaining, playing, planning, planning_in, program, running, texts_of, upgrading, ParsesAsAnnotate, ParsesAsCheck, ParsesAsExplain, ParsesAsPlay, ParsesAsRun, ParsesAsTable, ParsesAsUpgrade};
+ghost use Rattle.bully_words.specs.Words.{annotating, asked_by, asked_for, asked_in, drawing, explaining, playing, planning, planning_in, program, running, texts_of, upgrading, ParsesAsAnnotate, ParsesAsCheck, ParsesAsDraw, ParsesAsExplain, ParsesAsPlay, ParsesAsRun, ParsesAsTable, ParsesAsUpgrade};
 
 use crate::command::command_line;
 use clap::error::ErrorKind;
@@ -19,12 +19,23 @@ pub enum Action<'a> {
     Upgrade,
     /// Write the lawful trace on the input as one of version 3, with everything said.
     Annotate,
+    /// Draw the trace on the input.
+    Draw(DrawWords<'a>),
     /// Play the group of the configuration at this path.
     Play(&'a str),
     /// Run the group of the configuration at this path in threads.
     Run(&'a str),
     /// Plan a table.
     Table(TableWords<'a>),
+}
+
+/// What the words of `draw` name: which rows are drawn, whether it is as text, and the path of a configuration with names; each as it
+/// stands there, where it does. A flag stands as `true` or `false`.
+#[derive(Drop)]
+pub struct DrawWords<'a> {
+    pub rows: Option<&'a str>,
+    pub text: Option<&'a str>,
+    pub names: Option<&'a str>,
 }
 
 /// What the words of `table` name: the path of a configuration, the names of the members, and the owners of the
@@ -44,6 +55,7 @@ pub fn action_of<'a, S: AsStr>(alloc: Global, words: &'a [S]) -> Result<Action<'
     ensures explain { (path : _) → ParsesAsExplain (map S.text words.now) path → MatchResult result (λ action. texts_of action ≡ explaining path) (λ error. kind_of error ≡ ErrorKind.OutOfMemory) }
     ensures upgrade { ParsesAsUpgrade (map S.text words.now) → MatchResult result (λ action. texts_of action ≡ upgrading) (λ error. kind_of error ≡ ErrorKind.OutOfMemory) }
     ensures annotate { ParsesAsAnnotate (map S.text words.now) → MatchResult result (λ action. texts_of action ≡ annotating) (λ error. kind_of error ≡ ErrorKind.OutOfMemory) }
+    ensures draw { (rows : _) (text : _) (names : _) → ParsesAsDraw (map S.text words.now) rows text names → MatchResult result (λ action. texts_of action ≡ drawing rows text names) (λ error. kind_of error ≡ ErrorKind.OutOfMemory) }
     ensures play { (path : _) → ParsesAsPlay (map S.text words.now) path → MatchResult result (λ action. texts_of action ≡ playing path) (λ error. kind_of error ≡ ErrorKind.OutOfMemory) }
     ensures run { (path : _) → ParsesAsRun (map S.text words.now) path → MatchResult result (λ action. texts_of action ≡ running path) (λ error. kind_of error ≡ ErrorKind.OutOfMemory) }
     ensures table { (path : _) (members : _) (old : _) → ParsesAsTable (map S.text words.now) path members old → MatchResult result (λ action. texts_of action ≡ planning path members old) (λ error. kind_of error ≡ ErrorKind.OutOfMemory) }
@@ -103,6 +115,7 @@ fn named<'a>(
         "explain" => Ok(Some(Action::Explain(explained_path(found)))),
         "upgrade" => Ok(Some(Action::Upgrade)),
         "annotate" => Ok(Some(Action::Annotate)),
+        "draw" => Ok(Some(Action::Draw(draw_words(found)))),
         "play" => Ok(config_path(found).map(Action::Play)),
         "run" => Ok(config_path(found).map(Action::Run)),
         "table" => table_words(alloc, found),
@@ -122,6 +135,17 @@ fn explained_path<'a>(found: &ArgMatches<'a>) -> Option<&'a str>
     ensures { option_map (λ s. s.now) result ≡ first_of (codes "config") (rows_of (found_of found.now)) }
 {
     found.get_str("config")
+}
+
+// The words of `draw`.
+fn draw_words<'a>(found: &ArgMatches<'a>) -> DrawWords<'a>
+    ensures { texts_of (Action.Draw result) ≡ drawing (first_of (codes "rows") (rows_of (found_of found.now))) (first_of (codes "text") (rows_of (found_of found.now))) (first_of (codes "names") (rows_of (found_of found.now))) }
+{
+    DrawWords {
+        rows: found.get_str("rows"),
+        text: found.get_str("text"),
+        names: found.get_str("names"),
+    }
 }
 
 // The words of `table`.

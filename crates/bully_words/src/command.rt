@@ -1,6 +1,6 @@
 ghost use Rattle.std.specs.Prelude.{◌≡◌, false, IfOk, IsOkAnd, Ok};
 ghost use Rattle.clap.specs.Words.{new_app, rule_of, with_rule};
-ghost use Rattle.bully_words.specs.Words.{bare, config_rule, explain_app, explained_rule, member_rule, old_rule, play_app, program, run_app, table_app, IsLocalCommand, ReadsAs};
+ghost use Rattle.bully_words.specs.Words.{bare, config_rule, draw_app, explain_app, explained_rule, member_rule, names_rule, old_rule, play_app, program, rows_rule, run_app, table_app, text_rule, IsLocalCommand, ReadsAs};
 
 use crate::help;
 use clap::{Arg, ArgAction, Command};
@@ -23,6 +23,7 @@ pub fn command_line<'a>(alloc: Global) -> Result<Command<'a>, AllocError>
     let command = joined(command, explain_command(alloc), Command::subcommand);
     let command = joined(command, Ok(upgrade), Command::subcommand);
     let command = joined(command, Ok(annotate), Command::subcommand);
+    let command = joined(command, draw_command(alloc), Command::subcommand);
     let command = joined(command, play_command(alloc), Command::subcommand);
     let command = joined(command, run_command(alloc), Command::subcommand);
     joined(command, table_command(alloc), Command::subcommand)
@@ -64,6 +65,18 @@ fn explain_command<'a>(alloc: Global) -> Result<Command<'a>, AllocError>
         .about("Explains the verdict on the trace on the standard input")
         .after_help(help::EXPLAIN)
         .arg(explained_arg(alloc))
+}
+
+// The command that draws a trace.
+fn draw_command<'a>(alloc: Global) -> Result<Command<'a>, AllocError>
+    ensures { IsLocalCommand draw_app result }
+{
+    let command = Command::new(alloc, "draw")
+        .about("Draws the trace on the standard input as an SVG picture")
+        .after_help(help::DRAW)
+        .arg(rows_arg(alloc));
+    let command = joined(command, Ok(text_arg(alloc)), Command::arg);
+    joined(command, Ok(names_arg(alloc)), Command::arg)
 }
 
 // The command that plays a group.
@@ -125,6 +138,38 @@ fn explained_arg<'a>(alloc: Global) -> Arg<'a>
         .value_name("CONFIG")
         .action(ArgAction::Set)
         .help("The path of a configuration, to explain its first fault in place of a trace")
+}
+
+fn rows_arg<'a>(alloc: Global) -> Arg<'a>
+    ensures rule { rule_of result ≡ rows_rule }
+    ensures local { result.global ≡ false }
+{
+    Arg::new(alloc, "rows")
+        .long("rows")
+        .value_name("FROM-TO")
+        .action(ArgAction::Set)
+        .help("The rows that are drawn, counted from 1, the header: 2000 at most")
+}
+
+fn text_arg<'a>(alloc: Global) -> Arg<'a>
+    ensures rule { rule_of result ≡ text_rule }
+    ensures local { result.global ≡ false }
+{
+    Arg::new(alloc, "text")
+        .long("text")
+        .action(ArgAction::SetTrue)
+        .help("Draws it as text, for a terminal")
+}
+
+fn names_arg<'a>(alloc: Global) -> Arg<'a>
+    ensures rule { rule_of result ≡ names_rule }
+    ensures local { result.global ≡ false }
+{
+    Arg::new(alloc, "names")
+        .long("names")
+        .value_name("CONFIG")
+        .action(ArgAction::Set)
+        .help("The path of a configuration, whose names stand over the lanes")
 }
 
 fn member_arg<'a>(alloc: Global) -> Arg<'a>

@@ -63,6 +63,18 @@ pub const ANNOTATE: &str = "\
     \n\
     Example: bully annotate < examples/alone.csv | bully check";
 
+/// What help tells of `draw`.
+pub const DRAW: &str = "\
+    Reads a trace on standard input as 'check' does, and writes an SVG picture of it\n\
+    on standard output: a lane for each node, and arrows for the calls. It shows the\n\
+    200 rows that end at the verdict, or those of --rows. A row that is refused or\n\
+    differs is the last one, with a sentence below it.\n\
+    \n\
+    Statuses: 0 lawful, 1 refused or differs, 2 bad words, 3 a fault of form in the\n\
+    trace or in the configuration, 4 Read, Write or OutOfMemory.\n\
+    \n\
+    Example: bully draw < examples/all_up.csv > all_up.svg";
+
 /// What help tells of `play`.
 pub const PLAY: &str = "\
     Reads the configuration, plays its group turn by turn on one thread, and writes\n\

@@ -7,4 +7,4 @@ mod action;
 mod command;
 mod help;
 
-pub use action::{Action, TableWords, action_of};
+pub use action::{Action, DrawWords, TableWords, action_of};

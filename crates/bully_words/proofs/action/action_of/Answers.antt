@@ -1,6 +1,6 @@
 use Rattle.std.proofs.Common.{subst, map, IfOk, Some, ◌≡◌}
 use Rattle.clap.specs.Words.{subcommand_of}
-use Rattle.bully_words.specs.Words.{annotating, asked_in, checking, explaining, planning, playing, program, running, texts_of, upgrading}
+use Rattle.bully_words.specs.Words.{annotating, asked_in, checking, drawing, explaining, planning, playing, program, running, texts_of, upgrading}
 use Rattle.bully_words.proofs.ActionLemmas.{answer-asked, answer-checked, check-asks}
 use Rattle.bully_words.proofs.action.action_of.Goals as goal
 
@@ -24,6 +24,10 @@ returns-in-Ok-clause-upgrade g c = λ parses.
 pub returns-in-Ok-clause-annotate : goal.returns-in-Ok-clause-annotate
 returns-in-Ok-clause-annotate g c = λ parses.
     answer-asked c.action_in.result _ (subcommand_of program (map g.S.AsStr.text c.args.words.now)) annotating c.in-Ok.ensures.rows parses.1 c.action_in.ensures.asked c.action_in.ensures.nothing
+
+pub returns-in-Ok-clause-draw : goal.returns-in-Ok-clause-draw
+returns-in-Ok-clause-draw g c = λ rows text names parses.
+    answer-asked c.action_in.result _ (subcommand_of program (map g.S.AsStr.text c.args.words.now)) (drawing rows text names) c.in-Ok.ensures.rows parses.1 c.action_in.ensures.asked c.action_in.ensures.nothing
 
 pub returns-in-Ok-clause-play : goal.returns-in-Ok-clause-play
 returns-in-Ok-clause-play g c = λ path parses.

@@ -1,6 +1,6 @@
 use Rattle.std.proofs.Common.{rules, Ok}
 use Rattle.clap.specs.Words.{with_subcommand}
-use Rattle.bully_words.specs.Words.{annotate_app, bare, check_app, explain_app, play_app, run_app, table_app, upgrade_app, IsLocalCommand, ReadsAs}
+use Rattle.bully_words.specs.Words.{annotate_app, bare, check_app, draw_app, explain_app, play_app, run_app, table_app, upgrade_app, IsLocalCommand, ReadsAs}
 use Rattle.bully_words.proofs.CommandLemmas.{added_command}
 use Rattle.bully_words.proofs.command.command_line.Goals as goal
 
@@ -10,7 +10,8 @@ returns c =
     let explain = with_subcommand check explain_app.top in
     let upgrade = with_subcommand explain upgrade_app.top in
     let annotate = with_subcommand upgrade annotate_app.top in
-    let play = with_subcommand annotate play_app.top in
+    let draw = with_subcommand annotate draw_app.top in
+    let play = with_subcommand draw play_app.top in
     let run = with_subcommand play run_app.top in
     let is_check : IsLocalCommand check_app (Ok c.after_help-check.result) = search rules in
     let is_upgrade : IsLocalCommand upgrade_app (Ok c.after_help-upgrade.result) = search rules in
@@ -23,8 +24,10 @@ returns c =
     added_command explain upgrade_app _ (Ok c.after_help-upgrade.result) c.joined-command-3.result reads_explain is_upgrade c.joined-command-3.ensures in
     let reads_annotate : ReadsAs annotate c.joined-command-4.result =
     added_command upgrade annotate_app _ (Ok c.after_help-annotate.result) c.joined-command-4.result reads_upgrade is_annotate c.joined-command-4.ensures in
-    let reads_play : ReadsAs play c.joined-command-5.result =
-    added_command annotate play_app _ _ c.joined-command-5.result reads_annotate c.play_command.ensures c.joined-command-5.ensures in
-    let reads_run : ReadsAs run c.joined-command-6.result =
-    added_command play run_app _ _ c.joined-command-6.result reads_play c.run_command.ensures c.joined-command-6.ensures in
+    let reads_draw : ReadsAs draw c.joined-command-5.result =
+    added_command annotate draw_app _ _ c.joined-command-5.result reads_annotate c.draw_command.ensures c.joined-command-5.ensures in
+    let reads_play : ReadsAs play c.joined-command-6.result =
+    added_command draw play_app _ _ c.joined-command-6.result reads_draw c.play_command.ensures c.joined-command-6.ensures in
+    let reads_run : ReadsAs run c.joined-command-7.result =
+    added_command play run_app _ _ c.joined-command-7.result reads_play c.run_command.ensures c.joined-command-7.ensures in
     added_command run table_app _ _ c.joined.result reads_run c.table_command.ensures c.joined.ensures

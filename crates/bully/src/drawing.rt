@@ -1,0 +1,169 @@
+ghost use Rattle.std.specs.Prelude.{◌≡◌, ◌≤◌, ◌⊎◌, IfSome};
+ghost use Rattle.std.specs.Io.KnownBytes.{Appends};
+ghost use Rattle.bully.specs.Answer.{Tells, stop_line, verdict_status};
+ghost use Rattle.bully.specs.DrawAnswer.{IsDrawAnswer};
+
+use crate::checking::verdict_status;
+use crate::configs::{bytes_at, config_of};
+use crate::refusals::{Refusal, answer_refusal};
+use crate::telling::{Stop, answer_fault, answer_stop, finish, tell};
+use bully_base::{Node, OutOfMemory};
+use bully_config::Config;
+use bully_explain::reason;
+use bully_film::{Reel, Window, film_of};
+use bully_picture::{svg_picture, text_picture};
+use bully_words::DrawWords;
+use std::alloc::Global;
+use std::io::{Read, Write};
+use std::rt::Files;
+
+/// Draws the trace on the input, with the picture on the output, and tells the status, which is that of `check`. The words are looked at
+/// first, then the configuration with the names, then the trace.
+pub fn answer_draw<H: Files + AllocGlobal, R: Read + Drop, W: Write, E: Write>(
+    rt: &H,
+    words: &DrawWords<'_>,
+    input: R,
+    output: &mut W,
+    errors: &mut E,
+) -> u8
+    ensures answer { IfSome (R.remaining input) (λ bytes. IsDrawAnswer bytes (W.contents output.old) (W.contents output.new) (E.contents errors.old) (E.contents errors.new) result) }
+    ensures silent { (result ≡ 2) ⊎ (result ≡ 3) → output.new ≡ output.old }
+    ensures status { result ≤ 4 }
+{
+    let Some(window) = window_of(words.rows) else {
+        tell(errors, "bully: words: Rows\n");
+        return 2;
+    };
+    let is_text = is_asked(words.text);
+    match words.names {
+        Some(path) => draw_named(rt, path, window, is_text, input, output, errors),
+        None => draw_input(rt.alloc(), window, is_text, None, input, output, errors),
+    }
+}
+
+// Whether the flag was given.
+fn is_asked(flag: Option<&str>) -> bool {
+    match flag {
+        Some(text) => text == "true",
+        None => false,
+    }
+}
+
+// The window of the words, as `2-50`; the one at the end without words. None where they are no window.
+fn window_of(rows: Option<&str>) -> Option<Window> {
+    let Some(rows) = rows else {
+        return Some(Window::at_the_end());
+    };
+    let (from, to) = rows.split_once('-')?;
+    Window::between(row_number(from)?, row_number(to)?)
+}
+
+// The number of a row.
+fn row_number(text: &str) -> Option<u32> {
+    text.parse::<u32>().ok()
+}
+
+// Draws the trace on the input, with the names of the configuration at the path.
+fn draw_named<H: Files + AllocGlobal, R: Read + Drop, W: Write, E: Write>(
+    rt: &H,
+    path: &str,
+    window: Window,
+    is_text: bool,
+    input: R,
+    output: &mut W,
+    errors: &mut E,
+) -> u8 {
+    match bytes_at(rt, path) {
+        Ok(bytes) => match config_of(rt.alloc(), bytes.as_slice()) {
+            Ok(config) => {
+                let names = Some(&config);
+                draw_input(rt.alloc(), window, is_text, names, input, output, errors)
+            }
+            Err(fault) => answer_refusal(rt.alloc(), Refusal::from(fault), errors),
+        },
+        Err(stop) => answer_stop(stop, errors),
+    }
+}
+
+// Draws the trace on the input.
+fn draw_input<R: Read + Drop, W: Write, E: Write>(
+    alloc: Global,
+    window: Window,
+    is_text: bool,
+    names: Option<&Config>,
+    input: R,
+    output: &mut W,
+    errors: &mut E,
+) -> u8 {
+    match film_of(alloc, input, window) {
+        Ok(reel) => draw_reel(alloc, &reel, is_text, names, output, errors),
+        Err(fault) => answer_fault(alloc, fault, errors),
+    }
+}
+
+// Draws what a film shows.
+fn draw_reel<W: Write, E: Write>(
+    alloc: Global,
+    reel: &Reel,
+    is_text: bool,
+    names: Option<&Config>,
+    output: &mut W,
+    errors: &mut E,
+) -> u8 {
+    match picture_of(alloc, reel, is_text, names) {
+        Ok(picture) => write_picture(verdict_status(reel.verdict), picture.as_str(), output, errors),
+        Err(_) => answer_stop(Stop::OutOfMemory, errors),
+    }
+}
+
+// Writes the picture, and tells this status.
+fn write_picture<W: Write, E: Write>(
+    status: u8,
+    picture: &str,
+    output: &mut W,
+    errors: &mut E,
+) -> u8
+    ensures { ((result ≡ status) × Appends (W.contents output.old) (W.contents output.new) picture.now × (errors.new ≡ errors.old))
+        ⊎ ((result ≡ 4) × Tells (E.contents errors.old) (E.contents errors.new) (stop_line Stop.Write)) }
+{
+    if output.write_all(picture.as_bytes()).is_err() {
+        return answer_stop(Stop::Write, errors);
+    }
+    finish(status, output, errors)
+}
+
+// The picture of what a film shows.
+fn picture_of(
+    alloc: Global,
+    reel: &Reel,
+    is_text: bool,
+    names: Option<&Config>,
+) -> Result<String, OutOfMemory> {
+    let below = below(alloc, reel)?;
+    if is_text {
+        return text_picture(alloc, reel, below.as_str());
+    }
+    let names = names_of(alloc, names)?;
+    svg_picture(alloc, reel, names.as_slice(), below.as_str())
+}
+
+// Why the row that decided did so; nothing of a lawful trace.
+fn below(alloc: Global, reel: &Reel) -> Result<String, OutOfMemory> {
+    match &reel.stop {
+        Some(row) => reason(alloc, reel.judge.world(), reel.verdict, row),
+        None => Ok(String::new(alloc)),
+    }
+}
+
+// The names of the configuration's nodes, from node 1 on.
+fn names_of<'a>(alloc: Global, config: Option<&'a Config>) -> Result<Vec<&'a str>, OutOfMemory> {
+    let mut names = Vec::new(alloc);
+    let Some(config) = config else {
+        return Ok(names);
+    };
+    for before in 0..config.setup().nodes() {
+        let node = Node::new(before + 1).unwrap();
+        names.push(config.name(node))?;
+    }
+    Ok(names)
+}

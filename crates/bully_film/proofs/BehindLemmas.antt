@@ -1,0 +1,191 @@
+-- The world behind the first rows of a trace, and which nodes a row leaves as they were.
+use Rattle.std.proofs.Common.{◌≡◌, ◌≢◌, ◌⊎◌, inl, inr, ◌∙◌, ℕ, ◌+◌, ◌++◌, Bool, true, false, List, [], ◌∷◌, Option, Some, None, MatchOption, if◌then◌else◌, length, refl, sym, ap, subst, arith}
+use Rattle.std.specs.Prelude.{option_map}
+use Rattle.std.specs.Bool.{MatchBool}
+use Rattle.bully_base.specs.Setup.{Setup}
+use Rattle.bully_calls.specs.declared.call.Answer.{Answer}
+use Rattle.bully_calls.specs.declared.call.Outcome.{Outcome}
+use Rattle.bully_calls.specs.Pending.{Pending}
+use Rattle.bully_world.specs.declared.event.Event.{Event}
+use Rattle.bully_world.specs.declared.event.Refused.{Refused}
+use Rattle.bully_world.specs.Cause.{cause, node_of}
+use Rattle.bully_world.specs.NodeInvariant.{WorldInvariant}
+use Rattle.bully_world.specs.State.{world_of}
+use Rattle.bully_world.specs.Step.{Proceeds, Returns, Step, ran}
+use Rattle.bully_world.specs.StepOf.{StepResult, step_of}
+use Rattle.bully_world.specs.World.{Member, World, first_world, member, with_member}
+use Rattle.bully_world.proofs.MemberLemmas.{member_other}
+use Rattle.bully_world.proofs.NodeInvariantLemmas.{first_fits, step_fits}
+use Rattle.bully_world.proofs.RunInvariant.{ran_other}
+use Rattle.bully_world.proofs.StepOfLemmas.{computed_steps, step_is_computed}
+use Rattle.bully_rows.specs.declared.trace.Row.{Row}
+use Rattle.bully_rows.specs.declared.detail.Detail.{Detail}
+use Rattle.bully_rows.specs.declared.detail.DetailedEvent.{DetailedEvent}
+use Rattle.bully_rows.specs.EventsTold.{event_of, event_told}
+use Rattle.bully_trace.specs.declared.verdict.Verdict.{Verdict}
+use Rattle.bully_trace.specs.Details.{is_so, is_true, is_whole}
+use Rattle.bully_trace.specs.Judging.{HasJudged, IsJudgedOn, JudgeState}
+use Rattle.bully_trace.specs.Verdict.{IsJudged}
+use Rattle.bully_trace.proofs.JudgeLemmas.{judged-all}
+use Rattle.bully_account.specs.Possible.{deed_of}
+use Rattle.bully_annotate.specs.Annotated.{callee_or}
+use Rattle.bully_film.specs.Behind.{LeadsBehind, decides, next_count, next_world, stepped, taken, world_behind}
+use Rattle.bully_film.specs.Scene.{deed_in, node_in, place_at, seen_of, sight}
+
+-- ---- rows that are judged lead to it
+
+step-is : (setup : Setup) (w : World) (e : Event) (mid : World) (a : Answer) → Step setup w e mid a → stepped setup w e ≡ mid
+step-is setup w e mid a step = rw ((step_is_computed setup w e mid a).1 step) refl
+
+-- behind an event, where more is known of the world behind it
+event-leads : (setup : Setup) (w mid : World) (e : Event) (count number : ℕ) (rows : List Row) (verdict : Verdict) (w' : World) (a : Answer) → Step setup w e mid a
+    → w' ≡ taken setup mid (count + 1) rows → w' ≡ taken setup (stepped setup w e) (count + 1) rows
+event-leads setup w mid e count number rows verdict w' a step is = subst (λ m. w' ≡ taken setup m (count + 1) rows) (sym (step-is setup w e mid a step)) is
+
+pub leads : (setup : Setup) (w : World) (count number : ℕ) (rows : List Row) (verdict : Verdict) (w' : World) → IsJudged setup w count number rows verdict w' → w' ≡ taken setup w count rows
+leads setup w count number [] verdict w' j = j.1
+leads setup w count number (Row.Event e ∷ rows) verdict w' j = by_cause (cause setup w count e) refl j (λ mid. leads setup mid (count + 1) (number + 1) rows verdict w')
+  where
+    by_cause : (q : Option Refused) → cause setup w count e ≡ q
+        → MatchOption q ((mid : World) × (a : Answer) × Step setup w e mid a × IsJudged setup mid (count + 1) (number + 1) rows verdict w') (λ why. (verdict ≡ Verdict.Refused number why) × (w' ≡ w))
+        → ((mid : World) → IsJudged setup mid (count + 1) (number + 1) rows verdict w' → w' ≡ taken setup mid (count + 1) rows)
+        → w' ≡ taken setup w count (Row.Event e ∷ rows)
+    by_cause None none (mid, a, step, j) more = rw none (event-leads setup w mid e count number rows verdict w' a step (more mid j))
+    by_cause (Some why) is j more = rw is (j.1)
+leads setup w count number (Row.Detailed d ∷ rows) verdict w' j = by_cause (cause setup w count (event_of d)) (is_so setup w d) refl refl j (λ mid. leads setup mid (count + 1) (number + 1) rows verdict w')
+  where
+    by_cause : (q : Option Refused) (so : Bool) → cause setup w count (event_of d) ≡ q → is_so setup w d ≡ so
+        → MatchOption q (MatchBool so ((mid : World) × (a : Answer) × Step setup w (event_of d) mid a × IsJudged setup mid (count + 1) (number + 1) rows verdict w')
+        ((verdict ≡ Verdict.Differs number) × (w' ≡ w))) (λ why. (verdict ≡ Verdict.Refused number why) × (w' ≡ w))
+        → ((mid : World) → IsJudged setup mid (count + 1) (number + 1) rows verdict w' → w' ≡ taken setup mid (count + 1) rows)
+        → w' ≡ taken setup w count (Row.Detailed d ∷ rows)
+    by_cause None true none so (mid, a, step, j) more = rw (none, so) (event-leads setup w mid (event_of d) count number rows verdict w' a step (more mid j))
+    by_cause None false none so j more = rw (none, so) (j.1)
+    by_cause (Some why) so is at j more = rw is (j.1)
+leads setup w count number (Row.Claim claim ∷ rows) verdict w' j = by_claim (is_true setup w claim) refl j (leads setup w count (number + 1) rows verdict w')
+  where
+    by_claim : (b : Bool) → is_true setup w claim ≡ b → MatchBool b (IsJudged setup w count (number + 1) rows verdict w') ((verdict ≡ Verdict.Differs number) × (w' ≡ w))
+        → (IsJudged setup w count (number + 1) rows verdict w' → w' ≡ taken setup w count rows) → w' ≡ taken setup w count (Row.Claim claim ∷ rows)
+    by_claim true is j more = rw is (more j)
+    by_claim false is j more = rw is (j.1)
+leads setup w count number (Row.Whole whole ∷ rows) verdict w' j = by_claim (is_whole setup w whole) refl j (leads setup w count (number + 1) rows verdict w')
+  where
+    by_claim : (b : Bool) → is_whole setup w whole ≡ b → MatchBool b (IsJudged setup w count (number + 1) rows verdict w') ((verdict ≡ Verdict.Differs number) × (w' ≡ w))
+        → (IsJudged setup w count (number + 1) rows verdict w' → w' ≡ taken setup w count rows) → w' ≡ taken setup w count (Row.Whole whole ∷ rows)
+    by_claim true is j more = rw is (more j)
+    by_claim false is j more = rw is (j.1)
+
+pub leads-behind : LeadsBehind
+leads-behind setup rows verdict w j = leads setup (first_world setup) 0 2 rows verdict w j
+
+-- the judge's world is the one behind the rows that it took
+pub judged-world : (setup : Setup) (rows : List Row) (judge : JudgeState) → HasJudged setup rows judge → world_of judge.world ≡ world_behind setup rows
+judged-world setup rows judge judged = by_stop judge.stopped refl
+  where
+    by_stop : (stopped : Option Verdict) → judge.stopped ≡ stopped → world_of judge.world ≡ world_behind setup rows
+    by_stop None is = leads-behind setup rows (Verdict.Lawful judge.world.events) (world_of judge.world)
+        (judged-all setup rows judge (Verdict.Lawful judge.world.events) (world_of judge.world) (rw is (refl, refl)) judged)
+    by_stop (Some verdict) is = leads-behind setup rows verdict (world_of judge.world)
+        (judged-all setup rows judge verdict (world_of judge.world) (rw is (refl, refl)) judged)
+
+-- ---- which nodes stay as they were
+
+
+written-stays : (w w' : World) (i j : ℕ) (m : Member) → w' ≡ with_member w i m → j ≢ i → member w' j ≡ member w j
+written-stays w w' i j m is other = rw is (member_other w i j m other)
+
+proceeds-stays : (setup : Setup) (w : World) (i : ℕ) (o : Outcome) (w' : World) (j : ℕ) → Proceeds setup w i o w' → j ≢ i → member w' j ≡ member w j
+proceeds-stays setup w i o w' j (p, at, is) other = written-stays w w' i j _ is other
+
+returns-stays : (setup : Setup) (w : World) (i : ℕ) (is_live : Bool) (o : Outcome) (w' : World) (a : Answer) (j : ℕ) → Returns setup w i is_live o w' a → j ≢ i → member w' j ≡ member w j
+returns-stays setup w i true o w' a j (proceeds, is) other = proceeds-stays setup w i o w' j proceeds other
+returns-stays setup w i false o w' a j (is, discarded) other = written-stays w w' i j _ is other
+
+-- a run changes its caller and its callee alone
+run-stays : (setup : Setup) (w : World) (i : ℕ) (w' : World) (a : Answer) (j : ℕ) → WorldInvariant setup w → Step setup w (Event.Run i) w' a
+    → j ≢ i → j ≢ place_at w i (Some (deed_of (Event.Run i))) → member w' j ≡ member w j
+run-stays setup w i w' a j fits (c, at, sent, up, is, answered) apart other = rw is (ran_other setup w i c fits at up j apart callee)
+  where
+    callee : j ≢ c.call.callee
+    callee e = other (e ∙ sym (ap (callee_or i) (ap (option_map (λ (p : Pending). p.call)) at)))
+
+-- an event leaves each node but its own and the one whose vector it may change
+pub event-stays : (setup : Setup) (w : World) (e : Event) (w' : World) (a : Answer) (j : ℕ) → WorldInvariant setup w → Step setup w e w' a
+    → j ≢ node_of e → j ≢ place_at w (node_of e) (Some (deed_of e)) → member w' j ≡ member w j
+event-stays setup w (Event.Recover i) w' a j fits (node, down, is, done) apart other = written-stays w w' i j _ is apart
+event-stays setup w (Event.Crash i) w' a j fits (up, is, done) apart other = written-stays w w' i j _ is apart
+event-stays setup w (Event.Check i) w' a j fits (up, idle, is, done) apart other = written-stays w w' i j _ is apart
+event-stays setup w (Event.Timeout i) w' a j fits (up, idle, is, done) apart other = written-stays w w' i j _ is apart
+event-stays setup w (Event.Start i) w' a j fits (up, free, call, offers, is, done) apart other = written-stays w w' i j _ is apart
+event-stays setup w (Event.Run i) w' a j fits step apart other = run-stays setup w i w' a j fits step apart other
+event-stays setup w (Event.Lose i) w' a j fits (c, at, phase, down, is, done) apart other = written-stays w w' i j _ is apart
+event-stays setup w (Event.Return i) w' a j fits (c, o, at, outcome, returns) apart other = returns-stays setup w i c.is_live o w' a j returns apart
+event-stays setup w (Event.Drop i) w' a j fits (c, at, orphan, is, discarded) apart other = written-stays w w' i j _ is apart
+event-stays setup w (Event.Move i) w' a j fits (up, free, offers, proceeds, done) apart other = proceeds-stays setup w i Outcome.Moved w' j proceeds apart
+event-stays setup w (Event.Plan i table) w' a j fits (at, free, count, balanced, is, done) apart other = written-stays w w' i j _ is apart
+
+-- the same of the world behind it, if it is possible
+stepped-stays : (setup : Setup) (w : World) (e : Event) (j : ℕ) → WorldInvariant setup w → j ≢ node_of e → j ≢ place_at w (node_of e) (Some (deed_of e))
+    → member (stepped setup w e) j ≡ member w j
+stepped-stays setup w e j fits apart other = by_step (step_of setup w e) refl
+  where
+    by_step : (q : StepResult) → step_of setup w e ≡ q → member (elim q as (λ _. World) [ None ↦ w | Some r ↦ r.0 ]) j ≡ member w j
+    by_step None is = refl
+    by_step (Some (w', a)) is = event-stays setup w e w' a j fits (computed_steps setup w e w' a is) apart other
+
+stepped-fits : (setup : Setup) (w : World) (e : Event) → WorldInvariant setup w → WorldInvariant setup (stepped setup w e)
+stepped-fits setup w e fits = by_step (step_of setup w e) refl
+  where
+    by_step : (q : StepResult) → step_of setup w e ≡ q → WorldInvariant setup (elim q as (λ _. World) [ None ↦ w | Some r ↦ r.0 ])
+    by_step None is = fits
+    by_step (Some (w', a)) is = step_fits setup w e w' a (computed_steps setup w e w' a is) fits
+
+next-fits : (setup : Setup) (w : World) (row : Row) → WorldInvariant setup w → WorldInvariant setup (next_world setup w row)
+next-fits setup w (Row.Event e) fits = stepped-fits setup w e fits
+next-fits setup w (Row.Detailed d) fits = stepped-fits setup w (event_of d) fits
+next-fits setup w (Row.Claim claim) fits = fits
+next-fits setup w (Row.Whole whole) fits = fits
+
+-- the node that a row of version 3 names is its event's
+told-node : (d : DetailedEvent) → node_of (event_of d) ≡ d.node
+told-node d = by_detail d.detail
+  where
+    by_detail : (detail : Detail) → node_of (event_told detail d.node) ≡ d.node
+    by_detail (Detail.Start call) = refl
+    by_detail (Detail.Run call a) = refl
+    by_detail (Detail.Lose call) = refl
+    by_detail (Detail.Return call a) = refl
+    by_detail (Detail.Drop call) = refl
+
+next-stays : (setup : Setup) (w : World) (row : Row) (j : ℕ) → WorldInvariant setup w → j ≢ node_in row → j ≢ place_at w (node_in row) (deed_in row)
+    → member (next_world setup w row) j ≡ member w j
+next-stays setup w (Row.Event e) j fits apart other = stepped-stays setup w e j fits apart other
+next-stays setup w (Row.Detailed d) j fits apart other =
+    stepped-stays setup w (event_of d) j fits (λ e. apart (e ∙ told-node d)) (λ e. other (e ∙ ap (λ i. place_at w i (Some (deed_of (event_of d)))) (told-node d)))
+next-stays setup w (Row.Claim claim) j fits apart other = refl
+next-stays setup w (Row.Whole whole) j fits apart other = refl
+
+-- one more row leaves each node but its own and the one whose vector it may change
+taken-stays : (setup : Setup) (w : World) (count : ℕ) (rows : List Row) (row : Row) (j : ℕ) → WorldInvariant setup w
+    → j ≢ node_in row → j ≢ place_at (taken setup w count rows) (node_in row) (deed_in row)
+    → member (taken setup w count (rows ++ row ∷ [])) j ≡ member (taken setup w count rows) j
+taken-stays setup w count [] row j fits apart other = by_test (decides setup w count row)
+  where
+    by_test : (b : Bool) → member (if b then w else next_world setup w row) j ≡ member w j
+    by_test true = refl
+    by_test false = next-stays setup w row j fits apart other
+taken-stays setup w count (first ∷ rows) row j fits apart other =
+    by_test (decides setup w count first) other (taken-stays setup (next_world setup w first) (next_count count first) rows row j (next-fits setup w first fits) apart)
+  where
+    by_test : (b : Bool) → j ≢ place_at (if b then w else taken setup (next_world setup w first) (next_count count first) rows) (node_in row) (deed_in row)
+        → (j ≢ place_at (taken setup (next_world setup w first) (next_count count first) rows) (node_in row) (deed_in row)
+        → member (taken setup (next_world setup w first) (next_count count first) (rows ++ row ∷ [])) j ≡ member (taken setup (next_world setup w first) (next_count count first) rows) j)
+        → member (if b then w else taken setup (next_world setup w first) (next_count count first) (rows ++ row ∷ [])) j
+            ≡ member (if b then w else taken setup (next_world setup w first) (next_count count first) rows) j
+    by_test true other more = refl
+    by_test false other more = more other
+
+pub behind-stays : (setup : Setup) (before : List Row) (row : Row) (j : ℕ) → j ≢ node_in row → j ≢ place_at (world_behind setup before) (node_in row) (deed_in row)
+    → sight (world_behind setup (before ++ row ∷ [])) j ≡ sight (world_behind setup before) j
+behind-stays setup before row j apart other =
+    ap seen_of (taken-stays setup (first_world setup) 0 before row j (first_fits setup) apart other)

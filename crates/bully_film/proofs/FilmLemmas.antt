@@ -1,0 +1,274 @@
+-- One more row is filmed.
+use Rattle.std.proofs.Common.{◌≡◌, ◌≢◌, ◌⊎◌, inl, inr, ◌∙◌, ℕ, ◌+◌, ◌-◌, ◌==◌, ◌<◌, ◌≤◌, ◌++◌, Bool, true, false, List, [], ◌∷◌, Option, Some, None, MatchOption, if◌then◌else◌, length, drop, refl, sym, ap, subst, arith}
+use Rattle.std.specs.Prelude.{nat_lt, nat_le, OnOk, Result, Ok, Err}
+use Rattle.std.proofs.lemmas.Bool.Decides.{nat_tests}
+use Rattle.std.proofs.lemmas.List.{append_assoc, append-nil, length-append}
+use Rattle.bully_base.specs.Setup.{Setup}
+use Rattle.bully_rows.specs.declared.trace.Row.{Row}
+use Rattle.bully_trace.specs.declared.verdict.Verdict.{Verdict}
+use Rattle.bully_trace.specs.Judging.{HasJudged, IsJudgedOn, JudgeState}
+use Rattle.bully_trace.specs.Verdict.{IsJudged}
+use Rattle.bully_world.specs.State.{WorldState, world_of}
+use Rattle.bully_world.specs.World.{World, first_world}
+use Rattle.bully_film.specs.declared.scene.Scene.{Scene}
+use Rattle.bully_film.specs.declared.scene.Sight.{Sight}
+use Rattle.bully_film.specs.Behind.{world_behind}
+use Rattle.bully_film.specs.Film.{FilmState, HasFilmed, HasFilmedUp, HasShot, IsInWindow, closed, kept}
+use Rattle.bully_film.specs.Scene.{scene_at, scene_of, scenes_from, sights_of}
+use Rattle.bully_film.specs.Window.{IsWindow, WindowState}
+use Rattle.bully_film.proofs.BehindLemmas.{judged-world}
+
+-- ---- lists of scenes
+
+scenes-more : (setup : Setup) (before shown : List Row) (row : Row)
+    → scenes_from setup before (shown ++ row ∷ []) ≡ scenes_from setup before shown ++ scene_at setup (before ++ shown) row ∷ []
+scenes-more setup before [] row = ap (λ all. scene_at setup all row ∷ []) (sym (append-nil before))
+scenes-more setup before (first ∷ shown) row =
+    ap (λ l. scene_at setup before first ∷ l)
+    (scenes-more setup (before ++ first ∷ []) shown row
+    ∙ ap (λ all. scenes_from setup (before ++ first ∷ []) shown ++ scene_at setup all row ∷ []) (append_assoc before (first ∷ []) shown))
+
+length-scenes_from : (setup : Setup) (before shown : List Row) → length (scenes_from setup before shown) ≡ length shown
+length-scenes_from setup before [] = refl
+length-scenes_from setup before (first ∷ shown) = ap (λ n. n + 1) (length-scenes_from setup (before ++ first ∷ []) shown)
+
+-- ---- the window goes on by a row
+
+-- which rows are kept behind one more row
+record Keeps (setup : Setup) (window : WindowState) (before shown : List Row) (row : Row) (scenes : List Scene) : Type 0 where
+  before' : List Row
+  shown' : List Row
+  all : before' ++ shown' ≡ (before ++ shown) ++ row ∷ []
+  scenes_are : scenes ≡ scenes_from setup before' shown'
+  in_window : IsInWindow window before' shown'
+
+-- a row before the window
+keeps-none : (setup : Setup) (window : WindowState) (before shown : List Row) (row : Row) → IsWindow window → IsInWindow window before shown
+    → length before + length shown + 2 < window.from → Keeps setup window before shown row (scenes_from setup before shown)
+keeps-none setup window before [] row fits at early = record {
+  before' = before ++ row ∷ [];
+  shown' = [];
+  all = append-nil (before ++ row ∷ []) ∙ ap (λ all. all ++ row ∷ []) (sym (append-nil before));
+  scenes_are = refl;
+  in_window = by_end (grind (arith, length-append before (row ∷ []), early));
+}
+  where
+    by_end : (length (before ++ row ∷ []) + 2 ≡ window.from) ⊎ (length (before ++ row ∷ []) + 2 < window.from) → IsInWindow window (before ++ row ∷ []) []
+    by_end (inl is) = inl (is, omega (arith, fits.some))
+    by_end (inr is) = inr (inl (is, refl))
+keeps-none setup window before (first ∷ shown) row fits (inl (is, few)) early = absurd (omega (arith, is, early))
+keeps-none setup window before (first ∷ shown) row fits (inr (inl (is, none))) early = absurd (cc none)
+keeps-none setup window before (first ∷ shown) row fits (inr (inr (is, full))) early = absurd (omega (arith, is, early))
+
+-- a row for which there is room
+keeps-more : (setup : Setup) (window : WindowState) (before shown : List Row) (row : Row) → IsWindow window → IsInWindow window before shown
+    → window.from ≤ length before + length shown + 2 → length shown < window.most
+    → Keeps setup window before shown row (scenes_from setup before shown ++ scene_at setup (before ++ shown) row ∷ [])
+keeps-more setup window before shown row fits at late room = record {
+  before' = before;
+  shown' = shown ++ row ∷ [];
+  all = sym (append_assoc before shown (row ∷ []));
+  scenes_are = sym (scenes-more setup before shown row);
+  in_window = by_end at;
+}
+  where
+    by_end : IsInWindow window before shown → IsInWindow window before (shown ++ row ∷ [])
+    by_end (inl (is, few)) = inl (is, omega (arith, length-append shown (row ∷ []), room))
+    by_end (inr (inl (is, none))) = absurd (omega (arith, is, late, ap length none))
+    by_end (inr (inr (is, full))) = absurd (omega (arith, full, room))
+
+-- a row in the place of the oldest one
+keeps-last : (setup : Setup) (window : WindowState) (before shown : List Row) (row : Row) → IsWindow window → IsInWindow window before shown
+    → window.most ≤ length shown
+    → Keeps setup window before shown row (drop 1 (scenes_from setup before shown) ++ scene_at setup (before ++ shown) row ∷ [])
+keeps-last setup window before [] row fits at full = absurd (omega (arith, full, fits.some))
+keeps-last setup window before (first ∷ shown) row fits at full = record {
+  before' = before ++ first ∷ [];
+  shown' = shown ++ row ∷ [];
+  all = append_assoc before (first ∷ []) (shown ++ row ∷ []) ∙ sym (append_assoc before (first ∷ shown) (row ∷ []));
+  scenes_are = sym (scenes-more setup (before ++ first ∷ []) shown row
+      ∙ ap (λ all. scenes_from setup (before ++ first ∷ []) shown ++ scene_at setup all row ∷ []) (append_assoc before (first ∷ []) shown));
+  in_window = by_end at;
+}
+  where
+    size : length (before ++ first ∷ []) ≡ length before + 1
+    size = length-append before (first ∷ [])
+
+    count : length (shown ++ row ∷ []) ≡ length shown + 1
+    count = length-append shown (row ∷ [])
+
+    by_end : IsInWindow window before (first ∷ shown) → IsInWindow window (before ++ first ∷ []) (shown ++ row ∷ [])
+    by_end (inl (is, few)) = inr (inr (omega (arith, size, is), omega (arith, count, few, full)))
+    by_end (inr (inl (is, none))) = absurd (cc none)
+    by_end (inr (inr (is, few))) = inr (inr (omega (arith, size, is), omega (arith, count, few)))
+
+keeps : (setup : Setup) (window : WindowState) (before shown : List Row) (row : Row) → IsWindow window → IsInWindow window before shown
+    → Keeps setup window before shown row (kept window (scenes_from setup before shown) (scene_at setup (before ++ shown) row))
+keeps setup window before shown row fits at =
+    by_number (nat_lt (length (before ++ shown) + 2) window.from) (nat_le window.most (length (scenes_from setup before shown))) refl refl
+  where
+    scenes : List Scene
+    scenes = scenes_from setup before shown
+
+    size : length (before ++ shown) ≡ length before + length shown
+    size = length-append before shown
+
+    by_number : (early full : Bool) → nat_lt (length (before ++ shown) + 2) window.from ≡ early → nat_le window.most (length (scenes_from setup before shown)) ≡ full
+        → Keeps setup window before shown row (if early then scenes_from setup before shown
+            else (if full then drop 1 (scenes_from setup before shown) else scenes_from setup before shown) ++ scene_at setup (before ++ shown) row ∷ [])
+    by_number true full early is = keeps-none setup window before shown row fits at (let e : length (before ++ shown) + 2 < window.from = grind (arith, nat_tests, early) in omega (arith, size, e))
+    by_number false true late full =
+        let e : window.most ≤ length (scenes_from setup before shown) = grind (arith, nat_tests, full) in
+        keeps-last setup window before shown row fits at (omega (arith, e, length-scenes_from setup before shown))
+    by_number false false late room =
+        let e : window.from ≤ length (before ++ shown) + 2 = grind (arith, nat_tests, late) in
+        let f : length (scenes_from setup before shown) < window.most = grind (arith, nat_tests, room) in
+        keeps-more setup window before shown row fits at (omega (arith, e, size)) (omega (arith, f, length-scenes_from setup before shown))
+
+-- ---- one more row
+
+-- the judge doesn't look at rows behind the one that decided
+stopped-on : (setup : Setup) (rows : List Row) (row : Row) (judge : JudgeState) (verdict : Verdict) → judge.stopped ≡ Some verdict
+    → HasJudged setup rows judge → HasJudged setup (rows ++ row ∷ []) judge
+stopped-on setup rows row judge verdict is judged = record {
+  same = judged.same;
+  judged = λ more told w on.
+      subst (λ all. IsJudged setup (first_world setup) 0 2 all told w) (sym (append_assoc rows (row ∷ []) more))
+      (judged.judged (row ∷ more) told w (rw is (rw is at on)));
+}
+
+-- behind the row that decided
+pub filmed-stopped : (setup : Setup) (rows : List Row) (row : Row) (film : FilmState) (verdict : Verdict) → film.judge.stopped ≡ Some verdict
+    → HasFilmed setup rows film → HasFilmed setup (rows ++ row ∷ []) film
+filmed-stopped setup rows row film verdict is filmed = record {
+  before = filmed.before;
+  shown = filmed.shown;
+  beyond = filmed.beyond ++ row ∷ [];
+  all = ap (λ all. all ++ row ∷ []) filmed.all ∙ append_assoc (filmed.before ++ filmed.shown) filmed.beyond (row ∷ []);
+  fits = filmed.fits;
+  judged = stopped-on setup rows row film.judge verdict is filmed.judged;
+  scenes = filmed.scenes;
+  window = filmed.window;
+  still = by_still film.still filmed.still;
+}
+  where
+    last : ℕ
+    last = length filmed.before + length filmed.shown + 1
+
+    by_still : (still : Option (List Sight))
+        → MatchOption still
+            (HasJudged setup (filmed.before ++ filmed.shown) film.judge × (film.judge.stopped ≡ None → filmed.beyond ≡ []) × (length filmed.before + length filmed.shown + 1 < film.window.to))
+            (λ s. (length filmed.before + length filmed.shown + 1 ≡ film.window.to) × (s ≡ sights_of (world_behind setup (filmed.before ++ filmed.shown)) 1 setup.nodes))
+        → MatchOption still
+            (HasJudged setup (filmed.before ++ filmed.shown) film.judge × (film.judge.stopped ≡ None → filmed.beyond ++ row ∷ [] ≡ []) × (length filmed.before + length filmed.shown + 1 < film.window.to))
+            (λ s. (length filmed.before + length filmed.shown + 1 ≡ film.window.to) × (s ≡ sights_of (world_behind setup (filmed.before ++ filmed.shown)) 1 setup.nodes))
+    by_still None (judged, going, upto) = (judged, λ none. absurd (cc (sym is ∙ none)), upto)
+    by_still (Some s) at = at
+
+-- behind the window
+pub filmed-beyond : (setup : Setup) (rows : List Row) (row : Row) (film after : FilmState) (still : List Sight) → film.still ≡ Some still
+    → after.still ≡ film.still → after.scenes ≡ film.scenes → after.window ≡ film.window → HasJudged setup (rows ++ row ∷ []) after.judge
+    → HasFilmed setup rows film → HasFilmed setup (rows ++ row ∷ []) after
+filmed-beyond setup rows row film after still is same_still same_scenes same_window judged filmed = record {
+  before = filmed.before;
+  shown = filmed.shown;
+  beyond = filmed.beyond ++ row ∷ [];
+  all = ap (λ all. all ++ row ∷ []) filmed.all ∙ append_assoc (filmed.before ++ filmed.shown) filmed.beyond (row ∷ []);
+  fits = rw same_window filmed.fits;
+  judged = judged;
+  scenes = same_scenes ∙ filmed.scenes;
+  window = rw same_window filmed.window;
+  still = rw (same_still, is, same_window) (rw is at filmed.still);
+}
+
+-- within the window
+pub filmed-shot : (setup : Setup) (rows : List Row) (row : Row) (number : ℕ) (film after : FilmState) → film.judge.stopped ≡ None → film.still ≡ None
+    → after.still ≡ film.still → after.window ≡ film.window → length rows + 2 ≡ number
+    → HasJudged setup (rows ++ row ∷ []) after.judge
+    → after.scenes ≡ kept film.window film.scenes (scene_of after.judge.world.setup (world_of film.judge.world) (world_of after.judge.world) number row)
+    → HasFilmed setup rows film → HasShot setup (rows ++ row ∷ []) after
+filmed-shot setup rows row number film after going open same_still same_window at judged shot filmed = record {
+  before = next.before';
+  shown = next.shown';
+  beyond = [];
+  all = ap (λ all. all ++ row ∷ []) whole ∙ sym next.all ∙ sym (append-nil (next.before' ++ next.shown'));
+  fits = rw same_window filmed.fits;
+  judged = judged;
+  scenes = shot ∙ ap (λ s. kept film.window film.scenes s) seen ∙ ap (λ l. kept film.window l (scene_at setup (filmed.before ++ filmed.shown) row)) filmed.scenes ∙ next.scenes_are;
+  window = rw same_window next.in_window;
+  still = rw (same_still, open, same_window) (subst (λ all. HasJudged setup all after.judge) rows_are judged, λ _. refl, upto);
+}
+  where
+    state : HasJudged setup (filmed.before ++ filmed.shown) film.judge × (film.judge.stopped ≡ None → filmed.beyond ≡ []) × (length filmed.before + length filmed.shown + 1 < film.window.to)
+    state = rw open at filmed.still
+
+    whole : rows ≡ filmed.before ++ filmed.shown
+    whole = filmed.all ∙ ap (λ beyond. (filmed.before ++ filmed.shown) ++ beyond) (state.1 going) ∙ append-nil (filmed.before ++ filmed.shown)
+
+    next : Keeps setup film.window filmed.before filmed.shown row (kept film.window (scenes_from setup filmed.before filmed.shown) (scene_at setup (filmed.before ++ filmed.shown) row))
+    next = keeps setup film.window filmed.before filmed.shown row filmed.fits filmed.window
+
+    rows_are : rows ++ row ∷ [] ≡ next.before' ++ next.shown'
+    rows_are = ap (λ all. all ++ row ∷ []) whole ∙ sym next.all
+
+    numbered : number ≡ length (filmed.before ++ filmed.shown) + 2
+    numbered = sym at ∙ ap (λ all. length all + 2) whole
+
+    seen : scene_of after.judge.world.setup (world_of film.judge.world) (world_of after.judge.world) number row ≡ scene_at setup (filmed.before ++ filmed.shown) row
+    seen =
+        ap (λ s. scene_of s (world_of film.judge.world) (world_of after.judge.world) number row) judged.same
+        ∙ ap (λ w. scene_of setup w (world_of after.judge.world) number row) (judged-world setup (filmed.before ++ filmed.shown) film.judge state.0)
+        ∙ ap (λ w. scene_of setup (world_behind setup (filmed.before ++ filmed.shown)) w number row)
+            (judged-world setup (rows ++ row ∷ []) after.judge judged ∙ ap (λ all. world_behind setup (all ++ row ∷ [])) whole)
+        ∙ ap (λ n. scene_of setup (world_behind setup (filmed.before ++ filmed.shown)) (world_behind setup ((filmed.before ++ filmed.shown) ++ row ∷ [])) n row) numbered
+
+    upto : (length next.before' + length next.shown' + 1 ≡ length (rows ++ row ∷ []) + 1) × (length next.before' + length next.shown' + 1 ≤ film.window.to)
+    upto = (
+      omega (arith, length-append next.before' next.shown', ap length rows_are),
+      omega (arith, length-append next.before' next.shown', ap length next.all, length-append (filmed.before ++ filmed.shown) (row ∷ []), length-append filmed.before filmed.shown, state.2),
+    )
+
+-- and then how the nodes stand is kept, where this was the window's last row
+pub filmed-closed : (setup : Setup) (rows : List Row) (row : Row) (number : ℕ) (film after : FilmState) → film.still ≡ None → length rows + 2 ≡ number
+    → after ≡ (if number == film.window.to then closed film else film) → HasShot setup (rows ++ row ∷ []) film → HasFilmed setup (rows ++ row ∷ []) after
+filmed-closed setup rows row number film after open at is shot = rw is (by_test (number == film.window.to) refl)
+  where
+    state : HasJudged setup (shot.before ++ shot.shown) film.judge × (film.judge.stopped ≡ None → shot.beyond ≡ [])
+        × ((length shot.before + length shot.shown + 1 ≡ length (rows ++ row ∷ []) + 1) × (length shot.before + length shot.shown + 1 ≤ film.window.to))
+    state = rw open at shot.still
+
+    size : length (rows ++ row ∷ []) ≡ length rows + 1
+    size = length-append rows (row ∷ [])
+
+    nodes : sights_of (world_of film.judge.world) 1 film.judge.world.setup.nodes ≡ sights_of (world_behind setup (shot.before ++ shot.shown)) 1 setup.nodes
+    nodes =
+        ap (λ (s : Setup). sights_of (world_of film.judge.world) 1 s.nodes) state.0.same
+        ∙ ap (λ w. sights_of w 1 setup.nodes) (judged-world setup (shot.before ++ shot.shown) film.judge state.0)
+
+    by_test : (b : Bool) → (number == film.window.to) ≡ b → HasFilmed setup (rows ++ row ∷ []) (if b then closed film else film)
+    by_test true last =
+        let to : number ≡ film.window.to = grind (arith, nat_tests, last) in
+        record {
+          before = shot.before;
+          shown = shot.shown;
+          beyond = shot.beyond;
+          all = shot.all;
+          fits = shot.fits;
+          judged = shot.judged;
+          scenes = shot.scenes;
+          window = shot.window;
+          still = rw open (omega (arith, to, at, size, state.2.0), nodes);
+        }
+    by_test false inner =
+        let other : number ≢ film.window.to = λ e. grind (arith, nat_tests, inner, e) in
+        record {
+          before = shot.before;
+          shown = shot.shown;
+          beyond = shot.beyond;
+          all = shot.all;
+          fits = shot.fits;
+          judged = shot.judged;
+          scenes = shot.scenes;
+          window = shot.window;
+          still = rw open (state.0, state.1, grind (arith, other, at, size, state.2.0, state.2.1));
+        }

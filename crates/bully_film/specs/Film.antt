@@ -1,0 +1,123 @@
+-- What is kept of the rows of a trace: those of a window, each with what it shows, and how the nodes stand behind the last of them.
+use Rattle.std.specs.Prelude.{◌≡◌, ◌⊎◌, ℕ, ◌+◌, ◌<◌, ◌≤◌, ◌++◌, List, [], ◌∷◌, length, drop, nat_lt, nat_le, if◌then◌else◌, Option, Some, None, MatchOption, IfSome}
+use Rattle.bully_base.specs.Setup.{Setup}
+use Rattle.bully_rows.specs.declared.header.Header.{Header}
+use Rattle.bully_rows.specs.declared.header.Version.{Version}
+use Rattle.bully_rows.specs.declared.trace.Row.{Row}
+use Rattle.bully_rows.specs.declared.trace.TraceCause.{TraceCause}
+use Rattle.bully_rows.specs.declared.trace.TraceFault.{TraceFault}
+use Rattle.bully_rows.specs.Headers.{Record, header_of, header_with}
+use Rattle.bully_rows.specs.RecordsLeft.{EndsReading, HasRead, IsUnread, ReadSoFar, rows_left}
+use Rattle.bully_rows.specs.Rows.{IsTraceOf, fault_at, row_of}
+use Rattle.bully_rows.specs.Trace.{Trace}
+use Rattle.bully_trace.specs.declared.verdict.Verdict.{Verdict}
+use Rattle.bully_trace.specs.Judging.{HasJudged, JudgeState}
+use Rattle.bully_trace.specs.Verdict.{IsJudged, IsVerdict}
+use Rattle.bully_world.specs.State.{world_of}
+use Rattle.bully_world.specs.World.{World, first_world}
+use Rattle.bully_film.specs.declared.film.Reel.{Reel}
+use Rattle.bully_film.specs.declared.scene.Scene.{Scene}
+use Rattle.bully_film.specs.declared.scene.Sight.{Sight}
+use Rattle.bully_film.specs.Behind.{world_behind}
+use Rattle.bully_film.specs.Scene.{scenes_from, sights_of}
+use Rattle.bully_film.specs.Window.{IsWindow, WindowState}
+
+-- a film: the judge that takes the rows, the window, what each row that is kept shows, and, once the window's last row was taken,
+-- how the nodes stand behind it
+pub record FilmState : Type 0 where
+  pub judge : JudgeState
+  pub window : WindowState
+  pub scenes : List Scene
+  pub still : Option (List Sight)
+
+-- one more scene is kept, where its row isn't before the window; the oldest one goes where as many are kept as may be
+abbrev pub kept : WindowState → List Scene → Scene → List Scene
+kept window scenes s =
+    if nat_lt s.number window.from then scenes
+    else (if nat_le window.most (length scenes) then drop 1 scenes else scenes) ++ s ∷ []
+
+-- how the nodes stand now is kept, where it wasn't yet
+abbrev pub closed : FilmState → FilmState
+closed film = record film { still = elim film.still as (λ _. Option (List Sight)) [
+  | None ↦ Some (sights_of (world_of film.judge.world) 1 film.judge.world.setup.nodes)
+  | Some still ↦ Some still
+] }
+
+-- of the rows before and behind them these are those of the window: they begin where it does; or there are none, since the rows end
+-- before it; or they are the last ones, as many as are kept
+abbrev pub IsInWindow : WindowState → List Row → List Row → Type 0
+IsInWindow window before shown =
+    ((length before + 2 ≡ window.from) × (length shown ≤ window.most))
+    ⊎ ((length before + 2 < window.from) × (shown ≡ []))
+    ⊎ ((window.from < length before + 2) × (length shown ≡ window.most))
+
+-- the rows of a trace were filmed: those that are shown, each with what it shows, and others before and beyond them. Those beyond
+-- come behind the window, or behind the row that decided. How the nodes stand is kept at the window's last row
+pub record HasFilmedUp (setup : Setup) (rows : List Row) (film : FilmState) (P : ℕ → Type 0) : Type 0 where
+  pub before : List Row
+  pub shown : List Row
+  pub beyond : List Row
+  pub all : rows ≡ before ++ shown ++ beyond
+  pub fits : IsWindow film.window
+  pub judged : HasJudged setup rows film.judge
+  pub scenes : film.scenes ≡ scenes_from setup before shown
+  pub window : IsInWindow film.window before shown
+  pub still : MatchOption film.still
+      (HasJudged setup (before ++ shown) film.judge × (film.judge.stopped ≡ None → beyond ≡ []) × P (length before + length shown + 1))
+      (λ still. (length before + length shown + 1 ≡ film.window.to) × (still ≡ sights_of (world_behind setup (before ++ shown)) 1 setup.nodes))
+
+abbrev pub HasFilmed : Setup → List Row → FilmState → Type 0
+HasFilmed setup rows film = HasFilmedUp setup rows film (λ last. last < film.window.to)
+
+-- the same behind the row that was taken last, which may be the window's last one
+abbrev pub HasShot : Setup → List Row → FilmState → Type 0
+HasShot setup rows film = HasFilmedUp setup rows film (λ last. (last ≡ length rows + 1) × (last ≤ film.window.to))
+
+-- what a film shows is that of the rows of a trace in a window: the verdict is the trace's; of each row in the window what it shows, and
+-- how the nodes stand behind the last of them. They end with the trace, with the window, or with the row that decided, up to which the
+-- rows come to the same verdict
+pub record IsReelOf (window : WindowState) (reel : Reel) (trace : Trace) : Type 0 where
+  pub setup : reel.setup ≡ trace.setup
+  pub verdict : (w : World) × IsVerdict trace reel.verdict w
+  pub before : List Row
+  pub shown : List Row
+  pub beyond : List Row
+  pub all : trace.rows ≡ before ++ shown ++ beyond
+  pub scenes : reel.scenes.items ≡ scenes_from trace.setup before shown
+  pub window : IsInWindow window before shown
+  pub still : reel.still.items ≡ sights_of (world_behind trace.setup (before ++ shown)) 1 trace.setup.nodes
+  pub ends : (beyond ≡ []) ⊎ (length before + length shown + 1 ≡ window.to) ⊎ ((w : World) × IsJudged trace.setup (first_world trace.setup) 0 2 (before ++ shown) reel.verdict w)
+
+-- rows of a text, behind the film's header, were filmed
+abbrev pub AreFilmed : Option (List ℕ) → WindowState → ReadSoFar → FilmState → Type 0
+AreFilmed known window reader film =
+    (rows : List Row) × HasRead known rows (rows_left (header_with film.judge.version film.judge.world.setup) reader)
+    × HasFilmed film.judge.world.setup rows film × (film.window ≡ window)
+
+-- what was read of a text was filmed: nothing of it yet, or the rows behind its header
+abbrev pub IsFilmedSoFar : Option (List ℕ) → WindowState → ReadSoFar → Option FilmState → Type 0
+IsFilmedSoFar known window reader None = IsUnread known reader
+IsFilmedSoFar known window reader (Some film) = AreFilmed known window reader film
+
+-- all rows of a text were filmed
+abbrev pub AreAllFilmed : Option (List ℕ) → WindowState → FilmState → Type 0
+AreAllFilmed known window film =
+    (version : Version) × (rows : List Row) × IsTraceOf known (record { version = version; setup = film.judge.world.setup; rows = rows })
+    × HasFilmed film.judge.world.setup rows film × (film.window ≡ window)
+
+-- a text was read to its end: it has no header, or all its rows were filmed
+abbrev pub IsFilmedToEnd : Option (List ℕ) → WindowState → Option FilmState → Type 0
+IsFilmedToEnd known window None = EndsReading known (fault_at 1 TraceCause.BadHeader)
+IsFilmedToEnd known window (Some film) = AreAllFilmed known window film
+
+-- the film begins behind a header of these fields
+abbrev pub Begins : Record → WindowState → FilmState → Type 0
+Begins fields window film =
+    (header : Header) × (header_of fields ≡ Some header) × HasFilmed header.setup [] film × (film.judge.version ≡ header.version) × (film.window ≡ window)
+
+-- the film takes the row that was read last
+abbrev pub TakesRow : ReadSoFar → FilmState → FilmState → Type 0
+TakesRow reader film after =
+    (row : Row) × (row_of film.judge.version film.judge.world.setup reader.fields ≡ Some row) × (after.judge.version ≡ film.judge.version)
+    × (after.window ≡ film.window)
+    × ((setup : Setup) (rows : List Row) → length rows + 2 ≡ reader.number → HasFilmed setup rows film → HasFilmed setup (rows ++ (row ∷ [])) after)

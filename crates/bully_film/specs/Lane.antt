@@ -1,0 +1,59 @@
+-- How one node stood, row by row, and the stretches over which it stayed so.
+use Rattle.std.specs.Prelude.{◌≡◌, ℕ, ◌+◌, ◌-◌, ◌≤◌, ◌==◌, ◌++◌, List, [], ◌∷◌, Option, map, option_map, replicate, if◌then◌else◌}
+use Rattle.bully_account.specs.declared.showing.ShownCall.{ShownCall}
+use Rattle.bully_film.specs.declared.scene.Scene.{Scene}
+use Rattle.bully_film.specs.declared.scene.Sight.{Sight}
+use Rattle.bully_film.specs.declared.slots.Held.{Held}
+use Rattle.bully_film.specs.declared.slots.Holding.{Holding}
+use Rattle.bully_film.specs.declared.stretches.Bar.{Bar}
+use Rattle.bully_film.specs.declared.stretches.Stand.{Stand}
+
+-- node j before the row, where it is so where the row doesn't speak of it
+abbrev pub sight_before : ℕ → Sight → Scene → Sight
+sight_before j now s = if s.own.node == j then s.own.before else (if s.other.node == j then s.other.before else now)
+
+-- and behind it
+abbrev pub sight_after : ℕ → Sight → Scene → Sight
+sight_after j now s = if s.own.node == j then s.own.after else (if s.other.node == j then s.other.after else now)
+
+-- node j before these rows, behind which it is so
+abbrev pub start_sight : ℕ → List Scene → Sight → Sight
+start_sight j [] still = still
+start_sight j (s ∷ scenes) still = sight_before j (start_sight j scenes still) s
+
+-- and behind each of them, before which it is so
+abbrev pub sights_after : ℕ → Sight → List Scene → List Sight
+sights_after j now [] = []
+sights_after j now (s ∷ scenes) = sight_after j now s ∷ sights_after j (sight_after j now s) scenes
+
+-- node j before these rows, and behind each of them
+abbrev pub lane_in : ℕ → List Scene → Sight → List Sight
+lane_in j scenes still = start_sight j scenes still ∷ sights_after j (start_sight j scenes still) scenes
+
+abbrev pub stand_of : Sight → Stand
+stand_of sight = record { status = sight.status; coordinator = sight.coordinator }
+
+abbrev pub held_of : ShownCall → Held
+held_of held = record { call = held.call; phase = held.phase }
+
+abbrev pub held_in : Sight → Option Held
+held_in sight = option_map held_of sight.call
+
+-- what bars say of each row that they span
+abbrev pub spread : List Bar → List Stand
+spread [] = []
+spread (bar ∷ bars) = replicate (bar.last + 1 - bar.first) bar.stand ++ spread bars
+
+-- the bars lie end to end, from this row up to before that one
+abbrev pub AreJoined : ℕ → List Bar → ℕ → Type 0
+AreJoined first [] end = first ≡ end
+AreJoined first (bar ∷ bars) end = (bar.first ≡ first) × (first ≤ bar.last) × AreJoined (bar.last + 1) bars end
+
+-- the same of what a slot holds
+abbrev pub spread_held : List Holding → List (Option Held)
+spread_held [] = []
+spread_held (holding ∷ holdings) = replicate (holding.last + 1 - holding.first) holding.held ++ spread_held holdings
+
+abbrev pub AreJoinedHeld : ℕ → List Holding → ℕ → Type 0
+AreJoinedHeld first [] end = first ≡ end
+AreJoinedHeld first (holding ∷ holdings) end = (holding.first ≡ first) × (first ≤ holding.last) × AreJoinedHeld (holding.last + 1) holdings end

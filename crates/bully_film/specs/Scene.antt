@@ -1,0 +1,110 @@
+-- What a row of a trace shows: which nodes it speaks of, and how they were before it and behind it.
+use Rattle.std.specs.Prelude.{ℕ, zero, suc, ◌+◌, Bool, true, false, List, [], ◌∷◌, ◌++◌, Option, Some, None, option_map, length, nat_le, not, ◌&&◌, if◌then◌else◌}
+use Rattle.bully_base.specs.Setup.{Setup}
+use Rattle.bully_calls.specs.declared.call.Call.{Call}
+use Rattle.bully_handlers.specs.Vector.{is_normal}
+use Rattle.bully_world.specs.Cause.{is_idle, node_of}
+use Rattle.bully_world.specs.State.{is_halt}
+use Rattle.bully_world.specs.World.{Member, World, member, point, vector}
+use Rattle.bully_rows.specs.declared.trace.Row.{Row}
+use Rattle.bully_rows.specs.EventsTold.{event_of}
+use Rattle.bully_trace.specs.Details.{call_at}
+use Rattle.bully_annotate.specs.Annotated.{callee_or}
+use Rattle.bully_account.specs.declared.deed.Deed.{Deed}
+use Rattle.bully_account.specs.Possible.{deed_of}
+use Rattle.bully_account.specs.Shown.{shown_call}
+use Rattle.bully_film.specs.declared.TheConstants.{OWNERS_SHOWN}
+use Rattle.bully_film.specs.declared.scene.Change.{Change}
+use Rattle.bully_film.specs.declared.scene.Scene.{Scene}
+use Rattle.bully_film.specs.declared.scene.Sight.{Sight}
+use Rattle.bully_film.specs.Behind.{world_behind}
+
+-- node i as the world shows it: its status, its coordinator, and the call in its slot
+abbrev pub seen_of : Member → Sight
+seen_of m = record { status = m.vector.status; coordinator = m.vector.coordinator; call = option_map shown_call m.pending }
+
+abbrev pub sight : World → ℕ → Sight
+sight w i = seen_of (member w i)
+
+-- what a step from w to w' makes of node i
+abbrev pub change : World → World → ℕ → Change
+change w w' i = record { node = i; before = sight w i; after = sight w' i }
+
+-- the node that the row names
+abbrev pub node_in : Row → ℕ
+node_in (Row.Event e) = node_of e
+node_in (Row.Detailed d) = d.node
+node_in (Row.Claim claim) = claim.node
+node_in (Row.Whole whole) = whole.claim.node
+
+-- what the row's event is; none for a claim
+abbrev pub deed_in : Row → Option Deed
+deed_in (Row.Event e) = Some (deed_of e)
+deed_in (Row.Detailed d) = Some (deed_of (event_of d))
+deed_in (Row.Claim claim) = None
+deed_in (Row.Whole whole) = None
+
+abbrev pub is_run : Option Deed → Bool
+is_run (Some Deed.Run) = true
+is_run _ = false
+
+-- the node whose vector a deed of node i may change: the callee of a Run, and else node i
+abbrev pub place_at : World → ℕ → Option Deed → ℕ
+place_at w i deed = if is_run deed then callee_or i (call_at w i) else i
+
+abbrev pub is_halting : Option Call → Bool
+is_halting None = false
+is_halting (Some call) = is_halt call.kind
+
+-- a Halt of node i runs at node j, and cuts a procedure off
+abbrev pub cuts : World → ℕ → ℕ → Option Deed → Bool
+cuts w i j deed = is_run deed && is_halting (call_at w i) && not (is_idle (point w j))
+
+-- a table is planned, or comes with a Ready to a node that is Normal by it
+abbrev pub gets_table : Option Deed → Sight → Sight → Bool
+gets_table (Some Deed.Plan) before after = true
+gets_table (Some Deed.Run) before after = not (is_normal before.status) && is_normal after.status
+gets_table _ before after = false
+
+-- the task, where a table is got and has so few owners that they are shown
+abbrev pub table_shown : Setup → Bool → Option (List ℕ) → Option (List ℕ)
+table_shown setup gets task = if gets && nat_le setup.partitions OWNERS_SHOWN then task else None
+
+-- the row of this number, which leads from w to w'
+abbrev pub scene_of : Setup → World → World → ℕ → Row → Scene
+scene_of setup w w' number row =
+    let i = node_in row in
+    let j = place_at w i (deed_in row) in
+    let gets = gets_table (deed_in row) (sight w j) (sight w' j) in
+    record {
+      number = number;
+      deed = deed_in row;
+      own = change w w' i;
+      other = change w w' j;
+      cuts = cuts w i j (deed_in row);
+      gets_table = gets;
+      table = table_shown setup gets (vector w' j).task;
+    }
+
+-- the row behind these first rows of a trace
+abbrev pub scene_at : Setup → List Row → Row → Scene
+scene_at setup before row = scene_of setup (world_behind setup before) (world_behind setup (before ++ row ∷ [])) (length before + 2) row
+
+-- rows behind these first rows of a trace
+abbrev pub scenes_from : Setup → List Row → List Row → List Scene
+scenes_from setup before [] = []
+scenes_from setup before (row ∷ rows) = scene_at setup before row ∷ scenes_from setup (before ++ row ∷ []) rows
+
+-- node i behind each of these rows
+abbrev pub sights_from : Setup → List Row → ℕ → List Row → List Sight
+sights_from setup before i [] = []
+sights_from setup before i (row ∷ rows) = sight (world_behind setup (before ++ row ∷ [])) i ∷ sights_from setup (before ++ row ∷ []) i rows
+
+-- node i before these rows, and behind each of them
+abbrev pub lane_of : Setup → List Row → ℕ → List Row → List Sight
+lane_of setup before i rows = sight (world_behind setup before) i ∷ sights_from setup before i rows
+
+-- the nodes from node i on, so many, in rising order
+abbrev pub sights_of : World → ℕ → ℕ → List Sight
+sights_of w i zero = []
+sights_of w i (suc k) = sight w i ∷ sights_of w (i + 1) k

@@ -1,0 +1,267 @@
+//! What a row of a trace shows.
+ghost use Rattle.std.specs.Prelude.{◌≡◌, ◌≤◌, Option, None, IfOk, option_map};
+ghost use Rattle.std.specs.Option.{option_copied};
+ghost use Rattle.bully_account.specs.Shown.{shown_call};
+ghost use Rattle.bully_calls.specs.Slot.{pending_in};
+ghost use Rattle.bully_handlers.specs.Vector.{is_normal};
+ghost use Rattle.bully_rows.specs.declared.trace.Row.{Row as RowState};
+ghost use Rattle.bully_trace.specs.Details.{call_at};
+ghost use Rattle.bully_film.specs.Scene.{cuts, deed_in, gets_table, is_halting, is_run, node_in, place_at, scene_of, sight, table_shown};
+ghost use Rattle.bully_world.specs.Cause.{is_idle};
+ghost use Rattle.bully_world.specs.State.{is_halt, world_of};
+ghost use Rattle.bully_world.specs.World.{World as WorldOf, point, vector};
+
+use crate::OWNERS_SHOWN;
+use bully_account::{Deed, ShownCall};
+use bully_base::{Node, OutOfMemory, Status};
+use bully_calls::{CallKind, Slot};
+use bully_rows::Row;
+use bully_steps::Point;
+use bully_table::Table;
+use bully_world::World;
+
+/// A node as the world shows it: its status, its coordinator, and the call in its slot.
+#[derive(Clone, Copy, Debug)]
+pub struct Sight {
+    pub status: Status,
+    pub coordinator: Option<Node>,
+    pub call: Option<ShownCall>,
+}
+
+/// A node before a row and behind it.
+#[derive(Clone, Copy, Debug)]
+pub struct Change {
+    pub node: Node,
+    pub before: Sight,
+    pub after: Sight,
+}
+
+/// What a row shows: its number, from 2; what its event is, none of a claim; the node that it names, and the one whose vector it may
+/// change, which is the callee of a Run; whether a procedure is cut off there; and the table that a node gets by it, if it does, where
+/// the table has at most [`OWNERS_SHOWN`] owners.
+#[derive(Drop, Debug)]
+pub struct Scene {
+    pub number: u32,
+    pub deed: Option<Deed>,
+    pub own: Change,
+    pub other: Change,
+    pub cuts: bool,
+    pub gets_table: bool,
+    pub table: Option<Table>,
+}
+
+/// What is seen of a row before it is taken.
+#[derive(Clone, Copy, Debug)]
+pub struct Opening {
+    deed: Option<Deed>,
+    own: Node,
+    own_before: Sight,
+    other: Node,
+    other_before: Sight,
+    cuts: bool,
+}
+
+/// The row's opening, in the world before it.
+pub fn open_on(world: &World, row: &Row) -> Opening
+    ensures deed { result.deed ≡ deed_in row.now }
+    ensures own { result.own ≡ node_in row.now }
+    ensures own_before { result.own_before ≡ sight (world_of world.now) (node_in row.now) }
+    ensures other { result.other ≡ place_at (world_of world.now) (node_in row.now) (deed_in row.now) }
+    ensures other_before { result.other_before ≡ sight (world_of world.now) (place_at (world_of world.now) (node_in row.now) (deed_in row.now)) }
+    ensures cuts { result.cuts ≡ cuts (world_of world.now) (node_in row.now) (place_at (world_of world.now) (node_in row.now) (deed_in row.now)) (deed_in row.now) }
+{
+    let deed = deed_in(row);
+    let own = node_in(row);
+    let own_before = sight_of(world, own);
+    let other = place_at(world, own, deed);
+    Opening {
+        deed,
+        own,
+        own_before,
+        other,
+        other_before: sight_of(world, other),
+        cuts: cuts(world, own, other, deed),
+    }
+}
+
+/// What the row of this number shows, of which this was seen before it; the world is the one behind it. Refused where an allocation
+/// fails.
+pub fn shot(number: u32, opening: &Opening, world: &World) -> Result<Scene, OutOfMemory>
+    ensures { IfOk result (λ s. (w : WorldOf) (row : RowState)
+        → opening.now.deed ≡ deed_in row → opening.now.own ≡ node_in row → opening.now.own_before ≡ sight w (node_in row)
+        → opening.now.other ≡ place_at w (node_in row) (deed_in row) → opening.now.other_before ≡ sight w (place_at w (node_in row) (deed_in row))
+        → opening.now.cuts ≡ cuts w (node_in row) (place_at w (node_in row) (deed_in row)) (deed_in row)
+        → s ≡ scene_of world.now.setup w (world_of world.now) number row) }
+{
+    let own = Change {
+        node: opening.own,
+        before: opening.own_before,
+        after: sight_of(world, opening.own),
+    };
+    let other = Change {
+        node: opening.other,
+        before: opening.other_before,
+        after: sight_of(world, opening.other),
+    };
+    let gets_table = gets_table(opening.deed, &other.before, &other.after);
+    Ok(Scene {
+        number,
+        deed: opening.deed,
+        own,
+        other,
+        cuts: opening.cuts,
+        gets_table,
+        table: table_shown(world, gets_table, opening.other)?,
+    })
+}
+
+/// What the world shows of the node; nothing but that it is down where the group doesn't have it.
+pub fn sight_of(world: &World, node: Node) -> Sight
+    ensures { result ≡ sight (world_of world.now) node }
+{
+    if node.number() > world.setup().nodes() {
+        return Sight {
+            status: Status::Down,
+            coordinator: None,
+            call: None,
+        };
+    }
+    let vector = world.vector(node);
+    Sight {
+        status: vector.status(),
+        coordinator: vector.coordinator(),
+        call: call_in(world.slot(node), world.generation(node)),
+    }
+}
+
+// The call in the slot of a caller of this generation.
+fn call_in(slot: &Slot, generation: u32) -> Option<ShownCall>
+    ensures { result ≡ option_map shown_call (pending_in generation slot.now) }
+{
+    match (slot.call(), slot.phase()) {
+        (Some(call), Some(phase)) => Some(ShownCall {
+            call,
+            phase,
+            is_live: !slot.is_orphan(generation),
+        }),
+        _ => None,
+    }
+}
+
+// The node that the row names.
+fn node_in(row: &Row) -> Node
+    ensures { result ≡ node_in row.now }
+{
+    match row {
+        Row::Event(event) => event.node(),
+        Row::Detailed(event) => event.node,
+        Row::Claim(claim) => claim.node,
+        Row::Whole(whole) => whole.claim().node,
+    }
+}
+
+// What the row's event is.
+fn deed_in(row: &Row) -> Option<Deed>
+    ensures { result ≡ deed_in row.now }
+{
+    match row {
+        Row::Event(event) => Some(Deed::of(event)),
+        Row::Detailed(event) => Some(Deed::of(&event.event())),
+        Row::Claim(_) | Row::Whole(_) => None,
+    }
+}
+
+// Whether it is a run.
+fn is_run(deed: Option<Deed>) -> bool
+    ensures { result ≡ is_run deed }
+{
+    matches!(deed, Some(Deed::Run))
+}
+
+// The node whose vector a deed of the node may change.
+fn place_at(world: &World, node: Node, deed: Option<Deed>) -> Node
+    ensures { result ≡ place_at (world_of world.now) node deed }
+{
+    if !is_run(deed) {
+        return node;
+    }
+    match sight_of(world, node).call {
+        Some(held) => held.call.callee,
+        None => node,
+    }
+}
+
+// Whether a Halt of the node runs at the other one, and cuts a procedure off.
+fn cuts(world: &World, node: Node, other: Node, deed: Option<Deed>) -> bool
+    ensures { result ≡ cuts (world_of world.now) node other deed }
+{
+    is_run(deed) && is_halting(world, node) && !is_idle(world, other)
+}
+
+// Whether the slot of the node has a Halt.
+fn is_halting(world: &World, node: Node) -> bool
+    ensures { result ≡ is_halting (call_at (world_of world.now) node) }
+{
+    match sight_of(world, node).call {
+        Some(held) => is_halt(held.call.kind),
+        None => false,
+    }
+}
+
+fn is_halt(kind: CallKind) -> bool
+    ensures { result ≡ is_halt kind }
+{
+    matches!(kind, CallKind::Halt)
+}
+
+// Whether no procedure runs at the node.
+// (out of line: else each caller would have room for a point, and clear it)
+#[inline(never)]
+fn is_idle(world: &World, node: Node) -> bool
+    ensures { result ≡ is_idle (point (world_of world.now) node) }
+{
+    if node.number() > world.setup().nodes() {
+        return true;
+    }
+    matches!(world.point(node), Point::Idle)
+}
+
+// Whether the node gets a table.
+fn gets_table(deed: Option<Deed>, before: &Sight, after: &Sight) -> bool
+    ensures { result ≡ gets_table deed before.now after.now }
+{
+    match deed {
+        Some(Deed::Plan) => true,
+        Some(Deed::Run) => !is_normal(before.status) && is_normal(after.status),
+        _ => false,
+    }
+}
+
+fn is_normal(status: Status) -> bool
+    ensures { result ≡ is_normal status }
+{
+    matches!(status, Status::Normal)
+}
+
+// The node's task, where it gets one and it is short.
+fn table_shown(world: &World, gets: bool, node: Node) -> Result<Option<Table>, OutOfMemory>
+    ensures { IfOk result (λ table. table ≡ table_shown world.now.setup gets (vector (world_of world.now) node).task) }
+{
+    if !gets || world.setup().partitions() > OWNERS_SHOWN {
+        return Ok(None);
+    }
+    task_of(world, node)
+}
+
+// A copy of the node's task.
+fn task_of(world: &World, node: Node) -> Result<Option<Table>, OutOfMemory>
+    ensures { IfOk result (λ table. table ≡ (vector (world_of world.now) node).task) }
+{
+    if node.number() > world.setup().nodes() {
+        return Ok(None);
+    }
+    match world.vector(node).task() {
+        Some(table) => Ok(Some(table.copy()?)),
+        None => Ok(None),
+    }
+}

@@ -1,0 +1,97 @@
+//! The stretches over which a node's slot held the same call in the same phase.
+ghost use Rattle.std.specs.Prelude.{◌≡◌, ◌+◌, ◌-◌, ◌^◌, ◌<◌, ◌≤◌, ◌↔◌, ◌++◌, ◌∷◌, [], length, map, IfOk, IsTrue, OnOk};
+ghost use Rattle.bully_film.specs.Lane.{AreJoinedHeld, held_in, spread_held};
+
+use crate::scene::Sight;
+use bully_base::OutOfMemory;
+use bully_calls::{Call, Phase};
+use std::alloc::Global;
+
+/// A call in a slot, and how far it came.
+#[derive(Clone, Copy, PartialEq, Eq, Debug)]
+pub struct Held {
+    pub call: Call,
+    pub phase: Phase,
+}
+
+/// A stretch of rows behind each of which a node's slot held this, or nothing: from the first to the last. A call that was sent is an
+/// arrow from the first row of its stretch to the one behind the last, in which it runs, is lost, or is given up.
+#[derive(Clone, Copy, Debug)]
+pub struct Holding {
+    pub first: u32,
+    pub last: u32,
+    pub held: Option<Held>,
+}
+
+/// What the slot of a node held that stood so behind each of these rows, of which the first has this number. Refused where an
+/// allocation fails.
+pub fn holdings(alloc: Global, first: u32, sights: &[Sight]) -> Result<Vec<Holding>, OutOfMemory>
+    requires { first + length sights.now < 2 ^ 32 }
+    ensures spread { IfOk result (λ holdings. spread_held holdings.items ≡ map held_in sights.now) }
+    ensures joined { IfOk result (λ holdings. AreJoinedHeld first holdings.items (first + length sights.now)) }
+{
+    let mut holdings = Vec::new(alloc);
+    if let Some((start, rest)) = sights.split_first() {
+        push_holdings(&mut holdings, first, held_in(start), rest)?;
+    }
+    Ok(holdings)
+}
+
+// Appends what the slot of a node held that first held this.
+fn push_holdings(
+    holdings: &mut Vec<Holding>,
+    first: u32,
+    start: Option<Held>,
+    rest: &[Sight],
+) -> Result<(), OutOfMemory>
+    requires empty { holdings.old.items ≡ [] }
+    requires fits { first + length rest.now + 1 < 2 ^ 32 }
+    ensures spread { OnOk result (spread_held holdings.new.items ≡ start ∷ map held_in rest.now) }
+    ensures joined { OnOk result (AreJoinedHeld first holdings.new.items (first + length rest.now + 1)) }
+{
+    let mut from = first;
+    let mut row = first;
+    let mut held = start;
+    for sight in rest {
+        let next = held_in(sight);
+        if !same_held(&held, &next) {
+            holdings.push(Holding::new(from, row, &held))?;
+            from = row + 1;
+            held = next;
+        }
+        row += 1;
+    }
+    holdings.push(Holding::new(from, row, &held))?;
+    Ok(())
+}
+
+impl Holding {
+    fn new(first: u32, last: u32, held: &Option<Held>) -> Holding
+        ensures { result ≡ record { first = first; last = last; held = held.now } }
+    {
+        Holding {
+            first,
+            last,
+            held: *held,
+        }
+    }
+}
+
+fn held_in(sight: &Sight) -> Option<Held>
+    ensures { result ≡ held_in sight.now }
+{
+    match sight.call {
+        Some(held) => Some(Held {
+            call: held.call,
+            phase: held.phase,
+        }),
+        None => None,
+    }
+}
+
+// Whether the two are the same.
+fn same_held(one: &Option<Held>, other: &Option<Held>) -> bool
+    ensures { IsTrue result ↔ (one.now ≡ other.now) }
+{
+    *one == *other
+}

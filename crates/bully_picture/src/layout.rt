@@ -1,0 +1,92 @@
+//! Where the lanes and the rows of a picture lie, in pixels.
+
+use bully_base::Node;
+use bully_film::Reel;
+
+/// Where the lanes begin.
+pub const LEFT: u32 = 64;
+
+/// How high a row is.
+pub const ROW: u32 = 20;
+
+// Where the first row lies.
+const TOP: u32 = 96;
+
+/// How wide a lane is at least and at most.
+const LANE_MIN: u32 = 34;
+const LANE_MAX: u32 = 190;
+
+/// The width of a lane below which it has no words.
+pub const WORDS_MIN: u32 = 70;
+
+/// The width of a lane from which it has all words.
+pub const WORDS_ALL: u32 = 150;
+
+/// Where lanes and rows lie.
+#[derive(Clone, Copy, Debug)]
+pub struct Layout {
+    /// How many lanes there are.
+    pub nodes: u32,
+    /// How wide a lane is.
+    pub lane: u32,
+    /// The number of the row before the first one that is shown.
+    pub first: u32,
+    /// How many rows are shown.
+    pub rows: u32,
+}
+
+impl Layout {
+    /// The layout of what a film shows.
+    pub fn of(reel: &Reel) -> Layout {
+        let nodes = u32::from(reel.setup.nodes());
+        let first = match reel.scenes.first() {
+            Some(scene) => scene.number.saturating_sub(1),
+            None => 1,
+        };
+        Layout {
+            nodes,
+            lane: lane_width(nodes),
+            first,
+            rows: row_count(reel.scenes.len()),
+        }
+    }
+
+    /// The middle of the node's lane.
+    pub fn x(&self, node: Node) -> u32 {
+        let before = u32::from(node.number()).saturating_sub(1);
+        LEFT.saturating_add(self.lane.saturating_mul(before))
+            .saturating_add(self.lane / 2)
+    }
+
+    /// Where the row of this number lies.
+    pub fn y(&self, row: u32) -> u32 {
+        let line = row.saturating_sub(self.first);
+        TOP.saturating_add(ROW.saturating_mul(line))
+    }
+
+    /// The number of the last row.
+    pub fn last(&self) -> u32 {
+        self.first.saturating_add(self.rows)
+    }
+
+    /// Where the lanes end.
+    pub fn right(&self) -> u32 {
+        LEFT.saturating_add(self.lane.saturating_mul(self.nodes))
+    }
+
+    /// Where the last row lies.
+    pub fn bottom(&self) -> u32 {
+        self.y(self.last())
+    }
+}
+
+fn lane_width(nodes: u32) -> u32 {
+    if nodes == 0 {
+        return LANE_MAX;
+    }
+    (1000 / nodes).clamp(LANE_MIN, LANE_MAX)
+}
+
+fn row_count(scenes: usize) -> u32 {
+    scenes.min(1_000_000) as u32
+}

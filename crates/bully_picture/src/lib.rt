@@ -1,0 +1,21 @@
+//! Pictures of traces: a lane for each node, and what each row of a window does there, as SVG or as text for a terminal.
+//!
+//! It stands on bully_film, which keeps what the rows of the window show, and on the crates below it. The sentence below a row that
+//! decided is the caller's. The program relies on the verdict in the title being the one of the film, which is the
+//! trace's. How a picture looks is looked at.
+#![tactic(auto)]
+
+mod arrows;
+mod boxes;
+mod canvas;
+mod columns;
+mod escaping;
+mod layout;
+mod lanes;
+mod marks;
+mod page;
+mod words;
+
+pub use columns::text_picture;
+pub use escaping::push_escaped;
+pub use page::svg_picture;

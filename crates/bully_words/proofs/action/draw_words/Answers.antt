@@ -1,0 +1,9 @@
+use Rattle.std.proofs.Common.{sym, codes, ap, ◌∙◌}
+use Rattle.clap.specs.Words.{first_of, found_of, rows_of}
+use Rattle.bully_words.specs.Words.{drawing}
+use Rattle.bully_words.proofs.ActionLemmas.{words-drawn}
+use Rattle.bully_words.proofs.action.draw_words.Goals as goal
+
+pub returns : goal.returns
+returns c =
+    words-drawn (found_of c.args.found.now) c.get_str.result c.get_str-2.result c.get_str-3.result c.get_str.ensures c.get_str-2.ensures c.get_str-3.ensures
