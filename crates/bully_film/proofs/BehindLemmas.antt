@@ -1,5 +1,5 @@
 -- The world behind the first rows of a trace, and which nodes a row leaves as they were.
-use Rattle.std.proofs.Common.{◌≡◌, ◌≢◌, ◌⊎◌, inl, inr, ◌∙◌, ℕ, ◌+◌, ◌++◌, Bool, true, false, List, [], ◌∷◌, Option, Some, None, MatchOption, if◌then◌else◌, length, refl, sym, ap, subst, arith}
+use Rattle.std.proofs.Common.{◌≡◌, ◌≢◌, ◌∙◌, ℕ, ◌+◌, ◌<◌, ◌++◌, Bool, true, false, List, [], ◌∷◌, Option, Some, None, MatchOption, if◌then◌else◌, length, refl, sym, ap, subst, arith}
 use Rattle.std.specs.Prelude.{option_map}
 use Rattle.std.specs.Bool.{MatchBool}
 use Rattle.bully_base.specs.Setup.{Setup}
@@ -10,12 +10,13 @@ use Rattle.bully_world.specs.declared.event.Event.{Event}
 use Rattle.bully_world.specs.declared.event.Refused.{Refused}
 use Rattle.bully_world.specs.Cause.{cause, node_of}
 use Rattle.bully_world.specs.NodeInvariant.{WorldInvariant}
-use Rattle.bully_world.specs.State.{world_of}
+use Rattle.bully_base.proofs.PlaceLemmas.{at_node_past}
+use Rattle.bully_world.specs.State.{IsReached, WorldState, world_of}
 use Rattle.bully_world.specs.Step.{Proceeds, Returns, Step, ran}
 use Rattle.bully_world.specs.StepOf.{StepResult, step_of}
-use Rattle.bully_world.specs.World.{Member, World, first_world, member, with_member}
+use Rattle.bully_world.specs.World.{Member, World, empty_member, first_world, member, with_member}
 use Rattle.bully_world.proofs.MemberLemmas.{member_other}
-use Rattle.bully_world.proofs.NodeInvariantLemmas.{first_fits, step_fits}
+use Rattle.bully_world.proofs.NodeInvariantLemmas.{first_fits, lawful_fits, step_fits}
 use Rattle.bully_world.proofs.RunInvariant.{ran_other}
 use Rattle.bully_world.proofs.StepOfLemmas.{computed_steps, step_is_computed}
 use Rattle.bully_rows.specs.declared.trace.Row.{Row}
@@ -35,7 +36,7 @@ use Rattle.bully_film.specs.Scene.{deed_in, node_in, place_at, seen_of, sight}
 -- ---- rows that are judged lead to it
 
 step-is : (setup : Setup) (w : World) (e : Event) (mid : World) (a : Answer) → Step setup w e mid a → stepped setup w e ≡ mid
-step-is setup w e mid a step = rw ((step_is_computed setup w e mid a).1 step) refl
+step-is setup w e mid a step = rw (stepped, (step_is_computed setup w e mid a).1 step) refl
 
 -- behind an event, where more is known of the world behind it
 event-leads : (setup : Setup) (w mid : World) (e : Event) (count number : ℕ) (rows : List Row) (verdict : Verdict) (w' : World) (a : Answer) → Step setup w e mid a
@@ -189,3 +190,10 @@ pub behind-stays : (setup : Setup) (before : List Row) (row : Row) (j : ℕ) →
     → sight (world_behind setup (before ++ row ∷ [])) j ≡ sight (world_behind setup before) j
 behind-stays setup before row j apart other =
     ap seen_of (taken-stays setup (first_world setup) 0 before row j (first_fits setup) apart other)
+
+-- ---- a node that the group doesn't have
+
+pub beyond-empty : (world : WorldState) (i : ℕ) → IsReached world → world.setup.nodes < i → member (world_of world) i ≡ empty_member
+beyond-empty world i reached past =
+    let fits = lawful_fits world.setup reached.applied reached.answers (world_of world) reached.lawful in
+    at_node_past empty_member (world_of world).members i (omega (arith, fits.count, past))

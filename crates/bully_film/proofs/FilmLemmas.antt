@@ -1,6 +1,7 @@
 -- One more row is filmed.
-use Rattle.std.proofs.Common.{◌≡◌, ◌≢◌, ◌⊎◌, inl, inr, ◌∙◌, ℕ, ◌+◌, ◌-◌, ◌==◌, ◌<◌, ◌≤◌, ◌++◌, Bool, true, false, List, [], ◌∷◌, Option, Some, None, MatchOption, if◌then◌else◌, length, drop, refl, sym, ap, subst, arith}
-use Rattle.std.specs.Prelude.{nat_lt, nat_le, OnOk, Result, Ok, Err}
+use Rattle.std.proofs.Common.{suc, ◌≡◌, ◌≢◌, ◌⊎◌, inl, inr, ◌∙◌, ℕ, ◌+◌, ◌-◌, ◌==◌, ◌<◌, ◌≤◌, ◌++◌, Bool, true, false, List, [], ◌∷◌, Option, Some, None, MatchOption, if◌then◌else◌, length, drop, refl, sym, ap, subst, arith}
+use Rattle.std.specs.declared.alloc.AllocError.{AllocError}
+use Rattle.std.specs.Prelude.{is_none, nat_lt, nat_le, OnOk, Result, Ok, Err}
 use Rattle.std.proofs.lemmas.Bool.Decides.{nat_tests}
 use Rattle.std.proofs.lemmas.List.{append_assoc, append-nil, length-append}
 use Rattle.bully_base.specs.Setup.{Setup}
@@ -30,7 +31,7 @@ scenes-more setup before (first ∷ shown) row =
 
 length-scenes_from : (setup : Setup) (before shown : List Row) → length (scenes_from setup before shown) ≡ length shown
 length-scenes_from setup before [] = refl
-length-scenes_from setup before (first ∷ shown) = ap (λ n. n + 1) (length-scenes_from setup (before ++ first ∷ []) shown)
+length-scenes_from setup before (first ∷ shown) = ap suc (length-scenes_from setup (before ++ first ∷ []) shown)
 
 -- ---- the window goes on by a row
 
@@ -166,10 +167,10 @@ filmed-stopped setup rows row film verdict is filmed = record {
     by_still (Some s) at = at
 
 -- behind the window
-pub filmed-beyond : (setup : Setup) (rows : List Row) (row : Row) (film after : FilmState) (still : List Sight) → film.still ≡ Some still
+pub filmed-beyond : (setup : Setup) (rows : List Row) (row : Row) (film after : FilmState) → is_none film.still ≡ false
     → after.still ≡ film.still → after.scenes ≡ film.scenes → after.window ≡ film.window → HasJudged setup (rows ++ row ∷ []) after.judge
     → HasFilmed setup rows film → HasFilmed setup (rows ++ row ∷ []) after
-filmed-beyond setup rows row film after still is same_still same_scenes same_window judged filmed = record {
+filmed-beyond setup rows row film after is same_still same_scenes same_window judged filmed = record {
   before = filmed.before;
   shown = filmed.shown;
   beyond = filmed.beyond ++ row ∷ [];
@@ -178,8 +179,18 @@ filmed-beyond setup rows row film after still is same_still same_scenes same_win
   judged = judged;
   scenes = same_scenes ∙ filmed.scenes;
   window = rw same_window filmed.window;
-  still = rw (same_still, is, same_window) (rw is at filmed.still);
+  still = rw (same_still, same_window) (by_still film.still is filmed.still);
 }
+  where
+    by_still : (still : Option (List Sight)) → is_none still ≡ false
+        → MatchOption still
+            (HasJudged setup (filmed.before ++ filmed.shown) film.judge × (film.judge.stopped ≡ None → filmed.beyond ≡ []) × (length filmed.before + length filmed.shown + 1 < film.window.to))
+            (λ s. (length filmed.before + length filmed.shown + 1 ≡ film.window.to) × (s ≡ sights_of (world_behind setup (filmed.before ++ filmed.shown)) 1 setup.nodes))
+        → MatchOption still
+            (HasJudged setup (filmed.before ++ filmed.shown) after.judge × (after.judge.stopped ≡ None → filmed.beyond ++ row ∷ [] ≡ []) × (length filmed.before + length filmed.shown + 1 < film.window.to))
+            (λ s. (length filmed.before + length filmed.shown + 1 ≡ film.window.to) × (s ≡ sights_of (world_behind setup (filmed.before ++ filmed.shown)) 1 setup.nodes))
+    by_still None none at = absurd (cc none)
+    by_still (Some s) some at = at
 
 -- within the window
 pub filmed-shot : (setup : Setup) (rows : List Row) (row : Row) (number : ℕ) (film after : FilmState) → film.judge.stopped ≡ None → film.still ≡ None
@@ -187,7 +198,7 @@ pub filmed-shot : (setup : Setup) (rows : List Row) (row : Row) (number : ℕ) (
     → HasJudged setup (rows ++ row ∷ []) after.judge
     → after.scenes ≡ kept film.window film.scenes (scene_of after.judge.world.setup (world_of film.judge.world) (world_of after.judge.world) number row)
     → HasFilmed setup rows film → HasShot setup (rows ++ row ∷ []) after
-filmed-shot setup rows row number film after going open same_still same_window at judged shot filmed = record {
+filmed-shot setup rows row number film after going unclosed same_still same_window at judged shot filmed = record {
   before = next.before';
   shown = next.shown';
   beyond = [];
@@ -196,11 +207,11 @@ filmed-shot setup rows row number film after going open same_still same_window a
   judged = judged;
   scenes = shot ∙ ap (λ s. kept film.window film.scenes s) seen ∙ ap (λ l. kept film.window l (scene_at setup (filmed.before ++ filmed.shown) row)) filmed.scenes ∙ next.scenes_are;
   window = rw same_window next.in_window;
-  still = rw (same_still, open, same_window) (subst (λ all. HasJudged setup all after.judge) rows_are judged, λ _. refl, upto);
+  still = rw (same_still, unclosed, same_window) (subst (λ all. HasJudged setup all after.judge) rows_are judged, λ _. refl, upto);
 }
   where
     state : HasJudged setup (filmed.before ++ filmed.shown) film.judge × (film.judge.stopped ≡ None → filmed.beyond ≡ []) × (length filmed.before + length filmed.shown + 1 < film.window.to)
-    state = rw open at filmed.still
+    state = rw unclosed at filmed.still
 
     whole : rows ≡ filmed.before ++ filmed.shown
     whole = filmed.all ∙ ap (λ beyond. (filmed.before ++ filmed.shown) ++ beyond) (state.1 going) ∙ append-nil (filmed.before ++ filmed.shown)
@@ -231,11 +242,11 @@ filmed-shot setup rows row number film after going open same_still same_window a
 -- and then how the nodes stand is kept, where this was the window's last row
 pub filmed-closed : (setup : Setup) (rows : List Row) (row : Row) (number : ℕ) (film after : FilmState) → film.still ≡ None → length rows + 2 ≡ number
     → after ≡ (if number == film.window.to then closed film else film) → HasShot setup (rows ++ row ∷ []) film → HasFilmed setup (rows ++ row ∷ []) after
-filmed-closed setup rows row number film after open at is shot = rw is (by_test (number == film.window.to) refl)
+filmed-closed setup rows row number film after unclosed at is shot = rw is (by_test (number == film.window.to) refl)
   where
     state : HasJudged setup (shot.before ++ shot.shown) film.judge × (film.judge.stopped ≡ None → shot.beyond ≡ [])
         × ((length shot.before + length shot.shown + 1 ≡ length (rows ++ row ∷ []) + 1) × (length shot.before + length shot.shown + 1 ≤ film.window.to))
-    state = rw open at shot.still
+    state = rw unclosed at shot.still
 
     size : length (rows ++ row ∷ []) ≡ length rows + 1
     size = length-append rows (row ∷ [])
@@ -257,7 +268,7 @@ filmed-closed setup rows row number film after open at is shot = rw is (by_test 
           judged = shot.judged;
           scenes = shot.scenes;
           window = shot.window;
-          still = rw open (omega (arith, to, at, size, state.2.0), nodes);
+          still = rw unclosed (omega (arith, to, at, size, state.2.0), nodes);
         }
     by_test false inner =
         let other : number ≢ film.window.to = λ e. grind (arith, nat_tests, inner, e) in
@@ -270,5 +281,27 @@ filmed-closed setup rows row number film after open at is shot = rw is (by_test 
           judged = shot.judged;
           scenes = shot.scenes;
           window = shot.window;
-          still = rw open (state.0, state.1, grind (arith, other, at, size, state.2.0, state.2.1));
+          still = rw unclosed (state.0, state.1, grind (arith, other, at, size, state.2.0, state.2.1));
         }
+
+-- both
+pub shown-filmed : (setup : Setup) (rows : List Row) (row : Row) (number : ℕ) (film shot after : FilmState) (done : Result (Unit {0}) AllocError) → film.judge.stopped ≡ None → is_none film.still ≡ true
+    → shot.still ≡ film.still → shot.window ≡ film.window → length rows + 2 ≡ number
+    → ((setup : Setup) (rows : List Row) → length rows + 2 ≡ number → HasJudged setup rows film.judge → HasJudged setup (rows ++ row ∷ []) shot.judge)
+    → shot.scenes ≡ kept film.window film.scenes (scene_of shot.judge.world.setup (world_of film.judge.world) (world_of shot.judge.world) number row)
+    → OnOk done (after ≡ (if number == shot.window.to then closed shot else shot))
+    → HasFilmed setup rows film → OnOk done (HasFilmed setup (rows ++ row ∷ []) after)
+shown-filmed setup rows row number film shot after (Err e) going unclosed same_still same_window at judges scenes is filmed = tt
+shown-filmed setup rows row number film shot after (Ok x) going unclosed same_still same_window at judges scenes is filmed =
+    let none : film.still ≡ None = none-is film.still unclosed in
+    filmed-closed setup rows row number shot after (same_still ∙ none) at is
+    (filmed-shot setup rows row number film shot going none same_still same_window at (judges setup rows at filmed.judged) scenes filmed)
+  where
+    none-is : (still : Option (List Sight)) → is_none still ≡ true → still ≡ None
+    none-is None e = refl
+    none-is (Some s) e = absurd (cc e)
+
+-- the scene that is kept, by another name
+pub kept-as : (window : WindowState) (scenes after : List Scene) (s s' : Scene) (done : Result (Unit {0}) AllocError) → s ≡ s' → OnOk done (after ≡ kept window scenes s) → OnOk done (after ≡ kept window scenes s')
+kept-as window scenes after s s' (Ok x) same is = is ∙ ap (kept window scenes) same
+kept-as window scenes after s s' (Err e) same is = tt

@@ -13,14 +13,14 @@ use Rattle.bully_rows.specs.Headers.{Record, header_with}
 use Rattle.bully_rows.specs.RecordsLeft.{EndsReading, HasRead, IsUnread, ReadSoFar, Takes, rows_left}
 use Rattle.bully_rows.specs.Rows.{OfTrace}
 use Rattle.bully_rows.specs.Trace.{Trace}
-use Rattle.bully_rows.proofs.TraceLemmas.{header-bad, header-read, memory-ends, read-bad, read-end, read-more}
+use Rattle.bully_rows.proofs.TraceLemmas.{header-bad, header-missing, header-read, memory-ends, read-bad, read-end, read-more}
 use Rattle.bully_trace.specs.declared.verdict.Verdict.{Verdict}
 use Rattle.bully_trace.specs.Judging.{HasJudged, IsNoRow, IsNoStart}
 use Rattle.bully_trace.specs.Verdict.{IsJudged}
 use Rattle.bully_film.specs.declared.film.Reel.{Reel}
 use Rattle.bully_film.specs.declared.scene.Sight.{Sight}
 use Rattle.bully_film.specs.Behind.{world_behind}
-use Rattle.bully_film.specs.Film.{AreAllFilmed, AreFilmed, Begins, FilmState, HasFilmed, IsFilmedSoFar, IsReelOf, TakesRow, closed}
+use Rattle.bully_film.specs.Film.{AreAllFilmed, AreFilmed, Begins, FilmState, HasFilmed, IsFilmedSoFar, IsFilmedToEnd, IsReelOf, TakesRow, closed}
 use Rattle.bully_film.specs.Scene.{sights_of}
 use Rattle.bully_film.specs.Window.{WindowState}
 use Rattle.bully_film.proofs.BehindLemmas.{judged-world}
@@ -91,6 +91,12 @@ pub filmed-end : (known : Option (List ℕ)) (window : WindowState) (reader : Re
 filmed-end known window reader after found fields film takes is (rows, read, filmed, in_window) =
     (film.judge.version, rows, read-end known rows (rows_left (header_with film.judge.version film.judge.world.setup) reader) after found fields read takes is, filmed, in_window)
 
+-- at the end of a text, which has no header, or whose rows were filmed
+pub filmed-to-end : (known : Option (List ℕ)) (window : WindowState) (reader : ReadSoFar) (after : Option (List Record)) (found : Bool) (fields : Record) (film : Option FilmState)
+    → Takes reader.records after found fields → found ≡ false → IsFilmedSoFar known window reader film → IsFilmedToEnd known window film
+filmed-to-end known window reader after found fields None takes is unread = header-missing known reader.records after found fields unread.records takes is
+filmed-to-end known window reader after found fields (Some film) takes is filmed = filmed-end known window reader after found fields film takes is filmed
+
 -- a fault of the reader
 pub filmed-fault : (known : Option (List ℕ)) (window : WindowState) (reader : ReadSoFar) (film : Option FilmState) (fault : TraceFault)
     → (IsUnread known reader → EndsReading known fault)
@@ -113,8 +119,8 @@ reel-rows setup version window rows film reel filmed same_window same_setup scen
         → (filmed.beyond ≡ []) ⊎ (length filmed.before + length filmed.shown + 1 ≡ window.to) ⊎ ((w : World) × IsJudged setup (first_world setup) 0 2 (filmed.before ++ filmed.shown) reel.verdict w)
         → IsReelOf window reel (record { version = version; setup = setup; rows = rows })
     reel_with nodes ends = record {
-      setup = same_setup ∙ filmed.judged.same;
-      verdict = (world_of film.judge.world, verdict setup rows filmed.judged);
+      same = same_setup ∙ filmed.judged.same;
+      judged = (world_of film.judge.world, verdict setup rows filmed.judged);
       before = filmed.before;
       shown = filmed.shown;
       beyond = filmed.beyond;

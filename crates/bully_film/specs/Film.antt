@@ -76,17 +76,17 @@ HasShot setup rows film = HasFilmedUp setup rows film (λ last. (last ≡ length
 -- what a film shows is that of the rows of a trace in a window: the verdict is the trace's; of each row in the window what it shows, and
 -- how the nodes stand behind the last of them. They end with the trace, with the window, or with the row that decided, up to which the
 -- rows come to the same verdict
-pub record IsReelOf (window : WindowState) (reel : Reel) (trace : Trace) : Type 0 where
-  pub setup : reel.setup ≡ trace.setup
-  pub verdict : (w : World) × IsVerdict trace reel.verdict w
+pub record IsReelOf (asked : WindowState) (reel : Reel) (trace : Trace) : Type 0 where
+  pub same : reel.setup ≡ trace.setup
+  pub judged : (w : World) × IsVerdict trace reel.verdict w
   pub before : List Row
   pub shown : List Row
   pub beyond : List Row
   pub all : trace.rows ≡ before ++ shown ++ beyond
   pub scenes : reel.scenes.items ≡ scenes_from trace.setup before shown
-  pub window : IsInWindow window before shown
+  pub window : IsInWindow asked before shown
   pub still : reel.still.items ≡ sights_of (world_behind trace.setup (before ++ shown)) 1 trace.setup.nodes
-  pub ends : (beyond ≡ []) ⊎ (length before + length shown + 1 ≡ window.to) ⊎ ((w : World) × IsJudged trace.setup (first_world trace.setup) 0 2 (before ++ shown) reel.verdict w)
+  pub ends : (beyond ≡ []) ⊎ (length before + length shown + 1 ≡ asked.to) ⊎ ((w : World) × IsJudged trace.setup (first_world trace.setup) 0 2 (before ++ shown) reel.verdict w)
 
 -- rows of a text, behind the film's header, were filmed
 abbrev pub AreFilmed : Option (List ℕ) → WindowState → ReadSoFar → FilmState → Type 0

@@ -1,8 +1,8 @@
 -- How one node stood, row by row, and the stretches over which it stayed so.
 use Rattle.std.specs.Prelude.{◌≡◌, ℕ, ◌+◌, ◌-◌, ◌≤◌, ◌==◌, ◌++◌, List, [], ◌∷◌, Option, map, option_map, replicate, if◌then◌else◌}
-use Rattle.bully_account.specs.declared.showing.ShownCall.{ShownCall}
 use Rattle.bully_film.specs.declared.scene.Scene.{Scene}
 use Rattle.bully_film.specs.declared.scene.Sight.{Sight}
+use Rattle.bully_film.specs.declared.scene.SlotCall.{SlotCall}
 use Rattle.bully_film.specs.declared.slots.Held.{Held}
 use Rattle.bully_film.specs.declared.slots.Holding.{Holding}
 use Rattle.bully_film.specs.declared.stretches.Bar.{Bar}
@@ -33,7 +33,7 @@ lane_in j scenes still = start_sight j scenes still ∷ sights_after j (start_si
 abbrev pub stand_of : Sight → Stand
 stand_of sight = record { status = sight.status; coordinator = sight.coordinator }
 
-abbrev pub held_of : ShownCall → Held
+abbrev pub held_of : SlotCall → Held
 held_of held = record { call = held.call; phase = held.phase }
 
 abbrev pub held_in : Sight → Option Held

@@ -1,7 +1,9 @@
 -- What a row of a trace shows: which nodes it speaks of, and how they were before it and behind it.
 use Rattle.std.specs.Prelude.{ℕ, zero, suc, ◌+◌, Bool, true, false, List, [], ◌∷◌, ◌++◌, Option, Some, None, option_map, length, nat_le, not, ◌&&◌, if◌then◌else◌}
+use Rattle.bully_base.specs.declared.node.Status.{Status}
 use Rattle.bully_base.specs.Setup.{Setup}
 use Rattle.bully_calls.specs.declared.call.Call.{Call}
+use Rattle.bully_calls.specs.Pending.{Pending}
 use Rattle.bully_handlers.specs.Vector.{is_normal}
 use Rattle.bully_world.specs.Cause.{is_idle, node_of}
 use Rattle.bully_world.specs.State.{is_halt}
@@ -12,19 +14,27 @@ use Rattle.bully_trace.specs.Details.{call_at}
 use Rattle.bully_annotate.specs.Annotated.{callee_or}
 use Rattle.bully_account.specs.declared.deed.Deed.{Deed}
 use Rattle.bully_account.specs.Possible.{deed_of}
-use Rattle.bully_account.specs.Shown.{shown_call}
 use Rattle.bully_film.specs.declared.TheConstants.{OWNERS_SHOWN}
 use Rattle.bully_film.specs.declared.scene.Change.{Change}
 use Rattle.bully_film.specs.declared.scene.Scene.{Scene}
 use Rattle.bully_film.specs.declared.scene.Sight.{Sight}
+use Rattle.bully_film.specs.declared.scene.SlotCall.{SlotCall}
 use Rattle.bully_film.specs.Behind.{world_behind}
+
+-- the call in a slot, without its table
+abbrev pub slot_call : Pending → SlotCall
+slot_call c = record { call = c.call; phase = c.phase; is_live = c.is_live }
 
 -- node i as the world shows it: its status, its coordinator, and the call in its slot
 abbrev pub seen_of : Member → Sight
-seen_of m = record { status = m.vector.status; coordinator = m.vector.coordinator; call = option_map shown_call m.pending }
+seen_of m = record { status = m.vector.status; coordinator = m.vector.coordinator; call = option_map slot_call m.pending }
 
 abbrev pub sight : World → ℕ → Sight
 sight w i = seen_of (member w i)
+
+-- what is seen of a node that the group doesn't have
+abbrev pub unseen : Sight
+unseen = record { status = Status.Down; coordinator = None; call = None }
 
 -- what a step from w to w' makes of node i
 abbrev pub change : World → World → ℕ → Change

@@ -1,11 +1,9 @@
-ghost use Rattle.std.specs.Prelude.{◌≡◌, ◌+◌, [], IfOk, IfSome, OnOk};
+ghost use Rattle.std.specs.Prelude.{◌≡◌, IfSome, OnOk};
 ghost use Rattle.bully_film.specs.Film.{kept};
-ghost use Rattle.bully_film.specs.Scene.{sights_of};
-ghost use Rattle.bully_world.specs.State.{world_of};
 
-use crate::scene::{Scene, Sight, open_on, shot, sight_of};
+use crate::scene::{Scene, Sight, open_on, shot, sights};
 use crate::window::Window;
-use bully_base::{Node, OutOfMemory, Setup};
+use bully_base::{OutOfMemory, Setup};
 use bully_rows::{Header, Row, Version};
 use bully_trace::{Judge, Verdict};
 use bully_world::World;
@@ -47,7 +45,7 @@ impl Model for Film {
 }
 
 impl Film {
-    ghost use Rattle.std.specs.Prelude.{◌≡◌, ◌⊎◌, ◌==◌, ◌+◌, ◌++◌, ◌∷◌, [], List, Option, None, Some, length, IfOk, IfSome, OnOk, if◌then◌else◌};
+    ghost use Rattle.std.specs.Prelude.{◌≡◌, ◌⊎◌, ◌==◌, ◌+◌, ◌++◌, ◌∷◌, [], List, Option, None, Some, true, false, is_none, length, IfOk, IfSome, OnOk, if◌then◌else◌};
     ghost use Rattle.bully_base.specs.Setup.{Setup as SetupState};
     ghost use Rattle.bully_film.specs.Film.{HasFilmed, closed, kept};
     ghost use Rattle.bully_film.specs.Scene.{scene_of};
@@ -97,17 +95,56 @@ impl Film {
         ensures window { self.new.window ≡ self.old.window }
         ensures filmed { (setup : SetupState) (rows : List RowState) → length rows + 2 ≡ number → HasFilmed setup rows self.old → OnOk result (HasFilmed setup (rows ++ row ∷ []) self.new) }
     {
-        if self.judge.stopped().is_some() {
+        match self.judge.stopped() {
+            Some(_decided) => Ok(()),
+            None => self.take_next(alloc, number, row),
+        }
+    }
+
+    // Takes a row, where none before it decided.
+    fn take_next(&mut self, alloc: Global, number: u32, row: Row) -> Result<(), OutOfMemory>
+        requires { self.old.judge.stopped ≡ None }
+        ensures version { OnOk result (self.new.judge.version ≡ self.old.judge.version) }
+        ensures window { self.new.window ≡ self.old.window }
+        ensures filmed { (setup : SetupState) (rows : List RowState) → length rows + 2 ≡ number → HasFilmed setup rows self.old → OnOk result (HasFilmed setup (rows ++ row ∷ []) self.new) }
+    {
+        if self.is_open() {
+            self.take_shown(alloc, number, &row)?;
+            self.keep_stop(row);
             return Ok(());
         }
-        if self.still.is_some() {
-            self.judge.take_row(number, &row);
-        } else {
-            self.shoot(number, &row)?;
-            self.close_at(alloc, number)?;
-        }
+        self.take_beyond(number, &row);
         self.keep_stop(row);
         Ok(())
+    }
+
+    // Whether the window's last row is still to come.
+    fn is_open(&self) -> bool
+        ensures { result ≡ is_none self.now.still }
+    {
+        self.still.is_none()
+    }
+
+    // Takes a row behind the window.
+    fn take_beyond(&mut self, number: u32, row: &Row)
+        requires { is_none self.old.still ≡ false }
+        ensures version { self.new.judge.version ≡ self.old.judge.version }
+        ensures window { self.new.window ≡ self.old.window }
+        ensures filmed { (setup : SetupState) (rows : List RowState) → length rows + 2 ≡ number → HasFilmed setup rows self.old → HasFilmed setup (rows ++ row.now ∷ []) self.new }
+    {
+        self.judge.take_row(number, row);
+    }
+
+    // Takes a row up to the window's last one, where none before it decided.
+    fn take_shown(&mut self, alloc: Global, number: u32, row: &Row) -> Result<(), OutOfMemory>
+        requires going { self.old.judge.stopped ≡ None }
+        requires open { is_none self.old.still ≡ true }
+        ensures version { OnOk result (self.new.judge.version ≡ self.old.judge.version) }
+        ensures window { self.new.window ≡ self.old.window }
+        ensures filmed { (setup : SetupState) (rows : List RowState) → length rows + 2 ≡ number → HasFilmed setup rows self.old → OnOk result (HasFilmed setup (rows ++ row.now ∷ []) self.new) }
+    {
+        self.shoot(number, row)?;
+        self.close_at(alloc, number)
     }
 
     // Takes a row up to the window's last one, and keeps what it shows.
@@ -204,25 +241,4 @@ fn or_empty(alloc: Global, still: Option<Vec<Sight>>) -> Vec<Sight>
         Some(sights) => sights,
         None => Vec::new(alloc),
     }
-}
-
-// How the nodes of the world stand, from node 1 on.
-fn sights(alloc: Global, world: &World) -> Result<Vec<Sight>, OutOfMemory>
-    ensures { IfOk result (λ v. v.items ≡ sights_of (world_of world.now) 1 world.now.setup.nodes) }
-{
-    let mut sights = Vec::with_capacity(alloc, usize::from(world.setup().nodes()))?;
-    push_sights(&mut sights, world)?;
-    Ok(sights)
-}
-
-// Appends how each node stands.
-fn push_sights(sights: &mut Vec<Sight>, world: &World) -> Result<(), OutOfMemory>
-    requires { sights.old.items ≡ [] }
-    ensures { OnOk result (sights.new.items ≡ sights_of (world_of world.now) 1 world.now.setup.nodes) }
-{
-    for before in 0..world.setup().nodes() {
-        let node = Node::new(before + 1).unwrap();
-        sights.push(sight_of(world, node))?;
-    }
-    Ok(())
 }

@@ -1,14 +1,15 @@
-ghost use Rattle.std.specs.Prelude.{◌≡◌, ◌≤◌, IfOk, OnOk, ◌++◌, ◌∷◌, []};
+ghost use Rattle.std.specs.Prelude.{◌≡◌, ◌≤◌, IfOk, OnOk, ◌++◌, ◌∷◌, [], Some, slice_get};
 ghost use Rattle.bully_film.specs.Film.{IsReelOf};
 ghost use Rattle.bully_film.specs.Lane.{lane_in, sight_after, sight_before, sights_after, start_sight};
 ghost use Rattle.bully_film.specs.Behind.{world_behind};
 ghost use Rattle.bully_film.specs.Scene.{lane_of as lane_seen, sight};
 ghost use Rattle.bully_film.specs.Window.{WindowState};
+ghost use Rattle.bully_film.specs.declared.scene.Sight.{Sight as SightState};
 ghost use Rattle.bully_rows.specs.Trace.{Trace};
 
 use crate::film::Reel;
-use crate::scene::{Scene, Sight};
-use bully_base::{Node, OutOfMemory, Status};
+use crate::scene::{Scene, Sight, unseen};
+use bully_base::{Node, OutOfMemory};
 use std::alloc::Global;
 
 /// How the node stood before the rows that the reel shows, and behind each of them. The node is at most the setup's last. Refused
@@ -26,13 +27,16 @@ fn still_at(reel: &Reel, node: Node) -> Sight
     requires { node ≤ reel.now.setup.nodes }
     ensures { (window : WindowState) (trace : Trace) (is : IsReelOf window reel.now trace) → result ≡ sight (world_behind trace.setup (is.before ++ is.shown)) node }
 {
-    match reel.still.get(usize::from(node.number() - 1)) {
+    sight_at(reel.still.as_slice(), usize::from(node.number() - 1))
+}
+
+// The sight at this place of all of them.
+fn sight_at(still: &[Sight], place: usize) -> Sight
+    ensures { (x : SightState) → slice_get still.now place ≡ Some x → result ≡ x }
+{
+    match still.get(place) {
         Some(sight) => *sight,
-        None => Sight {
-            status: Status::Down,
-            coordinator: None,
-            call: None,
-        },
+        None => unseen(),
     }
 }
 

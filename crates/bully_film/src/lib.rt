@@ -1,7 +1,7 @@
 //! Traces as films: of each row in a window what it shows, and of each node how it stood behind each of these rows.
 //!
-//! It stands on bully_trace, whose judge decides, on bully_annotate and bully_account, whose words for what an event may change and
-//! for a call in a slot it takes, and on the crates below these. bully_picture, which draws a film, relies on the verdict being the
+//! It stands on bully_trace, whose judge decides, on bully_annotate and bully_account, whose words for what an event is and
+//! what it may change it takes, and on the crates below these. bully_picture, which draws a film, relies on the verdict being the
 //! trace's, on the rows being those of the window, on each stretch of a node's lane telling the status that the node has behind each
 //! row of it, and on each stretch of its slot telling the call that is there behind each row of it.
 #![tactic(auto)]
@@ -20,7 +20,7 @@ mod window;
 pub use film::{Film, Reel};
 pub use lane::lane_of;
 pub use reading::film_of;
-pub use scene::{Change, Scene, Sight, sight_of};
+pub use scene::{Change, Scene, Sight, SlotCall, sight_of};
 pub use slots::{Held, Holding, holdings};
 pub use stretches::{Bar, Stand, bars};
 pub use window::{WINDOW_MAX, WINDOW_ROWS, Window};

@@ -1,5 +1,5 @@
 use Rattle.std.proofs.Common.{◌≡◌, Err, arith, rules}
-use Rattle.bully_film.proofs.ReadLemmas.{filmed-bad, filmed-row, filmed-start, filmed-unbegun}
+use Rattle.bully_film.proofs.ReadLemmas.{filmed-bad, filmed-row, filmed-start, filmed-to-end, filmed-unbegun}
 use Rattle.bully_film.proofs.reading.film_each.Goals as goal
 
 pub loop-film-preserved-in-Continue-branch-2 : goal.loop-film-preserved-in-Continue-branch-2
@@ -25,3 +25,8 @@ returns-in_err-begin-clause-fault g c = λ known unread.
     let fails : c.from_residual-in_err-begin.result ≡ Err c.in_err-begin.field-0.0 = grind (arith, c.from_residual-in_err-begin.ensures, c.in_err-begin.is) in
     rw fails (filmed-unbegun known c.args.window c.loop-film.rows c.advance.new.self c.loop-film.film c.in_ok-advance.field-0 c.in_err-begin.field-0.0
     c.in_ok-advance.ensures.takes (search rules) (search rules) c.in_err-begin.ensures.fault (c.loop-film.invariant known unread))
+
+pub returns-clause-filmed : goal.returns-clause-filmed
+returns-clause-filmed g c = λ known unread.
+    filmed-to-end known c.args.window c.loop-film.rows c.advance.new.self.records c.in_ok-advance.field-0 c.advance.new.self.fields c.loop-film.film
+    c.in_ok-advance.ensures.takes (search rules) (c.loop-film.invariant known unread)

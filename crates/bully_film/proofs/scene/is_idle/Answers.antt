@@ -1,0 +1,12 @@
+-- A node that the group doesn't have is idle.
+use Rattle.std.proofs.Common.{◌≡◌, ◌<◌, ap, arith, sym, true}
+use Rattle.bully_world.specs.Cause.{is_idle}
+use Rattle.bully_world.specs.State.{world_of}
+use Rattle.bully_world.specs.World.{Member}
+use Rattle.bully_film.proofs.BehindLemmas.{beyond-empty}
+use Rattle.bully_film.proofs.scene.is_idle.Goals as goal
+
+pub returns-then-number-nodes : goal.returns-then-number-nodes
+returns-then-number-nodes c =
+    let past : c.args.world.now.setup.nodes < c.args.node = grind (arith, c.setup.ensures.setup, c.nodes.ensures.nodes, c.number.ensures.number, c.if-number-nodes.true) in
+    sym (ap (λ (m : Member). is_idle m.point) (beyond-empty c.args.world.now c.args.node c.setup.ensures.reached past))
