@@ -5,7 +5,7 @@ use crate::lanes::HALF;
 use crate::layout::{ROW, WORDS_MIN};
 use crate::words::{kind_text, push_call};
 use bully_base::{Node, OutOfMemory};
-use bully_calls::{Call, Phase};
+use bully_calls::{Call, CallKind, Phase};
 use bully_film::{Held, Holding};
 
 /// How the stretch of a call ends: it runs at its callee, it fails, it is given up, or it is still under way.
@@ -59,10 +59,18 @@ fn end_of(holding: &Holding, next: Option<&Holding>) -> End {
     let Some(next) = next else {
         return End::UnderWay;
     };
-    match (holding.held, next.held) {
-        (Some(one), Some(other)) if one.call == other.call => end_by(other.phase),
-        _ => End::GivenUp,
+    let (Some(one), Some(other)) = (holding.held, next.held) else {
+        return End::GivenUp;
+    };
+    if same_call(&one, &other) {
+        end_by(other.phase)
+    } else {
+        End::GivenUp
     }
+}
+
+fn same_call(one: &Held, other: &Held) -> bool {
+    one.call == other.call
 }
 
 fn end_by(phase: Phase) -> End {
@@ -83,8 +91,8 @@ fn draw_held(
     is_orphan: bool,
 ) -> Result<(), OutOfMemory> {
     match held.phase {
-        Phase::Sent => draw_call(canvas, node, holding, held.call, end, is_orphan),
-        Phase::Ran(_) => draw_reply(canvas, node, holding, held.call, end),
+        Phase::Sent => draw_call(canvas, node, holding, &held.call, end, is_orphan),
+        Phase::Ran(_) => draw_reply(canvas, node, holding, &held.call, end),
         Phase::Failed => Ok(()),
     }
 }
@@ -139,21 +147,45 @@ fn draw_call(
     canvas: &mut Canvas,
     node: Node,
     holding: &Holding,
-    call: Call,
+    call: &Call,
     end: End,
     is_orphan: bool,
 ) -> Result<(), OutOfMemory> {
     let line = line_of(canvas, node, call.callee, holding, end);
-    push_line(&mut canvas.lines, &line)?;
-    canvas.lines.push_str(call_style(end, is_orphan))?;
-    push_title(&mut canvas.lines, node, call, holding)?;
-    canvas.lines.push_str("</line>\n")?;
+    let style = call_style(end, is_orphan);
+    push_arrow(&mut canvas.lines, &line, style, node, call, holding)?;
+    label_call(canvas, &line, call.kind, end, is_orphan)
+}
+
+// Appends a line of this style between two lanes, and what is shown where the pointer rests on it.
+fn push_arrow(
+    text: &mut String,
+    line: &Line,
+    style: &str,
+    node: Node,
+    call: &Call,
+    holding: &Holding,
+) -> Result<(), OutOfMemory> {
+    push_line(text, line)?;
+    text.push_str(style)?;
+    push_title(text, node, call, holding)?;
+    text.push_str("</line>\n")
+}
+
+// Writes what call it is, where the lanes have room for it.
+fn label_call(
+    canvas: &mut Canvas,
+    line: &Line,
+    kind: CallKind,
+    end: End,
+    is_orphan: bool,
+) -> Result<(), OutOfMemory> {
     if canvas.layout.lane < WORDS_MIN {
         return Ok(());
     }
     let mut words = canvas.text();
-    push_words(&mut words, call, end, is_orphan)?;
-    place_words(canvas, &line, call_colour(end, is_orphan), words.as_str())
+    push_words(&mut words, kind, end, is_orphan)?;
+    place_words(canvas, line, call_colour(end, is_orphan), words.as_str())
 }
 
 // How the line of a call looks.
@@ -183,11 +215,11 @@ fn call_colour(end: End, is_orphan: bool) -> &'static str {
 // Appends the words of a call.
 fn push_words(
     text: &mut String,
-    call: Call,
+    kind: CallKind,
     end: End,
     is_orphan: bool,
 ) -> Result<(), OutOfMemory> {
-    text.push_str(kind_text(call.kind))?;
+    text.push_str(kind_text(kind))?;
     match end {
         End::Failed => text.push_str(" fails")?,
         End::GivenUp => text.push_str(", given up")?,
@@ -219,9 +251,10 @@ fn place_words(
 
 // So many eighths of the way from one to the other.
 fn along(one: u32, other: u32, part: u32) -> u32 {
-    let part = part.min(8);
-    let rest = 8 - part;
-    (one.min(1_000_000) * rest + other.min(1_000_000) * part) / 8
+    let rest = 8u32.saturating_sub(part);
+    one.saturating_mul(rest)
+        .saturating_add(other.saturating_mul(part))
+        / 8
 }
 
 // Draws the way of a reply back to its caller.
@@ -229,14 +262,18 @@ fn draw_reply(
     canvas: &mut Canvas,
     node: Node,
     holding: &Holding,
-    call: Call,
+    call: &Call,
     end: End,
 ) -> Result<(), OutOfMemory> {
     let whole = between(canvas, call.callee, node, holding);
-    push_line(&mut canvas.lines, &whole)?;
-    canvas.lines.push_str(reply_style(end))?;
-    push_title(&mut canvas.lines, node, call, holding)?;
-    canvas.lines.push_str("</line>\n")
+    push_arrow(
+        &mut canvas.lines,
+        &whole,
+        reply_style(end),
+        node,
+        call,
+        holding,
+    )
 }
 
 fn reply_style(end: End) -> &'static str {
@@ -263,12 +300,12 @@ fn push_line(text: &mut String, line: &Line) -> Result<(), OutOfMemory> {
 fn push_title(
     text: &mut String,
     node: Node,
-    call: Call,
+    call: &Call,
     holding: &Holding,
 ) -> Result<(), OutOfMemory> {
     let number = node.number();
     write!(text, "<title>node {number}: ")?;
-    push_call(text, call)?;
+    push_call(text, *call)?;
     let first = holding.first;
     let last = holding.last;
     write!(text, ", in its slot behind rows {first} to {last}</title>")

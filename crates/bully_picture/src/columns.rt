@@ -74,7 +74,7 @@ fn push_names(text: &mut String, reel: &Reel) -> Result<(), OutOfMemory> {
         write!(text, "{number}")?;
         fill(text, start, COLUMN)?;
     }
-    text.push('\n')
+    text.push_str("what it says\n")
 }
 
 // Appends how many rows lie between; nothing where there are none.

@@ -62,16 +62,17 @@ fn push_title(text: &mut String, node: Node, bar: &Bar) -> Result<(), OutOfMemor
     write!(text, ", behind rows {first} to {last}</title>")
 }
 
-// Says beside a bar how the node stands, where the lane has room for it.
+// Says beside a bar how the node stands, where the lane has room for it: at the left, since what changes a node comes from a higher
+// one, at the right.
 fn label_bar(canvas: &mut Canvas, node: Node, bar: &Bar) -> Result<(), OutOfMemory> {
     if bar.stand.status == Status::Down || canvas.layout.lane < WORDS_MIN {
         return Ok(());
     }
     let mut words = canvas.text();
     push_label(&mut words, bar.stand, canvas.layout.lane)?;
-    let x = canvas.layout.x(node).saturating_add(HALF + 4);
+    let x = canvas.layout.x(node).saturating_sub(HALF + 4);
     let y = canvas.layout.y(bar.first).saturating_add(4);
-    canvas.put_start(x, y, 10, "#333", words.as_str())
+    canvas.put_end(x, y, 10, "#333", words.as_str())
 }
 
 // Appends how the node stands, in short where the lane is narrow.

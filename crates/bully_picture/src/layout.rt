@@ -4,7 +4,7 @@ use bully_base::Node;
 use bully_film::Reel;
 
 /// Where the lanes begin.
-pub const LEFT: u32 = 64;
+pub const LEFT: u32 = 110;
 
 /// How high a row is.
 pub const ROW: u32 = 20;

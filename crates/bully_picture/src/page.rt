@@ -5,7 +5,7 @@ use crate::arrows::draw_calls;
 use crate::canvas::Canvas;
 use crate::escaping::push_escaped;
 use crate::lanes::{draw_bars, draw_name};
-use crate::layout::{LEFT, Layout, ROW};
+use crate::layout::{Layout, ROW};
 use crate::marks::draw_row;
 use bully_base::{Node, OutOfMemory};
 use bully_film::{Reel, Sight, bars, holdings, lane_of};
@@ -137,7 +137,7 @@ fn push_title(text: &mut String, reel: &Reel, layout: &Layout) -> Result<(), Out
     };
     write!(
         text,
-        "<text x=\"{LEFT}\" y=\"24\" font-size=\"15\" font-weight=\"bold\" fill=\"{shade}\">"
+        "<text x=\"64\" y=\"24\" font-size=\"15\" font-weight=\"bold\" fill=\"{shade}\">"
     )?;
     push_verdict_head(text, reel.verdict)?;
     let nodes = reel.setup.nodes();
@@ -163,7 +163,7 @@ fn push_below(text: &mut String, layout: &Layout, below: &str) -> Result<(), Out
     for line in below.lines() {
         write!(
             text,
-            "<text x=\"{LEFT}\" y=\"{y}\" font-size=\"12\" fill=\"#D55E00\" xml:space=\"preserve\">"
+            "<text x=\"64\" y=\"{y}\" font-size=\"12\" fill=\"#D55E00\" xml:space=\"preserve\">"
         )?;
         push_escaped(text, line)?;
         text.push_str("</text>\n")?;
