@@ -111,7 +111,12 @@ fn draw_reel<W: Write, E: Write>(
     errors: &mut E,
 ) -> u8 {
     match picture_of(alloc, reel, is_text, names) {
-        Ok(picture) => write_picture(verdict_status(reel.verdict), picture.as_str(), output, errors),
+        Ok(picture) => write_picture(
+            verdict_status(reel.verdict),
+            picture.as_str(),
+            output,
+            errors,
+        ),
         Err(_) => answer_stop(Stop::OutOfMemory, errors),
     }
 }

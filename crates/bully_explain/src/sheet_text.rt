@@ -1,9 +1,7 @@
 use crate::differing::{push_claimed, push_detailed, push_whole_claimed};
 use crate::sentences::push_refused;
 use crate::words::{push_held, push_note, push_offer, push_point, push_vector};
-use bully_account::{
-    Account, Deed, Memory, NodeSheet, Note, Shown, ShownCall, Stop, node_sheet,
-};
+use bully_account::{Account, Deed, Memory, NodeSheet, Note, Shown, ShownCall, Stop, node_sheet};
 use bully_base::{NODES_MAX, Node, OutOfMemory, Status};
 use bully_rows::{Row, push_row};
 use bully_steps::Point;

@@ -91,7 +91,6 @@ judged-world setup rows judge judged = by_stop judge.stopped refl
 
 -- ---- which nodes stay as they were
 
-
 written-stays : (w w' : World) (i j : ℕ) (m : Member) → w' ≡ with_member w i m → j ≢ i → member w' j ≡ member w j
 written-stays w w' i j m is other = rw is (member_other w i j m other)
 
@@ -182,7 +181,7 @@ taken-stays setup w count (first ∷ rows) row j fits apart other =
         → (j ≢ place_at (taken setup (next_world setup w first) (next_count count first) rows) (node_in row) (deed_in row)
         → member (taken setup (next_world setup w first) (next_count count first) (rows ++ row ∷ [])) j ≡ member (taken setup (next_world setup w first) (next_count count first) rows) j)
         → member (if b then w else taken setup (next_world setup w first) (next_count count first) (rows ++ row ∷ [])) j
-            ≡ member (if b then w else taken setup (next_world setup w first) (next_count count first) rows) j
+        ≡ member (if b then w else taken setup (next_world setup w first) (next_count count first) rows) j
     by_test true other more = refl
     by_test false other more = more other
 

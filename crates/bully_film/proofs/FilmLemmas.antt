@@ -116,7 +116,7 @@ keeps setup window before shown row fits at =
 
     by_number : (early full : Bool) → nat_lt (length (before ++ shown) + 2) window.from ≡ early → nat_le window.most (length (scenes_from setup before shown)) ≡ full
         → Keeps setup window before shown row (if early then scenes_from setup before shown
-            else (if full then drop 1 (scenes_from setup before shown) else scenes_from setup before shown) ++ scene_at setup (before ++ shown) row ∷ [])
+        else (if full then drop 1 (scenes_from setup before shown) else scenes_from setup before shown) ++ scene_at setup (before ++ shown) row ∷ [])
     by_number true full early is = keeps-none setup window before shown row fits at (let e : length (before ++ shown) + 2 < window.from = grind (arith, nat_tests, early) in omega (arith, size, e))
     by_number false true late full =
         let e : window.most ≤ length (scenes_from setup before shown) = grind (arith, nat_tests, full) in
@@ -158,11 +158,11 @@ filmed-stopped setup rows row film verdict is filmed = record {
 
     by_still : (still : Option (List Sight))
         → MatchOption still
-            (HasJudged setup (filmed.before ++ filmed.shown) film.judge × (film.judge.stopped ≡ None → filmed.beyond ≡ []) × (length filmed.before + length filmed.shown + 1 < film.window.to))
-            (λ s. (length filmed.before + length filmed.shown + 1 ≡ film.window.to) × (s ≡ sights_of (world_behind setup (filmed.before ++ filmed.shown)) 1 setup.nodes))
+        (HasJudged setup (filmed.before ++ filmed.shown) film.judge × (film.judge.stopped ≡ None → filmed.beyond ≡ []) × (length filmed.before + length filmed.shown + 1 < film.window.to))
+        (λ s. (length filmed.before + length filmed.shown + 1 ≡ film.window.to) × (s ≡ sights_of (world_behind setup (filmed.before ++ filmed.shown)) 1 setup.nodes))
         → MatchOption still
-            (HasJudged setup (filmed.before ++ filmed.shown) film.judge × (film.judge.stopped ≡ None → filmed.beyond ++ row ∷ [] ≡ []) × (length filmed.before + length filmed.shown + 1 < film.window.to))
-            (λ s. (length filmed.before + length filmed.shown + 1 ≡ film.window.to) × (s ≡ sights_of (world_behind setup (filmed.before ++ filmed.shown)) 1 setup.nodes))
+        (HasJudged setup (filmed.before ++ filmed.shown) film.judge × (film.judge.stopped ≡ None → filmed.beyond ++ row ∷ [] ≡ []) × (length filmed.before + length filmed.shown + 1 < film.window.to))
+        (λ s. (length filmed.before + length filmed.shown + 1 ≡ film.window.to) × (s ≡ sights_of (world_behind setup (filmed.before ++ filmed.shown)) 1 setup.nodes))
     by_still None (judged, going, upto) = (judged, λ none. absurd (cc (sym is ∙ none)), upto)
     by_still (Some s) at = at
 
@@ -184,11 +184,11 @@ filmed-beyond setup rows row film after is same_still same_scenes same_window ju
   where
     by_still : (still : Option (List Sight)) → is_none still ≡ false
         → MatchOption still
-            (HasJudged setup (filmed.before ++ filmed.shown) film.judge × (film.judge.stopped ≡ None → filmed.beyond ≡ []) × (length filmed.before + length filmed.shown + 1 < film.window.to))
-            (λ s. (length filmed.before + length filmed.shown + 1 ≡ film.window.to) × (s ≡ sights_of (world_behind setup (filmed.before ++ filmed.shown)) 1 setup.nodes))
+        (HasJudged setup (filmed.before ++ filmed.shown) film.judge × (film.judge.stopped ≡ None → filmed.beyond ≡ []) × (length filmed.before + length filmed.shown + 1 < film.window.to))
+        (λ s. (length filmed.before + length filmed.shown + 1 ≡ film.window.to) × (s ≡ sights_of (world_behind setup (filmed.before ++ filmed.shown)) 1 setup.nodes))
         → MatchOption still
-            (HasJudged setup (filmed.before ++ filmed.shown) after.judge × (after.judge.stopped ≡ None → filmed.beyond ++ row ∷ [] ≡ []) × (length filmed.before + length filmed.shown + 1 < film.window.to))
-            (λ s. (length filmed.before + length filmed.shown + 1 ≡ film.window.to) × (s ≡ sights_of (world_behind setup (filmed.before ++ filmed.shown)) 1 setup.nodes))
+        (HasJudged setup (filmed.before ++ filmed.shown) after.judge × (after.judge.stopped ≡ None → filmed.beyond ++ row ∷ [] ≡ []) × (length filmed.before + length filmed.shown + 1 < film.window.to))
+        (λ s. (length filmed.before + length filmed.shown + 1 ≡ film.window.to) × (s ≡ sights_of (world_behind setup (filmed.before ++ filmed.shown)) 1 setup.nodes))
     by_still None none at = absurd (cc none)
     by_still (Some s) some at = at
 
@@ -230,7 +230,7 @@ filmed-shot setup rows row number film after going unclosed same_still same_wind
         ap (λ s. scene_of s (world_of film.judge.world) (world_of after.judge.world) number row) judged.same
         ∙ ap (λ w. scene_of setup w (world_of after.judge.world) number row) (judged-world setup (filmed.before ++ filmed.shown) film.judge state.0)
         ∙ ap (λ w. scene_of setup (world_behind setup (filmed.before ++ filmed.shown)) w number row)
-            (judged-world setup (rows ++ row ∷ []) after.judge judged ∙ ap (λ all. world_behind setup (all ++ row ∷ [])) whole)
+        (judged-world setup (rows ++ row ∷ []) after.judge judged ∙ ap (λ all. world_behind setup (all ++ row ∷ [])) whole)
         ∙ ap (λ n. scene_of setup (world_behind setup (filmed.before ++ filmed.shown)) (world_behind setup ((filmed.before ++ filmed.shown) ++ row ∷ [])) n row) numbered
 
     upto : (length next.before' + length next.shown' + 1 ≡ length (rows ++ row ∷ []) + 1) × (length next.before' + length next.shown' + 1 ≤ film.window.to)

@@ -34,7 +34,7 @@ after-is setup before row j now is = by_test (node_in row == j) (place_at (world
 
     by_test : (b c : Bool) → (node_in row == j) ≡ b → (place_at (world_behind setup before) (node_in row) (deed_in row) == j) ≡ c
         → (if b then sight (world_behind setup (before ++ row ∷ [])) (node_in row) else (if c then sight (world_behind setup (before ++ row ∷ [])) (place_at (world_behind setup before) (node_in row) (deed_in row)) else now))
-            ≡ sight (world_behind setup (before ++ row ∷ [])) j
+        ≡ sight (world_behind setup (before ++ row ∷ [])) j
     by_test true c own other = ap (sight (world_behind setup (before ++ row ∷ []))) (same-number (node_in row) j own)
     by_test false true own other = ap (sight (world_behind setup (before ++ row ∷ []))) (same-number (place_at (world_behind setup before) (node_in row) (deed_in row)) j other)
     by_test false false own other = is ∙ sym (behind-stays setup before row j (other-number (node_in row) j own) (other-number (place_at (world_behind setup before) (node_in row) (deed_in row)) j other))
@@ -46,7 +46,7 @@ before-is setup before row j now is = by_test (node_in row == j) (place_at (worl
   where
     by_test : (b c : Bool) → (node_in row == j) ≡ b → (place_at (world_behind setup before) (node_in row) (deed_in row) == j) ≡ c
         → (if b then sight (world_behind setup before) (node_in row) else (if c then sight (world_behind setup before) (place_at (world_behind setup before) (node_in row) (deed_in row)) else now))
-            ≡ sight (world_behind setup before) j
+        ≡ sight (world_behind setup before) j
     by_test true c own other = ap (sight (world_behind setup before)) (same-number (node_in row) j own)
     by_test false true own other = ap (sight (world_behind setup before)) (same-number (place_at (world_behind setup before) (node_in row) (deed_in row)) j other)
     by_test false false own other = is ∙ behind-stays setup before row j (other-number (node_in row) j own) (other-number (place_at (world_behind setup before) (node_in row) (deed_in row)) j other)

@@ -138,14 +138,14 @@ reel-rows setup version window rows film reel filmed same_window same_setup scen
 
     by_still : (kept : Option (List Sight)) → film.still ≡ kept
         → MatchOption kept
-            (HasJudged setup (filmed.before ++ filmed.shown) film.judge × (film.judge.stopped ≡ None → filmed.beyond ≡ []) × (length filmed.before + length filmed.shown + 1 < film.window.to))
-            (λ s. (length filmed.before + length filmed.shown + 1 ≡ film.window.to) × (s ≡ sights_of (world_behind setup (filmed.before ++ filmed.shown)) 1 setup.nodes))
+        (HasJudged setup (filmed.before ++ filmed.shown) film.judge × (film.judge.stopped ≡ None → filmed.beyond ≡ []) × (length filmed.before + length filmed.shown + 1 < film.window.to))
+        (λ s. (length filmed.before + length filmed.shown + 1 ≡ film.window.to) × (s ≡ sights_of (world_behind setup (filmed.before ++ filmed.shown)) 1 setup.nodes))
         → IsReelOf window reel (record { version = version; setup = setup; rows = rows })
     by_still None is (judged, going, upto) =
         let now : reel.still.items ≡ sights_of (world_of film.judge.world) 1 film.judge.world.setup.nodes = rw is at still in
         reel_with (now
-            ∙ ap (λ (s : Setup). sights_of (world_of film.judge.world) 1 s.nodes) judged.same
-            ∙ ap (λ w. sights_of w 1 setup.nodes) (judged-world setup (filmed.before ++ filmed.shown) film.judge judged))
+        ∙ ap (λ (s : Setup). sights_of (world_of film.judge.world) 1 s.nodes) judged.same
+        ∙ ap (λ w. sights_of w 1 setup.nodes) (judged-world setup (filmed.before ++ filmed.shown) film.judge judged))
         (by_stop film.judge.stopped refl judged going)
     by_still (Some s) is (last, nodes) =
         let now : reel.still.items ≡ s = rw is at still in
@@ -157,6 +157,8 @@ pub reel-is : (known : Option (List ℕ)) (window : WindowState) (film after : F
     → ((setup : Setup) (rows : List Row) → HasJudged setup rows after.judge → IsJudged setup (first_world setup) 0 2 rows reel.verdict (world_of after.judge.world))
     → OfTrace known (IsReelOf window reel)
 reel-is None window film after reel all is same_setup scenes still verdict = tt
-reel-is (Some bytes) window film after reel (version, rows, means, filmed, in_window) is same_setup scenes still verdict =
-    (record { version = version; setup = film.judge.world.setup; rows = rows }, means,
-    reel-rows film.judge.world.setup version window rows film reel filmed in_window (rw is at same_setup) (rw is at scenes) (rw is at still) (rw is at verdict))
+reel-is (Some bytes) window film after reel (version, rows, means, filmed, in_window) is same_setup scenes still verdict = (
+  record { version = version; setup = film.judge.world.setup; rows = rows },
+  means,
+  reel-rows film.judge.world.setup version window rows film reel filmed in_window (rw is at same_setup) (rw is at scenes) (rw is at still) (rw is at verdict),
+)

@@ -38,10 +38,12 @@ kept window scenes s =
 
 -- how the nodes stand now is kept, where it wasn't yet
 abbrev pub closed : FilmState → FilmState
-closed film = record film { still = elim film.still as (λ _. Option (List Sight)) [
-  | None ↦ Some (sights_of (world_of film.judge.world) 1 film.judge.world.setup.nodes)
-  | Some still ↦ Some still
-] }
+closed film = record film {
+  still = elim film.still as (λ _. Option (List Sight)) [
+    | None ↦ Some (sights_of (world_of film.judge.world) 1 film.judge.world.setup.nodes)
+    | Some still ↦ Some still
+  ];
+}
 
 -- of the rows before and behind them these are those of the window: they begin where it does; or there are none, since the rows end
 -- before it; or they are the last ones, as many as are kept

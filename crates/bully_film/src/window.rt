@@ -61,7 +61,11 @@ impl Window {
     pub(crate) fn limits(self)
         ensures { IsWindow self }
     {
-        let Window { from: _, to: _, most: _ } = self;
+        let Window {
+            from: _,
+            to: _,
+            most: _,
+        } = self;
     }
 
     /// Its first row.

@@ -53,7 +53,7 @@ module _ (f : Found) where
   pub words-drawn : (r t n : Option (Bor Text)) → option_map text_now r ≡ first_value f (codes "rows") → option_map text_now t ≡ first_value f (codes "text")
       → option_map text_now n ≡ first_value f (codes "names")
       → drawing (option_map text_now r) (option_map text_now t) (option_map text_now n)
-          ≡ drawing (first_of (codes "rows") (rows_of f)) (first_of (codes "text") (rows_of f)) (first_of (codes "names") (rows_of f))
+      ≡ drawing (first_of (codes "rows") (rows_of f)) (first_of (codes "text") (rows_of f)) (first_of (codes "names") (rows_of f))
   words-drawn r t n rows text names =
       ap (λ x. drawing x (option_map text_now t) (option_map text_now n)) (sym (value_is _ r rows))
       ∙ ap (λ x. drawing (first_of (codes "rows") (rows_of f)) x (option_map text_now n)) (sym (value_is _ t text))
