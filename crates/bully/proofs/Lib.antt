@@ -4,3 +4,4 @@ pub mod AnswerLemmas
 pub mod ExplainLemmas
 mod MemberLemmas
 mod ConfigLemmas
+mod DrawLemmas

@@ -1,12 +1,17 @@
-ghost use Rattle.std.specs.Prelude.{◌≡◌, ◌≤◌, ◌⊎◌, IfSome};
-ghost use Rattle.std.specs.Io.KnownBytes.{Appends};
+ghost use Rattle.std.specs.Prelude.{◌≡◌, ◌≤◌, ◌⊎◌, ℕ, List, None, Some, IfOk, IfSome, option_map, string_bytes};
+ghost use Rattle.std.specs.Io.KnownBytes.{Appends, Keeps};
 ghost use Rattle.bully.specs.Answer.{Tells, stop_line, verdict_status};
-ghost use Rattle.bully.specs.DrawAnswer.{IsDrawAnswer};
+ghost use Rattle.bully.specs.DrawAnswer.{IsDrawAnswer, IsPictureAnswer};
+ghost use Rattle.bully.specs.ConfigAnswer.{IsNotDone};
+ghost use Rattle.bully_film.specs.Window.{CanBeShown, asked};
+ghost use Rattle.bully_picture.specs.Title.{Has};
+ghost use Rattle.bully_trace.specs.VerdictText.{verdict_head};
 
 use crate::checking::verdict_status;
 use crate::configs::{bytes_at, config_of};
+use crate::explaining::write_sheet;
 use crate::refusals::{Refusal, answer_refusal};
-use crate::telling::{Stop, answer_fault, answer_stop, finish, tell};
+use crate::telling::{Stop, answer_fault, answer_stop, tell};
 use bully_base::{Node, OutOfMemory};
 use bully_config::Config;
 use bully_explain::reason;
@@ -17,6 +22,13 @@ use std::alloc::Global;
 use std::io::{Read, Write};
 use std::rt::Files;
 
+/// How a picture is drawn: which rows, and whether as text for a terminal.
+#[derive(Clone, Copy)]
+struct Drawing {
+    window: Window,
+    is_text: bool,
+}
+
 /// Draws the trace on the input, with the picture on the output, and tells the status, which is that of `check`. The words are looked at
 /// first, then the configuration with the names, then the trace.
 pub fn answer_draw<H: Files + AllocGlobal, R: Read + Drop, W: Write, E: Write>(
@@ -26,7 +38,8 @@ pub fn answer_draw<H: Files + AllocGlobal, R: Read + Drop, W: Write, E: Write>(
     output: &mut W,
     errors: &mut E,
 ) -> u8
-    ensures answer { IfSome (R.remaining input) (λ bytes. IsDrawAnswer bytes (W.contents output.old) (W.contents output.new) (E.contents errors.old) (E.contents errors.new) result) }
+    ensures answer { IfSome (R.remaining input) (λ bytes.
+        IsDrawAnswer bytes (option_map (λ s. s.now) words.now.rows) (option_map (λ s. s.now) words.now.names) (W.contents output.old) (W.contents output.new) (E.contents errors.old) (E.contents errors.new) result) }
     ensures silent { (result ≡ 2) ⊎ (result ≡ 3) → output.new ≡ output.old }
     ensures status { result ≤ 4 }
 {
@@ -34,10 +47,13 @@ pub fn answer_draw<H: Files + AllocGlobal, R: Read + Drop, W: Write, E: Write>(
         tell(errors, "bully: words: Rows\n");
         return 2;
     };
-    let is_text = is_asked(words.text);
+    let drawing = Drawing {
+        window,
+        is_text: is_asked(words.text),
+    };
     match words.names {
-        Some(path) => draw_named(rt, path, window, is_text, input, output, errors),
-        None => draw_input(rt.alloc(), window, is_text, None, input, output, errors),
+        Some(path) => draw_named(rt, path, drawing, input, output, errors),
+        None => draw_input(rt.alloc(), drawing, None, input, output, errors),
     }
 }
 
@@ -50,10 +66,19 @@ fn is_asked(flag: Option<&str>) -> bool {
 }
 
 // The window of the words, as `2-50`; the one at the end without words. None where they are no window.
-fn window_of(rows: Option<&str>) -> Option<Window> {
-    let Some(rows) = rows else {
-        return Some(Window::at_the_end());
-    };
+fn window_of(rows: Option<&str>) -> Option<Window>
+    ensures given { rows ≡ None → result ≡ Some (record { from = 2; to = 4294967295; most = 200 }) }
+{
+    match rows {
+        Some(rows) => window_between(rows),
+        None => Some(Window::at_the_end()),
+    }
+}
+
+// The window of two numbers with a dash between them.
+fn window_between(rows: &str) -> Option<Window>
+    ensures { IfSome result (λ w. (from : ℕ) × (to : ℕ) × CanBeShown from to × (w ≡ asked from to)) }
+{
     let (from, to) = rows.split_once('-')?;
     Window::between(row_number(from)?, row_number(to)?)
 }
@@ -67,36 +92,64 @@ fn row_number(text: &str) -> Option<u32> {
 fn draw_named<H: Files + AllocGlobal, R: Read + Drop, W: Write, E: Write>(
     rt: &H,
     path: &str,
-    window: Window,
-    is_text: bool,
+    drawing: Drawing,
     input: R,
     output: &mut W,
     errors: &mut E,
-) -> u8 {
+) -> u8
+    ensures answer { IfSome (R.remaining input) (λ bytes. IsPictureAnswer bytes (W.contents output.old) (W.contents output.new) (E.contents errors.old) (E.contents errors.new) result)
+        ⊎ ((file : List ℕ) × IsNotDone file (W.contents output.old) (W.contents output.new) (E.contents errors.old) (E.contents errors.new) result) }
+    ensures silent { (result ≡ 2) ⊎ (result ≡ 3) → output.new ≡ output.old }
+    ensures status { result ≤ 4 }
+{
     match bytes_at(rt, path) {
-        Ok(bytes) => match config_of(rt.alloc(), bytes.as_slice()) {
-            Ok(config) => {
-                let names = Some(&config);
-                draw_input(rt.alloc(), window, is_text, names, input, output, errors)
-            }
-            Err(fault) => answer_refusal(rt.alloc(), Refusal::from(fault), errors),
-        },
+        Ok(bytes) => draw_with(
+            rt.alloc(),
+            bytes.as_slice(),
+            drawing,
+            input,
+            output,
+            errors,
+        ),
         Err(stop) => answer_stop(stop, errors),
+    }
+}
+
+// Draws the trace on the input, with the names of the configuration that these bytes of a file are.
+fn draw_with<R: Read + Drop, W: Write, E: Write>(
+    alloc: Global,
+    file: &[u8],
+    drawing: Drawing,
+    input: R,
+    output: &mut W,
+    errors: &mut E,
+) -> u8
+    ensures answer { IfSome (R.remaining input) (λ bytes. IsPictureAnswer bytes (W.contents output.old) (W.contents output.new) (E.contents errors.old) (E.contents errors.new) result)
+        ⊎ IsNotDone file.now (W.contents output.old) (W.contents output.new) (E.contents errors.old) (E.contents errors.new) result }
+    ensures silent { (result ≡ 2) ⊎ (result ≡ 3) → output.new ≡ output.old }
+    ensures status { result ≤ 4 }
+{
+    match config_of(alloc, file) {
+        Ok(config) => draw_input(alloc, drawing, Some(&config), input, output, errors),
+        Err(fault) => answer_refusal(alloc, Refusal::from(fault), errors),
     }
 }
 
 // Draws the trace on the input.
 fn draw_input<R: Read + Drop, W: Write, E: Write>(
     alloc: Global,
-    window: Window,
-    is_text: bool,
+    drawing: Drawing,
     names: Option<&Config>,
     input: R,
     output: &mut W,
     errors: &mut E,
-) -> u8 {
-    match film_of(alloc, input, window) {
-        Ok(reel) => draw_reel(alloc, &reel, is_text, names, output, errors),
+) -> u8
+    ensures answer { IfSome (R.remaining input) (λ bytes. IsPictureAnswer bytes (W.contents output.old) (W.contents output.new) (E.contents errors.old) (E.contents errors.new) result) }
+    ensures silent { (result ≡ 2) ⊎ (result ≡ 3) → output.new ≡ output.old }
+    ensures status { result ≤ 4 }
+{
+    match film_of(alloc, input, drawing.window) {
+        Ok(reel) => draw_reel(alloc, &reel, drawing.is_text, names, output, errors),
         Err(fault) => answer_fault(alloc, fault, errors),
     }
 }
@@ -109,9 +162,14 @@ fn draw_reel<W: Write, E: Write>(
     names: Option<&Config>,
     output: &mut W,
     errors: &mut E,
-) -> u8 {
+) -> u8
+    ensures answer { ((picture : List ℕ) × Has picture (verdict_head reel.now.verdict) × (((result ≡ verdict_status reel.now.verdict) × Appends (W.contents output.old) (W.contents output.new) picture × (errors.new ≡ errors.old))
+        ⊎ ((result ≡ 4) × Tells (E.contents errors.old) (E.contents errors.new) (stop_line Stop.Write))))
+        ⊎ ((result ≡ 4) × (output.new ≡ output.old) × Tells (E.contents errors.old) (E.contents errors.new) (stop_line Stop.OutOfMemory)) }
+    ensures status { (result ≤ 1) ⊎ (result ≡ 4) }
+{
     match picture_of(alloc, reel, is_text, names) {
-        Ok(picture) => write_picture(
+        Ok(picture) => write_sheet(
             verdict_status(reel.verdict),
             picture.as_str(),
             output,
@@ -121,29 +179,15 @@ fn draw_reel<W: Write, E: Write>(
     }
 }
 
-// Writes the picture, and tells this status.
-fn write_picture<W: Write, E: Write>(
-    status: u8,
-    picture: &str,
-    output: &mut W,
-    errors: &mut E,
-) -> u8
-    ensures { ((result ≡ status) × Appends (W.contents output.old) (W.contents output.new) picture.now × (errors.new ≡ errors.old))
-        ⊎ ((result ≡ 4) × Tells (E.contents errors.old) (E.contents errors.new) (stop_line Stop.Write)) }
-{
-    if output.write_all(picture.as_bytes()).is_err() {
-        return answer_stop(Stop::Write, errors);
-    }
-    finish(status, output, errors)
-}
-
 // The picture of what a film shows.
 fn picture_of(
     alloc: Global,
     reel: &Reel,
     is_text: bool,
     names: Option<&Config>,
-) -> Result<String, OutOfMemory> {
+) -> Result<String, OutOfMemory>
+    ensures { IfOk result (λ picture. Has (string_bytes picture) (verdict_head reel.now.verdict)) }
+{
     let below = below(alloc, reel)?;
     if is_text {
         return text_picture(alloc, reel, below.as_str());

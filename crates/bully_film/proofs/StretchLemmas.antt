@@ -6,7 +6,8 @@ use Rattle.bully_film.specs.declared.slots.Held.{Held}
 use Rattle.bully_film.specs.declared.slots.Holding.{Holding}
 use Rattle.bully_film.specs.declared.stretches.Bar.{Bar}
 use Rattle.bully_film.specs.declared.stretches.Stand.{Stand}
-use Rattle.bully_film.specs.Lane.{AreJoined, AreJoinedHeld, held_in, spread, spread_held, stand_of}
+use Rattle.bully_film.specs.declared.whole.Lane.{Lane}
+use Rattle.bully_film.specs.Lane.{AreJoined, AreJoinedHeld, AreLanes, IsLane, held_in, spread, spread_held, stand_of}
 
 -- one more row of the same stretch
 goes-on : {A : Type 0} (done all : List A) (from row : ℕ) (value : A) → from ≤ row → done ++ replicate (row + 1 - from) value ≡ all
@@ -169,3 +170,11 @@ holding-ends first done all one from row value start rest k is_one is_all end lo
   let last : row + 1 ≡ first + length rest + 1 = omega (arith, loop.row_is, end) in
       rw (is_all, is_one) (subst (λ n. AreJoinedHeld first (done ++ holding_of from row value ∷ []) n) last (holding-joined-more first done from row value loop.joined loop.within)),
 )
+
+-- ---- of all nodes
+
+-- one more lane, behind those of the nodes before it
+pub lanes-more : (sights : ℕ → List Sight) (first i k : ℕ) (lanes : List Lane) (lane : Lane) → k ≡ i + length lanes → AreLanes sights first i lanes
+    → IsLane k first (sights k) lane → AreLanes sights first i (lanes ++ lane ∷ [])
+lanes-more sights first i k [] lane place all one = (subst (λ n. IsLane n first (sights n) lane) (omega (arith, place)) one, all)
+lanes-more sights first i k (next ∷ lanes) lane place (here, all) one = (here, lanes-more sights first (i + 1) k lanes lane (omega (arith, place)) all one)

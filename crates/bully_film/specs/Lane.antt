@@ -1,8 +1,13 @@
 -- How one node stood, row by row, and the stretches over which it stayed so.
-use Rattle.std.specs.Prelude.{◌≡◌, ℕ, ◌+◌, ◌-◌, ◌≤◌, ◌==◌, ◌++◌, List, [], ◌∷◌, Option, map, option_map, replicate, if◌then◌else◌}
+use Rattle.std.specs.Prelude.{◌≡◌, ℕ, Bool, false, not, ◌+◌, ◌-◌, ◌≤◌, ◌==◌, ◌++◌, List, [], ◌∷◌, Option, Some, None, map, option_map, replicate, length, if◌then◌else◌}
+use Rattle.bully_calls.specs.declared.call.Answer.{Answer}
+use Rattle.bully_calls.specs.declared.call.Call.{Call}
+use Rattle.bully_calls.specs.declared.call.Phase.{Phase}
 use Rattle.bully_film.specs.declared.scene.Scene.{Scene}
 use Rattle.bully_film.specs.declared.scene.Sight.{Sight}
 use Rattle.bully_film.specs.declared.scene.SlotCall.{SlotCall}
+use Rattle.bully_film.specs.declared.whole.Lane.{Lane}
+use Rattle.bully_film.specs.declared.slots.End.{End}
 use Rattle.bully_film.specs.declared.slots.Held.{Held}
 use Rattle.bully_film.specs.declared.slots.Holding.{Holding}
 use Rattle.bully_film.specs.declared.stretches.Bar.{Bar}
@@ -57,3 +62,43 @@ spread_held (holding ∷ holdings) = replicate (holding.last + 1 - holding.first
 abbrev pub AreJoinedHeld : ℕ → List Holding → ℕ → Type 0
 AreJoinedHeld first [] end = first ≡ end
 AreJoinedHeld first (holding ∷ holdings) end = (holding.first ≡ first) × (first ≤ holding.last) × AreJoinedHeld (holding.last + 1) holdings end
+
+-- how a call ends behind which the slot holds another one, or the same in another phase
+abbrev pub IsEndBy : Held → Call → End → Type 0
+IsEndBy next call End.Ran = (next.call ≡ call) × ((answer : Answer) × (next.phase ≡ Phase.Ran answer))
+IsEndBy next call End.Failed = (next.call ≡ call) × (next.phase ≡ Phase.Failed)
+IsEndBy next call End.GivenUp = next.call ≡ call → next.phase ≡ Phase.Sent
+IsEndBy next call End.UnderWay = ⊥
+
+-- the same where the slot may be empty behind it
+abbrev pub IsEndBefore : Option Held → Call → End → Type 0
+IsEndBefore None call end = end ≡ End.GivenUp
+IsEndBefore (Some next) call end = IsEndBy next call end
+
+-- the same of the stretches behind it, of which there may be none
+abbrev pub IsEndIn : List Holding → Call → End → Type 0
+IsEndIn [] call end = end ≡ End.UnderWay
+IsEndIn (holding ∷ holdings) call end = IsEndBefore holding.held call end
+
+-- the number of the row before those of the scenes: of the header, where there are none
+abbrev pub row_before : List Scene → ℕ
+row_before [] = 1
+row_before (s ∷ scenes) = s.number - 1
+
+-- the slot holds an orphan
+abbrev pub is_orphan : Sight → Bool
+is_orphan sight = elim sight.call as (λ _. Bool) [ None ↦ false | Some held ↦ not held.is_live ]
+
+-- the lane of node i, which stood so behind each row from this one on
+pub record IsLane (i first : ℕ) (sights : List Sight) (lane : Lane) : Type 0 where
+  pub node : lane.node ≡ i
+  pub bars : spread lane.bars.items ≡ map stand_of sights
+  pub bars_joined : AreJoined first lane.bars.items (first + length sights)
+  pub holdings : spread_held lane.holdings.items ≡ map held_in sights
+  pub holdings_joined : AreJoinedHeld first lane.holdings.items (first + length sights)
+  pub orphans : lane.orphans.items ≡ map is_orphan sights
+
+-- the lanes of the nodes from node i on, of which each stood so
+abbrev pub AreLanes : (ℕ → List Sight) → ℕ → ℕ → List Lane → Type 0
+AreLanes sights first i [] = Unit {0}
+AreLanes sights first i (lane ∷ lanes) = IsLane i first (sights i) lane × AreLanes sights first (i + 1) lanes

@@ -15,14 +15,16 @@ mod reading;
 mod scene;
 mod slots;
 mod stretches;
+mod whole;
 mod window;
 
 pub use film::{Film, Reel};
 pub use lane::lane_of;
 pub use reading::film_of;
 pub use scene::{Change, Scene, Sight, SlotCall, sight_of};
-pub use slots::{Held, Holding, holdings};
+pub use slots::{End, Held, Holding, end_at, holdings};
 pub use stretches::{Bar, Stand, bars};
+pub use whole::{Lane, lanes, row_before};
 pub use window::{WINDOW_MAX, WINDOW_ROWS, Window};
 
 /// How many owners of a table are shown at most.

@@ -1,6 +1,6 @@
 //! The stretches over which a node's slot held the same call in the same phase.
-ghost use Rattle.std.specs.Prelude.{◌≡◌, ◌+◌, ◌-◌, ◌^◌, ◌<◌, ◌≤◌, ◌↔◌, ◌++◌, ◌∷◌, [], length, map, IfOk, IsTrue, OnOk};
-ghost use Rattle.bully_film.specs.Lane.{AreJoinedHeld, held_in, spread_held};
+ghost use Rattle.std.specs.Prelude.{◌≡◌, ◌+◌, ◌-◌, ◌^◌, ◌<◌, ◌≤◌, ◌↔◌, ◌++◌, ◌∷◌, [], drop, length, map, IfOk, IsTrue, OnOk};
+ghost use Rattle.bully_film.specs.Lane.{AreJoinedHeld, IsEndBefore, IsEndBy, IsEndIn, held_in, spread_held};
 
 use crate::scene::Sight;
 use bully_base::OutOfMemory;
@@ -35,6 +35,57 @@ pub fn holdings(alloc: Global, first: u32, sights: &[Sight]) -> Result<Vec<Holdi
         push_holdings(&mut holdings, first, held_in(start), rest)?;
     }
     Ok(holdings)
+}
+
+/// How a stretch of a slot ends: the call runs at its callee, it is lost, it is taken out of the slot, or it is still there behind the
+/// last row.
+#[derive(Clone, Copy, PartialEq, Eq, Debug)]
+pub enum End {
+    Ran,
+    Failed,
+    GivenUp,
+    UnderWay,
+}
+
+/// How the call ends that a slot held in the stretch at this place, among all of its stretches.
+pub fn end_at(holdings: &[Holding], place: usize, call: &Call) -> End
+    requires { place < length holdings.now }
+    ensures { IsEndIn (drop (place + 1) holdings.now) call.now result }
+{
+    match holdings[place + 1..].first() {
+        Some(next) => end_before(&next.held, call),
+        None => End::UnderWay,
+    }
+}
+
+// How the call ends behind which the slot holds this.
+fn end_before(next: &Option<Held>, call: &Call) -> End
+    ensures { IsEndBefore next.now call.now result }
+{
+    match next {
+        Some(held) => end_by(held, call),
+        None => End::GivenUp,
+    }
+}
+
+fn end_by(next: &Held, call: &Call) -> End
+    ensures { IsEndBy next.now call.now result }
+{
+    if !same_call(&next.call, call) {
+        return End::GivenUp;
+    }
+    match next.phase {
+        Phase::Ran(_) => End::Ran,
+        Phase::Failed => End::Failed,
+        Phase::Sent => End::GivenUp,
+    }
+}
+
+// Whether the two are the same.
+fn same_call(one: &Call, other: &Call) -> bool
+    ensures { IsTrue result ↔ (one.now ≡ other.now) }
+{
+    one == other
 }
 
 // Appends what the slot of a node held that first held this.

@@ -1,4 +1,5 @@
-ghost use Rattle.std.specs.Prelude.{◌≡◌, ◌<◌, ◌≤◌, ◌-◌, ◌+◌};
+ghost use Rattle.std.specs.Prelude.{◌≡◌};
+ghost use Rattle.bully_film.specs.Window.{behind_header};
 
 use std::marker::Model;
 
@@ -30,8 +31,8 @@ impl Model for Window {
 }
 
 impl Window {
-    ghost use Rattle.std.specs.Prelude.{◌≡◌, ◌<◌, ◌≤◌, ◌+◌, IfSome, IsSome, ◌↔◌};
-    ghost use Rattle.bully_film.specs.Window.{IsWindow, WindowState};
+    ghost use Rattle.std.specs.Prelude.{◌≡◌, ◌<◌, None, IfSome};
+    ghost use Rattle.bully_film.specs.Window.{CanBeShown, IsWindow, asked};
 
     /// The last [`WINDOW_ROWS`] rows of a trace.
     pub fn at_the_end() -> Window
@@ -46,13 +47,16 @@ impl Window {
 
     /// The rows from one to another, counted from 1, the header, which isn't shown. None where the first is no row or behind the
     /// last, or where they are more than [`WINDOW_MAX`].
-    pub fn between(from: u32, to: u32) -> Option<Window> {
+    pub fn between(from: u32, to: u32) -> Option<Window>
+        ensures asked { IfSome result (λ w. CanBeShown from to × (w ≡ asked from to)) }
+        ensures refused { result ≡ None → CanBeShown from to → ⊥ }
+    {
         if from == 0 || to < from || to - from >= WINDOW_MAX {
             return None;
         }
         Some(Window {
-            from: from.max(2),
-            to: to.max(2),
+            from: behind_header(from),
+            to: behind_header(to),
             most: WINDOW_MAX,
         })
     }
@@ -89,4 +93,11 @@ impl Window {
     {
         self.most
     }
+}
+
+// The row, or the one behind the header in place of that.
+fn behind_header(row: u32) -> u32
+    ensures { result ≡ behind_header row }
+{
+    if row < 2 { 2 } else { row }
 }

@@ -1,4 +1,7 @@
 //! The picture for a terminal: a line for each row that changes what a node is.
+ghost use Rattle.std.specs.Prelude.{IfOk, string_bytes};
+ghost use Rattle.bully_picture.specs.Title.{Has};
+ghost use Rattle.bully_trace.specs.VerdictText.{verdict_head};
 
 use crate::words::{meaning, push_row_text};
 use bully_base::{Node, OutOfMemory, Status};
@@ -12,9 +15,20 @@ const COLUMN: usize = 9;
 /// The picture of what a film shows as text: the verdict; a line for each row that changes a status or a coordinator, and for the one
 /// that decided, with those of each node in a column; and how many rows lie between. Below it stands this text. Refused where an
 /// allocation fails.
-pub fn text_picture(alloc: Global, reel: &Reel, below: &str) -> Result<String, OutOfMemory> {
+pub fn text_picture(alloc: Global, reel: &Reel, below: &str) -> Result<String, OutOfMemory>
+    ensures verdict { IfOk result (λ text. Has (string_bytes text) (verdict_head reel.now.verdict)) }
+{
     let mut text = String::new(alloc);
     push_verdict_head(&mut text, reel.verdict)?;
+    let lines = lines_of(alloc, reel)?;
+    text.push_str(lines.as_str())?;
+    text.push_str(below)?;
+    Ok(text)
+}
+
+// The lines of the rows.
+fn lines_of(alloc: Global, reel: &Reel) -> Result<String, OutOfMemory> {
+    let mut text = String::new(alloc);
     push_names(&mut text, reel)?;
     let mut now = starts(alloc, reel)?;
     let mut quiet = 0u32;
@@ -29,7 +43,6 @@ pub fn text_picture(alloc: Global, reel: &Reel, below: &str) -> Result<String, O
         push_line(&mut text, scene, now.as_slice())?;
     }
     push_quiet(&mut text, quiet)?;
-    text.push_str(below)?;
     Ok(text)
 }
 

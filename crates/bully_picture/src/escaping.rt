@@ -1,10 +1,15 @@
 //! Text in a picture: what XML keeps for itself is written by its name.
+ghost use Rattle.std.specs.Prelude.{◌≡◌, ◌++◌, OnOk, string_bytes};
+ghost use Rattle.std.specs.Str.{chars};
+ghost use Rattle.bully_picture.specs.Escaping.{escaped, escaped_letter, is_forbidden, shortened};
 
 use bully_base::OutOfMemory;
 
 /// Appends the text as XML takes it within an element or an attribute: `<`, `>`, `&` and both quotes by their names, and a mark in
 /// place of what XML forbids.
-pub fn push_escaped(text: &mut String, raw: &str) -> Result<(), OutOfMemory> {
+pub fn push_escaped(text: &mut String, raw: &str) -> Result<(), OutOfMemory>
+    ensures { OnOk result (string_bytes text.new ≡ string_bytes text.old ++ escaped (chars raw.now)) }
+{
     for letter in raw.chars() {
         push_letter(text, letter)?;
     }
@@ -12,27 +17,44 @@ pub fn push_escaped(text: &mut String, raw: &str) -> Result<(), OutOfMemory> {
 }
 
 /// The same of the first letters, so many, with three dots behind them where there are more.
-pub fn push_start(text: &mut String, raw: &str, most: usize) -> Result<(), OutOfMemory> {
+pub fn push_start(text: &mut String, raw: &str, most: usize) -> Result<(), OutOfMemory>
+    ensures { OnOk result (string_bytes text.new ≡ string_bytes text.old ++ escaped (shortened most (chars raw.now))) }
+{
     let mut count = 0usize;
     for letter in raw.chars() {
         if count >= most {
-            return text.push('…');
+            return push_letter(text, '…');
         }
         push_letter(text, letter)?;
-        count = count.saturating_add(1);
+        count += 1;
     }
     Ok(())
 }
 
 // Appends one letter.
-fn push_letter(text: &mut String, letter: char) -> Result<(), OutOfMemory> {
-    match letter {
-        '<' => text.push_str("&lt;"),
-        '>' => text.push_str("&gt;"),
-        '&' => text.push_str("&amp;"),
-        '"' => text.push_str("&quot;"),
-        '\'' => text.push_str("&#39;"),
-        '\u{0}'..='\u{1f}' | '\u{7f}'..='\u{9f}' | '\u{fffe}' | '\u{ffff}' => text.push('\u{fffd}'),
-        _ => text.push(letter),
+fn push_letter(text: &mut String, letter: char) -> Result<(), OutOfMemory>
+    ensures { OnOk result (string_bytes text.new ≡ string_bytes text.old ++ escaped_letter letter) }
+{
+    if letter == '<' {
+        text.push_str("&lt;")
+    } else if letter == '>' {
+        text.push_str("&gt;")
+    } else if letter == '&' {
+        text.push_str("&amp;")
+    } else if letter == '"' {
+        text.push_str("&quot;")
+    } else if letter == '\'' {
+        text.push_str("&#39;")
+    } else if is_forbidden(letter) {
+        text.push('\u{fffd}')
+    } else {
+        text.push(letter)
     }
+}
+
+// Whether it is a control character, or one that no XML document has.
+fn is_forbidden(letter: char) -> bool
+    ensures { result ≡ is_forbidden letter }
+{
+    letter < ' ' || ('\u{7f}' <= letter && letter < '\u{a0}') || letter == '\u{fffe}' || letter == '\u{ffff}'
 }

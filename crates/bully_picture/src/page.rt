@@ -1,5 +1,8 @@
 //! The picture as a whole.
-ghost use Rattle.std.specs.Prelude.{◌≤◌};
+ghost use Rattle.std.specs.Prelude.{◌≡◌, ◌+◌, ◌++◌, length, IfOk, OnOk, string_bytes};
+ghost use Rattle.bully_film.specs.Lane.{row_before};
+ghost use Rattle.bully_picture.specs.Title.{Has, shown_text, size_text, title_text};
+ghost use Rattle.bully_trace.specs.VerdictText.{verdict_head};
 
 use crate::arrows::draw_calls;
 use crate::canvas::Canvas;
@@ -7,9 +10,8 @@ use crate::escaping::push_escaped;
 use crate::lanes::{draw_bars, draw_name};
 use crate::layout::{Layout, ROW};
 use crate::marks::draw_row;
-use bully_base::{Node, OutOfMemory};
-use bully_film::{Reel, Sight, bars, holdings, lane_of};
-use bully_rows::ROWS_MAX;
+use bully_base::{OutOfMemory, Setup};
+use bully_film::{Lane, Reel, lanes, row_before};
 use bully_trace::{Verdict, push_verdict_head};
 use std::alloc::Global;
 
@@ -41,23 +43,42 @@ pub fn svg_picture(
     reel: &Reel,
     names: &[&str],
     below: &str,
-) -> Result<String, OutOfMemory> {
+) -> Result<String, OutOfMemory>
+    ensures verdict { IfOk result (λ text. Has (string_bytes text) (verdict_head reel.now.verdict)) }
+    ensures title { IfOk result (λ text. Has (string_bytes text)
+        (title_text reel.now.verdict reel.now.setup.nodes reel.now.setup.partitions (row_before reel.now.scenes.items) (length reel.now.scenes.items))) }
+{
+    let canvas = drawn(alloc, reel, names)?;
+    let mut text = String::new(alloc);
+    let head = head(alloc, reel.verdict, &canvas.layout, below)?;
+    text.push_str(head.as_str())?;
+    push_title(&mut text, reel)?;
+    let rest = rest(alloc, &canvas, below)?;
+    text.push_str(rest.as_str())?;
+    Ok(text)
+}
+
+// The canvas on which all rows and lanes were drawn.
+fn drawn(alloc: Global, reel: &Reel, names: &[&str]) -> Result<Canvas, OutOfMemory> {
     let mut canvas = Canvas::new(alloc, Layout::of(reel));
     draw_rows(&mut canvas, reel)?;
-    for before in 0..reel.setup.nodes() {
-        let node = Node::new(before + 1).unwrap();
-        draw_node(alloc, &mut canvas, reel, node)?;
-        draw_name(&mut canvas, node, names.get(usize::from(before)).copied())?;
+    let lanes = lanes(alloc, reel)?;
+    for (place, lane) in lanes.as_slice().iter().enumerate() {
+        draw_lane(&mut canvas, lane)?;
+        draw_name(&mut canvas, lane.node, names.get(place).copied())?;
     }
-    let mut text = String::new(alloc);
-    push_head(&mut text, &canvas.layout, below)?;
-    push_title(&mut text, reel, &canvas.layout)?;
-    text.push_str(LEGEND)?;
-    text.push_str(canvas.lines.as_str())?;
-    text.push_str(canvas.words.as_str())?;
-    push_below(&mut text, &canvas.layout, below)?;
-    text.push_str("</svg>\n")?;
-    Ok(text)
+    Ok(canvas)
+}
+
+// Draws the lane of a node.
+fn draw_lane(canvas: &mut Canvas, lane: &Lane) -> Result<(), OutOfMemory> {
+    draw_bars(canvas, lane.node, lane.bars.as_slice())?;
+    draw_calls(
+        canvas,
+        lane.node,
+        lane.holdings.as_slice(),
+        lane.orphans.as_slice(),
+    )
 }
 
 // Draws what stands at each row.
@@ -77,45 +98,14 @@ fn decided(verdict: Verdict) -> Option<u32> {
     }
 }
 
-// Draws the lane of a node.
-fn draw_node(
+// The head of the document, up to the words of the title.
+fn head(
     alloc: Global,
-    canvas: &mut Canvas,
-    reel: &Reel,
-    node: Node,
-) -> Result<(), OutOfMemory>
-    requires { node ≤ reel.now.setup.nodes }
-{
-    let sights = lane_of(alloc, reel, node)?;
-    let first = canvas.layout.first;
-    if first > ROWS_MAX || sights.len() > ROWS_MAX as usize {
-        return Ok(());
-    }
-    let bars = bars(alloc, first, sights.as_slice())?;
-    draw_bars(canvas, node, bars.as_slice())?;
-    let holdings = holdings(alloc, first, sights.as_slice())?;
-    let orphans = orphans(alloc, sights.as_slice())?;
-    draw_calls(canvas, node, holdings.as_slice(), orphans.as_slice())
-}
-
-// Whether the slot held an orphan behind each row.
-fn orphans(alloc: Global, sights: &[Sight]) -> Result<Vec<bool>, OutOfMemory> {
-    let mut orphans = Vec::with_capacity(alloc, sights.len())?;
-    for sight in sights {
-        orphans.push(is_orphan(sight))?;
-    }
-    Ok(orphans)
-}
-
-fn is_orphan(sight: &Sight) -> bool {
-    match sight.call {
-        Some(held) => !held.is_live,
-        None => false,
-    }
-}
-
-// Appends the head of the document.
-fn push_head(text: &mut String, layout: &Layout, below: &str) -> Result<(), OutOfMemory> {
+    verdict: Verdict,
+    layout: &Layout,
+    below: &str,
+) -> Result<String, OutOfMemory> {
+    let mut text = String::new(alloc);
     let width = layout.right().saturating_add(74 + TEXTS).max(900);
     let lines = below.lines().count().min(10_000) as u32;
     let height = layout
@@ -126,12 +116,8 @@ fn push_head(text: &mut String, layout: &Layout, below: &str) -> Result<(), OutO
         text,
         "<svg xmlns=\"http://www.w3.org/2000/svg\" width=\"{width}\" height=\"{height}\" viewBox=\"0 0 {width} {height}\" font-family=\"DejaVu Sans, sans-serif\">"
     )?;
-    text.push_str(MARKERS)
-}
-
-// Appends the title: the verdict, how large the group is, and which rows are shown.
-fn push_title(text: &mut String, reel: &Reel, layout: &Layout) -> Result<(), OutOfMemory> {
-    let shade = match reel.verdict {
+    text.push_str(MARKERS)?;
+    let shade = match verdict {
         Verdict::Lawful(_) => "#222",
         _ => "#D55E00",
     };
@@ -139,22 +125,56 @@ fn push_title(text: &mut String, reel: &Reel, layout: &Layout) -> Result<(), Out
         text,
         "<text x=\"64\" y=\"24\" font-size=\"15\" font-weight=\"bold\" fill=\"{shade}\">"
     )?;
-    push_verdict_head(text, reel.verdict)?;
-    let nodes = reel.setup.nodes();
-    let partitions = reel.setup.partitions();
-    write!(text, " ({nodes} nodes, {partitions} partitions, ")?;
-    push_shown(text, layout)?;
-    text.push_str(")</text>\n")
+    Ok(text)
 }
 
-// Appends which rows are shown.
-fn push_shown(text: &mut String, layout: &Layout) -> Result<(), OutOfMemory> {
-    if layout.rows == 0 {
+// Appends the words of the title: the verdict, how large the group is, and which rows are shown.
+fn push_title(text: &mut String, reel: &Reel) -> Result<(), OutOfMemory>
+    ensures { OnOk result (string_bytes text.new ≡ string_bytes text.old
+        ++ title_text reel.now.verdict reel.now.setup.nodes reel.now.setup.partitions (row_before reel.now.scenes.items) (length reel.now.scenes.items)) }
+{
+    push_verdict_head(text, reel.verdict)?;
+    push_size(text, &reel.setup)?;
+    push_shown(
+        text,
+        row_before(reel.scenes.as_slice()),
+        reel.scenes.len(),
+    )?;
+    text.push(')')
+}
+
+// Appends how large the group is.
+fn push_size(text: &mut String, setup: &Setup) -> Result<(), OutOfMemory>
+    ensures { OnOk result (string_bytes text.new ≡ string_bytes text.old ++ size_text setup.now.nodes setup.now.partitions) }
+{
+    let nodes = setup.nodes();
+    let partitions = setup.partitions();
+    write!(text, "({nodes} nodes, {partitions} partitions, ")
+}
+
+// Appends which rows are shown: so many behind this one.
+fn push_shown(text: &mut String, before: u32, count: usize) -> Result<(), OutOfMemory>
+    ensures { OnOk result (string_bytes text.new ≡ string_bytes text.old ++ shown_text before count) }
+{
+    if count == 0 {
         return text.push_str("no rows");
     }
-    let first = layout.first.saturating_add(1);
-    let last = layout.last();
+    let before = u64::from(before);
+    let first = before + 1;
+    let last = before + count as u64;
     write!(text, "rows {first} to {last}")
+}
+
+// What comes behind the words of the title.
+fn rest(alloc: Global, canvas: &Canvas, below: &str) -> Result<String, OutOfMemory> {
+    let mut text = String::new(alloc);
+    text.push_str("</text>\n")?;
+    text.push_str(LEGEND)?;
+    text.push_str(canvas.lines.as_str())?;
+    text.push_str(canvas.words.as_str())?;
+    push_below(&mut text, &canvas.layout, below)?;
+    text.push_str("</svg>\n")?;
+    Ok(text)
 }
 
 // Appends the lines below the picture.

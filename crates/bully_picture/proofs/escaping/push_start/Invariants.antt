@@ -1,0 +1,11 @@
+use Rattle.std.proofs.Common.{◌≡◌, ◌≤◌, ◌++◌, length, take, string_bytes}
+use Rattle.std.specs.Str.{chars}
+use Rattle.bully_picture.specs.Escaping.{escaped}
+use Rattle.bully_picture.proofs.escaping.push_start.Given as goal
+
+abbrev pub invariant-loop-letter : goal.invariant-loop-letter
+invariant-loop-letter l = record {
+  text : string_bytes l.text ≡ string_bytes l.initial.text ++ escaped (take l.count (chars l.raw));
+  count : l.count ≡ length l.yielded;
+  few : l.count ≤ l.most;
+}

@@ -1,0 +1,22 @@
+-- The title of a picture.
+use Rattle.std.specs.Prelude.{◌≡◌, ℕ, ◌+◌, List, [], ◌++◌, ◌==◌, codes, if◌then◌else◌}
+use Rattle.std.specs.Fmt.{decimal}
+use Rattle.bully_trace.specs.declared.verdict.Verdict.{Verdict}
+use Rattle.bully_trace.specs.VerdictText.{verdict_head}
+
+-- the text has this one in it
+abbrev pub Has : List ℕ → List ℕ → Type 0
+Has text part = (before : List ℕ) × (behind : List ℕ) × (text ≡ before ++ part ++ behind)
+
+-- which rows are shown: so many behind this one
+abbrev pub shown_text : ℕ → ℕ → List ℕ
+shown_text before count = if count == 0 then codes "no rows" else codes "rows " ++ decimal (before + 1) ++ codes " to " ++ decimal (before + count)
+
+-- how large the group is
+abbrev pub size_text : ℕ → ℕ → List ℕ
+size_text nodes partitions = codes "(" ++ decimal nodes ++ codes " nodes, " ++ decimal partitions ++ codes " partitions, "
+
+-- the verdict's line, how large the group is, and which rows are shown
+abbrev pub title_text : Verdict → ℕ → ℕ → ℕ → ℕ → List ℕ
+title_text verdict nodes partitions before count =
+    verdict_head verdict ++ size_text nodes partitions ++ shown_text before count ++ codes ")"
