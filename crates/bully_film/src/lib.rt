@@ -18,7 +18,7 @@ mod stretches;
 mod whole;
 mod window;
 
-pub use film::{Film, Reel};
+pub use film::Reel;
 pub use lane::lane_of;
 pub use reading::film_of;
 pub use scene::{Change, Scene, Sight, SlotCall, sight_of};

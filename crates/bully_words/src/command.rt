@@ -1,4 +1,4 @@
-ghost use Rattle.std.specs.Prelude.{◌≡◌, false, IfOk, IsOkAnd, Ok};
+ghost use Rattle.std.specs.Prelude.{◌≡◌, codes, false, IfOk, IsOkAnd, Ok};
 ghost use Rattle.clap.specs.Words.{new_app, rule_of, with_rule};
 ghost use Rattle.bully_words.specs.Words.{bare, config_rule, draw_app, explain_app, explained_rule, member_rule, names_rule, old_rule, play_app, program, rows_rule, run_app, table_app, text_rule, IsLocalCommand, ReadsAs};
 
@@ -71,12 +71,19 @@ fn explain_command<'a>(alloc: Global) -> Result<Command<'a>, AllocError>
 fn draw_command<'a>(alloc: Global) -> Result<Command<'a>, AllocError>
     ensures { IsLocalCommand draw_app result }
 {
-    let command = Command::new(alloc, "draw")
-        .about("Draws the trace on the standard input as an SVG picture")
-        .after_help(help::DRAW)
-        .arg(rows_arg(alloc));
+    let command = rows_command(alloc);
     let command = joined(command, Ok(text_arg(alloc)), Command::arg);
     joined(command, Ok(names_arg(alloc)), Command::arg)
+}
+
+// The same with the rows alone.
+fn rows_command<'a>(alloc: Global) -> Result<Command<'a>, AllocError>
+    ensures { IsLocalCommand (with_rule (new_app (codes "draw")) rows_rule) result }
+{
+    Command::new(alloc, "draw")
+        .about("Draws the trace on the standard input as an SVG picture")
+        .after_help(help::DRAW)
+        .arg(rows_arg(alloc))
 }
 
 // The command that plays a group.
