@@ -34,7 +34,8 @@ pub fn lanes(alloc: Global, reel: &Reel) -> Result<Vec<Lane>, OutOfMemory>
     let mut lanes = Vec::new(alloc);
     for before in 0..reel.setup.nodes() {
         let node = Node::new(before + 1).unwrap();
-        lanes.push(lane_at(alloc, reel, node)?)?;
+        let lane = lane_at(alloc, reel, node)?;
+        lanes.push(lane)?;
     }
     Ok(lanes)
 }
