@@ -1,17 +1,18 @@
 //! Calls as arrows, and their replies.
 
-use crate::canvas::Canvas;
-use crate::lanes::HALF;
-use crate::layout::{ROW, WORDS_MIN};
+use crate::boxes::{Anchor, width_of};
+use crate::canvas::{Canvas, Style};
+use crate::layout::{HALF, ROW, WORDS_MIN};
 use crate::words::{kind_text, push_call};
 use bully_base::{Node, OutOfMemory};
 use bully_calls::{Call, CallKind, Phase};
 use bully_film::{Held, Holding};
 
-/// How the stretch of a call ends: it runs at its callee, it fails, it is given up, or it is still under way.
+/// How the stretch of a call ends: it runs at its callee, it returns, it fails, it is given up, or it is still under way.
 #[derive(Clone, Copy, PartialEq, Eq, Debug)]
 enum End {
     Ran,
+    Returned,
     Failed,
     GivenUp,
     UnderWay,
@@ -26,6 +27,16 @@ struct Line {
     y2: u32,
 }
 
+impl Line {
+    // How high the line is where it passes x.
+    fn y_at(&self, x: u32) -> u32 {
+        let far = self.x2.abs_diff(self.x1).max(1);
+        let down = self.y2.saturating_sub(self.y1);
+        let part = x.abs_diff(self.x1).min(far);
+        self.y1.saturating_add(down.saturating_mul(part) / far)
+    }
+}
+
 /// Draws the calls of a node: each stretch in which one was sent as an arrow, and each in which it ran as the way back of its
 /// reply. Whether the slot held an orphan behind a row is told by its place behind the first one.
 pub fn draw_calls(
@@ -36,7 +47,7 @@ pub fn draw_calls(
 ) -> Result<(), OutOfMemory> {
     for (place, holding) in holdings.iter().enumerate() {
         let next = holdings.get(place.saturating_add(1));
-        let end = end_of(holding, next);
+        let end = end_of(canvas, holding, next);
         if let Some(held) = holding.held {
             let is_orphan = is_orphan(canvas, orphans, holding.last);
             draw_held(canvas, node, holding, held, end, is_orphan)?;
@@ -55,22 +66,15 @@ fn is_orphan(canvas: &Canvas, orphans: &[bool], row: u32) -> bool {
 }
 
 // How a stretch ends, behind which the next one comes.
-fn end_of(holding: &Holding, next: Option<&Holding>) -> End {
+fn end_of(canvas: &Canvas, holding: &Holding, next: Option<&Holding>) -> End {
     let Some(next) = next else {
         return End::UnderWay;
     };
-    let (Some(one), Some(other)) = (holding.held, next.held) else {
-        return End::GivenUp;
-    };
-    if same_call(&one, &other) {
-        end_by(other.phase)
-    } else {
-        End::GivenUp
+    match next.held {
+        Some(held) => end_by(held.phase),
+        None if canvas.returned_in(next.first) => End::Returned,
+        None => End::GivenUp,
     }
-}
-
-fn same_call(one: &Held, other: &Held) -> bool {
-    one.call == other.call
 }
 
 fn end_by(phase: Phase) -> End {
@@ -97,28 +101,30 @@ fn draw_held(
     }
 }
 
-// The line of a stretch, from one lane to the other; half of it where the stretch doesn't end with a run or a loss.
+// The line of a stretch, from one lane to the other; only half the way to the next lane where the call gets no further.
 fn line_of(canvas: &Canvas, from: Node, to: Node, holding: &Holding, end: End) -> Line {
-    let whole = between(canvas, from, to, holding);
-    match end {
-        End::Ran | End::Failed => whole,
-        End::GivenUp | End::UnderWay => Line {
-            x2: middle(whole.x1, whole.x2),
-            ..whole
-        },
-    }
-}
-
-fn between(canvas: &Canvas, from: Node, to: Node, holding: &Holding) -> Line {
-    let x1 = canvas.layout.x(from);
-    let x2 = canvas.layout.x(to);
-    let (x1, x2) = apart(x1, x2);
-    Line {
+    let (x1, x2) = apart(canvas.layout.x(from), canvas.layout.x(to));
+    let whole = Line {
         x1,
         y1: canvas.layout.y(holding.first),
         x2,
         y2: end_row(canvas, holding),
+    };
+    match end {
+        End::Ran | End::Returned | End::Failed => whole,
+        End::GivenUp | End::UnderWay => halfway(whole, canvas.layout.lane / 2),
     }
+}
+
+// The line up to where it is so far from its start.
+fn halfway(line: Line, far: u32) -> Line {
+    let far = far.saturating_sub(HALF + 1);
+    let x2 = if line.x1 < line.x2 {
+        line.x1.saturating_add(far)
+    } else {
+        line.x1.saturating_sub(far)
+    };
+    Line { x2, ..line }
 }
 
 // Where the row behind the stretch lies.
@@ -136,10 +142,6 @@ fn apart(x1: u32, x2: u32) -> (u32, u32) {
     } else {
         (x1.saturating_sub(HALF + 1), x2.saturating_add(HALF + 1))
     }
-}
-
-fn middle(one: u32, other: u32) -> u32 {
-    (one / 2).saturating_add(other / 2)
 }
 
 // Draws a call that was sent.
@@ -172,7 +174,8 @@ fn push_arrow(
     text.push_str("</line>\n")
 }
 
-// Writes what call it is, where the lanes have room for it.
+// Writes what call it is, where the lanes have room for it: with all words between two lanes, with its kind alone there, or with that
+// anywhere on the line; nowhere where nothing is free.
 fn label_call(
     canvas: &mut Canvas,
     line: &Line,
@@ -183,9 +186,15 @@ fn label_call(
     if canvas.layout.lane < WORDS_MIN {
         return Ok(());
     }
+    let style = words_style(end, is_orphan);
     let mut words = canvas.text();
     push_words(&mut words, kind, end, is_orphan)?;
-    place_words(canvas, line, call_colour(end, is_orphan), words.as_str())
+    if put_between(canvas, line, style, words.as_str())?
+        || put_between(canvas, line, style, kind_text(kind))?
+    {
+        return Ok(());
+    }
+    put_anywhere(canvas, line, style, kind_text(kind))
 }
 
 // How the line of a call looks.
@@ -201,6 +210,15 @@ fn call_style(end: End, is_orphan: bool) -> &'static str {
             " stroke=\"#999\" stroke-width=\"1.5\" marker-end=\"url(#lost)\">"
         }
         _ => " stroke=\"#222\" stroke-width=\"1.5\" marker-end=\"url(#call)\">",
+    }
+}
+
+fn words_style(end: End, is_orphan: bool) -> Style {
+    Style {
+        anchor: Anchor::Middle,
+        size: 11,
+        colour: call_colour(end, is_orphan),
+        has_ground: true,
     }
 }
 
@@ -224,7 +242,7 @@ fn push_words(
         End::Failed => text.push_str(" fails")?,
         End::GivenUp => text.push_str(", given up")?,
         End::UnderWay => text.push_str(", under way")?,
-        End::Ran => {}
+        End::Ran | End::Returned => {}
     }
     if is_orphan {
         text.push_str(", orphan")?;
@@ -232,17 +250,73 @@ fn push_words(
     Ok(())
 }
 
-// Writes the words at the first place along the line that is free; nowhere where none is.
-fn place_words(
+// Writes the words at the first place on the line that is free, and tells whether there is one: between two lanes, beginning with
+// those where the line ends.
+fn put_between(
     canvas: &mut Canvas,
     line: &Line,
-    shade: &str,
+    style: Style,
+    words: &str,
+) -> Result<bool, OutOfMemory> {
+    let layout = canvas.layout;
+    for step in 0..layout.nodes {
+        let lane = if line.x1 < line.x2 {
+            layout.nodes.saturating_sub(step.saturating_add(1))
+        } else {
+            step
+        };
+        if put_in_gap(canvas, line, layout.gap(lane), style, words)? {
+            return Ok(true);
+        }
+    }
+    Ok(false)
+}
+
+// The same between these two lanes alone, where the line goes between them and the words have room there.
+fn put_in_gap(
+    canvas: &mut Canvas,
+    line: &Line,
+    gap: (u32, u32),
+    style: Style,
+    words: &str,
+) -> Result<bool, OutOfMemory> {
+    let (left, right) = gap;
+    let half = width_of(words, style.size) / 2 + 1;
+    let (least, most) = (left.saturating_add(half), right.saturating_sub(half));
+    let Some((from, to)) = stretch_in(line, left, right) else {
+        return Ok(false);
+    };
+    if least > most {
+        return Ok(false);
+    }
+    for part in [4u32, 3, 5, 2, 6, 1, 7] {
+        let x = along(from, to, part);
+        let y = line.y_at(x).saturating_add(ROW / 5);
+        if canvas.put(x.max(least).min(most), y, style, words)? {
+            return Ok(true);
+        }
+    }
+    Ok(false)
+}
+
+// From where to where the line goes between these two ends; none where it doesn't.
+fn stretch_in(line: &Line, left: u32, right: u32) -> Option<(u32, u32)> {
+    let from = line.x1.min(line.x2).max(left);
+    let to = line.x1.max(line.x2).min(right);
+    if from < to { Some((from, to)) } else { None }
+}
+
+// Writes the words at the first place along the line that is free.
+fn put_anywhere(
+    canvas: &mut Canvas,
+    line: &Line,
+    style: Style,
     words: &str,
 ) -> Result<(), OutOfMemory> {
     for part in [4u32, 3, 5, 2, 6] {
         let x = along(line.x1, line.x2, part);
-        let y = along(line.y1, line.y2, part);
-        if canvas.put_middle(x, y.saturating_add(ROW / 5), 11, shade, words)? {
+        let y = along(line.y1, line.y2, part).saturating_add(ROW / 5);
+        if canvas.put(x, y, style, words)? {
             return Ok(());
         }
     }
@@ -265,10 +339,10 @@ fn draw_reply(
     call: &Call,
     end: End,
 ) -> Result<(), OutOfMemory> {
-    let whole = between(canvas, call.callee, node, holding);
+    let line = line_of(canvas, call.callee, node, holding, end);
     push_arrow(
         &mut canvas.lines,
-        &whole,
+        &line,
         reply_style(end),
         node,
         call,
@@ -278,8 +352,8 @@ fn draw_reply(
 
 fn reply_style(end: End) -> &'static str {
     match end {
-        End::Failed => {
-            " stroke=\"#D55E00\" stroke-width=\"1.2\" stroke-dasharray=\"1 3\" marker-end=\"url(#lost)\">"
+        End::GivenUp => {
+            " stroke=\"#888\" stroke-width=\"1.2\" stroke-dasharray=\"1 3\" marker-end=\"url(#lost)\">"
         }
         _ => {
             " stroke=\"#888\" stroke-width=\"1.2\" stroke-dasharray=\"1 3\" marker-end=\"url(#reply)\">"
