@@ -230,7 +230,7 @@ fn call_colour(end: End, is_orphan: bool) -> &'static str {
     }
 }
 
-// Appends the words of a call.
+// Appends the words of a call. Of one that is given up its grey line tells whether it is an orphan.
 fn push_words(
     text: &mut String,
     kind: CallKind,
@@ -244,7 +244,7 @@ fn push_words(
         End::UnderWay => text.push_str(", under way")?,
         End::Ran | End::Returned => {}
     }
-    if is_orphan {
+    if is_orphan && end != End::GivenUp {
         text.push_str(", orphan")?;
     }
     Ok(())
