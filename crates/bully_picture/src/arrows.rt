@@ -28,6 +28,14 @@ struct Line {
 }
 
 impl Line {
+    // Where words stand at x: on the line, or above one that only begins in the last row.
+    fn words_at(&self, x: u32) -> u32 {
+        if self.y2.saturating_sub(self.y1) < ROW {
+            return self.y1.saturating_sub(4);
+        }
+        self.y_at(x).saturating_add(ROW / 5)
+    }
+
     // How high the line is where it passes x.
     fn y_at(&self, x: u32) -> u32 {
         let far = self.x2.abs_diff(self.x1).max(1);
@@ -291,7 +299,7 @@ fn put_in_gap(
     }
     for part in [4u32, 3, 5, 2, 6, 1, 7] {
         let x = along(from, to, part);
-        let y = line.y_at(x).saturating_add(ROW / 5);
+        let y = line.words_at(x);
         if canvas.put(x.max(least).min(most), y, style, words)? {
             return Ok(true);
         }
@@ -339,7 +347,7 @@ fn draw_reply(
     call: &Call,
     end: End,
 ) -> Result<(), OutOfMemory> {
-    let line = line_of(canvas, call.callee, node, holding, end);
+    let line = line_of(canvas, call.callee, node, holding, reach_of(end));
     push_arrow(
         &mut canvas.lines,
         &line,
@@ -350,8 +358,19 @@ fn draw_reply(
     )
 }
 
+// How far a reply gets: one that doesn't return gets no further than one that is given up.
+fn reach_of(end: End) -> End {
+    match end {
+        End::Returned => End::Returned,
+        _ => End::GivenUp,
+    }
+}
+
 fn reply_style(end: End) -> &'static str {
     match end {
+        End::Failed => {
+            " stroke=\"#D55E00\" stroke-width=\"1.2\" stroke-dasharray=\"1 3\" marker-end=\"url(#lost)\">"
+        }
         End::GivenUp => {
             " stroke=\"#888\" stroke-width=\"1.2\" stroke-dasharray=\"1 3\" marker-end=\"url(#lost)\">"
         }

@@ -23,12 +23,13 @@ fn draw_bar(canvas: &mut Canvas, node: Node, bar: &Bar) -> Result<(), OutOfMemor
     let top = canvas.layout.y(bar.first);
     let end = end_of(canvas, bar);
     let shade = colour(bar.stand.status);
+    let shows_rows = canvas.layout.rows > 0;
     if bar.stand.status == Status::Down {
         write!(
             canvas.lines,
             "<line x1=\"{x}\" y1=\"{top}\" x2=\"{x}\" y2=\"{end}\" stroke=\"{shade}\" stroke-width=\"2\" stroke-dasharray=\"2 4\">"
         )?;
-        push_title(&mut canvas.lines, node, bar)?;
+        push_title(&mut canvas.lines, node, bar, shows_rows)?;
         return canvas.lines.push_str("</line>\n");
     }
     let left = x.saturating_sub(HALF);
@@ -38,7 +39,7 @@ fn draw_bar(canvas: &mut Canvas, node: Node, bar: &Bar) -> Result<(), OutOfMemor
         canvas.lines,
         "<rect x=\"{left}\" y=\"{top}\" width=\"{width}\" height=\"{height}\" fill=\"{shade}\">"
     )?;
-    push_title(&mut canvas.lines, node, bar)?;
+    push_title(&mut canvas.lines, node, bar, shows_rows)?;
     canvas.lines.push_str("</rect>\n")
 }
 
@@ -50,11 +51,19 @@ fn end_of(canvas: &Canvas, bar: &Bar) -> u32 {
     canvas.layout.y(bar.last.saturating_add(1))
 }
 
-// What is shown where the pointer rests on a bar.
-fn push_title(text: &mut String, node: Node, bar: &Bar) -> Result<(), OutOfMemory> {
+// What is shown where the pointer rests on a bar: how the node stands, and behind which rows, where any are shown.
+fn push_title(
+    text: &mut String,
+    node: Node,
+    bar: &Bar,
+    shows_rows: bool,
+) -> Result<(), OutOfMemory> {
     let number = node.number();
     write!(text, "<title>node {number}: ")?;
     push_stand(text, bar.stand)?;
+    if !shows_rows {
+        return text.push_str("</title>");
+    }
     let first = bar.first;
     let last = bar.last;
     write!(text, ", behind rows {first} to {last}</title>")
