@@ -1,21 +1,12 @@
 //! Calls as arrows, and their replies.
 
-use crate::canvas::Canvas;
-use crate::lanes::HALF;
-use crate::layout::{ROW, WORDS_MIN};
+use crate::boxes::{Anchor, width_of};
+use crate::canvas::{Canvas, Style};
+use crate::layout::{HALF, ROW, WORDS_MIN};
 use crate::words::{kind_text, push_call};
 use bully_base::{Node, OutOfMemory};
 use bully_calls::{Call, CallKind, Phase};
-use bully_film::{Held, Holding};
-
-/// How the stretch of a call ends: it runs at its callee, it fails, it is given up, or it is still under way.
-#[derive(Clone, Copy, PartialEq, Eq, Debug)]
-enum End {
-    Ran,
-    Failed,
-    GivenUp,
-    UnderWay,
-}
+use bully_film::{End, Held, Holding, end_at};
 
 /// A line between two lanes.
 #[derive(Clone, Copy, Debug)]
@@ -24,6 +15,24 @@ struct Line {
     y1: u32,
     x2: u32,
     y2: u32,
+}
+
+impl Line {
+    // Where words stand at x: on the line, or above one that only begins in the last row.
+    fn words_at(&self, x: u32) -> u32 {
+        if self.y2.saturating_sub(self.y1) < ROW {
+            return self.y1.saturating_sub(4);
+        }
+        self.y_at(x).saturating_add(ROW / 5)
+    }
+
+    // How high the line is where it passes x.
+    fn y_at(&self, x: u32) -> u32 {
+        let far = self.x2.abs_diff(self.x1).max(1);
+        let down = self.y2.saturating_sub(self.y1);
+        let part = x.abs_diff(self.x1).min(far);
+        self.y1.saturating_add(down.saturating_mul(part) / far)
+    }
 }
 
 /// Draws the calls of a node: each stretch in which one was sent as an arrow, and each in which it ran as the way back of its
@@ -35,9 +44,8 @@ pub fn draw_calls(
     orphans: &[bool],
 ) -> Result<(), OutOfMemory> {
     for (place, holding) in holdings.iter().enumerate() {
-        let next = holdings.get(place.saturating_add(1));
-        let end = end_of(holding, next);
         if let Some(held) = holding.held {
+            let end = end_at(holdings, place, &held.call);
             let is_orphan = is_orphan(canvas, orphans, holding.last);
             draw_held(canvas, node, holding, held, end, is_orphan)?;
         }
@@ -51,33 +59,6 @@ fn is_orphan(canvas: &Canvas, orphans: &[bool], row: u32) -> bool {
     match orphans.get(place) {
         Some(is) => *is,
         None => false,
-    }
-}
-
-// How a stretch ends, behind which the next one comes.
-fn end_of(holding: &Holding, next: Option<&Holding>) -> End {
-    let Some(next) = next else {
-        return End::UnderWay;
-    };
-    let (Some(one), Some(other)) = (holding.held, next.held) else {
-        return End::GivenUp;
-    };
-    if same_call(&one, &other) {
-        end_by(other.phase)
-    } else {
-        End::GivenUp
-    }
-}
-
-fn same_call(one: &Held, other: &Held) -> bool {
-    one.call == other.call
-}
-
-fn end_by(phase: Phase) -> End {
-    match phase {
-        Phase::Failed => End::Failed,
-        Phase::Ran(_) => End::Ran,
-        Phase::Sent => End::GivenUp,
     }
 }
 
@@ -97,28 +78,31 @@ fn draw_held(
     }
 }
 
-// The line of a stretch, from one lane to the other; half of it where the stretch doesn't end with a run or a loss.
-fn line_of(canvas: &Canvas, from: Node, to: Node, holding: &Holding, end: End) -> Line {
-    let whole = between(canvas, from, to, holding);
-    match end {
-        End::Ran | End::Failed => whole,
-        End::GivenUp | End::UnderWay => Line {
-            x2: middle(whole.x1, whole.x2),
-            ..whole
-        },
-    }
-}
-
-fn between(canvas: &Canvas, from: Node, to: Node, holding: &Holding) -> Line {
-    let x1 = canvas.layout.x(from);
-    let x2 = canvas.layout.x(to);
-    let (x1, x2) = apart(x1, x2);
-    Line {
+// The line of a stretch, from one lane to the other; only half the way to the next lane where the call gets no further.
+fn line_of(canvas: &Canvas, from: Node, to: Node, holding: &Holding, gets_there: bool) -> Line {
+    let (x1, x2) = apart(canvas.layout.x(from), canvas.layout.x(to));
+    let whole = Line {
         x1,
         y1: canvas.layout.y(holding.first),
         x2,
         y2: end_row(canvas, holding),
+    };
+    if gets_there {
+        whole
+    } else {
+        halfway(whole, canvas.layout.lane / 2)
     }
+}
+
+// The line up to where it is so far from its start.
+fn halfway(line: Line, far: u32) -> Line {
+    let far = far.saturating_sub(HALF + 1);
+    let x2 = if line.x1 < line.x2 {
+        line.x1.saturating_add(far)
+    } else {
+        line.x1.saturating_sub(far)
+    };
+    Line { x2, ..line }
 }
 
 // Where the row behind the stretch lies.
@@ -138,10 +122,6 @@ fn apart(x1: u32, x2: u32) -> (u32, u32) {
     }
 }
 
-fn middle(one: u32, other: u32) -> u32 {
-    (one / 2).saturating_add(other / 2)
-}
-
 // Draws a call that was sent.
 fn draw_call(
     canvas: &mut Canvas,
@@ -151,7 +131,8 @@ fn draw_call(
     end: End,
     is_orphan: bool,
 ) -> Result<(), OutOfMemory> {
-    let line = line_of(canvas, node, call.callee, holding, end);
+    let gets_there = matches!(end, End::Ran | End::Failed);
+    let line = line_of(canvas, node, call.callee, holding, gets_there);
     let style = call_style(end, is_orphan);
     push_arrow(&mut canvas.lines, &line, style, node, call, holding)?;
     label_call(canvas, &line, call.kind, end, is_orphan)
@@ -172,7 +153,8 @@ fn push_arrow(
     text.push_str("</line>\n")
 }
 
-// Writes what call it is, where the lanes have room for it.
+// Writes what call it is, where the lanes have room for it: with all words between two lanes, with its kind alone there, or with that
+// anywhere on the line; nowhere where nothing is free.
 fn label_call(
     canvas: &mut Canvas,
     line: &Line,
@@ -183,9 +165,15 @@ fn label_call(
     if canvas.layout.lane < WORDS_MIN {
         return Ok(());
     }
+    let style = words_style(end, is_orphan);
     let mut words = canvas.text();
     push_words(&mut words, kind, end, is_orphan)?;
-    place_words(canvas, line, call_colour(end, is_orphan), words.as_str())
+    if put_between(canvas, line, style, words.as_str())?
+        || put_between(canvas, line, style, kind_text(kind))?
+    {
+        return Ok(());
+    }
+    put_anywhere(canvas, line, style, kind_text(kind))
 }
 
 // How the line of a call looks.
@@ -204,6 +192,15 @@ fn call_style(end: End, is_orphan: bool) -> &'static str {
     }
 }
 
+fn words_style(end: End, is_orphan: bool) -> Style {
+    Style {
+        anchor: Anchor::Middle,
+        size: 11,
+        colour: call_colour(end, is_orphan),
+        has_ground: true,
+    }
+}
+
 fn call_colour(end: End, is_orphan: bool) -> &'static str {
     match (end, is_orphan) {
         (End::Failed, _) => "#D55E00",
@@ -212,7 +209,7 @@ fn call_colour(end: End, is_orphan: bool) -> &'static str {
     }
 }
 
-// Appends the words of a call.
+// Appends the words of a call. Of one that is given up its grey line tells whether it is an orphan.
 fn push_words(
     text: &mut String,
     kind: CallKind,
@@ -226,23 +223,79 @@ fn push_words(
         End::UnderWay => text.push_str(", under way")?,
         End::Ran => {}
     }
-    if is_orphan {
+    if is_orphan && end != End::GivenUp {
         text.push_str(", orphan")?;
     }
     Ok(())
 }
 
-// Writes the words at the first place along the line that is free; nowhere where none is.
-fn place_words(
+// Writes the words at the first place on the line that is free, and tells whether there is one: between two lanes, beginning with
+// those where the line ends.
+fn put_between(
     canvas: &mut Canvas,
     line: &Line,
-    shade: &str,
+    style: Style,
+    words: &str,
+) -> Result<bool, OutOfMemory> {
+    let layout = canvas.layout;
+    for step in 0..layout.nodes {
+        let lane = if line.x1 < line.x2 {
+            layout.nodes.saturating_sub(step.saturating_add(1))
+        } else {
+            step
+        };
+        if put_in_gap(canvas, line, layout.gap(lane), style, words)? {
+            return Ok(true);
+        }
+    }
+    Ok(false)
+}
+
+// The same between these two lanes alone, where the line goes between them and the words have room there.
+fn put_in_gap(
+    canvas: &mut Canvas,
+    line: &Line,
+    gap: (u32, u32),
+    style: Style,
+    words: &str,
+) -> Result<bool, OutOfMemory> {
+    let (left, right) = gap;
+    let half = width_of(words, style.size) / 2 + 1;
+    let (least, most) = (left.saturating_add(half), right.saturating_sub(half));
+    let Some((from, to)) = stretch_in(line, left, right) else {
+        return Ok(false);
+    };
+    if least > most {
+        return Ok(false);
+    }
+    for part in [4u32, 3, 5, 2, 6, 1, 7] {
+        let x = along(from, to, part);
+        let y = line.words_at(x);
+        if canvas.put(x.max(least).min(most), y, style, words)? {
+            return Ok(true);
+        }
+    }
+    Ok(false)
+}
+
+// From where to where the line goes between these two ends; none where it doesn't.
+fn stretch_in(line: &Line, left: u32, right: u32) -> Option<(u32, u32)> {
+    let from = line.x1.min(line.x2).max(left);
+    let to = line.x1.max(line.x2).min(right);
+    if from < to { Some((from, to)) } else { None }
+}
+
+// Writes the words at the first place along the line that is free.
+fn put_anywhere(
+    canvas: &mut Canvas,
+    line: &Line,
+    style: Style,
     words: &str,
 ) -> Result<(), OutOfMemory> {
     for part in [4u32, 3, 5, 2, 6] {
         let x = along(line.x1, line.x2, part);
-        let y = along(line.y1, line.y2, part);
-        if canvas.put_middle(x, y.saturating_add(ROW / 5), 11, shade, words)? {
+        let y = along(line.y1, line.y2, part).saturating_add(ROW / 5);
+        if canvas.put(x, y, style, words)? {
             return Ok(());
         }
     }
@@ -265,21 +318,25 @@ fn draw_reply(
     call: &Call,
     end: End,
 ) -> Result<(), OutOfMemory> {
-    let whole = between(canvas, call.callee, node, holding);
+    let returns = canvas.returned_in(holding.last.saturating_add(1));
+    let line = line_of(canvas, call.callee, node, holding, returns);
     push_arrow(
         &mut canvas.lines,
-        &whole,
-        reply_style(end),
+        &line,
+        reply_style(end, returns),
         node,
         call,
         holding,
     )
 }
 
-fn reply_style(end: End) -> &'static str {
+fn reply_style(end: End, returns: bool) -> &'static str {
     match end {
         End::Failed => {
             " stroke=\"#D55E00\" stroke-width=\"1.2\" stroke-dasharray=\"1 3\" marker-end=\"url(#lost)\">"
+        }
+        End::GivenUp if !returns => {
+            " stroke=\"#888\" stroke-width=\"1.2\" stroke-dasharray=\"1 3\" marker-end=\"url(#lost)\">"
         }
         _ => {
             " stroke=\"#888\" stroke-width=\"1.2\" stroke-dasharray=\"1 3\" marker-end=\"url(#reply)\">"

@@ -3,8 +3,13 @@
 use bully_base::OutOfMemory;
 use std::alloc::Global;
 
-// The width of a letter at a size of ten, in tenths of a pixel, and a little more.
-const LETTER: u32 = 68;
+/// Which end of words lies at the point that they are placed by, or their middle.
+#[derive(Clone, Copy, PartialEq, Eq, Debug)]
+pub enum Anchor {
+    Start,
+    Middle,
+    End,
+}
 
 /// The box of a word: its left end, its top, its width and its height, in pixels.
 #[derive(Clone, Copy, Debug)]
@@ -16,26 +21,15 @@ pub struct Area {
 }
 
 impl Area {
-    /// The box of so many letters of this size, whose line stands at y, and which begin at x.
-    pub fn from_start(x: u32, y: u32, letters: usize, size: u32) -> Area {
+    /// The box of words of this size, whose line stands at y, and which are placed by x.
+    pub fn of(x: u32, y: u32, anchor: Anchor, size: u32, words: &str) -> Area {
+        let width = width_of(words, size);
         Area {
-            x,
+            x: left_of(x, width, anchor),
             y: y.saturating_sub(size),
-            width: width_of(letters, size),
+            width,
             height: size.saturating_add(3),
         }
-    }
-
-    /// The same of letters in whose middle x is.
-    pub fn around(x: u32, y: u32, letters: usize, size: u32) -> Area {
-        let half = width_of(letters, size) / 2;
-        Area::from_start(x.saturating_sub(half), y, letters, size)
-    }
-
-    /// The same of letters that end at x.
-    pub fn to_end(x: u32, y: u32, letters: usize, size: u32) -> Area {
-        let width = width_of(letters, size);
-        Area::from_start(x.saturating_sub(width), y, letters, size)
     }
 
     // Whether the two have a point in common.
@@ -47,13 +41,32 @@ impl Area {
     }
 }
 
-/// How wide so many letters of this size are.
-pub fn width_of(letters: usize, size: u32) -> u32 {
-    let letters = letters.min(1000) as u32;
-    letters
-        .saturating_mul(LETTER)
-        .saturating_mul(size.min(100))
-        / 100
+// The left end of what is so wide.
+fn left_of(x: u32, width: u32, anchor: Anchor) -> u32 {
+    match anchor {
+        Anchor::Start => x,
+        Anchor::Middle => x.saturating_sub(width / 2),
+        Anchor::End => x.saturating_sub(width),
+    }
+}
+
+/// How wide words of this size are, or a little more.
+pub fn width_of(words: &str, size: u32) -> u32 {
+    let mut parts = 0u32;
+    for letter in words.chars() {
+        parts = parts.saturating_add(letter_width(letter));
+    }
+    parts.saturating_mul(size.min(100)) / 100
+}
+
+/// How wide a letter is, in hundredths of its size.
+pub fn letter_width(letter: char) -> u32 {
+    match letter {
+        'i' | 'j' | 'l' | 'f' | 'r' | 't' | 'I' | ' ' | ',' | '.' | ':' | '-' => 42,
+        'm' | 'w' | 'M' | 'W' => 100,
+        '!'..='~' => 66,
+        _ => 100,
+    }
 }
 
 /// The boxes of the words that were placed.

@@ -1,9 +1,18 @@
 //! What a picture is written on: lines below, and words above them.
 
-use crate::boxes::{Area, Boxes};
-use crate::layout::Layout;
+use crate::boxes::{Anchor, Area, Boxes};
+use crate::layout::{ASIDE, Layout};
 use bully_base::OutOfMemory;
 use std::alloc::Global;
+
+/// How words look: where the point lies that they are placed by, their size, their colour, and whether they have a white ground.
+#[derive(Clone, Copy, Debug)]
+pub struct Style {
+    pub anchor: Anchor,
+    pub size: u32,
+    pub colour: &'static str,
+    pub has_ground: bool,
+}
 
 /// A picture on which is drawn.
 #[derive(Drop, Debug)]
@@ -12,6 +21,8 @@ pub struct Canvas {
     pub lines: String,
     pub words: String,
     boxes: Boxes,
+    // The rows in which a call returned.
+    returns: Vec<u32>,
     alloc: Global,
 }
 
@@ -23,6 +34,7 @@ impl Canvas {
             lines: String::new(alloc),
             words: String::new(alloc),
             boxes: Boxes::new(alloc),
+            returns: Vec::new(alloc),
             alloc,
         }
     }
@@ -32,62 +44,89 @@ impl Canvas {
         String::new(self.alloc)
     }
 
-    /// Takes the box for words, and tells whether it was free.
-    pub fn take(&mut self, area: Area) -> Result<bool, OutOfMemory> {
-        self.boxes.take(area)
-    }
-
-    /// Writes words that begin at x, where their box is free.
-    pub fn put_start(
-        &mut self,
-        x: u32,
-        y: u32,
-        size: u32,
-        colour: &str,
-        words: &str,
-    ) -> Result<(), OutOfMemory> {
-        if self.take(Area::from_start(x, y, words.len(), size))? {
-            put(&mut self.words, x, y, size, "start", colour, words)?;
-        }
+    /// Notes that a call returned in this row.
+    pub fn note_return(&mut self, row: u32) -> Result<(), OutOfMemory> {
+        self.returns.push(row)?;
         Ok(())
     }
 
-    /// The same of words that end at x.
-    pub fn put_end(
-        &mut self,
-        x: u32,
-        y: u32,
-        size: u32,
-        colour: &str,
-        words: &str,
-    ) -> Result<(), OutOfMemory> {
-        if self.take(Area::to_end(x, y, words.len(), size))? {
-            put(&mut self.words, x, y, size, "end", colour, words)?;
-        }
-        Ok(())
+    /// Whether a call returned in this row.
+    pub fn returned_in(&self, row: u32) -> bool {
+        self.returns.iter().any(|other| *other == row)
     }
 
-    /// The same of words in whose middle x is; tells whether they were written.
-    pub fn put_middle(
-        &mut self,
-        x: u32,
-        y: u32,
-        size: u32,
-        colour: &str,
-        words: &str,
-    ) -> Result<bool, OutOfMemory> {
-        let area = Area::around(x, y, words.len(), size);
-        if !self.take(area)? {
+    /// Writes words at this point, where their box is free, and tells whether they were written. They need no escaping.
+    pub fn put(&mut self, x: u32, y: u32, style: Style, words: &str) -> Result<bool, OutOfMemory> {
+        let area = Area::of(x, y, style.anchor, style.size, words);
+        if !self.boxes.take(area)? {
             return Ok(false);
         }
-        back(&mut self.words, area)?;
-        put(&mut self.words, x, y, size, "middle", colour, words)?;
+        if style.has_ground {
+            push_ground(&mut self.words, area)?;
+        }
+        self.write(x, y, style, words)?;
+        Ok(true)
+    }
+
+    /// Writes words beside the lane whose middle x is: at its left, since what changes a node comes from a higher one, at its right; or
+    /// at its right, where the left isn't free.
+    pub fn put_beside(
+        &mut self,
+        x: u32,
+        y: u32,
+        colour: &'static str,
+        words: &str,
+    ) -> Result<(), OutOfMemory> {
+        let line = y.saturating_add(4);
+        let style = Style {
+            anchor: Anchor::End,
+            size: 10,
+            colour,
+            has_ground: true,
+        };
+        if self.put(x.saturating_sub(ASIDE), line, style, words)? {
+            return Ok(());
+        }
+        let style = Style {
+            anchor: Anchor::Start,
+            ..style
+        };
+        self.put(x.saturating_add(ASIDE), line, style, words)?;
+        Ok(())
+    }
+
+    /// Writes words at this point, whatever stands there.
+    pub fn write(&mut self, x: u32, y: u32, style: Style, words: &str) -> Result<(), OutOfMemory> {
+        push_words(&mut self.words, x, y, style, words)
+    }
+
+    /// Draws a frame that is as high as a word and so wide, where its box is free, and tells whether it was drawn.
+    pub fn put_frame(
+        &mut self,
+        x: u32,
+        y: u32,
+        width: u32,
+        colour: &str,
+    ) -> Result<bool, OutOfMemory> {
+        let area = Area {
+            x,
+            y,
+            width,
+            height: 13,
+        };
+        if !self.boxes.take(area)? {
+            return Ok(false);
+        }
+        writeln!(
+            self.words,
+            "<rect x=\"{x}\" y=\"{y}\" width=\"{width}\" height=\"13\" fill=\"#fff\" stroke=\"{colour}\"/>"
+        )?;
         Ok(true)
     }
 }
 
-// A light ground for words.
-fn back(text: &mut String, area: Area) -> Result<(), OutOfMemory> {
+// A white ground for words.
+fn push_ground(text: &mut String, area: Area) -> Result<(), OutOfMemory> {
     let Area {
         x,
         y,
@@ -96,22 +135,35 @@ fn back(text: &mut String, area: Area) -> Result<(), OutOfMemory> {
     } = area;
     writeln!(
         text,
-        "<rect x=\"{x}\" y=\"{y}\" width=\"{width}\" height=\"{height}\" fill=\"white\" fill-opacity=\".82\"/>"
+        "<rect x=\"{x}\" y=\"{y}\" width=\"{width}\" height=\"{height}\" fill=\"#fff\"/>"
     )
 }
 
-// Words that need no escaping.
-fn put(
+fn push_words(
     text: &mut String,
     x: u32,
     y: u32,
-    size: u32,
-    anchor: &str,
-    colour: &str,
+    style: Style,
     words: &str,
 ) -> Result<(), OutOfMemory> {
+    let Style {
+        anchor,
+        size,
+        colour,
+        has_ground: _,
+    } = style;
+    let placed = anchor_text(anchor);
     writeln!(
         text,
-        "<text x=\"{x}\" y=\"{y}\" font-size=\"{size}\" text-anchor=\"{anchor}\" fill=\"{colour}\">{words}</text>"
+        "<text x=\"{x}\" y=\"{y}\" font-size=\"{size}\"{placed} fill=\"{colour}\">{words}</text>"
     )
+}
+
+// What tells where the point lies; nothing at the start.
+fn anchor_text(anchor: Anchor) -> &'static str {
+    match anchor {
+        Anchor::Start => "",
+        Anchor::Middle => " text-anchor=\"middle\"",
+        Anchor::End => " text-anchor=\"end\"",
+    }
 }

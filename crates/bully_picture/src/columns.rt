@@ -9,8 +9,45 @@ use bully_film::{Reel, Scene, Sight, lane_of};
 use bully_trace::{Verdict, push_verdict_head};
 use std::alloc::Global;
 
-// How wide the column of a node is.
-const COLUMN: usize = 9;
+/// How the columns of the nodes look: a word of the status with the coordinator, where there are few; a letter with the coordinator; a
+/// letter alone, with what the row changes behind all of them; or that alone, where they are too many for a line.
+#[derive(Clone, Copy, PartialEq, Eq, Debug)]
+enum Form {
+    Words,
+    Short,
+    Letters,
+    Changes,
+}
+
+impl Form {
+    // The form for so many nodes.
+    fn of(nodes: u16) -> Form {
+        match nodes {
+            0..=6 => Form::Words,
+            7..=20 => Form::Short,
+            21..=100 => Form::Letters,
+            _ => Form::Changes,
+        }
+    }
+
+    // How wide the column of a node is.
+    fn column(self) -> usize {
+        match self {
+            Form::Words => 9,
+            Form::Short => 4,
+            Form::Letters => 1,
+            Form::Changes => 0,
+        }
+    }
+
+    // Whether what the row changes stands behind the columns.
+    fn tells_change(self) -> bool {
+        matches!(self, Form::Letters | Form::Changes)
+    }
+}
+
+// How wide what a row changes is, as `64: reorg 64`.
+const CHANGE: usize = 16;
 
 /// The picture of what a film shows as text: the verdict; a line for each row that changes a status or a coordinator, and for the one
 /// that decided, with those of each node in a column; and how many rows lie between. Below it stands this text. Refused where an
@@ -29,7 +66,8 @@ pub fn text_picture(alloc: Global, reel: &Reel, below: &str) -> Result<String, O
 // The lines of the rows.
 fn lines_of(alloc: Global, reel: &Reel) -> Result<String, OutOfMemory> {
     let mut text = String::new(alloc);
-    push_names(&mut text, reel)?;
+    let form = Form::of(reel.setup.nodes());
+    push_names(&mut text, reel.setup.nodes(), form)?;
     let mut now = starts(alloc, reel)?;
     let mut quiet = 0u32;
     for scene in reel.scenes.as_slice() {
@@ -40,7 +78,7 @@ fn lines_of(alloc: Global, reel: &Reel) -> Result<String, OutOfMemory> {
         push_quiet(&mut text, quiet)?;
         quiet = 0;
         put(&mut now, scene);
-        push_line(&mut text, scene, now.as_slice())?;
+        push_line(&mut text, scene, now.as_slice(), form)?;
     }
     push_quiet(&mut text, quiet)?;
     Ok(text)
@@ -78,16 +116,36 @@ fn put(now: &mut Vec<Sight>, scene: &Scene) {
     }
 }
 
-// Appends the heads of the columns.
-fn push_names(text: &mut String, reel: &Reel) -> Result<(), OutOfMemory> {
+// Appends what the letters mean, and the heads of the columns.
+fn push_names(text: &mut String, nodes: u16, form: Form) -> Result<(), OutOfMemory> {
+    if matches!(form, Form::Short | Form::Letters) {
+        text.push_str("- down, E election, R reorganization, N normal\n")?;
+    }
     write!(text, "{:>7}  ", "row")?;
-    for before in 0..reel.setup.nodes() {
-        let number = before + 1;
+    for before in 0..nodes {
+        push_name(text, before.saturating_add(1), form)?;
+    }
+    if form.tells_change() {
         let start = text.len();
-        write!(text, "{number}")?;
-        fill(text, start, COLUMN)?;
+        text.push_str("  changes")?;
+        fill(text, start, CHANGE)?;
     }
     text.push_str("what it says\n")
+}
+
+// Appends the head of a node's column: its number; of a column of one letter a mark, with the tens at each tenth.
+fn push_name(text: &mut String, number: u16, form: Form) -> Result<(), OutOfMemory> {
+    let start = text.len();
+    match form {
+        Form::Words | Form::Short => write!(text, "{number}")?,
+        Form::Letters if number.is_multiple_of(10) => {
+            let tens = number / 10 % 10;
+            return write!(text, "{tens}");
+        }
+        Form::Letters => return text.push('.'),
+        Form::Changes => return Ok(()),
+    }
+    fill(text, start, form.column())
 }
 
 // Appends how many rows lie between; nothing where there are none.
@@ -100,11 +158,19 @@ fn push_quiet(text: &mut String, quiet: u32) -> Result<(), OutOfMemory> {
 }
 
 // Appends the line of a row, behind which the nodes stand so.
-fn push_line(text: &mut String, scene: &Scene, now: &[Sight]) -> Result<(), OutOfMemory> {
+fn push_line(
+    text: &mut String,
+    scene: &Scene,
+    now: &[Sight],
+    form: Form,
+) -> Result<(), OutOfMemory> {
     let number = scene.number;
     write!(text, "{number:>7}  ")?;
     for sight in now {
-        push_cell(text, sight)?;
+        push_cell(text, sight, form)?;
+    }
+    if form.tells_change() {
+        push_change(text, scene)?;
     }
     push_row_text(text, scene)?;
     let meaning = meaning(scene);
@@ -114,24 +180,64 @@ fn push_line(text: &mut String, scene: &Scene, now: &[Sight]) -> Result<(), OutO
     text.push('\n')
 }
 
-// Appends how a node stands: the start of its status, and its coordinator.
-fn push_cell(text: &mut String, sight: &Sight) -> Result<(), OutOfMemory> {
+// Appends how a node stands: its status, and its coordinator where the column has room for it.
+fn push_cell(text: &mut String, sight: &Sight, form: Form) -> Result<(), OutOfMemory> {
     let start = text.len();
-    text.push_str(short(sight.status))?;
+    match form {
+        Form::Words => push_stand(text, sight)?,
+        Form::Short => push_short(text, sight)?,
+        Form::Letters => return text.push(letter(sight.status)),
+        Form::Changes => return Ok(()),
+    }
+    fill(text, start, form.column())
+}
+
+// Appends how the node stands now whose vector the row may change.
+fn push_change(text: &mut String, scene: &Scene) -> Result<(), OutOfMemory> {
+    let start = text.len();
+    let number = scene.other.node.number();
+    write!(text, "  {number}: ")?;
+    push_stand(text, &scene.other.after)?;
+    fill(text, start, CHANGE)
+}
+
+// Appends a word of the status, and the coordinator, as `norm 3`.
+fn push_stand(text: &mut String, sight: &Sight) -> Result<(), OutOfMemory> {
+    text.push_str(word(sight.status))?;
     if let Some(node) = sight.coordinator {
         let number = node.number();
         write!(text, " {number}")?;
     }
-    fill(text, start, COLUMN)
+    Ok(())
 }
 
-// The status in short.
-fn short(status: Status) -> &'static str {
+// Appends the letter of the status, and the coordinator, as `N3`.
+fn push_short(text: &mut String, sight: &Sight) -> Result<(), OutOfMemory> {
+    text.push(letter(sight.status))?;
+    if let Some(node) = sight.coordinator {
+        let number = node.number();
+        write!(text, "{number}")?;
+    }
+    Ok(())
+}
+
+// The status as a word.
+fn word(status: Status) -> &'static str {
     match status {
         Status::Down => "-",
         Status::Election => "elect",
         Status::Reorganization => "reorg",
         Status::Normal => "norm",
+    }
+}
+
+// The status as a letter.
+fn letter(status: Status) -> char {
+    match status {
+        Status::Down => '-',
+        Status::Election => 'E',
+        Status::Reorganization => 'R',
+        Status::Normal => 'N',
     }
 }
 

@@ -1,14 +1,12 @@
 //! The bars of a node, and its name over them.
 
+use crate::boxes::letter_width;
 use crate::canvas::Canvas;
 use crate::escaping::{push_escaped, push_start};
-use crate::layout::{WORDS_ALL, WORDS_MIN};
+use crate::layout::{HALF, WORDS_ALL, WORDS_MIN};
 use crate::words::{colour, push_stand};
 use bully_base::{Node, OutOfMemory, Status};
 use bully_film::{Bar, Stand};
-
-/// How wide half a bar is.
-pub const HALF: u32 = 6;
 
 /// Draws the bars of a node, and says beside each how the node stands from its first row on.
 pub fn draw_bars(canvas: &mut Canvas, node: Node, bars: &[Bar]) -> Result<(), OutOfMemory> {
@@ -25,12 +23,13 @@ fn draw_bar(canvas: &mut Canvas, node: Node, bar: &Bar) -> Result<(), OutOfMemor
     let top = canvas.layout.y(bar.first);
     let end = end_of(canvas, bar);
     let shade = colour(bar.stand.status);
+    let shows_rows = canvas.layout.rows > 0;
     if bar.stand.status == Status::Down {
         write!(
             canvas.lines,
             "<line x1=\"{x}\" y1=\"{top}\" x2=\"{x}\" y2=\"{end}\" stroke=\"{shade}\" stroke-width=\"2\" stroke-dasharray=\"2 4\">"
         )?;
-        push_title(&mut canvas.lines, node, bar)?;
+        push_title(&mut canvas.lines, node, bar, shows_rows)?;
         return canvas.lines.push_str("</line>\n");
     }
     let left = x.saturating_sub(HALF);
@@ -40,7 +39,7 @@ fn draw_bar(canvas: &mut Canvas, node: Node, bar: &Bar) -> Result<(), OutOfMemor
         canvas.lines,
         "<rect x=\"{left}\" y=\"{top}\" width=\"{width}\" height=\"{height}\" fill=\"{shade}\">"
     )?;
-    push_title(&mut canvas.lines, node, bar)?;
+    push_title(&mut canvas.lines, node, bar, shows_rows)?;
     canvas.lines.push_str("</rect>\n")
 }
 
@@ -52,27 +51,37 @@ fn end_of(canvas: &Canvas, bar: &Bar) -> u32 {
     canvas.layout.y(bar.last.saturating_add(1))
 }
 
-// What is shown where the pointer rests on a bar.
-fn push_title(text: &mut String, node: Node, bar: &Bar) -> Result<(), OutOfMemory> {
+// What is shown where the pointer rests on a bar: how the node stands, and behind which rows, where any are shown.
+fn push_title(
+    text: &mut String,
+    node: Node,
+    bar: &Bar,
+    shows_rows: bool,
+) -> Result<(), OutOfMemory> {
     let number = node.number();
     write!(text, "<title>node {number}: ")?;
     push_stand(text, bar.stand)?;
+    if !shows_rows {
+        return text.push_str("</title>");
+    }
     let first = bar.first;
     let last = bar.last;
     write!(text, ", behind rows {first} to {last}</title>")
 }
 
-// Says beside a bar how the node stands, where the lane has room for it: at the left, since what changes a node comes from a higher
-// one, at the right.
+// Says beside a bar how the node stands, where the lane has room for it.
 fn label_bar(canvas: &mut Canvas, node: Node, bar: &Bar) -> Result<(), OutOfMemory> {
     if bar.stand.status == Status::Down || canvas.layout.lane < WORDS_MIN {
         return Ok(());
     }
     let mut words = canvas.text();
     push_label(&mut words, bar.stand, canvas.layout.lane)?;
-    let x = canvas.layout.x(node).saturating_sub(HALF + 4);
-    let y = canvas.layout.y(bar.first).saturating_add(4);
-    canvas.put_end(x, y, 10, "#333", words.as_str())
+    if words.is_empty() {
+        return Ok(());
+    }
+    let x = canvas.layout.x(node);
+    let y = canvas.layout.y(bar.first);
+    canvas.put_beside(x, y, "#333", words.as_str())
 }
 
 // Appends how the node stands, in short where the lane is narrow.
@@ -90,11 +99,7 @@ fn push_label(text: &mut String, stand: Stand, lane: u32) -> Result<(), OutOfMem
 }
 
 /// Writes the name of a node over its lane; its number, where there is no name.
-pub fn draw_name(
-    canvas: &mut Canvas,
-    node: Node,
-    name: Option<&str>,
-) -> Result<(), OutOfMemory> {
+pub fn draw_name(canvas: &mut Canvas, node: Node, name: Option<&str>) -> Result<(), OutOfMemory> {
     let x = canvas.layout.x(node);
     let number = node.number();
     let words = &mut canvas.words;
@@ -104,7 +109,7 @@ pub fn draw_name(
     )?;
     match name {
         Some(name) => {
-            push_start(words, name, letters_in(canvas.layout.lane))?;
+            push_start(words, name, letters_in(name, canvas.layout.lane))?;
             write!(words, "<title>node {number}: ")?;
             push_escaped(words, name)?;
             words.push_str("</title>")?;
@@ -115,7 +120,18 @@ pub fn draw_name(
     words.push_str("</text>\n")
 }
 
-// How many letters of a name have room in a lane.
-fn letters_in(lane: u32) -> usize {
-    (lane / 10).max(2) as usize
+// How many letters of a name have room in a lane, beside the dots behind them.
+fn letters_in(name: &str, lane: u32) -> usize {
+    let room = lane.saturating_sub(24).saturating_mul(100);
+    let mut count = 0usize;
+    let mut width = 0u32;
+    for letter in name.chars() {
+        // (15 pixels, since they are of size 13 and bold)
+        width = width.saturating_add(letter_width(letter).saturating_mul(15));
+        if width > room {
+            return count.max(1);
+        }
+        count = count.saturating_add(1);
+    }
+    count
 }

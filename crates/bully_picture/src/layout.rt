@@ -4,7 +4,13 @@ use bully_base::Node;
 use bully_film::Reel;
 
 /// Where the lanes begin.
-pub const LEFT: u32 = 110;
+pub const LEFT: u32 = 124;
+
+/// How wide half a bar is.
+pub const HALF: u32 = 6;
+
+/// How far words stand from the middle of a lane at least.
+pub const ASIDE: u32 = HALF + 6;
 
 /// How high a row is.
 pub const ROW: u32 = 20;
@@ -14,6 +20,7 @@ const TOP: u32 = 96;
 
 /// How wide a lane is at least and at most.
 const LANE_MIN: u32 = 34;
+
 const LANE_MAX: u32 = 190;
 
 /// The width of a lane below which it has no words.
@@ -67,6 +74,31 @@ impl Layout {
     /// The number of the last row.
     pub fn last(&self) -> u32 {
         self.first.saturating_add(self.rows)
+    }
+
+    /// Where what stands between a lane and the next one may begin and end. Lanes are counted from 0.
+    pub fn gap(&self, lane: u32) -> (u32, u32) {
+        let middle = LEFT
+            .saturating_add(self.lane.saturating_mul(lane))
+            .saturating_add(self.lane / 2);
+        let next = middle.saturating_add(self.lane);
+        (middle.saturating_add(ASIDE), next.saturating_sub(ASIDE))
+    }
+
+    /// How much room there is at the right of the node's bar.
+    pub fn room(&self, node: Node) -> u32 {
+        let end = if u32::from(node.number()) >= self.nodes {
+            self.texts()
+        } else {
+            self.x(node).saturating_add(self.lane)
+        };
+        end.saturating_sub(self.x(node))
+            .saturating_sub(ASIDE + ASIDE)
+    }
+
+    /// Where the texts of the rows begin.
+    pub fn texts(&self) -> u32 {
+        self.right().saturating_add(80)
     }
 
     /// Where the lanes end.
