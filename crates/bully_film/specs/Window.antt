@@ -1,6 +1,6 @@
 -- Which rows of a trace are shown.
 use Rattle.std.specs.Prelude.{ℕ, ◌+◌, ◌<◌, ◌≤◌, nat_lt, if◌then◌else◌}
-use Rattle.bully_film.specs.declared.TheConstants.{WINDOW_MAX}
+use Rattle.bully_film.specs.declared.window.TheConstants.{WINDOW_MAX}
 
 -- those from one row to another, and of these the last ones, so many; rows are counted from 1, the header
 pub record WindowState : Type 0 where
