@@ -112,10 +112,11 @@ fn push_meaning(text: &mut String, scene: &Scene, has_room: bool) -> Result<(), 
 // Appends who gets a table, which stands behind the text where it is shown.
 fn push_getting(text: &mut String, scene: &Scene) -> Result<(), OutOfMemory> {
     let node = scene.other.node.number();
+    let long = LONG_TABLE;
     match (&scene.table, scene.deed) {
         (Some(_), Some(Deed::Plan)) => text.push(':'),
         (Some(_), _) => write!(text, ": {node} gets"),
-        (None, _) => write!(text, ": {node} {LONG_TABLE}"),
+        (None, _) => write!(text, ": {node} {long}"),
     }
 }
 
