@@ -2,11 +2,12 @@
 
 use crate::boxes::{Anchor, width_of};
 use crate::canvas::{Canvas, Style};
+use crate::lanes::draw_stand;
 use crate::layout::{ASIDE, HALF, Layout, WORDS_MIN};
 use crate::words::{colour, meaning, push_row_text};
 use bully_account::Deed;
 use bully_base::{Node, OutOfMemory, Status};
-use bully_film::Scene;
+use bully_film::{Scene, Sight, Stand};
 use bully_table::Table;
 
 // What is said of a table that is too long to be shown.
@@ -28,6 +29,7 @@ pub fn draw_row(canvas: &mut Canvas, scene: &Scene, decides: bool) -> Result<(),
     if decides {
         return Ok(());
     }
+    draw_change(canvas, scene)?;
     draw_marks(canvas, scene, y)?;
     draw_table(canvas, scene, y, end)
 }
@@ -140,6 +142,23 @@ fn owner_width(layout: &Layout) -> u32 {
         10..=99 => 16,
         100..=999 => 22,
         _ => 28,
+    }
+}
+
+// Says how a node stands behind the row, where that changes it: before the words of calls, which have more places to stand at.
+fn draw_change(canvas: &mut Canvas, scene: &Scene) -> Result<(), OutOfMemory> {
+    let before = stand_of(&scene.other.before);
+    let after = stand_of(&scene.other.after);
+    if before == after {
+        return Ok(());
+    }
+    draw_stand(canvas, scene.other.node, scene.number, after)
+}
+
+fn stand_of(sight: &Sight) -> Stand {
+    Stand {
+        status: sight.status,
+        coordinator: sight.coordinator,
     }
 }
 
