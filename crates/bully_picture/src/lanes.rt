@@ -3,7 +3,7 @@
 use crate::boxes::letter_width;
 use crate::canvas::Canvas;
 use crate::escaping::{push_escaped, push_start};
-use crate::layout::{HALF, WORDS_ALL, WORDS_MIN};
+use crate::layout::{HALF, Layout, WORDS_ALL, WORDS_MIN};
 use crate::words::{colour, push_stand};
 use bully_base::{Node, OutOfMemory, Status};
 use bully_film::{Bar, Stand};
@@ -109,10 +109,11 @@ fn push_label(text: &mut String, stand: Stand, lane: u32) -> Result<(), OutOfMem
 pub fn draw_name(canvas: &mut Canvas, node: Node, name: Option<&str>) -> Result<(), OutOfMemory> {
     let x = canvas.layout.x(node);
     let number = node.number();
+    let size = name_size(&canvas.layout);
     let words = &mut canvas.words;
     write!(
         words,
-        "<text x=\"{x}\" y=\"80\" font-size=\"13\" font-weight=\"bold\" text-anchor=\"middle\" unicode-bidi=\"isolate\">"
+        "<text x=\"{x}\" y=\"80\" font-size=\"{size}\" font-weight=\"bold\" text-anchor=\"middle\" unicode-bidi=\"isolate\">"
     )?;
     match name {
         Some(name) => {
@@ -125,6 +126,11 @@ pub fn draw_name(canvas: &mut Canvas, node: Node, name: Option<&str>) -> Result<
         None => write!(words, "{number}")?,
     }
     words.push_str("</text>\n")
+}
+
+// How large names are: four digits have room in the narrowest lane.
+fn name_size(layout: &Layout) -> u32 {
+    if layout.nodes > 999 { 10 } else { 13 }
 }
 
 // How many letters of a name have room in a lane, beside the dots behind them.

@@ -140,9 +140,13 @@ fn owner_width(layout: &Layout) -> u32 {
     match layout.nodes {
         0..=9 => 13,
         10..=99 => 16,
-        100..=999 => 22,
-        _ => 28,
+        _ => 22,
     }
+}
+
+// How large the number of an owner is, so that four digits have room in its box.
+fn owner_size(layout: &Layout) -> u32 {
+    if layout.nodes > 999 { 8 } else { 10 }
 }
 
 // Says how a node stands behind the row, where that changes it: before the words of calls, which have more places to stand at.
@@ -293,7 +297,10 @@ fn draw_owner(
     let mut words = canvas.text();
     let number = owner.number();
     write!(words, "{number}")?;
-    let style = plain_style(Anchor::Middle, "#222");
+    let style = Style {
+        size: owner_size(&canvas.layout),
+        ..plain_style(Anchor::Middle, "#222")
+    };
     let middle = x.saturating_add(width / 2);
     canvas.write(middle, top.saturating_add(10), style, words.as_str())
 }
