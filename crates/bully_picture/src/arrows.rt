@@ -28,8 +28,11 @@ impl Line {
 
     // How high the line is where it passes x.
     fn y_at(&self, x: u32) -> u32 {
-        let far = self.x2.abs_diff(self.x1).max(1);
+        let far = self.x2.abs_diff(self.x1);
         let down = self.y2.saturating_sub(self.y1);
+        if far == 0 {
+            return self.y1;
+        }
         let part = x.abs_diff(self.x1).min(far);
         self.y1.saturating_add(down.saturating_mul(part) / far)
     }
@@ -153,8 +156,8 @@ fn push_arrow(
     text.push_str("</line>\n")
 }
 
-// Writes what call it is, where the lanes have room for it: with all words between two lanes, with its kind alone there, or with that
-// anywhere on the line; nowhere where nothing is free.
+// Writes what call it is, where the lanes have room for it: with all words between two lanes, with its kind alone there, in small
+// letters where it has to be, or with that anywhere on the line; nowhere where nothing is free.
 fn label_call(
     canvas: &mut Canvas,
     line: &Line,
@@ -166,14 +169,16 @@ fn label_call(
         return Ok(());
     }
     let style = words_style(end, is_orphan);
+    let small = Style { size: 9, ..style };
     let mut words = canvas.text();
     push_words(&mut words, kind, end, is_orphan)?;
     if put_between(canvas, line, style, words.as_str())?
         || put_between(canvas, line, style, kind_text(kind))?
+        || put_between(canvas, line, small, kind_text(kind))?
     {
         return Ok(());
     }
-    put_anywhere(canvas, line, style, kind_text(kind))
+    put_anywhere(canvas, line, small, kind_text(kind))
 }
 
 // How the line of a call looks.
@@ -260,7 +265,7 @@ fn put_in_gap(
     words: &str,
 ) -> Result<bool, OutOfMemory> {
     let (left, right) = gap;
-    let half = width_of(words, style.size) / 2 + 1;
+    let half = (width_of(words, style.size) / 2).saturating_add(1);
     let (least, most) = (left.saturating_add(half), right.saturating_sub(half));
     let Some((from, to)) = stretch_in(line, left, right) else {
         return Ok(false);

@@ -3,18 +3,20 @@
 use crate::boxes::letter_width;
 use crate::canvas::Canvas;
 use crate::escaping::{push_escaped, push_start};
-use crate::layout::{HALF, WORDS_ALL, WORDS_MIN};
+use crate::layout::{HALF, Layout, WORDS_ALL, WORDS_MIN};
 use crate::words::{colour, push_stand};
 use bully_base::{Node, OutOfMemory, Status};
 use bully_film::{Bar, Stand};
 
-/// Draws the bars of a node, and says beside each how the node stands from its first row on.
+/// Draws the bars of a node, and says beside the first one how the node stood before the rows. What a row changes was said there.
 pub fn draw_bars(canvas: &mut Canvas, node: Node, bars: &[Bar]) -> Result<(), OutOfMemory> {
     for bar in bars {
         draw_bar(canvas, node, bar)?;
-        label_bar(canvas, node, bar)?;
     }
-    Ok(())
+    match bars.first() {
+        Some(bar) => draw_stand(canvas, node, bar.first, bar.stand),
+        None => Ok(()),
+    }
 }
 
 // Draws a bar: a rectangle in the colour of its status, dotted where the node is down.
@@ -69,18 +71,23 @@ fn push_title(
     write!(text, ", behind rows {first} to {last}</title>")
 }
 
-// Says beside a bar how the node stands, where the lane has room for it.
-fn label_bar(canvas: &mut Canvas, node: Node, bar: &Bar) -> Result<(), OutOfMemory> {
-    if bar.stand.status == Status::Down || canvas.layout.lane < WORDS_MIN {
+/// Says beside a bar how the node stands behind this row, where the lane has room for it.
+pub fn draw_stand(
+    canvas: &mut Canvas,
+    node: Node,
+    row: u32,
+    stand: Stand,
+) -> Result<(), OutOfMemory> {
+    if stand.status == Status::Down || canvas.layout.lane < WORDS_MIN {
         return Ok(());
     }
     let mut words = canvas.text();
-    push_label(&mut words, bar.stand, canvas.layout.lane)?;
+    push_label(&mut words, stand, canvas.layout.lane)?;
     if words.is_empty() {
         return Ok(());
     }
     let x = canvas.layout.x(node);
-    let y = canvas.layout.y(bar.first);
+    let y = canvas.layout.y(row);
     canvas.put_beside(x, y, "#333", words.as_str())
 }
 
@@ -102,10 +109,11 @@ fn push_label(text: &mut String, stand: Stand, lane: u32) -> Result<(), OutOfMem
 pub fn draw_name(canvas: &mut Canvas, node: Node, name: Option<&str>) -> Result<(), OutOfMemory> {
     let x = canvas.layout.x(node);
     let number = node.number();
+    let size = name_size(&canvas.layout);
     let words = &mut canvas.words;
     write!(
         words,
-        "<text x=\"{x}\" y=\"80\" font-size=\"13\" font-weight=\"bold\" text-anchor=\"middle\" unicode-bidi=\"isolate\">"
+        "<text x=\"{x}\" y=\"80\" font-size=\"{size}\" font-weight=\"bold\" text-anchor=\"middle\" unicode-bidi=\"isolate\">"
     )?;
     match name {
         Some(name) => {
@@ -118,6 +126,11 @@ pub fn draw_name(canvas: &mut Canvas, node: Node, name: Option<&str>) -> Result<
         None => write!(words, "{number}")?,
     }
     words.push_str("</text>\n")
+}
+
+// How large names are: four digits have room in the narrowest lane.
+fn name_size(layout: &Layout) -> u32 {
+    if layout.nodes > 999 { 10 } else { 13 }
 }
 
 // How many letters of a name have room in a lane, beside the dots behind them.

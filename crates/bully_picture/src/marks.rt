@@ -2,11 +2,12 @@
 
 use crate::boxes::{Anchor, width_of};
 use crate::canvas::{Canvas, Style};
+use crate::lanes::draw_stand;
 use crate::layout::{ASIDE, HALF, Layout, WORDS_MIN};
 use crate::words::{colour, meaning, push_row_text};
 use bully_account::Deed;
 use bully_base::{Node, OutOfMemory, Status};
-use bully_film::Scene;
+use bully_film::{Scene, Sight, Stand};
 use bully_table::Table;
 
 // What is said of a table that is too long to be shown.
@@ -28,6 +29,7 @@ pub fn draw_row(canvas: &mut Canvas, scene: &Scene, decides: bool) -> Result<(),
     if decides {
         return Ok(());
     }
+    draw_change(canvas, scene)?;
     draw_marks(canvas, scene, y)?;
     draw_table(canvas, scene, y, end)
 }
@@ -112,10 +114,11 @@ fn push_meaning(text: &mut String, scene: &Scene, has_room: bool) -> Result<(), 
 // Appends who gets a table, which stands behind the text where it is shown.
 fn push_getting(text: &mut String, scene: &Scene) -> Result<(), OutOfMemory> {
     let node = scene.other.node.number();
+    let long = LONG_TABLE;
     match (&scene.table, scene.deed) {
         (Some(_), Some(Deed::Plan)) => text.push(':'),
         (Some(_), _) => write!(text, ": {node} gets"),
-        (None, _) => write!(text, ": {node} {LONG_TABLE}"),
+        (None, _) => write!(text, ": {node} {long}"),
     }
 }
 
@@ -137,8 +140,29 @@ fn owner_width(layout: &Layout) -> u32 {
     match layout.nodes {
         0..=9 => 13,
         10..=99 => 16,
-        100..=999 => 22,
-        _ => 28,
+        _ => 22,
+    }
+}
+
+// How large the number of an owner is, so that four digits have room in its box.
+fn owner_size(layout: &Layout) -> u32 {
+    if layout.nodes > 999 { 8 } else { 10 }
+}
+
+// Says how a node stands behind the row, where that changes it: before the words of calls, which have more places to stand at.
+fn draw_change(canvas: &mut Canvas, scene: &Scene) -> Result<(), OutOfMemory> {
+    let before = stand_of(&scene.other.before);
+    let after = stand_of(&scene.other.after);
+    if before == after {
+        return Ok(());
+    }
+    draw_stand(canvas, scene.other.node, scene.number, after)
+}
+
+fn stand_of(sight: &Sight) -> Stand {
+    Stand {
+        status: sight.status,
+        coordinator: sight.coordinator,
     }
 }
 
@@ -273,7 +297,10 @@ fn draw_owner(
     let mut words = canvas.text();
     let number = owner.number();
     write!(words, "{number}")?;
-    let style = plain_style(Anchor::Middle, "#222");
+    let style = Style {
+        size: owner_size(&canvas.layout),
+        ..plain_style(Anchor::Middle, "#222")
+    };
     let middle = x.saturating_add(width / 2);
     canvas.write(middle, top.saturating_add(10), style, words.as_str())
 }
