@@ -18,8 +18,8 @@ use Rattle.bully.proofs.KnownBytesLemmas.{keeps-same}
 pub drawn-answer : {W E : Type 0} (bytes-of : W → KnownBytes) (contents : E → KnownBytes) (remaining : KnownBytes) (window : WindowState) (reel : Reel) (out out' : W) (errors errors' : E) (status : ℕ)
     → OfTrace remaining (IsReelOf window reel)
     → (((picture : List ℕ) × Has picture (verdict_head reel.verdict)
-        × (((status ≡ verdict_status reel.verdict) × Appends (bytes-of out) (bytes-of out') picture × (errors' ≡ errors)) ⊎ ((status ≡ 4) × Tells (contents errors) (contents errors') (stop_line Stop.Write))))
-        ⊎ ((status ≡ 4) × (out' ≡ out) × Tells (contents errors) (contents errors') (stop_line Stop.OutOfMemory)))
+    × (((status ≡ verdict_status reel.verdict) × Appends (bytes-of out) (bytes-of out') picture × (errors' ≡ errors)) ⊎ ((status ≡ 4) × Tells (contents errors) (contents errors') (stop_line Stop.Write))))
+    ⊎ ((status ≡ 4) × (out' ≡ out) × Tells (contents errors) (contents errors') (stop_line Stop.OutOfMemory)))
     → IfSome remaining (λ bytes. IsPictureAnswer bytes (bytes-of out) (bytes-of out') (contents errors) (contents errors') status)
 drawn-answer bytes-of contents None window reel out out' errors errors' status told drawn = tt
 drawn-answer bytes-of contents (Some bytes) window reel out out' errors errors' status (trace, is, e) (inl (picture, has, inl (done, appended, same))) =

@@ -103,14 +103,7 @@ fn draw_named<H: Files + AllocGlobal, R: Read + Drop, W: Write, E: Write>(
     ensures status { result ≤ 4 }
 {
     match bytes_at(rt, path) {
-        Ok(bytes) => draw_with(
-            rt.alloc(),
-            bytes.as_slice(),
-            drawing,
-            input,
-            output,
-            errors,
-        ),
+        Ok(bytes) => draw_with(rt.alloc(), bytes.as_slice(), drawing, input, output, errors),
         Err(stop) => answer_stop(stop, errors),
     }
 }

@@ -55,7 +55,12 @@ fn answer_sheet<W: Write, E: Write>(
 }
 
 /// Writes the text, and tells this status.
-pub fn write_sheet<W: Write, E: Write>(status: u8, sheet: &str, output: &mut W, errors: &mut E) -> u8
+pub fn write_sheet<W: Write, E: Write>(
+    status: u8,
+    sheet: &str,
+    output: &mut W,
+    errors: &mut E,
+) -> u8
     ensures { ((result ≡ status) × Appends (W.contents output.old) (W.contents output.new) sheet.now × (errors.new ≡ errors.old))
         ⊎ ((result ≡ 4) × Tells (E.contents errors.old) (E.contents errors.new) (stop_line Stop.Write)) }
 {

@@ -47,7 +47,12 @@ fn lane_at(alloc: Global, reel: &Reel, node: Node) -> Result<Lane, OutOfMemory>
         → IfOk result (IsLane node (row_before reel.now.scenes.items) (lane_seen trace.setup is.before node is.shown)) }
 {
     let sights = lane_of(alloc, reel, node)?;
-    stretched(alloc, node, row_before(reel.scenes.as_slice()), sights.as_slice())
+    stretched(
+        alloc,
+        node,
+        row_before(reel.scenes.as_slice()),
+        sights.as_slice(),
+    )
 }
 
 // The lane of a node that stood so behind each row from this one on.

@@ -1,12 +1,23 @@
 -- What a text has in it.
-use Rattle.std.proofs.Common.{◌≡◌, ◌∙◌, ℕ, ◌++◌, List, [], refl, ap}
+use Rattle.std.proofs.Common.{◌≡◌, ◌∙◌, ℕ, ◌++◌, List, sym, ap, subst, codes}
 use Rattle.std.proofs.lemmas.List.{append_assoc}
-use Rattle.bully_picture.specs.Title.{Has}
+use Rattle.bully_trace.specs.declared.verdict.Verdict.{Verdict}
+use Rattle.bully_trace.specs.VerdictText.{verdict_head}
+use Rattle.bully_picture.specs.Title.{Has, shown_text, size_text, title_text}
 
--- it was put between two others
-pub has-between : (text before part behind : List ℕ) → text ≡ (before ++ part) ++ behind → Has text part
-has-between text before part behind is = (before, behind, is ∙ append_assoc before part behind)
+-- a text that has another one has what that begins with
+has-front : (text part more : List ℕ) → Has text (part ++ more) → Has text part
+has-front text part more (before, behind, is) =
+    (before, more ++ behind, is ∙ ap (λ l. l ++ behind) (sym (append_assoc before part more)) ∙ append_assoc (before ++ part) more behind)
 
--- so it has what that begins with
-pub has-front : (text part more : List ℕ) → Has text (part ++ more) → Has text part
-has-front text part more (before, behind, is) = (before, more ++ behind, is ∙ ap (λ l. before ++ l) (append_assoc part more behind))
+-- the title begins with the verdict's line
+title-begins : (verdict : Verdict) (nodes partitions before count : ℕ)
+    → title_text verdict nodes partitions before count ≡ verdict_head verdict ++ (size_text nodes partitions ++ (shown_text before count ++ codes ")"))
+title-begins verdict nodes partitions before count =
+    append_assoc (verdict_head verdict ++ size_text nodes partitions) (shown_text before count) (codes ")")
+    ∙ append_assoc (verdict_head verdict) (size_text nodes partitions) (shown_text before count ++ codes ")")
+
+pub has-verdict : (text : List ℕ) (verdict : Verdict) (nodes partitions before count : ℕ) → Has text (title_text verdict nodes partitions before count) → Has text (verdict_head verdict)
+has-verdict text verdict nodes partitions before count has =
+    has-front text (verdict_head verdict) (size_text nodes partitions ++ (shown_text before count ++ codes ")"))
+    (subst (Has text) (title-begins verdict nodes partitions before count) has)

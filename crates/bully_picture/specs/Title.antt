@@ -12,9 +12,13 @@ Has text part = (before : List ℕ) × (behind : List ℕ) × (text ≡ before +
 abbrev pub shown_text : ℕ → ℕ → List ℕ
 shown_text before count = if count == 0 then codes "no rows" else codes "rows " ++ decimal (before + 1) ++ codes " to " ++ decimal (before + count)
 
+-- a count and the word for what is counted
+abbrev pub counted_text : ℕ → List ℕ → List ℕ
+counted_text count word = decimal count ++ codes " " ++ word ++ (if count == 1 then [] else codes "s")
+
 -- how large the group is
 abbrev pub size_text : ℕ → ℕ → List ℕ
-size_text nodes partitions = codes "(" ++ decimal nodes ++ codes " nodes, " ++ decimal partitions ++ codes " partitions, "
+size_text nodes partitions = codes " (" ++ counted_text nodes (codes "node") ++ codes ", " ++ counted_text partitions (codes "partition") ++ codes ", "
 
 -- the verdict's line, how large the group is, and which rows are shown
 abbrev pub title_text : Verdict → ℕ → ℕ → ℕ → ℕ → List ℕ

@@ -56,5 +56,8 @@ fn push_letter(text: &mut String, letter: char) -> Result<(), OutOfMemory>
 fn is_forbidden(letter: char) -> bool
     ensures { result ≡ is_forbidden letter }
 {
-    letter < ' ' || ('\u{7f}' <= letter && letter < '\u{a0}') || letter == '\u{fffe}' || letter == '\u{ffff}'
+    letter < ' '
+        || ('\u{7f}' <= letter && letter < '\u{a0}')
+        || letter == '\u{fffe}'
+        || letter == '\u{ffff}'
 }

@@ -1,12 +1,12 @@
 //! The picture as a whole.
 ghost use Rattle.std.specs.Prelude.{◌≡◌, ◌+◌, ◌++◌, length, IfOk, OnOk, string_bytes};
 ghost use Rattle.bully_film.specs.Lane.{row_before};
-ghost use Rattle.bully_picture.specs.Title.{Has, shown_text, size_text, title_text};
+ghost use Rattle.bully_picture.specs.Title.{Has, counted_text, shown_text, size_text, title_text};
 ghost use Rattle.bully_trace.specs.VerdictText.{verdict_head};
 
 use crate::arrows::draw_calls;
 use crate::canvas::Canvas;
-use crate::escaping::push_escaped;
+use crate::escaping::{push_escaped, push_start};
 use crate::lanes::{draw_bars, draw_name};
 use crate::layout::{Layout, ROW};
 use crate::marks::draw_row;
@@ -98,6 +98,11 @@ fn decided(verdict: Verdict) -> Option<u32> {
     }
 }
 
+// How wide the picture is.
+fn width_of(layout: &Layout) -> u32 {
+    layout.right().saturating_add(74 + TEXTS).max(900)
+}
+
 // The head of the document, up to the words of the title.
 fn head(
     alloc: Global,
@@ -106,7 +111,7 @@ fn head(
     below: &str,
 ) -> Result<String, OutOfMemory> {
     let mut text = String::new(alloc);
-    let width = layout.right().saturating_add(74 + TEXTS).max(900);
+    let width = width_of(layout);
     let lines = below.lines().count().min(10_000) as u32;
     let height = layout
         .bottom()
@@ -135,11 +140,7 @@ fn push_title(text: &mut String, reel: &Reel) -> Result<(), OutOfMemory>
 {
     push_verdict_head(text, reel.verdict)?;
     push_size(text, &reel.setup)?;
-    push_shown(
-        text,
-        row_before(reel.scenes.as_slice()),
-        reel.scenes.len(),
-    )?;
+    push_shown(text, row_before(reel.scenes.as_slice()), reel.scenes.len())?;
     text.push(')')
 }
 
@@ -147,9 +148,22 @@ fn push_title(text: &mut String, reel: &Reel) -> Result<(), OutOfMemory>
 fn push_size(text: &mut String, setup: &Setup) -> Result<(), OutOfMemory>
     ensures { OnOk result (string_bytes text.new ≡ string_bytes text.old ++ size_text setup.now.nodes setup.now.partitions) }
 {
-    let nodes = setup.nodes();
-    let partitions = setup.partitions();
-    write!(text, "({nodes} nodes, {partitions} partitions, ")
+    text.push_str(" (")?;
+    push_counted(text, setup.nodes(), "node")?;
+    text.push_str(", ")?;
+    push_counted(text, setup.partitions(), "partition")?;
+    text.push_str(", ")
+}
+
+// Appends a count and the word for what is counted.
+fn push_counted(text: &mut String, count: u16, word: &str) -> Result<(), OutOfMemory>
+    ensures { OnOk result (string_bytes text.new ≡ string_bytes text.old ++ counted_text count word.now) }
+{
+    write!(text, "{count} {word}")?;
+    if count == 1 {
+        return Ok(());
+    }
+    text.push('s')
 }
 
 // Appends which rows are shown: so many behind this one.
@@ -159,9 +173,9 @@ fn push_shown(text: &mut String, before: u32, count: usize) -> Result<(), OutOfM
     if count == 0 {
         return text.push_str("no rows");
     }
-    let before = u64::from(before);
+    let before = u128::from(before);
     let first = before + 1;
-    let last = before + count as u64;
+    let last = before + count as u128;
     write!(text, "rows {first} to {last}")
 }
 
@@ -181,13 +195,33 @@ fn rest(alloc: Global, canvas: &Canvas, below: &str) -> Result<String, OutOfMemo
 fn push_below(text: &mut String, layout: &Layout, below: &str) -> Result<(), OutOfMemory> {
     let mut y = layout.bottom().saturating_add(ROW + 8);
     for line in below.lines() {
-        write!(
-            text,
-            "<text x=\"64\" y=\"{y}\" font-size=\"12\" fill=\"#D55E00\" xml:space=\"preserve\">"
-        )?;
-        push_escaped(text, line)?;
-        text.push_str("</text>\n")?;
+        push_line_below(text, line, y, letters_below(layout))?;
         y = y.saturating_add(ROW);
     }
     Ok(())
+}
+
+// How many letters a line below the picture has room for.
+fn letters_below(layout: &Layout) -> usize {
+    (width_of(layout).saturating_sub(80) / 8) as usize
+}
+
+// Appends a line below the picture; where it is longer than this, its start, and all of it where the pointer rests.
+fn push_line_below(
+    text: &mut String,
+    line: &str,
+    y: u32,
+    letters: usize,
+) -> Result<(), OutOfMemory> {
+    write!(
+        text,
+        "<text x=\"64\" y=\"{y}\" font-size=\"12\" font-family=\"DejaVu Sans Mono, monospace\" fill=\"#D55E00\" xml:space=\"preserve\">"
+    )?;
+    push_start(text, line, letters)?;
+    if line.len() > letters {
+        text.push_str("<title>")?;
+        push_escaped(text, line)?;
+        text.push_str("</title>")?;
+    }
+    text.push_str("</text>\n")
 }
