@@ -35,7 +35,7 @@ returns_other : (setup : Setup) (w : World) (i : ℕ) (live : Bool) (o : Outcome
 returns_other setup w i true o w' a k r d = proceeds_other setup w i o w' k r.0 d
 returns_other setup w i false o w' a k r d = ap (λ (v : World). member v k) r.0 ∙ member_other w i k _ d
 
-own_other : (setup : Setup) (w w' : World) (e : Event) (a : Answer) (k : ℕ) → IsNoRun e → Step setup w e w' a → k ≢ node_of e → member w' k ≡ member w k
+pub own_other : (setup : Setup) (w w' : World) (e : Event) (a : Answer) (k : ℕ) → IsNoRun e → Step setup w e w' a → k ≢ node_of e → member w' k ≡ member w k
 own_other setup w w' (Event.Recover i) a k own s d = ap (λ (v : World). member v k) s.2 ∙ member_other w i k _ d
 own_other setup w w' (Event.Crash i) a k own s d = ap (λ (v : World). member v k) s.1 ∙ member_other w i k _ d
 own_other setup w w' (Event.Check i) a k own s d = ap (λ (v : World). member v k) s.2 ∙ member_other w i k _ d

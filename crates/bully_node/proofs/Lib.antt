@@ -5,4 +5,6 @@ pub mod ServeLemmas
 pub mod ReturnLemmas
 pub mod FrameLemmas
 pub mod AgreeLemmas
+pub mod PremiseLemmas
 pub mod AgentLemmas
+pub mod StayLemmas

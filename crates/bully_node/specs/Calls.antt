@@ -15,10 +15,11 @@ use Rattle.bully_world.specs.declared.take.TakenStep.{TakenStep}
 use Rattle.bully_world.specs.NodeInvariant.{SuitsCallee, SuitsPhase, SuitsTable}
 use Rattle.bully_world.specs.State.{MemberState}
 use Rattle.bully_world.specs.StateAfter.{heard_state, node_after, node_answer, phased_state}
+use Rattle.bully_world.specs.Step.{Step}
 use Rattle.bully_world.specs.World.{World, pending, vector}
 use Rattle.bully_node.specs.declared.agent.Served.{Served}
 use Rattle.bully_node.specs.declared.agent.FailedCall.{FailedCall}
-use Rattle.bully_node.specs.Agent.{AgentState, Follows}
+use Rattle.bully_node.specs.Agent.{AgentState, Follows, PartOf}
 use Rattle.bully_node.specs.Part.{Always, FollowsAt}
 
 -- the request goes to node i, and is the call of its caller, which was sent and didn't run yet
@@ -44,6 +45,17 @@ request_in a (Some p) = if is_sent p.phase then Some (record { caller = a.node; 
 
 abbrev pub request_of : AgentState → Option Request
 request_of a = request_in a a.member.slot.content
+
+-- node i's call was sent, and didn't run yet
+pub record IsWaiting (i : ℕ) (w : World) : Type 0 where
+  pub call : Pending
+  pub is : pending w i ≡ Some call
+  pub sent : call.phase ≡ Phase.Sent
+
+-- the request that is given out, if any, is one that its callee may serve: in each world of which the agent may be a part, and
+-- where its call waits, this is its call
+abbrev pub GivesOut : AgentState → Option Request → Type 0
+GivesOut a given = IfSome given (λ r. (w : World) → PartOf a w → IsWaiting a.node w → IsRequested r.call.callee r w)
 
 -- nothing refuses the request at node i, of which this is kept
 pub record CanServe (setup : Setup) (i events : ℕ) (m : MemberState) (request : Request) : Type 0 where
@@ -76,6 +88,13 @@ pub record HasRun (i : ℕ) (answer : Answer) (w : World) : Type 0 where
   pub is : pending w i ≡ Some call
   pub ran : call.phase ≡ Phase.Ran answer
 
+-- the reply tells what the run comes to: wherever that leads from a world of which the agent may be a part, and in which the
+-- request is the caller's call, that call ran with this answer
+abbrev pub TellsRun : AgentState → Request → Reply → Type 0
+TellsRun a request reply =
+    (w w' : World) (answer : Answer) → PartOf a w → IsRequested a.node request w
+    → Step a.setup w (Event.Run request.caller) w' answer → HasRun reply.caller reply.answer w'
+
 -- the slot holds a call that was sent, and that can be answered so
 pub record CanReturn (slot : Slot) (answer : Answer) : Type 0 where
   pub sent : holds_call is_sent slot ≡ true
@@ -86,6 +105,10 @@ pub record IsDue (a : AgentState) (reply : Reply) : Type 0 where
   pub caller : reply.caller ≡ a.node
   pub number : reply.number ≡ a.number
   pub can : CanReturn a.member.slot reply.answer
+
+-- the reply is one to the call of each agent that gives out this request
+abbrev pub IsReplyTo : Request → Reply → Type 0
+IsReplyTo request reply = (a : AgentState) → request_of a ≡ Some request → IsDue a reply
 
 -- what is kept of a node once its call came to this phase and returned
 abbrev pub returned_by : Setup → ℕ → Phase → MemberState → MemberState

@@ -1,5 +1,5 @@
 -- The laws of nodes on their own: what a step leaves of the others, and what they agree on.
-use Rattle.std.specs.Prelude.{◌≡◌, ◌≢◌, ◌<◌, ◌==◌, ℕ, List, [], ◌∷◌, ◌++◌, length, Option, Some, None, IsSome, if◌then◌else◌}
+use Rattle.std.specs.Prelude.{◌≡◌, ◌≢◌, ◌<◌, ◌==◌, ℕ, Bool, false, List, [], ◌∷◌, ◌++◌, length, Option, Some, None, IsSome, if◌then◌else◌}
 use Rattle.bully_base.specs.declared.node.Status.TheVariants.{Normal}
 use Rattle.bully_base.specs.Setup.{Setup, IsNode}
 use Rattle.bully_calls.specs.declared.call.Answer.{Answer}
@@ -8,10 +8,11 @@ use Rattle.bully_handlers.specs.Vector.{Vector}
 use Rattle.bully_world.specs.declared.event.Event.{Event}
 use Rattle.bully_world.specs.Cause.{node_of}
 use Rattle.bully_world.specs.Lawful.{IsLawful}
-use Rattle.bully_world.specs.NodeInvariant.{TakesPart}
+use Rattle.bully_world.specs.NodeInvariant.{TakesPart, WorldInvariant}
 use Rattle.bully_world.specs.State.{MemberState}
 use Rattle.bully_world.specs.Step.{Step}
 use Rattle.bully_world.specs.World.{World, pending}
+use Rattle.bully_node.specs.Calls.{HasRun}
 use Rattle.bully_node.specs.Part.{IsPart}
 
 abbrev pub callee_of : Option Pending → ℕ
@@ -44,6 +45,19 @@ GroupGoesOn = (setup : Setup) (events : List Event) (answers : List Answer) (w w
     → IsLawful setup events answers w → length events < setup.events_max → AreParts setup kept w
     → Step setup w e w' a → place_of w e ≡ i → IsPart setup i next w'
     → IsLawful setup (events ++ e ∷ []) (answers ++ a ∷ []) w' × AreParts setup (with_part kept i next) w'
+
+-- the event is node i's own loss, return, drop or crash: what ends its call
+abbrev pub ends_call : Event → ℕ → Bool
+ends_call (Event.Crash j) i = j == i
+ends_call (Event.Lose j) i = j == i
+ends_call (Event.Return j) i = j == i
+ends_call (Event.Drop j) i = j == i
+ends_call e i = false
+
+-- A call that ran with an answer is one that ran with it, until such an event of its caller.
+abbrev pub RunsStay : Type 0
+RunsStay = (setup : Setup) (w w' : World) (e : Event) (a : Answer) (i : ℕ) (answer : Answer)
+    → WorldInvariant setup w → Step setup w e w' a → ends_call e i ≡ false → HasRun i answer w → HasRun i answer w'
 
 -- both have a coordinator, and the same, where both take part; both have a task, and the same, where both are Normal
 pub record Agree (v u : Vector) : Type 0 where

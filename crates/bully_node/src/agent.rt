@@ -6,7 +6,7 @@ ghost use Rattle.bully_base.specs.NodeSet.{with_node};
 ghost use Rattle.bully_table.specs.Planning.{planned};
 ghost use Rattle.bully_world.specs.Cause.{node_of};
 ghost use Rattle.bully_node.specs.Agent.{IsAlone, IsRefused, IsTaken, PartOf, down_member, new_agent, number_after, wanted};
-ghost use Rattle.bully_node.specs.Calls.{IsAwaited, IsDue, IsFailed, IsRequested, IsReturned, IsServed, RefusesFailure, RefusesReply, RefusesRequest, request_of};
+ghost use Rattle.bully_node.specs.Calls.{GivesOut, IsAwaited, IsDue, IsFailed, IsReplyTo, IsRequested, IsReturned, IsServed, RefusesFailure, RefusesReply, RefusesRequest, TellsRun, request_of};
 ghost use Rattle.bully_node.specs.Part.{Always};
 
 use crate::due::{can_return, is_under_way};
@@ -166,7 +166,8 @@ impl Agent {
     /// The request of the node's call, while that is under way: to be sent to its callee, once. Only a Ready takes memory,
     /// for its table; refused where an allocation fails.
     pub fn request(&self) -> Result<Option<Request>, OutOfMemory>
-        ensures { IfOk result (λ request. request ≡ request_of self.now) }
+        ensures request { IfOk result (λ request. request ≡ request_of self.now) }
+        ensures requested { IfOk result (GivesOut self.now) }
     {
         let slot = self.member.slot();
         let Some(call) = slot.call() else {
@@ -275,9 +276,12 @@ impl Agent {
     /// The request runs at the node. Refused as `Full`; `BadNode`, where its caller is above the setup's last node;
     /// `NoCall`, where no node makes such a call to this one; `CalleeDown`.
     ///
-    /// Premise: the request is the caller's call, which was sent and didn't run yet.
+    /// Premise: the request is the caller's call, which was sent and didn't run yet. What [`Agent::request`] of the caller gives
+    /// out is that, until the call runs or is over.
     pub fn serve(&mut self, request: &Request) -> Result<Served, Refused>
         ensures served { IfOk result (IsServed self.old request.now self.new) }
+        ensures told { IfOk result (λ served. TellsRun self.old request.now served.reply) }
+        ensures due { IfOk result (λ served. IsReplyTo request.now served.reply) }
         ensures why { IfErr result (IsRefused (IsRequested self.old.node request.now) self.old (Event.Run request.now.caller)) }
         ensures refusal { IfErr result (RefusesRequest self.old.setup self.old.node self.old.events self.old.member request.now) }
         ensures unchanged { IfErr result (λ _. self.new ≡ self.old) }
@@ -307,7 +311,7 @@ impl Agent {
     /// The node's call returns with this reply. Refused as `Full`; `NoCall`, where it is no reply to the call that the node
     /// has under way.
     ///
-    /// Premise: the call ran at its callee and was answered so.
+    /// Premise: the call ran at its callee and was answered so. The reply of [`Agent::serve`] of the callee tells that.
     pub fn replied(&mut self, reply: Reply) -> Result<TakenStep, Refused>
         ensures returned { IfOk result (IsReturned self.old reply self.new) }
         ensures why { IfErr result (RefusesReply self.old reply) }

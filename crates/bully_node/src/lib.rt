@@ -3,10 +3,11 @@
 //!
 //! It stands on bully_world, bully_agree, bully_messages and the crates below them. Whoever builds on it relies on each call
 //! of an `Agent` being a step in every world of which the agent may be a part, under the premise that its contract names;
-//! on the law that such a step leaves all other agents parts of the same world; and on the law that they agree.
+//! on what agents give out meeting the premises of `serve` and `replied`; on the law that such a step leaves all other
+//! agents parts of the same world; and on the law that they agree.
 #![tactic(auto)]
 
-ghost use Rattle.bully_node.specs.Laws.{GroupGoesOn, KeepsOthers, PartsAgree};
+ghost use Rattle.bully_node.specs.Laws.{GroupGoesOn, KeepsOthers, PartsAgree, RunsStay};
 
 mod agent;
 mod due;
@@ -21,6 +22,12 @@ pub use agent::{Agent, FailedCall, Served};
 /// kept is a part of the world that comes.
 pub fn others_stay()
     ensures { KeepsOthers }
+{}
+
+/// The law of replies. A call that ran with an answer stays one that ran with it, whatever the others do and hear, and until
+/// its caller loses it, takes its return, drops it or crashes. So a reply may be on its way for as long as it takes.
+pub fn runs_stay()
+    ensures { RunsStay }
 {}
 
 /// The law of groups. Where all agents are parts of a world that a lawful list of events leads to, and one of them takes a

@@ -1,7 +1,8 @@
-//! The Rust of README.md and of docs/USING.md, so that the check reads it. `examples/snippets` compares the texts: each
+//! The Rust of README.md, docs/USING.md and docs/NODE.md, so that the check reads it. `examples/snippets` compares the texts: each
 //! file beside this one stands there whole.
 #![tactic(auto)]
 
+pub mod agents;
 pub mod coordinator;
 pub mod status;
 pub mod watching;

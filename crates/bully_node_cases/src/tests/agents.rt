@@ -21,30 +21,96 @@ const REQUESTS: [&str; 5] = [
     "ask,3,5,1,ready,1 2 3",
 ];
 
-/// Lines that are no requests there, and why.
-const NO_REQUESTS: [(&str, RequestFault); 18] = [
+/// Lines that are no requests there, and why: fault by fault.
+const NO_REQUESTS: [(&str, RequestFault); 60] = [
     ("", RequestFault::Word),
+    ("ask 3,0,1,halt", RequestFault::Word),
+    (" ask,3,0,1,halt", RequestFault::Word),
+    ("ASK,3,0,1,halt", RequestFault::Word),
+    ("\u{e1}sk,3,0,1,halt", RequestFault::Word),
     ("tell,3,0,yes", RequestFault::Word),
     ("ask", RequestFault::Caller),
+    ("ask,", RequestFault::Caller),
+    ("ask,,0,1,halt", RequestFault::Caller),
     ("ask,0,0,1,halt", RequestFault::Caller),
     ("ask,4,0,1,halt", RequestFault::Caller),
     ("ask,03,0,1,halt", RequestFault::Caller),
+    ("ask,+3,0,1,halt", RequestFault::Caller),
+    ("ask,65539,0,1,halt", RequestFault::Caller),
+    ("ask,18446744073709551619,0,1,halt", RequestFault::Caller),
+    ("ask,\u{ff13},0,1,halt", RequestFault::Caller),
+    ("ask,4,1000,4,stop", RequestFault::Caller),
     ("ask,3", RequestFault::Number),
     ("ask,3,,1,halt", RequestFault::Number),
     ("ask,3,1000,1,halt", RequestFault::Number),
     ("ask,3,4294967297,1,halt", RequestFault::Number),
+    ("ask,3,18446744073709551617,1,halt", RequestFault::Number),
     ("ask,3,00,1,halt", RequestFault::Number),
+    ("ask,3,017,1,halt", RequestFault::Number),
+    ("ask,3,+17,1,halt", RequestFault::Number),
+    ("ask,3,-0,1,halt", RequestFault::Number),
+    ("ask,3,1\u{ff17},1,halt", RequestFault::Number),
+    ("ask,3,1000,4,stop", RequestFault::Number),
+    ("ask,3,0", RequestFault::Callee),
+    ("ask,3,0,,halt", RequestFault::Callee),
+    ("ask,3,0,0,halt", RequestFault::Callee),
     ("ask,3,0,4,halt", RequestFault::Callee),
+    ("ask,3,0,01,halt", RequestFault::Callee),
+    ("ask,3,0,65537,halt", RequestFault::Callee),
+    ("ask,3,0,\u{ff11},halt", RequestFault::Callee),
+    ("ask,3,0,4,stop", RequestFault::Callee),
     ("ask,3,0,1", RequestFault::Kind),
+    ("ask,3,0,1,", RequestFault::Kind),
     ("ask,3,0,1,Halt", RequestFault::Kind),
+    ("ask,3,0,1,h\u{e1}lt", RequestFault::Kind),
+    ("ask,3,0,1,halt ", RequestFault::Kind),
+    ("ask,3,0,1,halt\r", RequestFault::Kind),
+    ("ask,3,0,1,halt,", RequestFault::Kind),
     ("ask,3,0,1,halt,1 2 3", RequestFault::Kind),
+    ("ask,3,0,1,are-you-up,1 2 3", RequestFault::Kind),
+    ("ask,1,0,3,are-you-normal,1 2 3", RequestFault::Kind),
+    ("ask,3,0,1,new-coordinator,1 2 3", RequestFault::Kind),
+    ("ask,3,0,1,ready 1 2 3", RequestFault::Kind),
     ("ask,3,0,1,ready", RequestFault::Table(TableFault::Length)),
+    ("ask,3,0,1,ready,", RequestFault::Table(TableFault::Length)),
+    (
+        "ask,3,0,1,ready,1 2",
+        RequestFault::Table(TableFault::Length),
+    ),
+    (
+        "ask,3,0,1,ready,1 2 3 1",
+        RequestFault::Table(TableFault::Length),
+    ),
     (
         "ask,3,0,1,ready,1 2 4",
         RequestFault::Table(TableFault::Owner),
     ),
     (
+        "ask,3,0,1,ready,1 2 65537",
+        RequestFault::Table(TableFault::Owner),
+    ),
+    (
+        "ask,3,0,1,ready,x 2 4",
+        RequestFault::Table(TableFault::Owner),
+    ),
+    (
         "ask,3,0,1,ready,1 2 x",
+        RequestFault::Table(TableFault::Syntax),
+    ),
+    (
+        "ask,3,0,1,ready,1 2 03",
+        RequestFault::Table(TableFault::Syntax),
+    ),
+    (
+        "ask,3,0,1,ready,1  2",
+        RequestFault::Table(TableFault::Syntax),
+    ),
+    (
+        "ask,3,0,1,ready,1 2 \u{ff13}",
+        RequestFault::Table(TableFault::Syntax),
+    ),
+    (
+        "ask,3,0,1,ready,1 2 3,",
         RequestFault::Table(TableFault::Syntax),
     ),
 ];
@@ -52,14 +118,39 @@ const NO_REQUESTS: [(&str, RequestFault); 18] = [
 /// Lines of replies, which are written as they are read.
 const REPLIES: [&str; 2] = ["tell,3,0,yes", "tell,1,999,no"];
 
-/// Lines that are no replies, and why.
-const NO_REPLIES: [(&str, ReplyFault); 7] = [
+/// Lines that are no replies, and why: fault by fault.
+const NO_REPLIES: [(&str, ReplyFault); 32] = [
+    ("", ReplyFault::Word),
     ("ask,3,0,yes", ReplyFault::Word),
+    ("TELL,3,0,yes", ReplyFault::Word),
+    ("t\u{e9}ll,3,0,yes", ReplyFault::Word),
+    ("tell", ReplyFault::Caller),
+    ("tell,", ReplyFault::Caller),
+    ("tell,0,0,yes", ReplyFault::Caller),
     ("tell,4,0,yes", ReplyFault::Caller),
+    ("tell,03,0,yes", ReplyFault::Caller),
+    ("tell,65539,0,yes", ReplyFault::Caller),
+    ("tell,\u{ff13},0,yes", ReplyFault::Caller),
+    ("tell,4,1000,maybe", ReplyFault::Caller),
+    ("tell,3", ReplyFault::Number),
+    ("tell,3,,yes", ReplyFault::Number),
     ("tell,3,1000,yes", ReplyFault::Number),
+    ("tell,3,4294967297,yes", ReplyFault::Number),
+    ("tell,3,18446744073709551617,yes", ReplyFault::Number),
+    ("tell,3,017,yes", ReplyFault::Number),
+    ("tell,3,+17,yes", ReplyFault::Number),
+    ("tell,3,1\u{ff17},yes", ReplyFault::Number),
+    ("tell,3,1000,maybe", ReplyFault::Number),
     ("tell,3,0", ReplyFault::Answer),
+    ("tell,3,0,", ReplyFault::Answer),
     ("tell,3,0,maybe", ReplyFault::Answer),
     ("tell,3,0,done", ReplyFault::Answer),
+    ("tell,3,0,failed", ReplyFault::Answer),
+    ("tell,3,0,Yes", ReplyFault::Answer),
+    ("tell,3,0,y\u{e9}s", ReplyFault::Answer),
+    ("tell,3,0,yes ", ReplyFault::Answer),
+    ("tell,3,0,yes\r", ReplyFault::Answer),
+    ("tell,3,0,yes,", ReplyFault::Answer),
     ("tell,3,0,yes,no", ReplyFault::Answer),
 ];
 

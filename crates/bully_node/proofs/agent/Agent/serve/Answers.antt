@@ -1,8 +1,21 @@
--- The request ran at the agent's node.
-use Rattle.std.proofs.Common.{rules}
+-- The request ran at the agent's node, and its reply tells so.
+use Rattle.std.proofs.Common.{refl, rules}
 use Rattle.bully_node.specs.Calls.{CanServe}
-use Rattle.bully_node.proofs.AgentLemmas.{served_is}
+use Rattle.bully_node.proofs.AgentLemmas.{agent, served_is}
+use Rattle.bully_node.proofs.PremiseLemmas.{is_reply_to, tells_run}
 use Rattle.bully_node.proofs.agent.Agent.serve.Goals as goal
+
+pub returns-clause-told : goal.returns-clause-told
+returns-clause-told c =
+    let a = c.self.inside in
+    let r = c.args.request.now in
+    rw (← c.self.view_is)
+    (tells_run (agent a.setup a.node a.events a.number a.member) r (record { caller = r.caller; number = r.number; answer = c.serve_request-answer.result }) refl c.serve_request-answer.ensures.answer)
+
+pub returns-clause-due : goal.returns-clause-due
+returns-clause-due c =
+    let r = c.args.request.now in
+    is_reply_to r (record { caller = r.caller; number = r.number; answer = c.serve_request-answer.result }) c.self.inside.member.vector.vector refl refl c.serve_request-answer.ensures.answer
 
 pub returns-clause-served : goal.returns-clause-served
 returns-clause-served c =
