@@ -1,4 +1,4 @@
-ghost use Rattle.std.specs.Prelude.{◌≡◌, ◌≤◌, ◌⊎◌, ℕ, List, None, Some, IfOk, IfSome, option_map, string_bytes};
+ghost use Rattle.std.specs.Prelude.{◌≡◌, ◌≤◌, ◌⊎◌, ℕ, List, None, IfOk, IfSome, IsSome, option_map, string_bytes};
 ghost use Rattle.std.specs.Io.KnownBytes.{Appends, Keeps};
 ghost use Rattle.bully.specs.Answer.{Tells, stop_line, verdict_status};
 ghost use Rattle.bully.specs.DrawAnswer.{IsDrawAnswer, IsPictureAnswer};
@@ -43,10 +43,29 @@ pub fn answer_draw<H: Files + AllocGlobal, R: Read + Drop, W: Write, E: Write>(
     ensures silent { (result ≡ 2) ⊎ (result ≡ 3) → output.new ≡ output.old }
     ensures status { result ≤ 4 }
 {
-    let Some(window) = window_of(words.rows) else {
-        tell(errors, "bully: words: Rows\n");
-        return 2;
-    };
+    match window_of(words.rows) {
+        Some(window) => draw_words(rt, words, window, input, output, errors),
+        None => {
+            tell(errors, "bully: words: Rows\n");
+            2
+        }
+    }
+}
+
+// Draws these rows of the trace on the input, as the other words say.
+fn draw_words<H: Files + AllocGlobal, R: Read + Drop, W: Write, E: Write>(
+    rt: &H,
+    words: &DrawWords<'_>,
+    window: Window,
+    input: R,
+    output: &mut W,
+    errors: &mut E,
+) -> u8
+    ensures answer { IfSome (R.remaining input) (λ bytes.
+        IsDrawAnswer bytes (option_map (λ s. s.now) words.now.rows) (option_map (λ s. s.now) words.now.names) (W.contents output.old) (W.contents output.new) (E.contents errors.old) (E.contents errors.new) result) }
+    ensures silent { (result ≡ 2) ⊎ (result ≡ 3) → output.new ≡ output.old }
+    ensures status { result ≤ 4 }
+{
     let drawing = Drawing {
         window,
         is_text: is_asked(words.text),
@@ -67,7 +86,7 @@ fn is_asked(flag: Option<&str>) -> bool {
 
 // The window of the words, as `2-50`; the one at the end without words. None where they are no window.
 fn window_of(rows: Option<&str>) -> Option<Window>
-    ensures given { rows ≡ None → result ≡ Some (record { from = 2; to = 4294967295; most = 200 }) }
+    ensures given { result ≡ None → IsSome (option_map (λ s. s.now) rows.entry) }
 {
     match rows {
         Some(rows) => window_between(rows),

@@ -5,6 +5,7 @@ use Rattle.bully.specs.declared.telling.Stop.{Stop}
 use Rattle.bully.proofs.KnownBytesLemmas.{keeps-same}
 use Rattle.bully.proofs.AnnotateLemmas.{kept-alone, none-annotated}
 use Rattle.bully.proofs.AnswerLemmas.{none-judged, none-upgraded, stop-case}
+use Rattle.bully.proofs.DrawLemmas.{none-drawn, plain-answer}
 use Rattle.bully.proofs.ExplainLemmas.{unparsed-answer}
 use Rattle.bully_words.proofs.WordsLemmas.{check-parses, mistake-kind, help-kind}
 use Rattle.bully.proofs.answering.answer.Goals as goal
@@ -48,6 +49,16 @@ returns-in-Err-clause-annotate g c = λ parses.
     none-annotated (g.R.Read.remaining c.args.input) _ _ _ _ _
     (stop-case (g.R.Read.remaining c.args.input) Stop.OutOfMemory _ _ _ _ _ (λ _. keeps-same _ _ (ap g.W.Write.contents stopped.1)) (λ e. absurd (grind (arith, e))) (stopped.0, stopped.2))
     (kept-alone (g.R.Read.remaining c.args.input) _ _ (keeps-same _ _ (ap g.W.Write.contents stopped.1)))
+
+pub returns-in-Ok-clause-draw : goal.returns-in-Ok-clause-draw
+returns-in-Ok-clause-draw g c = λ rows text names parses. c.act.ensures.draw rows text names (c.in-Ok.ensures.draw rows text names parses)
+
+pub returns-in-Err-clause-draw : goal.returns-in-Err-clause-draw
+returns-in-Err-clause-draw g c = λ rows text names parses.
+    let stopped = c.answer_words.ensures.memory (c.in-Err.ensures.draw rows text names parses) in
+    plain-answer (g.R.Read.remaining c.args.input) rows names _ _ _ _ _
+    (none-drawn (g.R.Read.remaining c.args.input) _ _ _ _ _
+    (stop-case (g.R.Read.remaining c.args.input) Stop.OutOfMemory _ _ _ _ _ (λ _. keeps-same _ _ (ap g.W.Write.contents stopped.1)) (λ e. absurd (grind (arith, e))) (stopped.0, stopped.2)))
 
 pub returns-in-Err-clause-mistake : goal.returns-in-Err-clause-mistake
 returns-in-Err-clause-mistake g c = λ mistake.

@@ -1,4 +1,4 @@
-use Rattle.std.proofs.Common.{inl, string_bytes}
+use Rattle.std.proofs.Common.{inl, string_bytes, rules}
 use Rattle.bully.proofs.drawing.draw_reel.Goals as goal
 
 pub returns-in-Ok-clause-answer : goal.returns-in-Ok-clause-answer
