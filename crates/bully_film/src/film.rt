@@ -210,6 +210,7 @@ impl Film {
     }
 
     // Keeps the row, where it decided.
+    #[inline(always)]
     fn keep_stop(&mut self, row: Row)
         ensures { self.new ≡ self.old }
     {

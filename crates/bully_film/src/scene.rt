@@ -86,7 +86,7 @@ pub fn open_on(world: &World, row: &Row) -> Opening
         own,
         own_before,
         other,
-        other_before: sight_of(world, other),
+        other_before: sight_beside(world, other, own, &own_before),
         cuts: cuts(world, own, other, deed),
     }
 }
@@ -100,15 +100,16 @@ pub fn shot(number: u32, opening: &Opening, world: &World) -> Result<Scene, OutO
         → opening.now.cuts ≡ cuts w (node_in row) (place_at w (node_in row) (deed_in row)) (deed_in row)
         → s ≡ scene_of world.now.setup w (world_of world.now) number row) }
 {
+    let own_after = sight_of(world, opening.own);
     let own = Change {
         node: opening.own,
         before: opening.own_before,
-        after: sight_of(world, opening.own),
+        after: own_after,
     };
     let other = Change {
         node: opening.other,
         before: opening.other_before,
-        after: sight_of(world, opening.other),
+        after: sight_beside(world, opening.other, opening.own, &own_after),
     };
     let gets_table = gets_table(opening.deed, &other.before, &other.after);
     Ok(Scene {
@@ -135,6 +136,18 @@ pub fn sight_of(world: &World, node: Node) -> Sight
         coordinator: vector.coordinator(),
         call: call_in(world.slot(node), world.generation(node)),
     }
+}
+
+// What the world shows of a node, where it shows this of another one, which is mostly the same.
+#[inline(always)]
+fn sight_beside(world: &World, node: Node, known: Node, shown: &Sight) -> Sight
+    requires { shown.now ≡ sight (world_of world.now) known }
+    ensures { result ≡ sight (world_of world.now) node }
+{
+    if node == known {
+        return *shown;
+    }
+    sight_of(world, node)
 }
 
 /// What is seen of a node that a group doesn't have.
