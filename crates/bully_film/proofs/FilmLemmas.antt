@@ -1,21 +1,24 @@
 -- One more row is filmed.
 use Rattle.std.proofs.Common.{suc, ◌≡◌, ◌≢◌, ◌⊎◌, inl, inr, ◌∙◌, ℕ, ◌+◌, ◌-◌, ◌==◌, ◌<◌, ◌≤◌, ◌++◌, Bool, true, false, List, [], ◌∷◌, Option, Some, None, MatchOption, if◌then◌else◌, length, drop, refl, sym, ap, subst, arith}
 use Rattle.std.specs.declared.alloc.AllocError.{AllocError}
-use Rattle.std.specs.Prelude.{is_none, nat_lt, nat_le, OnOk, Result, Ok, Err}
+use Rattle.std.specs.Prelude.{is_none, is_some, nat_lt, nat_le, OnOk, Result, Ok, Err}
 use Rattle.std.proofs.lemmas.Bool.Decides.{nat_tests}
 use Rattle.std.proofs.lemmas.List.{append_assoc, append-nil, length-append}
 use Rattle.bully_base.specs.Setup.{Setup}
+use Rattle.bully_rows.specs.declared.node_event.EventKind.{EventKind}
 use Rattle.bully_rows.specs.declared.trace.Row.{Row}
+use Rattle.bully_rows.specs.NodeEvents.{event_at}
 use Rattle.bully_trace.specs.declared.verdict.Verdict.{Verdict}
 use Rattle.bully_trace.specs.Judging.{HasJudged, IsJudgedOn, JudgeState}
 use Rattle.bully_trace.specs.Verdict.{IsJudged}
 use Rattle.bully_world.specs.State.{WorldState, world_of}
 use Rattle.bully_world.specs.World.{World, first_world}
+use Rattle.bully_film.specs.declared.scene.Opening.{Opening}
 use Rattle.bully_film.specs.declared.scene.Scene.{Scene}
 use Rattle.bully_film.specs.declared.scene.Sight.{Sight}
 use Rattle.bully_film.specs.Behind.{world_behind}
-use Rattle.bully_film.specs.Film.{FilmState, HasFilmed, HasFilmedUp, HasShot, IsInWindow, closed, kept}
-use Rattle.bully_film.specs.Scene.{scene_at, scene_of, scenes_from, sights_of}
+use Rattle.bully_film.specs.Film.{FilmState, GoesOn, HasFilmed, HasFilmedUp, HasShot, IsInWindow, IsLook, closed, kept}
+use Rattle.bully_film.specs.Scene.{deed_in, node_in, scene_at, scene_of, scenes_from, sights_of}
 use Rattle.bully_film.specs.Window.{IsWindow, WindowState}
 use Rattle.bully_film.proofs.BehindLemmas.{judged-world}
 
@@ -300,6 +303,52 @@ shown-filmed setup rows row number film shot after (Ok x) going unclosed same_st
     none-is : (still : Option (List Sight)) → is_none still ≡ true → still ≡ None
     none-is None e = refl
     none-is (Some s) e = absurd (cc e)
+
+-- ---- a row, of which something was seen before it was judged
+
+going-is : {T : Type 0} (x : Option T) → is_some x ≡ false → x ≡ None
+going-is None is = refl
+going-is (Some t) is = absurd (cc is)
+
+-- behind the row that decided
+pub filmed-over : (setup : Setup) (rows : List Row) (row : Row) (film : FilmState) → is_some film.judge.stopped ≡ true
+    → HasFilmed setup rows film → HasFilmed setup (rows ++ row ∷ []) film
+filmed-over setup rows row film over filmed = by_stop film.judge.stopped refl over
+  where
+    by_stop : (stopped : Option Verdict) → film.judge.stopped ≡ stopped → is_some stopped ≡ true → HasFilmed setup (rows ++ row ∷ []) film
+    by_stop None is none = absurd (cc none)
+    by_stop (Some verdict) is some = filmed-stopped setup rows row film verdict is filmed
+
+-- in the window and behind it
+pub filmed-on : (setup : Setup) (rows : List Row) (row : Row) (number : ℕ) (film judged after : FilmState) (opening : Option Opening) (done : Result (Unit {0}) AllocError)
+    → is_some film.judge.stopped ≡ false → IsLook film (node_in row) (deed_in row) opening
+    → judged.window ≡ film.window → judged.still ≡ film.still → judged.scenes ≡ film.scenes
+    → ((setup : Setup) (rows : List Row) → length rows + 2 ≡ number → HasJudged setup rows film.judge → HasJudged setup (rows ++ row ∷ []) judged.judge)
+    → OnOk done (GoesOn number opening judged after) → length rows + 2 ≡ number
+    → HasFilmed setup rows film → OnOk done (HasFilmed setup (rows ++ row ∷ []) after)
+filmed-on setup rows row number film judged after opening (Err e) going look same_window same_still same_scenes judges on at filmed = tt
+filmed-on setup rows row number film judged after None (Ok x) going look same_window same_still same_scenes judges on at filmed =
+    rw on (filmed-beyond setup rows row film judged look same_still same_scenes same_window (judges setup rows at filmed.judged) filmed)
+filmed-on setup rows row number film judged after (Some opening) (Ok x) going look same_window same_still same_scenes judges on at filmed =
+    let (shot, is, closes) = on (world_of film.judge.world) row look.1 in
+    let s = scene_of judged.judge.world.setup (world_of film.judge.world) (world_of judged.judge.world) number row in
+    let keeps : shot.scenes ≡ kept film.window film.scenes (scene_of shot.judge.world.setup (world_of film.judge.world) (world_of shot.judge.world) number row) =
+        rw is (ap (λ window. kept window judged.scenes s) same_window ∙ ap (λ scenes. kept film.window scenes s) same_scenes) in
+    let shows : (setup : Setup) (rows : List Row) → length rows + 2 ≡ number → HasJudged setup rows film.judge → HasJudged setup (rows ++ row ∷ []) shot.judge = rw is judges in
+    shown-filmed setup rows row number film shot after (Ok x) (going-is film.judge.stopped going) look.0 (rw is same_still) (rw is same_window) at shows keeps closes filmed
+
+-- a row of an event that names a node and no more names that node
+pub node-told : (kind : EventKind) (i : ℕ) → node_in (Row.Event (event_at kind i)) ≡ i
+node-told EventKind.Recover i = refl
+node-told EventKind.Crash i = refl
+node-told EventKind.Check i = refl
+node-told EventKind.Timeout i = refl
+node-told EventKind.Start i = refl
+node-told EventKind.Run i = refl
+node-told EventKind.Lose i = refl
+node-told EventKind.Return i = refl
+node-told EventKind.Drop i = refl
+node-told EventKind.Move i = refl
 
 -- the scene that is kept, by another name
 pub kept-as : (window : WindowState) (scenes after : List Scene) (s s' : Scene) (done : Result (Unit {0}) AllocError) → s ≡ s' → OnOk done (after ≡ kept window scenes s) → OnOk done (after ≡ kept window scenes s')

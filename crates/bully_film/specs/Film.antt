@@ -1,5 +1,5 @@
 -- What is kept of the rows of a trace: those of a window, each with what it shows, and how the nodes stand behind the last of them.
-use Rattle.std.specs.Prelude.{◌≡◌, ◌⊎◌, ℕ, ◌+◌, ◌<◌, ◌≤◌, ◌++◌, List, [], ◌∷◌, length, drop, nat_lt, nat_le, if◌then◌else◌, Option, Some, None, MatchOption, IfSome}
+use Rattle.std.specs.Prelude.{◌≡◌, ◌⊎◌, ℕ, ◌+◌, ◌<◌, ◌≤◌, ◌++◌, List, [], ◌∷◌, length, drop, nat_lt, nat_le, ◌==◌, Bool, true, false, is_none, if◌then◌else◌, Option, Some, None, MatchOption, IfSome}
 use Rattle.bully_base.specs.Setup.{Setup}
 use Rattle.bully_rows.specs.declared.header.Header.{Header}
 use Rattle.bully_rows.specs.declared.header.Version.{Version}
@@ -16,10 +16,12 @@ use Rattle.bully_trace.specs.Verdict.{IsJudged, IsVerdict}
 use Rattle.bully_world.specs.State.{world_of}
 use Rattle.bully_world.specs.World.{World, first_world}
 use Rattle.bully_film.specs.declared.film.Reel.{Reel}
+use Rattle.bully_account.specs.declared.deed.Deed.{Deed}
+use Rattle.bully_film.specs.declared.scene.Opening.{Opening}
 use Rattle.bully_film.specs.declared.scene.Scene.{Scene}
 use Rattle.bully_film.specs.declared.scene.Sight.{Sight}
 use Rattle.bully_film.specs.Behind.{world_behind}
-use Rattle.bully_film.specs.Scene.{scenes_from, sights_of}
+use Rattle.bully_film.specs.Scene.{IsOpening, deed_in, node_in, scene_of, scenes_from, sights_of}
 use Rattle.bully_film.specs.Window.{IsWindow, WindowState}
 
 -- a film: the judge that takes the rows, the window, what each row that is kept shows, and, once the window's last row was taken,
@@ -44,6 +46,20 @@ closed film = record film {
     | Some still ↦ Some still
   ];
 }
+
+-- what is seen of a row before it is taken, with this deed, that names node i; nothing where the window's last row was taken
+abbrev pub IsLook : FilmState → ℕ → Option Deed → Option Opening → Type 0
+IsLook film i deed None = is_none film.still ≡ false
+IsLook film i deed (Some opening) = (is_none film.still ≡ true) × IsOpening (world_of film.judge.world) i deed opening
+
+-- behind a row of this number that was judged, of which this was seen before it, what it shows is kept, and how the nodes stand at the
+-- window's last row; nothing of a row of which nothing was seen
+abbrev pub GoesOn : ℕ → Option Opening → FilmState → FilmState → Type 0
+GoesOn number None film after = after ≡ film
+GoesOn number (Some opening) film after = (w : World) (row : Row) → IsOpening w (node_in row) (deed_in row) opening
+    → (shot : FilmState)
+    × (shot ≡ record film { scenes = kept film.window film.scenes (scene_of film.judge.world.setup w (world_of film.judge.world) number row) })
+    × (after ≡ (if number == shot.window.to then closed shot else shot))
 
 -- of the rows before and behind them these are those of the window: they begin where it does; or there are none, since the rows end
 -- before it; or they are the last ones, as many as are kept

@@ -1,5 +1,5 @@
 -- What a row of a trace shows: which nodes it speaks of, and how they were before it and behind it.
-use Rattle.std.specs.Prelude.{ℕ, zero, suc, ◌+◌, Bool, true, false, List, [], ◌∷◌, ◌++◌, Option, Some, None, option_map, length, nat_le, not, ◌&&◌, if◌then◌else◌}
+use Rattle.std.specs.Prelude.{◌≡◌, ℕ, zero, suc, ◌+◌, Bool, true, false, List, [], ◌∷◌, ◌++◌, Option, Some, None, option_map, length, nat_le, not, ◌&&◌, if◌then◌else◌}
 use Rattle.bully_base.specs.declared.node.Status.{Status}
 use Rattle.bully_base.specs.Setup.{Setup}
 use Rattle.bully_calls.specs.declared.call.Call.{Call}
@@ -16,6 +16,7 @@ use Rattle.bully_account.specs.declared.deed.Deed.{Deed}
 use Rattle.bully_account.specs.Possible.{deed_of}
 use Rattle.bully_film.specs.declared.TheConstants.{OWNERS_SHOWN}
 use Rattle.bully_film.specs.declared.scene.Change.{Change}
+use Rattle.bully_film.specs.declared.scene.Opening.{Opening}
 use Rattle.bully_film.specs.declared.scene.Scene.{Scene}
 use Rattle.bully_film.specs.declared.scene.Sight.{Sight}
 use Rattle.bully_film.specs.declared.scene.SlotCall.{SlotCall}
@@ -69,6 +70,15 @@ is_halting (Some call) = is_halt call.kind
 -- a Halt of node i runs at node j, and cuts a procedure off
 abbrev pub cuts : World → ℕ → ℕ → Option Deed → Bool
 cuts w i j deed = is_run deed && is_halting (call_at w i) && not (is_idle (point w j))
+
+-- what is seen, in this world, of a row with this deed that names node i
+pub record IsOpening (w : World) (i : ℕ) (deed : Option Deed) (opening : Opening) : Type 0 where
+  pub deed_is : opening.deed ≡ deed
+  pub own : opening.own ≡ i
+  pub own_before : opening.own_before ≡ sight w i
+  pub other : opening.other ≡ place_at w i deed
+  pub other_before : opening.other_before ≡ sight w (place_at w i deed)
+  pub cut : opening.cuts ≡ cuts w i (place_at w i deed) deed
 
 -- a table is planned, or comes with a Ready to a node that is Normal by it
 abbrev pub gets_table : Option Deed → Sight → Sight → Bool

@@ -1,10 +1,11 @@
 ghost use Rattle.std.specs.Prelude.{◌≡◌, IfSome, OnOk};
 ghost use Rattle.bully_film.specs.Film.{kept};
 
-use crate::scene::{Scene, Sight, open_on, shot, sights};
+use crate::scene::{Opening, Scene, Sight, deed_at, deed_in, node_in, open_on, shot, sights};
 use crate::window::Window;
-use bully_base::{OutOfMemory, Setup};
-use bully_rows::{Header, Row, Version};
+use bully_account::Deed;
+use bully_base::{Node, OutOfMemory, Setup};
+use bully_rows::{Header, NodeEvent, Row, Version};
 use bully_trace::{Judge, Verdict};
 use bully_world::World;
 use std::alloc::Global;
@@ -45,13 +46,14 @@ impl Model for Film {
 }
 
 impl Film {
-    ghost use Rattle.std.specs.Prelude.{◌≡◌, ◌⊎◌, ◌==◌, ◌+◌, ◌++◌, ◌∷◌, [], List, Option, None, Some, true, false, is_none, length, IfOk, IfSome, OnOk, if◌then◌else◌};
+    ghost use Rattle.std.specs.Prelude.{◌≡◌, ◌+◌, ◌++◌, ◌==◌, ◌∷◌, [], List, MatchOption, Option, None, Some, true, false, is_none, is_some, length, IfOk, IfSome, OnOk, if◌then◌else◌};
     ghost use Rattle.bully_base.specs.Setup.{Setup as SetupState};
-    ghost use Rattle.bully_film.specs.Film.{HasFilmed, closed, kept};
-    ghost use Rattle.bully_film.specs.Scene.{scene_of};
+    ghost use Rattle.bully_film.specs.Film.{GoesOn, HasFilmed, IsLook, closed, kept};
+    ghost use Rattle.bully_film.specs.Scene.{IsOpening, deed_in, node_in, scene_of};
     ghost use Rattle.bully_trace.specs.Judging.{HasJudged};
     ghost use Rattle.bully_trace.specs.Verdict.{IsJudged};
-    ghost use Rattle.bully_world.specs.World.{first_world};
+    ghost use Rattle.bully_world.specs.World.{World as WorldOf, first_world};
+    ghost use Rattle.bully_rows.specs.NodeEvents.{event_at};
     ghost use Rattle.bully_rows.specs.declared.trace.Row.{Row as RowState};
     ghost use Rattle.bully_world.specs.State.{world_of};
 
@@ -84,84 +86,123 @@ impl Film {
         self.judge.world()
     }
 
-    /// The row that decided; none where the trace is lawful so far.
-    pub fn stop(&self) -> Option<&Row> {
-        self.stop.as_ref()
-    }
-
     /// Takes the row of this number. Refused where an allocation fails, and then the film is of no more use.
     pub fn take_row(&mut self, alloc: Global, number: u32, row: Row) -> Result<(), OutOfMemory>
         ensures version { OnOk result (self.new.judge.version ≡ self.old.judge.version) }
         ensures window { self.new.window ≡ self.old.window }
         ensures filmed { (setup : SetupState) (rows : List RowState) → length rows + 2 ≡ number → HasFilmed setup rows self.old → OnOk result (HasFilmed setup (rows ++ row ∷ []) self.new) }
     {
-        match self.judge.stopped() {
-            Some(_decided) => Ok(()),
-            None => self.take_next(alloc, number, row),
-        }
-    }
-
-    // Takes a row, where none before it decided.
-    fn take_next(&mut self, alloc: Global, number: u32, row: Row) -> Result<(), OutOfMemory>
-        requires { self.old.judge.stopped ≡ None }
-        ensures version { OnOk result (self.new.judge.version ≡ self.old.judge.version) }
-        ensures window { self.new.window ≡ self.old.window }
-        ensures filmed { (setup : SetupState) (rows : List RowState) → length rows + 2 ≡ number → HasFilmed setup rows self.old → OnOk result (HasFilmed setup (rows ++ row ∷ []) self.new) }
-    {
-        if self.is_open() {
-            self.take_shown(alloc, number, &row)?;
-            self.keep_stop(row);
+        if self.is_over() {
             return Ok(());
         }
-        self.take_beyond(number, &row);
+        let opening = self.look(deed_in(&row), node_in(&row));
+        self.judge_row(number, row);
+        self.go_on(alloc, number, &opening)
+    }
+
+    /// Takes the row of this number, which tells this event, as `take_row` does.
+    // (inlined with what it calls, as an event that names a node and no more is what most rows tell)
+    #[inline(always)]
+    pub fn take_node_event(
+        &mut self,
+        alloc: Global,
+        number: u32,
+        event: NodeEvent,
+    ) -> Result<(), OutOfMemory>
+        ensures version { OnOk result (self.new.judge.version ≡ self.old.judge.version) }
+        ensures window { self.new.window ≡ self.old.window }
+        ensures filmed { (setup : SetupState) (rows : List RowState) → length rows + 2 ≡ number → HasFilmed setup rows self.old
+            → OnOk result (HasFilmed setup (rows ++ Row.Event (event_at event.kind event.node) ∷ []) self.new) }
+    {
+        if self.is_over() {
+            return Ok(());
+        }
+        let NodeEvent { kind, node } = event;
+        let opening = self.look(Some(deed_at(kind, node)), node);
+        self.judge_event(number, NodeEvent { kind, node });
+        self.go_on(alloc, number, &opening)
+    }
+
+    // Whether a row decided.
+    fn is_over(&self) -> bool
+        ensures { result ≡ is_some self.now.judge.stopped }
+    {
+        self.judge.stopped().is_some()
+    }
+
+    // What is seen of a row before it is taken, whose event is this and which names this node; nothing behind the window.
+    #[inline(always)]
+    fn look(&self, deed: Option<Deed>, node: Node) -> Option<Opening>
+        ensures { IsLook self.now node deed result }
+    {
+        if self.still.is_some() {
+            return None;
+        }
+        Some(open_on(self.judge.world(), deed, node))
+    }
+
+    // Has the row judged, and keeps it where it decided.
+    #[inline(always)]
+    fn judge_row(&mut self, number: u32, row: Row)
+        ensures version { self.new.judge.version ≡ self.old.judge.version }
+        ensures window { self.new.window ≡ self.old.window }
+        ensures still { self.new.still ≡ self.old.still }
+        ensures scenes { self.new.scenes ≡ self.old.scenes }
+        ensures judged { (setup : SetupState) (rows : List RowState) → length rows + 2 ≡ number → HasJudged setup rows self.old.judge → HasJudged setup (rows ++ row ∷ []) self.new.judge }
+    {
+        self.judge.take_row(number, &row);
         self.keep_stop(row);
+    }
+
+    // Has the row judged that tells this event.
+    // (out of line: else room for a row would be cleared and moved in the loop over all rows)
+    #[inline(never)]
+    fn judge_event(&mut self, number: u32, event: NodeEvent)
+        ensures version { self.new.judge.version ≡ self.old.judge.version }
+        ensures window { self.new.window ≡ self.old.window }
+        ensures still { self.new.still ≡ self.old.still }
+        ensures scenes { self.new.scenes ≡ self.old.scenes }
+        ensures judged { (setup : SetupState) (rows : List RowState) → length rows + 2 ≡ number → HasJudged setup rows self.old.judge
+            → HasJudged setup (rows ++ Row.Event (event_at event.kind event.node) ∷ []) self.new.judge }
+    {
+        self.judge_row(number, Row::Event(event.event()));
+    }
+
+    // Goes on behind a row that was judged, of which this was seen before: keeps what it shows, and how the nodes stand, where it was
+    // the window's last row.
+    #[inline(always)]
+    fn go_on(
+        &mut self,
+        alloc: Global,
+        number: u32,
+        opening: &Option<Opening>,
+    ) -> Result<(), OutOfMemory>
+        ensures version { OnOk result (self.new.judge.version ≡ self.old.judge.version) }
+        ensures window { self.new.window ≡ self.old.window }
+        ensures on { OnOk result (GoesOn number opening.now self.old self.new) }
+    {
+        if let Some(opening) = opening {
+            self.keep_shot(number, opening)?;
+            self.close_at(alloc, number)?;
+        }
         Ok(())
     }
 
-    // Whether the window's last row is still to come.
-    fn is_open(&self) -> bool
-        ensures { result ≡ is_none self.now.still }
-    {
-        self.still.is_none()
-    }
-
-    // Takes a row behind the window.
-    fn take_beyond(&mut self, number: u32, row: &Row)
-        requires { is_none self.old.still ≡ false }
-        ensures version { self.new.judge.version ≡ self.old.judge.version }
-        ensures window { self.new.window ≡ self.old.window }
-        ensures filmed { (setup : SetupState) (rows : List RowState) → length rows + 2 ≡ number → HasFilmed setup rows self.old → HasFilmed setup (rows ++ row.now ∷ []) self.new }
-    {
-        self.judge.take_row(number, row);
-    }
-
-    // Takes a row up to the window's last one, where none before it decided.
-    fn take_shown(&mut self, alloc: Global, number: u32, row: &Row) -> Result<(), OutOfMemory>
-        requires going { self.old.judge.stopped ≡ None }
-        requires open { is_none self.old.still ≡ true }
-        ensures version { OnOk result (self.new.judge.version ≡ self.old.judge.version) }
-        ensures window { self.new.window ≡ self.old.window }
-        ensures filmed { (setup : SetupState) (rows : List RowState) → length rows + 2 ≡ number → HasFilmed setup rows self.old → OnOk result (HasFilmed setup (rows ++ row.now ∷ []) self.new) }
-    {
-        self.shoot(number, row)?;
-        self.close_at(alloc, number)
-    }
-
-    // Takes a row up to the window's last one, and keeps what it shows.
-    fn shoot(&mut self, number: u32, row: &Row) -> Result<(), OutOfMemory>
-        ensures version { OnOk result (self.new.judge.version ≡ self.old.judge.version) }
+    // Keeps what the row shows that was judged last, of which this was seen before.
+    #[inline(always)]
+    fn keep_shot(&mut self, number: u32, opening: &Opening) -> Result<(), OutOfMemory>
+        ensures judge { self.new.judge ≡ self.old.judge }
         ensures window { self.new.window ≡ self.old.window }
         ensures still { self.new.still ≡ self.old.still }
-        ensures judged { (setup : SetupState) (rows : List RowState) → length rows + 2 ≡ number → HasJudged setup rows self.old.judge → HasJudged setup (rows ++ row.now ∷ []) self.new.judge }
-        ensures scenes { OnOk result (self.new.scenes ≡ kept self.old.window self.old.scenes (scene_of self.new.judge.world.setup (world_of self.old.judge.world) (world_of self.new.judge.world) number row.now)) }
+        ensures scenes { OnOk result ((w : WorldOf) (row : RowState) → IsOpening w (node_in row) (deed_in row) opening.now
+            → self.new.scenes ≡ kept self.old.window self.old.scenes (scene_of self.old.judge.world.setup w (world_of self.old.judge.world) number row)) }
     {
-        let opening = open_on(self.judge.world(), row);
-        self.judge.take_row(number, row);
-        let scene = shot(number, &opening, self.judge.world())?;
+        let scene = shot(number, opening, self.judge.world())?;
         keep(&mut self.scenes, self.window, scene)
     }
 
     // Keeps how the nodes stand, where this was the window's last row.
+    #[inline(always)]
     fn close_at(&mut self, alloc: Global, number: u32) -> Result<(), OutOfMemory>
         ensures closed { OnOk result (self.new ≡ (if number == self.old.window.to then closed self.old else self.old)) }
         ensures window { self.new.window ≡ self.old.window }
@@ -173,6 +214,8 @@ impl Film {
     }
 
     /// Keeps how the nodes stand now, where that wasn't kept at the window's last row. Refused where an allocation fails.
+    // (out of line, as it comes once)
+    #[inline(never)]
     pub fn close(&mut self, alloc: Global) -> Result<(), OutOfMemory>
         ensures closed { OnOk result (self.new ≡ closed self.old) }
         ensures window { self.new.window ≡ self.old.window }
@@ -221,6 +264,7 @@ impl Film {
 }
 
 // Keeps the scene, where its row isn't before the window: in the place of the oldest one, where as many are kept as may be.
+#[inline(always)]
 fn keep(scenes: &mut VecDeque<Scene>, window: Window, scene: Scene) -> Result<(), OutOfMemory>
     ensures { OnOk result (scenes.new.items ≡ kept window scenes.old.items scene) }
 {

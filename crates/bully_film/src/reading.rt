@@ -1,7 +1,7 @@
-ghost use Rattle.std.specs.Prelude.{◌≡◌, ℕ, List, Option, None, IfErr, IfOk, MatchOption, OnOk};
+ghost use Rattle.std.specs.Prelude.{◌≡◌, ℕ, List, length, Option, None, IfErr, IfOk, MatchOption, OnOk};
 ghost use Rattle.bully_film.specs.Film.{AreAllFilmed, Begins, IsFilmedToEnd, IsReelOf, TakesRow};
 ghost use Rattle.bully_rows.specs.RecordsLeft.{EndsReading, IsUnread};
-ghost use Rattle.bully_rows.specs.Rows.{OfTrace};
+ghost use Rattle.bully_rows.specs.Rows.{OfTrace, row_of};
 ghost use Rattle.bully_trace.specs.Judging.{IsNoRow, IsNoStart};
 
 use crate::film::{Film, Reel};
@@ -28,7 +28,9 @@ fn film_text<R: Read + Drop>(alloc: Global, reader: R, window: Window) -> Result
     ensures filmed { IfOk result (AreAllFilmed (R.remaining reader) window) }
     ensures fault { IfErr result (EndsReading (R.remaining reader)) }
 {
-    let mut rows = RowReader::open(alloc, reader);
+    // (by a reference, as in `read_trace`: so the reader of rows is of another type than that of `check`, and each is built into its loop)
+    let mut reader = reader;
+    let mut rows = RowReader::open(alloc, &mut reader);
     film_rows(alloc, &mut rows, window)
 }
 
@@ -70,6 +72,7 @@ fn film_each<R: Read + Drop>(
 }
 
 // Films the row read last.
+// (an event that names a node and no more, as most rows do, is never a `Row` here, as in `check`)
 fn take_row<R: Read + Drop>(
     alloc: Global,
     rows: &RowReader<R>,
@@ -78,7 +81,27 @@ fn take_row<R: Read + Drop>(
     ensures taken { OnOk result (TakesRow rows.now film.old film.new) }
     ensures fault { IfErr result (IsNoRow rows.now film.old.judge) }
 {
-    match rows.row(alloc, film.version(), film.world().setup())? {
+    match rows.node_event(film.version()) {
+        Some(event) => {
+            film.take_node_event(alloc, rows.number(), event)?;
+            Ok(())
+        }
+        None => take_longer_row(alloc, rows, film),
+    }
+}
+
+// Films the row read last, where it is no event that names a node and no more.
+#[inline(never)]
+fn take_longer_row<R: Read + Drop>(
+    alloc: Global,
+    rows: &RowReader<R>,
+    film: &mut Film,
+) -> Result<(), TraceFault>
+    requires { length rows.now.fields ≡ 2 → row_of film.old.judge.version film.old.judge.world.setup rows.now.fields ≡ None }
+    ensures taken { OnOk result (TakesRow rows.now film.old film.new) }
+    ensures fault { IfErr result (IsNoRow rows.now film.old.judge) }
+{
+    match rows.longer_row(alloc, film.version(), film.world().setup())? {
         Some(row) => film.take_row(alloc, rows.number(), row)?,
         None => return Err(rows.bad_row()),
     }

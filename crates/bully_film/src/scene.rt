@@ -1,7 +1,9 @@
 //! What a row of a trace shows.
-ghost use Rattle.std.specs.Prelude.{◌≡◌, ◌≤◌, [], IfOk, option_map, vec_capacity};
+ghost use Rattle.std.specs.Prelude.{◌≡◌, ◌≤◌, ℕ, [], IfOk, option_map, vec_capacity};
+ghost use Rattle.bully_account.specs.Possible.{deed_of};
 ghost use Rattle.bully_calls.specs.Slot.{pending_in};
 ghost use Rattle.bully_handlers.specs.Vector.{is_normal};
+ghost use Rattle.bully_rows.specs.NodeEvents.{event_at};
 ghost use Rattle.bully_rows.specs.declared.trace.Row.{Row as RowState};
 ghost use Rattle.bully_trace.specs.Details.{call_at};
 ghost use Rattle.bully_film.specs.Scene.{cuts, deed_in, gets_table, is_halting, is_run, node_in, place_at, scene_of, sight, sights_of, slot_call, table_shown, unseen};
@@ -13,7 +15,7 @@ use crate::OWNERS_SHOWN;
 use bully_account::Deed;
 use bully_base::{Node, OutOfMemory, Status};
 use bully_calls::{Call, CallKind, Phase, Slot};
-use bully_rows::Row;
+use bully_rows::{EventKind, NodeEvent, Row};
 use bully_steps::Point;
 use bully_table::Table;
 use bully_world::World;
@@ -68,31 +70,33 @@ pub struct Opening {
     cuts: bool,
 }
 
-/// The row's opening, in the world before it.
-pub fn open_on(world: &World, row: &Row) -> Opening
-    ensures deed { result.deed ≡ deed_in row.now }
-    ensures own { result.own ≡ node_in row.now }
-    ensures own_before { result.own_before ≡ sight (world_of world.now) (node_in row.now) }
-    ensures other { result.other ≡ place_at (world_of world.now) (node_in row.now) (deed_in row.now) }
-    ensures other_before { result.other_before ≡ sight (world_of world.now) (place_at (world_of world.now) (node_in row.now) (deed_in row.now)) }
-    ensures cuts { result.cuts ≡ cuts (world_of world.now) (node_in row.now) (place_at (world_of world.now) (node_in row.now) (deed_in row.now)) (deed_in row.now) }
+/// The opening of a row whose event is this and which names this node, in the world before it.
+// (inlined with what it calls, as each row has one)
+#[inline(always)]
+pub fn open_on(world: &World, deed: Option<Deed>, own: Node) -> Opening
+    ensures deed { result.deed ≡ deed }
+    ensures own { result.own ≡ own }
+    ensures own_before { result.own_before ≡ sight (world_of world.now) own }
+    ensures other { result.other ≡ place_at (world_of world.now) own deed }
+    ensures other_before { result.other_before ≡ sight (world_of world.now) (place_at (world_of world.now) own deed) }
+    ensures cuts { result.cuts ≡ cuts (world_of world.now) own (place_at (world_of world.now) own deed) deed }
 {
-    let deed = deed_in(row);
-    let own = node_in(row);
     let own_before = sight_of(world, own);
-    let other = place_at(world, own, deed);
+    let other = place_at(&own_before, own, deed);
     Opening {
         deed,
         own,
         own_before,
         other,
         other_before: sight_beside(world, other, own, &own_before),
-        cuts: cuts(world, own, other, deed),
+        cuts: cuts(world, &own_before, other, deed),
     }
 }
 
 /// What the row of this number shows, of which this was seen before it; the world is the one behind it. Refused where an allocation
 /// fails.
+// (inlined, as `open_on` is)
+#[inline(always)]
 pub fn shot(number: u32, opening: &Opening, world: &World) -> Result<Scene, OutOfMemory>
     ensures { IfOk result (λ s. (w : WorldOf) (row : RowState)
         → opening.now.deed ≡ deed_in row → opening.now.own ≡ node_in row → opening.now.own_before ≡ sight w (node_in row)
@@ -124,6 +128,8 @@ pub fn shot(number: u32, opening: &Opening, world: &World) -> Result<Scene, OutO
 }
 
 /// What the world shows of the node; nothing but that it is down where the group doesn't have it.
+// (inlined, as `open_on` is)
+#[inline(always)]
 pub fn sight_of(world: &World, node: Node) -> Sight
     ensures { result ≡ sight (world_of world.now) node }
 {
@@ -192,6 +198,7 @@ fn push_sights(sights: &mut Vec<Sight>, world: &World)
 }
 
 // The call in the slot of a caller of this generation.
+#[inline(always)]
 fn call_in(slot: &Slot, generation: u32) -> Option<SlotCall>
     ensures { result ≡ option_map slot_call (pending_in generation slot.now) }
 {
@@ -205,8 +212,8 @@ fn call_in(slot: &Slot, generation: u32) -> Option<SlotCall>
     }
 }
 
-// The node that the row names.
-fn node_in(row: &Row) -> Node
+/// The node that the row names.
+pub fn node_in(row: &Row) -> Node
     ensures { result ≡ node_in row.now }
 {
     match row {
@@ -217,8 +224,8 @@ fn node_in(row: &Row) -> Node
     }
 }
 
-// What the row's event is.
-fn deed_in(row: &Row) -> Option<Deed>
+/// What the row's event is.
+pub fn deed_in(row: &Row) -> Option<Deed>
     ensures { result ≡ deed_in row.now }
 {
     match row {
@@ -228,6 +235,15 @@ fn deed_in(row: &Row) -> Option<Deed>
     }
 }
 
+/// What the event of this kind is.
+// (inlined, as `open_on` is)
+#[inline(always)]
+pub fn deed_at(kind: EventKind, node: Node) -> Deed
+    ensures { result ≡ deed_of (event_at kind node) }
+{
+    Deed::of(&NodeEvent { kind, node }.event())
+}
+
 // Whether it is a run.
 fn is_run(deed: Option<Deed>) -> bool
     ensures { result ≡ is_run deed }
@@ -235,31 +251,40 @@ fn is_run(deed: Option<Deed>) -> bool
     matches!(deed, Some(Deed::Run))
 }
 
-// The node whose vector a deed of the node may change.
-fn place_at(world: &World, node: Node, deed: Option<Deed>) -> Node
-    ensures { result ≡ place_at (world_of world.now) node deed }
+// The node whose vector a deed of the node may change, of which this is seen.
+#[inline(always)]
+fn place_at(shown: &Sight, node: Node, deed: Option<Deed>) -> Node
+    ensures { (w : WorldOf) → shown.now ≡ sight w node → result ≡ place_at w node deed }
 {
     if !is_run(deed) {
         return node;
     }
-    match sight_of(world, node).call {
+    match shown.call {
         Some(held) => held.call.callee,
         None => node,
     }
 }
 
-// Whether a Halt of the node runs at the other one, and cuts a procedure off.
-fn cuts(world: &World, node: Node, other: Node, deed: Option<Deed>) -> bool
-    ensures { result ≡ cuts (world_of world.now) node other deed }
+// Whether a Halt of the node of which this is seen runs at the other one, and cuts a procedure off.
+#[inline(always)]
+fn cuts(world: &World, shown: &Sight, other: Node, deed: Option<Deed>) -> bool
+    ensures { (i : ℕ) → shown.now ≡ sight (world_of world.now) i → result ≡ cuts (world_of world.now) i other deed }
 {
-    is_run(deed) && is_halting(world, node) && !is_idle(world, other)
+    if !is_run(deed) {
+        return false;
+    }
+    if !is_halting(shown) {
+        return false;
+    }
+    !is_idle(world, other)
 }
 
-// Whether the slot of the node has a Halt.
-fn is_halting(world: &World, node: Node) -> bool
-    ensures { result ≡ is_halting (call_at (world_of world.now) node) }
+// Whether the slot of the node of which this is seen has a Halt.
+#[inline(always)]
+fn is_halting(shown: &Sight) -> bool
+    ensures { (w : WorldOf) (i : ℕ) → shown.now ≡ sight w i → result ≡ is_halting (call_at w i) }
 {
-    match sight_of(world, node).call {
+    match shown.call {
         Some(held) => is_halt(held.call.kind),
         None => false,
     }
@@ -301,6 +326,7 @@ fn is_normal(status: Status) -> bool
 }
 
 // The node's task, where it gets one and it is short.
+#[inline(always)]
 fn table_shown(world: &World, gets: bool, node: Node) -> Result<Option<Table>, OutOfMemory>
     ensures { IfOk result (λ table. table ≡ table_shown world.now.setup gets (vector (world_of world.now) node).task) }
 {
@@ -311,6 +337,8 @@ fn table_shown(world: &World, gets: bool, node: Node) -> Result<Option<Table>, O
 }
 
 // A copy of the node's task.
+// (out of line, as few rows have one)
+#[inline(never)]
 fn task_of(world: &World, node: Node) -> Result<Option<Table>, OutOfMemory>
     ensures { IfOk result (λ table. table ≡ (vector (world_of world.now) node).task) }
 {

@@ -1,9 +1,13 @@
 -- Behind the row that decided nothing more is filmed.
-use Rattle.std.proofs.Common.{◌≡◌, Some, rules}
-use Rattle.bully_film.proofs.FilmLemmas.{filmed-stopped}
+use Rattle.std.proofs.Common.{◌≡◌, rules, true}
+use Rattle.std.specs.Prelude.{is_some}
+use Rattle.bully_film.proofs.FilmLemmas.{filmed-on, filmed-over}
 use Rattle.bully_film.proofs.film.Film.take_row.Goals as goal
 
-pub returns-in-Some-clause-filmed : goal.returns-in-Some-clause-filmed
-returns-in-Some-clause-filmed c = λ setup rows at filmed.
-    let is : c.args.self.now.judge.stopped ≡ Some c.in-Some._decided = search rules in
-    filmed-stopped setup rows c.args.row c.args.self.now c.in-Some._decided is filmed
+pub returns-then-is_over-clause-filmed : goal.returns-then-is_over-clause-filmed
+returns-then-is_over-clause-filmed c = λ setup rows at filmed. filmed-over setup rows c.args.row c.args.self.now (search rules) filmed
+
+pub returns-clause-filmed : goal.returns-clause-filmed
+returns-clause-filmed c = λ setup rows at filmed.
+    filmed-on setup rows c.args.row c.args.number c.args.self.now c.judge_row.new.self c.go_on.new.self c.look-opening.result c.go_on.result (search rules) (search rules)
+    c.judge_row.ensures.window c.judge_row.ensures.still c.judge_row.ensures.scenes c.judge_row.ensures.judged c.go_on.ensures.on at filmed

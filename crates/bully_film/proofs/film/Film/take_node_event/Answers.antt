@@ -1,0 +1,19 @@
+-- A row that tells an event of a node and no more is filmed as any other one.
+use Rattle.std.proofs.Common.{◌≡◌, rules, true}
+use Rattle.bully_rows.specs.declared.trace.Row.{Row}
+use Rattle.bully_rows.specs.NodeEvents.{event_at}
+use Rattle.bully_film.specs.Film.{IsLook}
+use Rattle.bully_film.specs.Scene.{deed_in, node_in}
+use Rattle.bully_film.proofs.FilmLemmas.{filmed-on, filmed-over, node-told}
+use Rattle.bully_film.proofs.film.Film.take_node_event.Goals as goal
+
+pub returns-then-is_over-clause-filmed : goal.returns-then-is_over-clause-filmed
+returns-then-is_over-clause-filmed c = λ setup rows at filmed.
+    filmed-over setup rows (Row.Event (event_at c.args.event.kind c.args.event.node)) c.args.self.now (search rules) filmed
+
+pub returns-clause-filmed : goal.returns-clause-filmed
+returns-clause-filmed c = λ setup rows at filmed.
+    let row : Row = Row.Event (event_at c.args.event.kind c.args.event.node) in
+    let look : IsLook c.args.self.now (node_in row) (deed_in row) c.look-opening.result = rw (node-told c.args.event.kind c.args.event.node) (search rules) in
+    filmed-on setup rows row c.args.number c.args.self.now c.judge_event.new.self c.go_on.new.self c.look-opening.result c.go_on.result (search rules) look
+    c.judge_event.ensures.window c.judge_event.ensures.still c.judge_event.ensures.scenes c.judge_event.ensures.judged c.go_on.ensures.on at filmed
