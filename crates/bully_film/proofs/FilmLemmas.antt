@@ -333,7 +333,7 @@ filmed-on setup rows row number film judged after (Some opening) (Ok x) going lo
     let (shot, is, closes) = on (world_of film.judge.world) row look.1 in
     let s = scene_of judged.judge.world.setup (world_of film.judge.world) (world_of judged.judge.world) number row in
     let keeps : shot.scenes ≡ kept film.window film.scenes (scene_of shot.judge.world.setup (world_of film.judge.world) (world_of shot.judge.world) number row) =
-        rw is (ap (λ window. kept window judged.scenes s) same_window ∙ ap (λ scenes. kept film.window scenes s) same_scenes) in
+    rw is (ap (λ window. kept window judged.scenes s) same_window ∙ ap (λ scenes. kept film.window scenes s) same_scenes) in
     let shows : (setup : Setup) (rows : List Row) → length rows + 2 ≡ number → HasJudged setup rows film.judge → HasJudged setup (rows ++ row ∷ []) shot.judge = rw is judges in
     shown-filmed setup rows row number film shot after (Ok x) (going-is film.judge.stopped going) look.0 (rw is same_still) (rw is same_window) at shows keeps closes filmed
 
@@ -349,8 +349,3 @@ node-told EventKind.Lose i = refl
 node-told EventKind.Return i = refl
 node-told EventKind.Drop i = refl
 node-told EventKind.Move i = refl
-
--- the scene that is kept, by another name
-pub kept-as : (window : WindowState) (scenes after : List Scene) (s s' : Scene) (done : Result (Unit {0}) AllocError) → s ≡ s' → OnOk done (after ≡ kept window scenes s) → OnOk done (after ≡ kept window scenes s')
-kept-as window scenes after s s' (Ok x) same is = is ∙ ap (kept window scenes) same
-kept-as window scenes after s s' (Err e) same is = tt

@@ -86,6 +86,12 @@ gets_table (Some Deed.Plan) before after = true
 gets_table (Some Deed.Run) before after = not (is_normal before.status) && is_normal after.status
 gets_table _ before after = false
 
+-- neither a second node may be changed by it, nor does a node get a table
+abbrev pub is_quiet : Option Deed → Bool
+is_quiet (Some Deed.Run) = false
+is_quiet (Some Deed.Plan) = false
+is_quiet _ = true
+
 -- the task, where a table is got and has so few owners that they are shown
 abbrev pub table_shown : Setup → Bool → Option (List ℕ) → Option (List ℕ)
 table_shown setup gets task = if gets && nat_le setup.partitions OWNERS_SHOWN then task else None

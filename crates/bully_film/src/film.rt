@@ -1,11 +1,13 @@
 ghost use Rattle.std.specs.Prelude.{◌≡◌, IfSome, OnOk};
 ghost use Rattle.bully_film.specs.Film.{kept};
 
-use crate::scene::{Opening, Scene, Sight, deed_at, deed_in, node_in, open_on, shot, sights};
+use crate::scene::{
+    Opening, Scene, Sight, deed_at, deed_in, is_quiet, node_in, open_on, quiet_shot, shot, sights,
+};
 use crate::window::Window;
 use bully_account::Deed;
 use bully_base::{Node, OutOfMemory, Setup};
-use bully_rows::{Header, NodeEvent, Row, Version};
+use bully_rows::{EventKind, Header, NodeEvent, Row, Version};
 use bully_trace::{Judge, Verdict};
 use bully_world::World;
 use std::alloc::Global;
@@ -66,7 +68,7 @@ impl Film {
         Ok(Film {
             judge: Judge::new(alloc, header)?,
             window,
-            scenes: VecDeque::new(alloc),
+            scenes: VecDeque::with_capacity(alloc, window.most() as usize)?,
             stop: None,
             still: None,
         })
@@ -101,7 +103,7 @@ impl Film {
     }
 
     /// Takes the row of this number, which tells this event, as `take_row` does.
-    // (inlined with what it calls, as an event that names a node and no more is what most rows tell)
+    // (inlined with what it calls, since it is what most rows tell)
     #[inline(always)]
     pub fn take_node_event(
         &mut self,
@@ -119,7 +121,7 @@ impl Film {
         }
         let NodeEvent { kind, node } = event;
         let opening = self.look(Some(deed_at(kind, node)), node);
-        self.judge_event(number, NodeEvent { kind, node });
+        self.judge_event(number, kind, node);
         self.go_on(alloc, number, &opening)
     }
 
@@ -154,18 +156,29 @@ impl Film {
         self.keep_stop(row);
     }
 
-    // Has the row judged that tells this event.
-    // (out of line: else room for a row would be cleared and moved in the loop over all rows)
-    #[inline(never)]
-    fn judge_event(&mut self, number: u32, event: NodeEvent)
+    // Has the row judged that tells an event of this kind, and keeps it where it decided.
+    #[inline(always)]
+    fn judge_event(&mut self, number: u32, kind: EventKind, node: Node)
         ensures version { self.new.judge.version ≡ self.old.judge.version }
         ensures window { self.new.window ≡ self.old.window }
         ensures still { self.new.still ≡ self.old.still }
         ensures scenes { self.new.scenes ≡ self.old.scenes }
         ensures judged { (setup : SetupState) (rows : List RowState) → length rows + 2 ≡ number → HasJudged setup rows self.old.judge
-            → HasJudged setup (rows ++ Row.Event (event_at event.kind event.node) ∷ []) self.new.judge }
+            → HasJudged setup (rows ++ Row.Event (event_at kind node) ∷ []) self.new.judge }
     {
-        self.judge_row(number, Row::Event(event.event()));
+        self.judge.take_node_event(number, NodeEvent { kind, node });
+        if self.is_over() {
+            self.stop_at(kind, node);
+        }
+    }
+
+    // Keeps the row that decided, which tells an event of this kind.
+    // (out of line, as it comes once)
+    #[inline(never)]
+    fn stop_at(&mut self, kind: EventKind, node: Node)
+        ensures { self.new ≡ self.old }
+    {
+        self.stop = Some(Row::Event(NodeEvent { kind, node }.event()));
     }
 
     // Goes on behind a row that was judged, of which this was seen before: keeps what it shows, and how the nodes stand, where it was
@@ -191,6 +204,22 @@ impl Film {
     // Keeps what the row shows that was judged last, of which this was seen before.
     #[inline(always)]
     fn keep_shot(&mut self, number: u32, opening: &Opening) -> Result<(), OutOfMemory>
+        ensures judge { self.new.judge ≡ self.old.judge }
+        ensures window { self.new.window ≡ self.old.window }
+        ensures still { self.new.still ≡ self.old.still }
+        ensures scenes { OnOk result ((w : WorldOf) (row : RowState) → IsOpening w (node_in row) (deed_in row) opening.now
+            → self.new.scenes ≡ kept self.old.window self.old.scenes (scene_of self.old.judge.world.setup w (world_of self.old.judge.world) number row)) }
+    {
+        if !is_quiet(opening) {
+            return self.keep_wide_shot(number, opening);
+        }
+        let scene = quiet_shot(number, opening, self.judge.world());
+        keep(&mut self.scenes, self.window, scene)
+    }
+
+    // The same, where a second node may be changed, or a table comes with the row.
+    #[inline(never)]
+    fn keep_wide_shot(&mut self, number: u32, opening: &Opening) -> Result<(), OutOfMemory>
         ensures judge { self.new.judge ≡ self.old.judge }
         ensures window { self.new.window ≡ self.old.window }
         ensures still { self.new.still ≡ self.old.still }
@@ -274,7 +303,10 @@ fn keep(scenes: &mut VecDeque<Scene>, window: Window, scene: Scene) -> Result<()
     if scenes.len() >= window.most() as usize {
         let _ = scenes.pop_front();
     }
-    scenes.push_back(scene)?;
+    if scenes.len() >= scenes.capacity() {
+        scenes.reserve(1)?;
+    }
+    scenes.push_back_reserved(scene);
     Ok(())
 }
 

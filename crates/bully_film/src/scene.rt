@@ -1,12 +1,12 @@
 //! What a row of a trace shows.
-ghost use Rattle.std.specs.Prelude.{◌≡◌, ◌≤◌, ℕ, [], IfOk, option_map, vec_capacity};
+ghost use Rattle.std.specs.Prelude.{◌≡◌, ◌≤◌, ℕ, true, [], IfOk, option_map, vec_capacity};
 ghost use Rattle.bully_account.specs.Possible.{deed_of};
 ghost use Rattle.bully_calls.specs.Slot.{pending_in};
 ghost use Rattle.bully_handlers.specs.Vector.{is_normal};
 ghost use Rattle.bully_rows.specs.NodeEvents.{event_at};
 ghost use Rattle.bully_rows.specs.declared.trace.Row.{Row as RowState};
 ghost use Rattle.bully_trace.specs.Details.{call_at};
-ghost use Rattle.bully_film.specs.Scene.{cuts, deed_in, gets_table, is_halting, is_run, node_in, place_at, scene_of, sight, sights_of, slot_call, table_shown, unseen};
+ghost use Rattle.bully_film.specs.Scene.{IsOpening, cuts, deed_in, gets_table, is_halting, is_quiet, is_run, node_in, place_at, scene_of, sight, sights_of, slot_call, table_shown, unseen};
 ghost use Rattle.bully_world.specs.Cause.{is_idle};
 ghost use Rattle.bully_world.specs.State.{is_halt, world_of};
 ghost use Rattle.bully_world.specs.World.{World as WorldOf, point, vector};
@@ -71,9 +71,50 @@ pub struct Opening {
 }
 
 /// The opening of a row whose event is this and which names this node, in the world before it.
-// (inlined with what it calls, as each row has one)
+// (a run alone may change a second node, and is out of line)
 #[inline(always)]
 pub fn open_on(world: &World, deed: Option<Deed>, own: Node) -> Opening
+    ensures deed { result.deed ≡ deed }
+    ensures own { result.own ≡ own }
+    ensures own_before { result.own_before ≡ sight (world_of world.now) own }
+    ensures other { result.other ≡ place_at (world_of world.now) own deed }
+    ensures other_before { result.other_before ≡ sight (world_of world.now) (place_at (world_of world.now) own deed) }
+    ensures cuts { result.cuts ≡ cuts (world_of world.now) own (place_at (world_of world.now) own deed) deed }
+{
+    if is_run(deed) {
+        let Opening {
+            deed,
+            own,
+            own_before,
+            other,
+            other_before,
+            cuts,
+        } = open_wide(world, deed, own);
+        return Opening {
+            deed,
+            own,
+            own_before,
+            other,
+            other_before,
+            cuts,
+        };
+    }
+    let own_before = sight_of(world, own);
+    let other = own;
+    let other_before = own_before;
+    Opening {
+        deed,
+        own,
+        own_before,
+        other,
+        other_before,
+        cuts: false,
+    }
+}
+
+// The same, also of a run.
+#[inline(never)]
+fn open_wide(world: &World, deed: Option<Deed>, own: Node) -> Opening
     ensures deed { result.deed ≡ deed }
     ensures own { result.own ≡ own }
     ensures own_before { result.own_before ≡ sight (world_of world.now) own }
@@ -95,8 +136,6 @@ pub fn open_on(world: &World, deed: Option<Deed>, own: Node) -> Opening
 
 /// What the row of this number shows, of which this was seen before it; the world is the one behind it. Refused where an allocation
 /// fails.
-// (inlined, as `open_on` is)
-#[inline(always)]
 pub fn shot(number: u32, opening: &Opening, world: &World) -> Result<Scene, OutOfMemory>
     ensures { IfOk result (λ s. (w : WorldOf) (row : RowState)
         → opening.now.deed ≡ deed_in row → opening.now.own ≡ node_in row → opening.now.own_before ≡ sight w (node_in row)
@@ -127,9 +166,41 @@ pub fn shot(number: u32, opening: &Opening, world: &World) -> Result<Scene, OutO
     })
 }
 
-/// What the world shows of the node; nothing but that it is down where the group doesn't have it.
-// (inlined, as `open_on` is)
+/// Whether the row of this opening changes no other node than the one that it names, and no table comes with it.
 #[inline(always)]
+pub fn is_quiet(opening: &Opening) -> bool
+    ensures { result ≡ is_quiet opening.now.deed }
+{
+    !matches!(opening.deed, Some(Deed::Run) | Some(Deed::Plan))
+}
+
+/// As `shot`, of a row that is quiet.
+// (apart, since most rows are, and nothing can fail)
+#[inline(always)]
+pub fn quiet_shot(number: u32, opening: &Opening, world: &World) -> Scene
+    ensures { (w : WorldOf) (row : RowState) → IsOpening w (node_in row) (deed_in row) opening.now → is_quiet opening.now.deed ≡ true
+        → result ≡ scene_of world.now.setup w (world_of world.now) number row }
+{
+    let own = Change {
+        node: opening.own,
+        before: opening.own_before,
+        after: sight_of(world, opening.own),
+    };
+    let other = own;
+    Scene {
+        number,
+        deed: opening.deed,
+        own,
+        other,
+        cuts: false,
+        gets_table: false,
+        table: None,
+    }
+}
+
+/// What the world shows of the node; nothing but that it is down where the group doesn't have it.
+// (out of line: so it is copied as a whole, and not field by field)
+#[inline(never)]
 pub fn sight_of(world: &World, node: Node) -> Sight
     ensures { result ≡ sight (world_of world.now) node }
 {
@@ -252,7 +323,6 @@ fn is_run(deed: Option<Deed>) -> bool
 }
 
 // The node whose vector a deed of the node may change, of which this is seen.
-#[inline(always)]
 fn place_at(shown: &Sight, node: Node, deed: Option<Deed>) -> Node
     ensures { (w : WorldOf) → shown.now ≡ sight w node → result ≡ place_at w node deed }
 {
@@ -266,7 +336,6 @@ fn place_at(shown: &Sight, node: Node, deed: Option<Deed>) -> Node
 }
 
 // Whether a Halt of the node of which this is seen runs at the other one, and cuts a procedure off.
-#[inline(always)]
 fn cuts(world: &World, shown: &Sight, other: Node, deed: Option<Deed>) -> bool
     ensures { (i : ℕ) → shown.now ≡ sight (world_of world.now) i → result ≡ cuts (world_of world.now) i other deed }
 {
@@ -280,7 +349,6 @@ fn cuts(world: &World, shown: &Sight, other: Node, deed: Option<Deed>) -> bool
 }
 
 // Whether the slot of the node of which this is seen has a Halt.
-#[inline(always)]
 fn is_halting(shown: &Sight) -> bool
     ensures { (w : WorldOf) (i : ℕ) → shown.now ≡ sight w i → result ≡ is_halting (call_at w i) }
 {
@@ -326,7 +394,6 @@ fn is_normal(status: Status) -> bool
 }
 
 // The node's task, where it gets one and it is short.
-#[inline(always)]
 fn table_shown(world: &World, gets: bool, node: Node) -> Result<Option<Table>, OutOfMemory>
     ensures { IfOk result (λ table. table ≡ table_shown world.now.setup gets (vector (world_of world.now) node).task) }
 {

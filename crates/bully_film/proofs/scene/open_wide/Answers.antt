@@ -1,7 +1,7 @@
 use Rattle.std.proofs.Common.{◌≡◌, ◌∙◌, ap}
 use Rattle.bully_film.specs.Scene.{cuts, place_at, sight}
 use Rattle.bully_world.specs.State.{world_of}
-use Rattle.bully_film.proofs.scene.open_on.Goals as goal
+use Rattle.bully_film.proofs.scene.open_wide.Goals as goal
 
 pub returns-clause-other_before : goal.returns-clause-other_before
 returns-clause-other_before c =
