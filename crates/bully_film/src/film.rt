@@ -48,7 +48,7 @@ impl Model for Film {
 }
 
 impl Film {
-    ghost use Rattle.std.specs.Prelude.{◌≡◌, ◌+◌, ◌++◌, ◌==◌, ◌∷◌, [], List, MatchOption, Option, None, Some, true, false, is_none, is_some, length, IfOk, IfSome, OnOk, if◌then◌else◌};
+    ghost use Rattle.std.specs.Prelude.{◌≡◌, ◌+◌, ◌++◌, ◌==◌, ◌∷◌, [], List, Option, None, Some, true, false, is_none, is_some, length, IfOk, IfSome, OnOk, if◌then◌else◌};
     ghost use Rattle.bully_base.specs.Setup.{Setup as SetupState};
     ghost use Rattle.bully_film.specs.Film.{GoesOn, HasFilmed, IsLook, closed, kept};
     ghost use Rattle.bully_film.specs.Scene.{IsOpening, deed_in, node_in, scene_of};
@@ -65,6 +65,7 @@ impl Film {
         ensures version { IfOk result (λ film. film.judge.version ≡ header.version) }
         ensures window { IfOk result (λ film. film.window ≡ window) }
     {
+        // (with all the room at once: a deque that grew by itself would go around in more, and leave the processor's cache)
         Ok(Film {
             judge: Judge::new(alloc, header)?,
             window,

@@ -71,7 +71,8 @@ pub struct Opening {
 }
 
 /// The opening of a row whose event is this and which names this node, in the world before it.
-// (a run alone may change a second node, and is out of line)
+// (a run alone may change a second node, and is out of line. What it answers is taken apart: else the opening of every row would lie
+// where that call writes, and be copied from there three times)
 #[inline(always)]
 pub fn open_on(world: &World, deed: Option<Deed>, own: Node) -> Opening
     ensures deed { result.deed ≡ deed }
@@ -199,7 +200,7 @@ pub fn quiet_shot(number: u32, opening: &Opening, world: &World) -> Scene
 }
 
 /// What the world shows of the node; nothing but that it is down where the group doesn't have it.
-// (out of line: so it is copied as a whole, and not field by field)
+// (out of line: so what it answers is copied as a whole, and not field by field)
 #[inline(never)]
 pub fn sight_of(world: &World, node: Node) -> Sight
     ensures { result ≡ sight (world_of world.now) node }
