@@ -1,0 +1,5 @@
+pub mod RoomLemmas
+pub mod SetLemmas
+pub mod SetupLemmas
+pub mod StepLemmas
+pub mod ReplyLemmas

@@ -1,0 +1,155 @@
+-- What an export over a handle answers.
+use Rattle.std.specs.Prelude.{◌≡◌, ◌≢◌, ◌⊎◌, ℕ, ◌<◌, ◌≤◌, All, List, [], Option, Some, None, Result, Ok, Err, IfSome, IsUtf8, length, reverse, unwrap_or, if◌then◌else◌}
+use Rattle.std.specs.Option.{option_map_or}
+use Rattle.bully_base.specs.NodeSet.{with_node}
+use Rattle.bully_base.specs.Setup.{IsNode, IsSetup, Setup}
+use Rattle.bully_calls.specs.declared.call.Answer.{Answer}
+use Rattle.bully_calls.specs.declared.call.Call.{Call}
+use Rattle.bully_calls.specs.Slot.{is_orphan}
+use Rattle.bully_lines.specs.Texts.{IsRequestFault, reply_of_text, reply_text, request_of_text, request_text}
+use Rattle.bully_lines.specs.declared.fault.RequestFault.{RequestFault}
+use Rattle.bully_lines.specs.declared.fault.ReplyFault.{ReplyFault}
+use Rattle.bully_messages.specs.declared.message.Reply.{Reply}
+use Rattle.bully_messages.specs.declared.message.Request.{Request}
+use Rattle.bully_node.specs.Agent.{AgentState, new_agent, wanted}
+use Rattle.bully_node.specs.Calls.{request_of}
+use Rattle.bully_rows.specs.ReadBack.{AreOwners}
+use Rattle.bully_rows.specs.TraceText.{line_of, row_fields, rows_text}
+use Rattle.bully_rows.specs.Whole.{whole_of}
+use Rattle.bully_rows.specs.declared.trace.Row.{Row}
+use Rattle.bully_table.specs.Planning.{planned}
+use Rattle.bully_world.specs.declared.event.Event.{Event}
+use Rattle.bully_world.specs.declared.event.Refused.{Refused}
+use Rattle.bully_c.specs.Arguments.{IsCopied, IsMadeAndCopied, IsSetupRefusal, RefusesOwners, setup_given, table_given}
+use Rattle.bully_c.specs.Held.{Serves, call_in, Takes, TakesFailure, TakesReply, TellsEvent, rows_told}
+use Rattle.bully_c.specs.Numbers.{answer_number, kind_number, refusal_number, reply_number, request_number, status_number, step_number, want_number}
+use Rattle.bully_c.specs.declared.status.TheConstants.{BAD_NODE, CLOSED, LINE_WORD, OK, OPEN, OUT_OF_MEMORY, SHORT, TABLE_LENGTH}
+use Rattle.bully_c.specs.declared.held.Held.{Held}
+use Rattle.bully_c.specs.declared.held.Told.{Told}
+use Rattle.bully_c.specs.declared.shown.CState.{CState}
+
+-- of an open handle this holds, and it stays open; a closed one is told, and stays closed
+abbrev pub AtOpen : (Held → ℕ → Held → Type 0) → Option Held → ℕ → Option Held → Type 0
+AtOpen Holds None status new = (status ≡ CLOSED) × (new ≡ None)
+AtOpen Holds (Some held) status new = (after : Held) × (new ≡ Some after) × Holds held status after
+
+-- the status is that of a step which is taken or refused so
+abbrev pub IsStep : {A : Type 0} → (Held → Result A Refused → Held → Type 0) → Held → ℕ → Held → Type 0
+IsStep {A} Steps held status after = (said : Result A Refused) × (status ≡ step_number said) × Steps held said after
+
+-- an event that the node takes by itself
+abbrev pub IsEvent : (ℕ → Event) → (AgentState → AgentState → Told → Type 0) → Held → ℕ → Held → Type 0
+IsEvent event Tells = IsStep (Takes event Tells)
+
+-- the plan of these owners, or why they are none of the setup
+abbrev pub IsPlan : List ℕ → Held → ℕ → Held → Type 0
+IsPlan owners held status after =
+    (AreOwners held.agent.setup owners × IsEvent (λ i. Event.Plan i owners) (TellsEvent (λ i. Event.Plan i owners)) held status after)
+    ⊎ (RefusesOwners held.agent.setup owners status × (after ≡ held))
+
+-- why a line is no request, by its number
+abbrev pub RefusesRequestLine : Setup → List ℕ → ℕ → Type 0
+RefusesRequestLine s line status =
+    ((status ≡ LINE_WORD) × ¬ IsUtf8 line) ⊎ ((fault : RequestFault) × (status ≡ request_number fault) × IsRequestFault s line fault)
+
+-- and no reply
+abbrev pub RefusesReplyLine : Setup → List ℕ → ℕ → Type 0
+RefusesReplyLine s line status =
+    ((status ≡ LINE_WORD) × ¬ IsUtf8 line) ⊎ ((fault : ReplyFault) × (status ≡ reply_number fault) × (reply_of_text s line ≡ Err fault))
+
+-- the request of a line runs, and the line of its reply is written. Nothing happens where there isn't room for that of a Yes, where
+-- the line is no request, or where an allocation failed.
+pub record NothingServed (line : List ℕ) (room count : ℕ) (held : Held) (status count_after : ℕ) : Type 0 where
+  pub why : ((request : Request) × (request_of_text held.agent.setup line ≡ Ok request) × (status ≡ SHORT) × (room < count_after)
+      × (count_after ≡ length (reply_text (record { caller = request.caller; number = request.number; answer = Answer.Yes }))))
+      ⊎ ((status ≡ OUT_OF_MEMORY) × (count_after ≡ count)) ⊎ (RefusesRequestLine held.agent.setup line status × (count_after ≡ count))
+
+-- what was written of the reply, if there is one
+abbrev pub IsReplyCopied : Result Reply Refused → List ℕ → ℕ → List ℕ → ℕ → Type 0
+IsReplyCopied (Ok reply) before count_before after count = IsCopied (reply_text reply) before OK after count
+IsReplyCopied (Err why) before count_before after count = (after ≡ before) × (count ≡ count_before)
+
+abbrev pub IsServe : List ℕ → List ℕ → ℕ → List ℕ → ℕ → Held → ℕ → Held → Type 0
+IsServe line before count_before after_reply count held status after =
+    (NothingServed line (length before) count_before held status count × (after ≡ held) × (after_reply ≡ before))
+    ⊎ ((request : Request) × (request_of_text held.agent.setup line ≡ Ok request) × (said : Result Reply Refused) × (status ≡ step_number said)
+    × Serves request held said after × IsReplyCopied said before count_before after_reply count)
+
+-- what a call brought, in the place of what was there
+abbrev pub told_answer : ℕ → Result Answer Refused → ℕ
+told_answer before (Ok answer) = answer_number answer
+told_answer before (Err why) = before
+
+abbrev pub IsReply : List ℕ → ℕ → ℕ → Held → ℕ → Held → Type 0
+IsReply line before answer held status after =
+    (RefusesReplyLine held.agent.setup line status × (after ≡ held) × (answer ≡ before))
+    ⊎ ((reply : Reply) × (reply_of_text held.agent.setup line ≡ Ok reply) × (said : Result Answer Refused) × (status ≡ step_number said)
+    × TakesReply reply held said after × (answer ≡ told_answer before said))
+
+abbrev pub IsFailure : ℕ → ℕ → ℕ → Held → ℕ → Held → Type 0
+IsFailure number before answer held status after =
+    (said : Result Answer Refused) × (status ≡ step_number said) × TakesFailure number held said after × (answer ≡ told_answer before said)
+
+-- ---- what an agent shows
+
+-- the line of the request that is given out, or nothing
+abbrev pub request_line : AgentState → List ℕ
+request_line a = option_map_or request_text (request_of a) []
+
+abbrev pub number_or_none : Option ℕ → ℕ
+number_or_none node = unwrap_or node 0
+
+abbrev pub kind_in : Option Call → ℕ
+kind_in None = 0
+kind_in (Some call) = kind_number call.kind
+
+abbrev pub callee_in : Option Call → ℕ
+callee_in None = 0
+callee_in (Some call) = call.callee
+
+abbrev pub shown : AgentState → CState
+shown a =
+    let v = a.member.vector.vector in let call = call_in a.member.slot in
+    record { status = status_number v.status; wants = want_number (wanted a); events = a.events; generation = a.member.generation; call = kind_in call; orphan = if is_orphan a.member.generation a.member.slot then 1 else 0; number = a.number; node = a.node; coordinator = number_or_none v.coordinator; halter = number_or_none v.halter; callee = callee_in call }
+
+-- nothing changes, and this is shown of the agent
+abbrev pub Shows : (Held → ℕ → Type 0) → Held → ℕ → Held → Type 0
+Shows Says held status after = Says held status × (after ≡ held)
+
+-- ---- what a node should plan
+
+-- the table that the agent prepares from these owners, if any
+abbrev pub IsPreparedTable : AgentState → List ℕ → List ℕ → Type 0
+IsPreparedTable a old table =
+    IfSome (table_given old) (λ owners. AreOwners a.setup owners) × (table ≡ planned a.setup (table_given old) (with_node a.node a.member.vector.vector.up))
+
+-- why there is none: the room isn't that of a table, the old owners are none of the setup, or an allocation failed
+abbrev pub RefusesPrepare : AgentState → List ℕ → ℕ → ℕ → Type 0
+RefusesPrepare a old room status =
+    ((status ≡ TABLE_LENGTH) × (room ≢ a.setup.partitions)) ⊎ RefusesOwners a.setup old status ⊎ (status ≡ OUT_OF_MEMORY)
+
+abbrev pub IsPrepared : List ℕ → List ℕ → List ℕ → Held → ℕ → Held → Type 0
+IsPrepared old before owners = Shows (λ held status.
+    ((status ≡ OK) × IsPreparedTable held.agent old owners) ⊎ (RefusesPrepare held.agent old (length before) status × (owners ≡ before)))
+
+-- ---- opening and closing
+
+-- why a handle isn't opened
+pub record RefusesOpening (s : Setup) (node : ℕ) (task : List ℕ) (status : ℕ) : Type 0 where
+  pub why : IsSetupRefusal s status
+      ⊎ ((status ≡ BAD_NODE) × IsSetup s × ¬ IsNode s node)
+      ⊎ (IsSetup s × IsNode s node × RefusesOwners s task status)
+      ⊎ ((status ≡ OUT_OF_MEMORY) × IsSetup s × IsNode s node)
+
+-- the agent that took no step
+abbrev pub opened : Setup → ℕ → ℕ → List ℕ → Held
+opened s node events task = record { agent = new_agent s node events (table_given task); told = Told.Nothing }
+
+abbrev pub IsOpening : Setup → ℕ → ℕ → List ℕ → Option Held → ℕ → Option Held → Type 0
+IsOpening s node events task (Some held) status new = (status ≡ OPEN) × (new ≡ Some held)
+IsOpening s node events task None status new =
+    ((status ≡ OK) × (new ≡ Some (opened s node events task))) ⊎ (RefusesOpening s node task status × (new ≡ None))
+
+abbrev pub IsClosing : Option Held → ℕ → Option Held → Type 0
+IsClosing None status new = (status ≡ CLOSED) × (new ≡ None)
+IsClosing (Some held) status new = (status ≡ OK) × (new ≡ None)

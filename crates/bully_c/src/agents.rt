@@ -1,0 +1,560 @@
+//! Agents behind their handles.
+ghost use Rattle.std.specs.Prelude.{◌≡◌, ◌⊎◌, ◌≤◌, [], Err, Ok, IfErr, IfOk, IfSome, length, None, string_bytes, unwrap_or, reverse};
+ghost use Rattle.std.specs.Option.{option_copied};
+ghost use Rattle.bully_base.specs.Setup.{IsNode, IsSetup};
+ghost use Rattle.bully_calls.specs.declared.call.Answer.{Answer as AnswerState};
+ghost use Rattle.bully_lines.specs.Texts.{reply_of_text, reply_text, request_of_text};
+ghost use Rattle.bully_node.specs.Agent.{new_agent};
+ghost use Rattle.bully_rows.specs.TraceText.{line_of, row_fields, rows_text};
+ghost use Rattle.bully_rows.specs.Whole.{whole_of};
+ghost use Rattle.bully_rows.specs.declared.trace.Row.{Row as RowState};
+ghost use Rattle.bully_world.specs.declared.event.Event.{Event as EventState};
+ghost use Rattle.bully_c.specs.Arguments.{IsCopied, IsMadeAndCopied, RefusesOwners, setup_given, table_given};
+ghost use Rattle.bully_c.specs.Exports.{AtOpen, IsClosing, IsEvent, IsFailure, IsOpening, IsPlan, IsPrepared, IsPreparedTable, IsReply, IsServe, RefusesOpening, RefusesPrepare, RefusesReplyLine, RefusesRequestLine, Shows, opened, request_line, shown, told_answer};
+ghost use Rattle.bully_c.specs.Held.{TellsDrop, TellsEvent, TellsStart, rows_told};
+ghost use Rattle.bully_c.specs.Numbers.{step_number};
+ghost use Rattle.bully_c.specs.declared.status.TheConstants.{OK as OkNumber, OUT_OF_MEMORY as OutOfMemoryNumber};
+ghost use Rattle.bully_c.specs.declared.held.Told.{Told as ToldState};
+
+use crate::handle::AgentHandle;
+use crate::held::Held;
+use crate::shown::{CState, copy_owners, copy_text, copy_up, state_of};
+use crate::status::{self, CLOSED, LINE_WORD, OK, OPEN, OUT_OF_MEMORY, SHORT, TABLE_LENGTH};
+use crate::tables::{CSetup, node_of, put_owners, read_table, setup_of, table_of};
+use bully_base::{Node, OutOfMemory, Setup};
+use bully_calls::Answer;
+use bully_lines::{push_reply, push_request, read_reply, read_request};
+use bully_messages::{Reply, Request};
+use bully_node::Agent;
+use bully_rows::push_vector;
+use bully_table::Table;
+use bully_world::Refused;
+use std::alloc::Global;
+use std::str;
+
+// The status of a step.
+fn done(taken: Result<Answer, Refused>) -> u32
+    ensures { result ≡ step_number taken }
+{
+    match taken {
+        Ok(_) => OK,
+        Err(why) => status::of_refusal(why),
+    }
+}
+
+// The status of a step that brings an answer, which is written where it is taken.
+fn answered(taken: Result<Answer, Refused>, answer: &mut u32) -> u32
+    ensures status { result ≡ step_number taken }
+    ensures answer { answer.new ≡ told_answer answer.old taken }
+{
+    match taken {
+        Ok(told) => {
+            *answer = status::of_answer(told);
+            OK
+        }
+        Err(why) => status::of_refusal(why),
+    }
+}
+
+/// Opens the handle: [`Agent::new`], behind a test of its arguments.
+#[unsafe(no_mangle)]
+pub extern "C" fn bully_c_agent_open(
+    alloc: Global,
+    agent: &mut AgentHandle,
+    setup: &CSetup,
+    weights: &[u16],
+    node: u16,
+    events: u32,
+    task: &[u16],
+) -> u32
+    ensures { IsOpening (setup_given setup.now weights.now) node events task.now agent.old.value result agent.new.value }
+{
+    if let Some(held) = agent.take(alloc) {
+        agent.put(alloc, held);
+        return OPEN;
+    }
+    match opened(alloc, setup, weights, node, events, task) {
+        Ok(held) => {
+            agent.put(alloc, held);
+            OK
+        }
+        Err(status) => status,
+    }
+}
+
+// The agent of these arguments.
+fn opened(
+    alloc: Global,
+    setup: &CSetup,
+    weights: &[u16],
+    node: u16,
+    events: u32,
+    task: &[u16],
+) -> Result<Box<Held>, u32>
+    ensures ok { IfOk result (λ held. held.value ≡ opened (setup_given setup.now weights.now) node events task.now) }
+    ensures err { IfErr result (RefusesOpening (setup_given setup.now weights.now) node task.now) }
+{
+    let setup = setup_of(setup, weights)?;
+    let node = node_of(&setup, node)?;
+    let task = table_of(alloc, &setup, task)?;
+    match boxed(alloc, &setup, node, events, task.as_ref()) {
+        Ok(held) => Ok(held),
+        Err(_) => Err(OUT_OF_MEMORY),
+    }
+}
+
+// The agent, on the heap.
+fn boxed(
+    alloc: Global,
+    setup: &Setup,
+    node: Node,
+    events: u32,
+    task: Option<&Table>,
+) -> Result<Box<Held>, OutOfMemory>
+    requires node { node ≤ setup.now.nodes }
+    requires task { IfSome (option_copied task) (λ t. length t ≡ setup.now.partitions) }
+    ensures { IfOk result (λ held. held.value ≡ record { agent = new_agent setup.now node events (option_copied task.entry); told = ToldState.Nothing }) }
+{
+    let agent = Agent::new(alloc, setup, node, events, task)?;
+    Ok(Box::new(alloc, Held::new(agent))?)
+}
+
+/// Closes the handle, and gives back what it kept.
+#[unsafe(no_mangle)]
+pub extern "C" fn bully_c_agent_close(alloc: Global, agent: &mut AgentHandle) -> u32
+    ensures { IsClosing agent.old.value result agent.new.value }
+{
+    match agent.take(alloc) {
+        Some(_) => OK,
+        None => CLOSED,
+    }
+}
+
+/// The node recovers: [`Agent::recover`].
+#[unsafe(no_mangle)]
+pub extern "C" fn bully_c_agent_recover(alloc: Global, agent: &mut AgentHandle) -> u32
+    ensures { AtOpen (IsEvent EventState.Recover (TellsEvent EventState.Recover)) agent.old.value result agent.new.value }
+{
+    let Some(mut held) = agent.take(alloc) else {
+        return CLOSED;
+    };
+    let status = done(held.recover());
+    agent.put(alloc, held);
+    status
+}
+
+/// The node crashes: [`Agent::crash`].
+#[unsafe(no_mangle)]
+pub extern "C" fn bully_c_agent_crash(alloc: Global, agent: &mut AgentHandle) -> u32
+    ensures { AtOpen (IsEvent EventState.Crash (TellsEvent EventState.Crash)) agent.old.value result agent.new.value }
+{
+    let Some(mut held) = agent.take(alloc) else {
+        return CLOSED;
+    };
+    let status = done(held.crash());
+    agent.put(alloc, held);
+    status
+}
+
+/// The idle node begins to check: [`Agent::check`].
+#[unsafe(no_mangle)]
+pub extern "C" fn bully_c_agent_check(alloc: Global, agent: &mut AgentHandle) -> u32
+    ensures { AtOpen (IsEvent EventState.Check (TellsEvent EventState.Check)) agent.old.value result agent.new.value }
+{
+    let Some(mut held) = agent.take(alloc) else {
+        return CLOSED;
+    };
+    let status = done(held.check());
+    agent.put(alloc, held);
+    status
+}
+
+/// The idle node heard nothing for too long: [`Agent::timeout`].
+#[unsafe(no_mangle)]
+pub extern "C" fn bully_c_agent_timeout(alloc: Global, agent: &mut AgentHandle) -> u32
+    ensures { AtOpen (IsEvent EventState.Timeout (TellsEvent EventState.Timeout)) agent.old.value result agent.new.value }
+{
+    let Some(mut held) = agent.take(alloc) else {
+        return CLOSED;
+    };
+    let status = done(held.timeout());
+    agent.put(alloc, held);
+    status
+}
+
+/// The node starts its call: [`Agent::start`].
+#[unsafe(no_mangle)]
+pub extern "C" fn bully_c_agent_start(alloc: Global, agent: &mut AgentHandle) -> u32
+    ensures { AtOpen (IsEvent EventState.Start TellsStart) agent.old.value result agent.new.value }
+{
+    let Some(mut held) = agent.take(alloc) else {
+        return CLOSED;
+    };
+    let status = done(held.start());
+    agent.put(alloc, held);
+    status
+}
+
+/// The node moves on without a call: [`Agent::advance`].
+#[unsafe(no_mangle)]
+pub extern "C" fn bully_c_agent_advance(alloc: Global, agent: &mut AgentHandle) -> u32
+    ensures { AtOpen (IsEvent EventState.Move (TellsEvent EventState.Move)) agent.old.value result agent.new.value }
+{
+    let Some(mut held) = agent.take(alloc) else {
+        return CLOSED;
+    };
+    let status = done(held.advance());
+    agent.put(alloc, held);
+    status
+}
+
+/// The node's call, an orphan, is given up: [`Agent::drop_orphan`].
+#[unsafe(no_mangle)]
+pub extern "C" fn bully_c_agent_drop_orphan(alloc: Global, agent: &mut AgentHandle) -> u32
+    ensures { AtOpen (IsEvent EventState.Drop TellsDrop) agent.old.value result agent.new.value }
+{
+    let Some(mut held) = agent.take(alloc) else {
+        return CLOSED;
+    };
+    let status = done(held.drop_orphan());
+    agent.put(alloc, held);
+    status
+}
+
+/// The node has planned the table of these owners: [`Agent::plan`].
+#[unsafe(no_mangle)]
+pub extern "C" fn bully_c_agent_plan(alloc: Global, agent: &mut AgentHandle, owners: &[u16]) -> u32
+    ensures { AtOpen (IsPlan owners.now) agent.old.value result agent.new.value }
+{
+    let Some(mut held) = agent.take(alloc) else {
+        return CLOSED;
+    };
+    let status = planned(alloc, &mut held, owners);
+    agent.put(alloc, held);
+    status
+}
+
+// The agent has planned the table of these owners.
+fn planned(alloc: Global, held: &mut Held, owners: &[u16]) -> u32
+    ensures { IsPlan owners.now held.old result held.new }
+{
+    match read_table(alloc, held.agent.setup(), owners) {
+        Ok(table) => done(held.plan(table)),
+        Err(status) => status,
+    }
+}
+
+/// The table that the node should plan from the one of these owners, or from none: [`Agent::prepare`].
+#[unsafe(no_mangle)]
+pub extern "C" fn bully_c_agent_prepare(
+    alloc: Global,
+    agent: &mut AgentHandle,
+    old: &[u16],
+    owners: &mut [u16],
+) -> u32
+    ensures open { AtOpen (IsPrepared old.now owners.old owners.new) agent.old.value result agent.new.value }
+    ensures closed { agent.old.value ≡ None → owners.new ≡ owners.old }
+{
+    let Some(held) = agent.take(alloc) else {
+        return CLOSED;
+    };
+    let status = match prepared(alloc, &held.agent, old, owners.len()) {
+        Ok(table) => {
+            put_owners(&table, owners);
+            OK
+        }
+        Err(status) => status,
+    };
+    agent.put(alloc, held);
+    status
+}
+
+// The table that the agent prepares, which has so many owners.
+fn prepared(alloc: Global, agent: &Agent, old: &[u16], count: usize) -> Result<Table, u32>
+    ensures ok { IfOk result (IsPreparedTable agent.now old.now) }
+    ensures count { IfOk result (λ table. length table ≡ count) }
+    ensures err { IfErr result (RefusesPrepare agent.now old.now count) }
+{
+    let setup = agent.setup();
+    if count != usize::from(setup.partitions()) {
+        return Err(TABLE_LENGTH);
+    }
+    let old = table_of(alloc, setup, old)?;
+    match agent.prepare(alloc, old.as_ref()) {
+        Ok(table) => Ok(table),
+        Err(_) => Err(OUT_OF_MEMORY),
+    }
+}
+
+/// The line of the request of the node's call, while that is under way, else none: [`Agent::request`].
+#[unsafe(no_mangle)]
+pub extern "C" fn bully_c_agent_request(
+    alloc: Global,
+    agent: &mut AgentHandle,
+    line: &mut [u8],
+    length: &mut usize,
+) -> u32
+    ensures open { AtOpen (Shows (λ held status. IsMadeAndCopied (request_line held.agent) line.old length.old status line.new length.new)) agent.old.value result agent.new.value }
+    ensures closed { agent.old.value ≡ None → (line.new ≡ line.old) × (length.new ≡ length.old) }
+{
+    let Some(held) = agent.take(alloc) else {
+        return CLOSED;
+    };
+    let status = match request_line(alloc, &held.agent) {
+        Ok(text) => copy_text(&text, line, length),
+        Err(_) => OUT_OF_MEMORY,
+    };
+    agent.put(alloc, held);
+    status
+}
+
+// The line of the request that the agent gives out, or nothing.
+fn request_line(alloc: Global, agent: &Agent) -> Result<String, OutOfMemory>
+    ensures { IfOk result (λ text. string_bytes text ≡ request_line agent.now) }
+{
+    let mut text = String::new(alloc);
+    if let Some(request) = agent.request()? {
+        push_request(&mut text, &request)?;
+    }
+    Ok(text)
+}
+
+/// The request of this line runs at the node, and the line of the reply is written: [`Agent::serve`].
+#[unsafe(no_mangle)]
+pub extern "C" fn bully_c_agent_serve(
+    alloc: Global,
+    agent: &mut AgentHandle,
+    line: &[u8],
+    reply: &mut [u8],
+    length: &mut usize,
+) -> u32
+    ensures open { AtOpen (IsServe line.now reply.old length.old reply.new length.new) agent.old.value result agent.new.value }
+    ensures closed { agent.old.value ≡ None → (reply.new ≡ reply.old) × (length.new ≡ length.old) }
+{
+    let Some(mut held) = agent.take(alloc) else {
+        return CLOSED;
+    };
+    let status = served(alloc, &mut held, line, reply, length);
+    agent.put(alloc, held);
+    status
+}
+
+// The request of this line runs, where there is room for the reply.
+fn served(alloc: Global, held: &mut Held, line: &[u8], reply: &mut [u8], length: &mut usize) -> u32
+    ensures { IsServe line.now reply.old length.old reply.new length.new held.old result held.new }
+{
+    let request = match request_in(alloc, held.agent.setup(), line) {
+        Ok(request) => request,
+        Err(status) => return status,
+    };
+    let (Ok(yes), Ok(no)) = (
+        reply_line(alloc, &request, Answer::Yes),
+        reply_line(alloc, &request, Answer::No),
+    ) else {
+        return OUT_OF_MEMORY;
+    };
+    if reply.len() < yes.len() {
+        *length = yes.len();
+        return SHORT;
+    }
+    match held.serve(&request) {
+        Ok(told) => copy_text(line_told(told.answer, &yes, &no), reply, length),
+        Err(why) => status::of_refusal(why),
+    }
+}
+
+// The line of a No or else that of a Yes.
+fn line_told<'a>(answer: Answer, yes: &'a str, no: &'a str) -> &'a str
+    ensures yes { answer ≡ AnswerState.Yes → result.now ≡ yes.now }
+    ensures no { answer ≡ AnswerState.No → result.now ≡ no.now }
+{
+    match answer {
+        Answer::No => no,
+        _ => yes,
+    }
+}
+
+// The line of the reply that tells this.
+fn reply_line(alloc: Global, request: &Request, answer: Answer) -> Result<String, OutOfMemory>
+    ensures { IfOk result (λ text. string_bytes text ≡ reply_text (record { caller = request.now.caller; number = request.now.number; answer = answer })) }
+{
+    let mut text = String::new(alloc);
+    let reply = Reply {
+        caller: request.caller,
+        number: request.number,
+        answer,
+    };
+    push_reply(&mut text, reply)?;
+    Ok(text)
+}
+
+// The request that the line spells.
+fn request_in(alloc: Global, setup: &Setup, line: &[u8]) -> Result<Request, u32>
+    ensures ok { IfOk result (λ request. request_of_text setup.now line.now ≡ Ok request) }
+    ensures err { IfErr result (RefusesRequestLine setup.now line.now) }
+{
+    let Ok(line) = str::from_utf8(line) else {
+        return Err(LINE_WORD);
+    };
+    match read_request(alloc, setup, line) {
+        Ok(request) => Ok(request),
+        Err(fault) => Err(status::of_request(fault)),
+    }
+}
+
+/// The node's call returns with the reply of this line, and what it is told is written: [`Agent::replied`].
+#[unsafe(no_mangle)]
+pub extern "C" fn bully_c_agent_replied(
+    alloc: Global,
+    agent: &mut AgentHandle,
+    line: &[u8],
+    answer: &mut u32,
+) -> u32
+    ensures open { AtOpen (IsReply line.now answer.old answer.new) agent.old.value result agent.new.value }
+    ensures closed { agent.old.value ≡ None → answer.new ≡ answer.old }
+{
+    let Some(mut held) = agent.take(alloc) else {
+        return CLOSED;
+    };
+    let status = match reply_in(held.agent.setup(), line) {
+        Ok(reply) => answered(held.replied(reply), answer),
+        Err(status) => status,
+    };
+    agent.put(alloc, held);
+    status
+}
+
+// The reply that the line spells.
+fn reply_in(setup: &Setup, line: &[u8]) -> Result<Reply, u32>
+    ensures ok { IfOk result (λ reply. reply_of_text setup.now line.now ≡ Ok reply) }
+    ensures err { IfErr result (RefusesReplyLine setup.now line.now) }
+{
+    let Ok(line) = str::from_utf8(line) else {
+        return Err(LINE_WORD);
+    };
+    match read_reply(setup, line) {
+        Ok(reply) => Ok(reply),
+        Err(fault) => Err(status::of_reply(fault)),
+    }
+}
+
+/// The node's call of this number failed, and returns, and what it is told is written: [`Agent::failed`].
+#[unsafe(no_mangle)]
+pub extern "C" fn bully_c_agent_failed(
+    alloc: Global,
+    agent: &mut AgentHandle,
+    number: u32,
+    answer: &mut u32,
+) -> u32
+    ensures open { AtOpen (IsFailure number answer.old answer.new) agent.old.value result agent.new.value }
+    ensures closed { agent.old.value ≡ None → answer.new ≡ answer.old }
+{
+    let Some(mut held) = agent.take(alloc) else {
+        return CLOSED;
+    };
+    let status = answered(held.failed(number), answer);
+    agent.put(alloc, held);
+    status
+}
+
+/// How the node stands.
+#[unsafe(no_mangle)]
+pub extern "C" fn bully_c_agent_show(
+    alloc: Global,
+    agent: &mut AgentHandle,
+    state: &mut CState,
+) -> u32
+    ensures open { AtOpen (Shows (λ held status. (status ≡ OkNumber) × (state.new ≡ shown held.agent))) agent.old.value result agent.new.value }
+    ensures closed { agent.old.value ≡ None → state.new ≡ state.old }
+{
+    let Some(held) = agent.take(alloc) else {
+        return CLOSED;
+    };
+    *state = state_of(&held.agent);
+    agent.put(alloc, held);
+    OK
+}
+
+/// The nodes of the node's up set, rising.
+#[unsafe(no_mangle)]
+pub extern "C" fn bully_c_agent_up(
+    alloc: Global,
+    agent: &mut AgentHandle,
+    nodes: &mut [u16],
+    count: &mut usize,
+) -> u32
+    ensures open { AtOpen (Shows (λ held status. IsCopied (reverse held.agent.member.vector.vector.up) nodes.old status nodes.new count.new)) agent.old.value result agent.new.value }
+    ensures closed { agent.old.value ≡ None → (nodes.new ≡ nodes.old) × (count.new ≡ count.old) }
+{
+    let Some(held) = agent.take(alloc) else {
+        return CLOSED;
+    };
+    let status = copy_up(held.agent.vector().up(), nodes, count);
+    agent.put(alloc, held);
+    status
+}
+
+/// The owners of the node's task; none without one.
+#[unsafe(no_mangle)]
+pub extern "C" fn bully_c_agent_task(
+    alloc: Global,
+    agent: &mut AgentHandle,
+    owners: &mut [u16],
+    count: &mut usize,
+) -> u32
+    ensures open { AtOpen (Shows (λ held status. IsCopied (unwrap_or held.agent.member.vector.vector.task []) owners.old status owners.new count.new)) agent.old.value result agent.new.value }
+    ensures closed { agent.old.value ≡ None → (owners.new ≡ owners.old) × (count.new ≡ count.old) }
+{
+    let Some(held) = agent.take(alloc) else {
+        return CLOSED;
+    };
+    let status = copy_owners(held.agent.vector().task(), owners, count);
+    agent.put(alloc, held);
+    status
+}
+
+/// The rows of the last step.
+#[unsafe(no_mangle)]
+pub extern "C" fn bully_c_agent_rows(
+    alloc: Global,
+    agent: &mut AgentHandle,
+    rows: &mut [u8],
+    length: &mut usize,
+) -> u32
+    ensures open { AtOpen (Shows (λ held status. IsMadeAndCopied (rows_text (rows_told held.told)) rows.old length.old status rows.new length.new)) agent.old.value result agent.new.value }
+    ensures closed { agent.old.value ≡ None → (rows.new ≡ rows.old) × (length.new ≡ length.old) }
+{
+    let Some(held) = agent.take(alloc) else {
+        return CLOSED;
+    };
+    let mut text = String::new(alloc);
+    let status = match held.push_rows(&mut text) {
+        Ok(()) => copy_text(&text, rows, length),
+        Err(_) => OUT_OF_MEMORY,
+    };
+    agent.put(alloc, held);
+    status
+}
+
+/// The row that says all of the node's vector.
+#[unsafe(no_mangle)]
+pub extern "C" fn bully_c_agent_claim(
+    alloc: Global,
+    agent: &mut AgentHandle,
+    row: &mut [u8],
+    length: &mut usize,
+) -> u32
+    ensures open { AtOpen (Shows (λ held status. IsMadeAndCopied (line_of (row_fields (RowState.Whole (whole_of held.agent.node held.agent.member.vector.vector)))) row.old length.old status row.new length.new)) agent.old.value result agent.new.value }
+    ensures closed { agent.old.value ≡ None → (row.new ≡ row.old) × (length.new ≡ length.old) }
+{
+    let Some(held) = agent.take(alloc) else {
+        return CLOSED;
+    };
+    let mut text = String::new(alloc);
+    let status = match push_vector(&mut text, held.agent.node(), held.agent.vector()) {
+        Ok(()) => copy_text(&text, row, length),
+        Err(_) => OUT_OF_MEMORY,
+    };
+    agent.put(alloc, held);
+    status
+}

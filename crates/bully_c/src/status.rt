@@ -1,0 +1,164 @@
+//! The numbers of include/bully.h.
+ghost use Rattle.std.specs.Prelude.{◌≡◌};
+ghost use Rattle.bully_lines.specs.declared.fault.RequestFault.{RequestFault};
+ghost use Rattle.bully_c.specs.Numbers.{answer_number, kind_number, refusal_number, reply_number, request_number, setup_number, status_number, trace_number, want_number};
+
+use bully_base::{SetupFault, Status};
+use bully_calls::{Answer, CallKind};
+use bully_lines::{ReplyFault, RequestFault};
+use bully_rows::TraceCause;
+use bully_steps::Want;
+use bully_table::TableFault;
+use bully_world::Refused;
+
+pub const OK: u32 = 0;
+
+pub const BAD_NODE: u32 = 2;
+
+pub const CLOSED: u32 = 21;
+
+pub const OPEN: u32 = 22;
+
+pub const OUT_OF_MEMORY: u32 = 23;
+
+pub const SHORT: u32 = 24;
+
+pub const TABLE_LENGTH: u32 = 29;
+
+pub const TABLE_OWNER: u32 = 30;
+
+pub const NO_MEMBER: u32 = 31;
+
+pub const LINE_WORD: u32 = 40;
+
+/// Of an event that is refused.
+pub fn of_refusal(why: Refused) -> u32
+    ensures { result ≡ refusal_number why }
+{
+    match why {
+        Refused::Full => 1,
+        Refused::BadNode => 2,
+        Refused::IsDown => 3,
+        Refused::IsUp => 4,
+        Refused::Busy => 5,
+        Refused::NoStep => 6,
+        Refused::SlotBusy => 7,
+        Refused::NoCall => 8,
+        Refused::CalleeDown => 9,
+        Refused::CalleeUp => 10,
+        Refused::BadTable => 11,
+        Refused::NotOrphan => 12,
+    }
+}
+
+/// Of a setup that is refused.
+pub fn of_setup(fault: SetupFault) -> u32
+    ensures { result ≡ setup_number fault }
+{
+    match fault {
+        SetupFault::BadNodes => 25,
+        SetupFault::BadPartitions => 26,
+        SetupFault::BadLimit => 27,
+        SetupFault::BadWeights => 28,
+    }
+}
+
+/// Of a line that is no request.
+pub fn of_request(fault: RequestFault) -> u32
+    ensures { result ≡ request_number fault }
+{
+    match fault {
+        RequestFault::Word => LINE_WORD,
+        RequestFault::Caller => 41,
+        RequestFault::Number => 42,
+        RequestFault::Callee => 43,
+        RequestFault::Kind => 44,
+        RequestFault::Table(fault) => of_table(fault),
+    }
+}
+
+// Of the table of a line.
+fn of_table(fault: TableFault) -> u32
+    ensures { result ≡ request_number (RequestFault.Table fault) }
+{
+    match fault {
+        TableFault::OutOfMemory => OUT_OF_MEMORY,
+        TableFault::Length | TableFault::Owner | TableFault::Syntax => 45,
+    }
+}
+
+/// Of a line that is no reply.
+pub fn of_reply(fault: ReplyFault) -> u32
+    ensures { result ≡ reply_number fault }
+{
+    match fault {
+        ReplyFault::Word => LINE_WORD,
+        ReplyFault::Caller => 41,
+        ReplyFault::Number => 42,
+        ReplyFault::Answer => 46,
+    }
+}
+
+/// Of a trace that isn't well-formed, or can't be judged. Its bytes are here and its verdict is written here, so that a read or a
+/// write fails for want of memory alone.
+pub fn of_trace(cause: TraceCause) -> u32
+    ensures { result ≡ trace_number cause }
+{
+    match cause {
+        TraceCause::BadHeader => 50,
+        TraceCause::BadRow => 51,
+        TraceCause::TooManyRows => 52,
+        TraceCause::OutOfMemory | TraceCause::Read | TraceCause::Write => OUT_OF_MEMORY,
+    }
+}
+
+/// Of what a call brought.
+pub fn of_answer(answer: Answer) -> u32
+    ensures { result ≡ answer_number answer }
+{
+    match answer {
+        Answer::Done => 0,
+        Answer::Yes => 1,
+        Answer::No => 2,
+        Answer::Failed => 3,
+        Answer::Discarded => 4,
+    }
+}
+
+/// Of a node's status.
+pub fn of_status(status: Status) -> u32
+    ensures { result ≡ status_number status }
+{
+    match status {
+        Status::Down => 0,
+        Status::Election => 1,
+        Status::Reorganization => 2,
+        Status::Normal => 3,
+    }
+}
+
+/// Of what a node wants to do next.
+pub fn of_want(want: Want) -> u32
+    ensures { result ≡ want_number want }
+{
+    match want {
+        Want::Nothing => 0,
+        Want::Start(_) => 1,
+        Want::Move => 2,
+        Want::Plan => 3,
+        Want::Await => 4,
+    }
+}
+
+/// Of the kind of a call.
+pub fn of_kind(kind: CallKind) -> u32
+    ensures { result ≡ kind_number kind }
+{
+    match kind {
+        CallKind::AreYouUp => 1,
+        CallKind::AreYouNormal => 2,
+        CallKind::Halt => 3,
+        CallKind::NewCoordinator => 4,
+        CallKind::Ready => 5,
+    }
+}

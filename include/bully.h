@@ -1,0 +1,242 @@
+/* bully.h: one node of a group, from C and from whatever calls C.
+ *
+ * The node elects a coordinator with its group by Garcia-Molina's Bully algorithm and has the group's task, as `docs/NODE.md`
+ * says: that page has the loop of a process, what the program has to keep, and why. This library leaves sockets, clocks, threads
+ * and files to the program; it makes no thread, takes no lock and prints nothing. `bin/library` builds it.
+ *
+ * Each function answers a status. Where that isn't BULLY_OK nothing has changed, and nothing was written but what the
+ * function's comment says. Each tests its arguments, in the order in which the statuses stand in its comment:
+ *
+ * - BULLY_NULL: a pointer is null that must not be, or a length is above PTRDIFF_MAX bytes. A pointer to no items may be null.
+ * - BULLY_CLOSED: the handle isn't open.
+ *
+ * What no test can see, the program has to keep:
+ *
+ * - a handle is zeroed before it is opened, and nothing but this library writes it then; it isn't copied to be used twice;
+ * - one call of a handle at a time; it may go from thread to thread, and other threads may use other handles meanwhile;
+ * - a pointer and its length speak of memory that is there, and no two of them of the same memory, unless both are only read;
+ * - malloc, realloc and free are those of the C library, and no call comes from a signal handler.
+ *
+ * Nodes are numbered from 1, and 0 stands for none. A table has an owner, a node, for each partition. Text is ASCII, without a
+ * zero byte at its end: its length says where it ends.
+ */
+#ifndef BULLY_H
+#define BULLY_H
+
+#include <stddef.h>
+#include <stdint.h>
+
+#ifdef __cplusplus
+extern "C" {
+#endif
+
+/* The most that a setup may have, and the most events that it may bound. */
+#define BULLY_NODES_MAX 1024
+#define BULLY_PARTITIONS_MAX 4096
+#define BULLY_WEIGHT_MAX 1000
+#define BULLY_EVENTS_MAX 1000000
+
+/* The most bytes that the line of a reply takes. */
+#define BULLY_REPLY_MAX 32
+
+/* ---- Statuses ---- */
+
+typedef uint32_t bully_status;
+
+enum {
+    BULLY_OK = 0,
+
+    /* Why an event is refused, as `docs/ALGORITHM.md` lists the causes. */
+    BULLY_FULL = 1,         /* as many events as the setup bounds were told */
+    BULLY_BAD_NODE = 2,     /* a node is none of the setup's */
+    BULLY_IS_DOWN = 3,      /* the node is Down */
+    BULLY_IS_UP = 4,        /* the node recovers and isn't Down */
+    BULLY_BUSY = 5,         /* a check or a timeout of a node that isn't idle */
+    BULLY_NO_STEP = 6,      /* the node doesn't want to do that next */
+    BULLY_SLOT_BUSY = 7,    /* the node has a call under way */
+    BULLY_NO_CALL = 8,      /* there is no such call */
+    BULLY_CALLEE_DOWN = 9,  /* the request comes to a node that is Down */
+    BULLY_CALLEE_UP = 10,   /* of a trace alone: a call is lost whose callee is up */
+    BULLY_BAD_TABLE = 11,   /* a planned table isn't balanced over the node and its up set */
+    BULLY_NOT_ORPHAN = 12,  /* the call isn't an orphan */
+
+    /* Of arguments. */
+    BULLY_NULL = 20,
+    BULLY_CLOSED = 21,
+    BULLY_OPEN = 22,           /* the handle is open already */
+    BULLY_OUT_OF_MEMORY = 23,  /* an allocation failed */
+    BULLY_SHORT = 24,          /* the caller's room is too small; how much is wanted was written */
+    BULLY_BAD_NODES = 25,      /* nodes: none, or more than BULLY_NODES_MAX */
+    BULLY_BAD_PARTITIONS = 26, /* partitions: none, or more than BULLY_PARTITIONS_MAX */
+    BULLY_BAD_LIMIT = 27,      /* events_max: 0, or more than BULLY_EVENTS_MAX */
+    BULLY_BAD_WEIGHTS = 28,    /* weights: another number than nodes, or one of 0 or above BULLY_WEIGHT_MAX */
+    BULLY_TABLE_LENGTH = 29,   /* a table has another number of owners than there are partitions */
+    BULLY_TABLE_OWNER = 30,    /* an owner is no node of the setup */
+    BULLY_NO_MEMBER = 31,      /* a table over no members */
+
+    /* The first fault of a line, from its left, as `docs/NODE.md` lists them. */
+    BULLY_LINE_WORD = 40,   /* it doesn't begin with `ask`, or with `tell`, or isn't UTF-8 */
+    BULLY_LINE_CALLER = 41,
+    BULLY_LINE_NUMBER = 42,
+    BULLY_LINE_CALLEE = 43,
+    BULLY_LINE_KIND = 44,
+    BULLY_LINE_TABLE = 45,
+    BULLY_LINE_ANSWER = 46,
+
+    /* The first fault of a trace's form, as `docs/FORMATS.md` lists them. */
+    BULLY_BAD_HEADER = 50,
+    BULLY_BAD_ROW = 51,
+    BULLY_TOO_MANY_ROWS = 52
+};
+
+/* The status's name, as BULLY_OK is named "OK"; "?" of a number that is none. It never fails, and the text is never freed. */
+const char *bully_status_name(bully_status status);
+
+/* ---- Setups ---- */
+
+/* What the group is set up with. Behind it, where a function takes a setup, stand the weights of its nodes, that of node 1 first:
+ * as many as nodes, each from 1 to BULLY_WEIGHT_MAX; or none, and then each weighs 1. */
+typedef struct bully_setup {
+    uint16_t nodes;      /* 1 to BULLY_NODES_MAX */
+    uint16_t partitions; /* 1 to BULLY_PARTITIONS_MAX */
+    uint32_t events_max; /* 1 to BULLY_EVENTS_MAX: how many events the group tells at most */
+    uint32_t keeps;      /* not 0: a node keeps its task over a crash */
+} bully_setup;
+
+/* ---- Traces ---- */
+
+enum { BULLY_LAWFUL = 0, BULLY_REFUSED = 1, BULLY_DIFFERS = 2 };
+
+typedef struct bully_verdict {
+    uint32_t kind;      /* BULLY_LAWFUL, BULLY_REFUSED or BULLY_DIFFERS */
+    uint32_t number;    /* lawful: how many events were counted; else the row that is refused or differs, from 1 */
+    bully_status cause; /* refused: why; else BULLY_OK */
+} bully_verdict;
+
+/* Judges a trace, as `bully check` does. Of a trace that has a fault of form, `number` of the verdict is its row; it is 0
+ * where an allocation failed.
+ * BULLY_NULL; BULLY_OUT_OF_MEMORY; BULLY_BAD_HEADER, BULLY_BAD_ROW, BULLY_TOO_MANY_ROWS: the first in the trace. */
+bully_status bully_check(const uint8_t *trace, size_t length, bully_verdict *verdict);
+
+/* ---- Tables ---- */
+
+/* Plans the table over these members, balanced, with the fewest moves from the old table; old_count 0: from none. `owners` has
+ * room for owner_count owners, as many as there are partitions, and `moves` gets how many partitions change their owner: all
+ * of them, where there is no old table.
+ * BULLY_NULL, BULLY_BAD_NODES, BULLY_BAD_PARTITIONS, BULLY_BAD_LIMIT, BULLY_BAD_WEIGHTS; BULLY_BAD_NODE: a member;
+ * BULLY_TABLE_LENGTH: of the old table, or of owner_count; BULLY_TABLE_OWNER: of the old table; BULLY_NO_MEMBER;
+ * BULLY_OUT_OF_MEMORY. */
+bully_status bully_table(const bully_setup *setup, const uint16_t *weights, size_t weight_count, const uint16_t *members,
+                         size_t member_count, const uint16_t *old, size_t old_count, uint16_t *owners, size_t owner_count,
+                         uint16_t *moves);
+
+/* ---- One node ---- */
+
+/* A handle of an agent: what the library keeps of one node. Closed where it is zeroed. */
+typedef struct bully_agent {
+    void *held;
+} bully_agent;
+
+#define BULLY_AGENT_CLOSED { NULL }
+
+/* Opens the handle: the agent of a node that is Down, whose log has so many events, 0 at first, and has kept this task;
+ * task_count 0: none.
+ * BULLY_NULL, BULLY_OPEN, BULLY_BAD_NODES, BULLY_BAD_PARTITIONS, BULLY_BAD_LIMIT, BULLY_BAD_WEIGHTS, BULLY_BAD_NODE,
+ * BULLY_TABLE_LENGTH, BULLY_TABLE_OWNER, BULLY_OUT_OF_MEMORY. */
+bully_status bully_agent_open(bully_agent *agent, const bully_setup *setup, const uint16_t *weights, size_t weight_count, uint16_t node,
+                        uint32_t events, const uint16_t *task, size_t task_count);
+
+/* Closes the handle, and gives back all that was kept. BULLY_NULL, BULLY_CLOSED. */
+bully_status bully_agent_close(bully_agent *agent);
+
+/* What a node does by itself. Each that is BULLY_OK is one event of the group, and `bully_agent_rows` has its row for the log. */
+
+/* The node recovers, and stands for election. BULLY_NULL, BULLY_CLOSED, BULLY_FULL, BULLY_IS_UP. */
+bully_status bully_agent_recover(bully_agent *agent);
+/* The node crashes, or has to stop. BULLY_NULL, BULLY_CLOSED, BULLY_FULL, BULLY_IS_DOWN. */
+bully_status bully_agent_crash(bully_agent *agent);
+/* The idle node begins to check. BULLY_NULL, BULLY_CLOSED, BULLY_FULL, BULLY_IS_DOWN, BULLY_BUSY. */
+bully_status bully_agent_check(bully_agent *agent);
+/* The idle node heard nothing for too long. BULLY_NULL, BULLY_CLOSED, BULLY_FULL, BULLY_IS_DOWN, BULLY_BUSY. */
+bully_status bully_agent_timeout(bully_agent *agent);
+/* The node starts the call that it wants to start; `bully_agent_request` then has what is to be sent.
+ * BULLY_NULL, BULLY_CLOSED, BULLY_FULL, BULLY_IS_DOWN, BULLY_NO_STEP, BULLY_SLOT_BUSY. */
+bully_status bully_agent_start(bully_agent *agent);
+/* The node moves on without a call. BULLY_NULL, BULLY_CLOSED, BULLY_FULL, BULLY_IS_DOWN, BULLY_NO_STEP, BULLY_SLOT_BUSY. */
+bully_status bully_agent_advance(bully_agent *agent);
+/* The node has planned this table, as `bully_agent_prepare` makes one.
+ * BULLY_NULL, BULLY_CLOSED, BULLY_TABLE_LENGTH, BULLY_TABLE_OWNER, BULLY_OUT_OF_MEMORY, BULLY_FULL, BULLY_IS_DOWN, BULLY_NO_STEP,
+ * BULLY_SLOT_BUSY, BULLY_BAD_TABLE. */
+bully_status bully_agent_plan(bully_agent *agent, const uint16_t *owners, size_t owner_count);
+/* The node's call, an orphan, is given up. BULLY_NULL, BULLY_CLOSED, BULLY_FULL, BULLY_IS_DOWN, BULLY_NO_CALL, BULLY_NOT_ORPHAN. */
+bully_status bully_agent_drop_orphan(bully_agent *agent);
+
+/* The table that the node should plan, from this old one; old_count 0: from none. No event.
+ * BULLY_NULL, BULLY_CLOSED; BULLY_TABLE_LENGTH: of the old table, or of owner_count; BULLY_TABLE_OWNER, BULLY_OUT_OF_MEMORY. */
+bully_status bully_agent_prepare(bully_agent *agent, const uint16_t *old, size_t old_count, uint16_t *owners, size_t owner_count);
+
+/* What comes from other nodes, or goes to them. Lines have no line end. */
+
+/* The line of the request of the node's call, while that is under way, to be sent to its callee, once; a length of 0: none is.
+ * No event. BULLY_NULL, BULLY_CLOSED, BULLY_OUT_OF_MEMORY; BULLY_SHORT, with the length. */
+bully_status bully_agent_request(bully_agent *agent, char *line, size_t room, size_t *length);
+/* The request of this line runs at the node; what is written is the line of the reply to its caller. One event. Premise: the
+ * request is the caller's call, and runs once, while that is under way.
+ * BULLY_NULL, BULLY_CLOSED, BULLY_LINE_.., BULLY_OUT_OF_MEMORY; BULLY_SHORT: room below the line of a Yes, with its length,
+ * which is at most BULLY_REPLY_MAX; BULLY_FULL, BULLY_BAD_NODE, BULLY_NO_CALL, BULLY_CALLEE_DOWN. */
+bully_status bully_agent_serve(bully_agent *agent, const char *line, size_t line_length, char *reply, size_t room, size_t *length);
+/* The node's call returns with the reply of this line; `answer` gets what it is told. One event. Premise: the call ran at its
+ * callee, and was answered so. BULLY_NULL, BULLY_CLOSED, BULLY_LINE_.., BULLY_FULL; BULLY_NO_CALL: it is no reply to the call under
+ * way. */
+bully_status bully_agent_replied(bully_agent *agent, const char *line, size_t line_length, uint32_t *answer);
+/* The node's call of this number failed, and returns; `answer` gets what it is told. Two events. Premise: the callee is Down.
+ * BULLY_NULL, BULLY_CLOSED, BULLY_FULL, BULLY_NO_CALL. */
+bully_status bully_agent_failed(bully_agent *agent, uint32_t number, uint32_t *answer);
+
+/* What a call that returned brought. */
+enum { BULLY_DONE = 0, BULLY_YES = 1, BULLY_NO = 2, BULLY_FAILED = 3, BULLY_DISCARDED = 4 };
+
+/* ---- What an agent shows. No event. ---- */
+
+enum { BULLY_DOWN = 0, BULLY_ELECTION = 1, BULLY_REORGANIZATION = 2, BULLY_NORMAL = 3 };
+enum { BULLY_WANTS_NOTHING = 0, BULLY_WANTS_START = 1, BULLY_WANTS_MOVE = 2, BULLY_WANTS_PLAN = 3, BULLY_WANTS_AWAIT = 4 };
+enum {
+    BULLY_NO_CALL_KIND = 0,
+    BULLY_ARE_YOU_UP = 1,
+    BULLY_ARE_YOU_NORMAL = 2,
+    BULLY_HALT = 3,
+    BULLY_NEW_COORDINATOR = 4,
+    BULLY_READY = 5
+};
+
+typedef struct bully_state {
+    uint32_t status;      /* BULLY_DOWN, BULLY_ELECTION, BULLY_REORGANIZATION or BULLY_NORMAL */
+    uint32_t wants;       /* what it wants to do next: BULLY_WANTS_.. */
+    uint32_t events;      /* how many it told, with those before it was opened */
+    uint32_t generation;  /* how often it was stopped or crashed since it was opened */
+    uint32_t call;        /* the kind of the call in its slot */
+    uint32_t orphan;      /* 1: that call is an orphan; else 0 */
+    uint32_t number;      /* of its last call */
+    uint16_t node;        /* its own number */
+    uint16_t coordinator; /* 0: none */
+    uint16_t halter;      /* who halted it; 0: nobody */
+    uint16_t callee;      /* of the call in its slot; 0: there is none */
+} bully_state;
+
+/* How the node stands. BULLY_NULL, BULLY_CLOSED. */
+bully_status bully_agent_show(bully_agent *agent, bully_state *state);
+/* The nodes of its up set, rising. BULLY_NULL, BULLY_CLOSED; BULLY_SHORT, with the count. */
+bully_status bully_agent_up(bully_agent *agent, uint16_t *nodes, size_t room, size_t *count);
+/* The owners of its task; a count of 0: it has none. BULLY_NULL, BULLY_CLOSED; BULLY_SHORT, with the count. */
+bully_status bully_agent_task(bully_agent *agent, uint16_t *owners, size_t room, size_t *count);
+/* The rows of its last step, for the log, each with its line end, as `docs/FORMATS.md` has them of version 3; a length of 0: it took
+ * none since it was opened. BULLY_NULL, BULLY_CLOSED, BULLY_OUT_OF_MEMORY; BULLY_SHORT, with the length. */
+bully_status bully_agent_rows(bully_agent *agent, char *rows, size_t room, size_t *length);
+/* The row that says all of its vector, with its line end. BULLY_NULL, BULLY_CLOSED, BULLY_OUT_OF_MEMORY; BULLY_SHORT, with the length. */
+bully_status bully_agent_claim(bully_agent *agent, char *row, size_t room, size_t *length);
+
+#ifdef __cplusplus
+}
+#endif
+
+#endif
