@@ -1,0 +1,221 @@
+/* bully.c: what stands between C and the proved functions.
+ *
+ * The functions of crates/bully_c are proved, but for references and slices: none of these can be null, and C can pass a null
+ * pointer. So each function of bully.h tests its pointers and lengths here, as that header says, and then calls the proved
+ * function that has its name with `bully_c_` in the place of `bully_`, and its parameters. Nothing else is decided here.
+ */
+#include "bully.h"
+
+/* ---- The proved functions: a reference is a pointer here, and a slice a pointer with its length behind it. ---- */
+
+bully_status bully_c_check(const uint8_t *trace, size_t length, bully_verdict *verdict);
+bully_status bully_c_table(const bully_setup *setup, const uint16_t *weights, size_t weight_count, const uint16_t *members,
+                           size_t member_count, const uint16_t *old, size_t old_count, uint16_t *owners, size_t owner_count,
+                           uint16_t *moves);
+bully_status bully_c_agent_open(bully_agent *agent, const bully_setup *setup, const uint16_t *weights, size_t weight_count,
+                                uint16_t node, uint32_t events, const uint16_t *task, size_t task_count);
+bully_status bully_c_agent_close(bully_agent *agent);
+bully_status bully_c_agent_recover(bully_agent *agent);
+bully_status bully_c_agent_crash(bully_agent *agent);
+bully_status bully_c_agent_check(bully_agent *agent);
+bully_status bully_c_agent_timeout(bully_agent *agent);
+bully_status bully_c_agent_start(bully_agent *agent);
+bully_status bully_c_agent_advance(bully_agent *agent);
+bully_status bully_c_agent_plan(bully_agent *agent, const uint16_t *owners, size_t owner_count);
+bully_status bully_c_agent_drop_orphan(bully_agent *agent);
+bully_status bully_c_agent_prepare(bully_agent *agent, const uint16_t *old, size_t old_count, uint16_t *owners, size_t owner_count);
+bully_status bully_c_agent_request(bully_agent *agent, char *line, size_t room, size_t *length);
+bully_status bully_c_agent_serve(bully_agent *agent, const char *line, size_t line_length, char *reply, size_t room, size_t *length);
+bully_status bully_c_agent_replied(bully_agent *agent, const char *line, size_t line_length, uint32_t *answer);
+bully_status bully_c_agent_failed(bully_agent *agent, uint32_t number, uint32_t *answer);
+bully_status bully_c_agent_show(bully_agent *agent, bully_state *state);
+bully_status bully_c_agent_up(bully_agent *agent, uint16_t *nodes, size_t room, size_t *count);
+bully_status bully_c_agent_task(bully_agent *agent, uint16_t *owners, size_t room, size_t *count);
+bully_status bully_c_agent_rows(bully_agent *agent, char *rows, size_t room, size_t *length);
+bully_status bully_c_agent_claim(bully_agent *agent, char *row, size_t room, size_t *length);
+
+/* ---- The tests ---- */
+
+/* Whether so many items of this size, in bytes, can lie there. */
+static int can_lie(const void *items, size_t count, size_t size) {
+    return count <= (size_t)PTRDIFF_MAX / size && (items != NULL || count == 0);
+}
+
+/* Where no items lie: a place for all of them, since a slice isn't null either. Nothing reads or writes it. */
+static uint64_t nowhere;
+
+/* The items to be read, or nowhere where there are none. */
+static const void *source(const void *items, size_t count) {
+    return count == 0 ? &nowhere : items;
+}
+
+/* The items to be written, or nowhere where there are none. */
+static void *target(void *items, size_t count) {
+    return count == 0 ? &nowhere : items;
+}
+
+/* ---- Traces and tables ---- */
+
+bully_status bully_check(const uint8_t *trace, size_t length, bully_verdict *verdict) {
+    if (!can_lie(trace, length, 1) || verdict == NULL) {
+        return BULLY_NULL;
+    }
+    return bully_c_check(source(trace, length), length, verdict);
+}
+
+bully_status bully_table(const bully_setup *setup, const uint16_t *weights, size_t weight_count, const uint16_t *members,
+                         size_t member_count, const uint16_t *old, size_t old_count, uint16_t *owners, size_t owner_count,
+                         uint16_t *moves) {
+    if (setup == NULL || !can_lie(weights, weight_count, sizeof *weights) || !can_lie(members, member_count, sizeof *members)) {
+        return BULLY_NULL;
+    }
+    if (!can_lie(old, old_count, sizeof *old) || !can_lie(owners, owner_count, sizeof *owners) || moves == NULL) {
+        return BULLY_NULL;
+    }
+    return bully_c_table(setup, source(weights, weight_count), weight_count, source(members, member_count), member_count,
+                         source(old, old_count), old_count, target(owners, owner_count), owner_count, moves);
+}
+
+/* ---- One node ---- */
+
+bully_status bully_agent_open(bully_agent *agent, const bully_setup *setup, const uint16_t *weights, size_t weight_count,
+                              uint16_t node, uint32_t events, const uint16_t *task, size_t task_count) {
+    if (agent == NULL || setup == NULL) {
+        return BULLY_NULL;
+    }
+    if (!can_lie(weights, weight_count, sizeof *weights) || !can_lie(task, task_count, sizeof *task)) {
+        return BULLY_NULL;
+    }
+    return bully_c_agent_open(agent, setup, source(weights, weight_count), weight_count, node, events, source(task, task_count),
+                              task_count);
+}
+
+bully_status bully_agent_close(bully_agent *agent) {
+    return agent == NULL ? BULLY_NULL : bully_c_agent_close(agent);
+}
+
+bully_status bully_agent_recover(bully_agent *agent) {
+    return agent == NULL ? BULLY_NULL : bully_c_agent_recover(agent);
+}
+
+bully_status bully_agent_crash(bully_agent *agent) {
+    return agent == NULL ? BULLY_NULL : bully_c_agent_crash(agent);
+}
+
+bully_status bully_agent_check(bully_agent *agent) {
+    return agent == NULL ? BULLY_NULL : bully_c_agent_check(agent);
+}
+
+bully_status bully_agent_timeout(bully_agent *agent) {
+    return agent == NULL ? BULLY_NULL : bully_c_agent_timeout(agent);
+}
+
+bully_status bully_agent_start(bully_agent *agent) {
+    return agent == NULL ? BULLY_NULL : bully_c_agent_start(agent);
+}
+
+bully_status bully_agent_advance(bully_agent *agent) {
+    return agent == NULL ? BULLY_NULL : bully_c_agent_advance(agent);
+}
+
+bully_status bully_agent_plan(bully_agent *agent, const uint16_t *owners, size_t owner_count) {
+    if (agent == NULL || !can_lie(owners, owner_count, sizeof *owners)) {
+        return BULLY_NULL;
+    }
+    return bully_c_agent_plan(agent, source(owners, owner_count), owner_count);
+}
+
+bully_status bully_agent_drop_orphan(bully_agent *agent) {
+    return agent == NULL ? BULLY_NULL : bully_c_agent_drop_orphan(agent);
+}
+
+bully_status bully_agent_prepare(bully_agent *agent, const uint16_t *old, size_t old_count, uint16_t *owners, size_t owner_count) {
+    if (agent == NULL || !can_lie(old, old_count, sizeof *old) || !can_lie(owners, owner_count, sizeof *owners)) {
+        return BULLY_NULL;
+    }
+    return bully_c_agent_prepare(agent, source(old, old_count), old_count, target(owners, owner_count), owner_count);
+}
+
+/* ---- What comes from other nodes, or goes to them ---- */
+
+bully_status bully_agent_request(bully_agent *agent, char *line, size_t room, size_t *length) {
+    if (agent == NULL || !can_lie(line, room, 1) || length == NULL) {
+        return BULLY_NULL;
+    }
+    return bully_c_agent_request(agent, target(line, room), room, length);
+}
+
+bully_status bully_agent_serve(bully_agent *agent, const char *line, size_t line_length, char *reply, size_t room, size_t *length) {
+    if (agent == NULL || !can_lie(line, line_length, 1) || !can_lie(reply, room, 1) || length == NULL) {
+        return BULLY_NULL;
+    }
+    return bully_c_agent_serve(agent, source(line, line_length), line_length, target(reply, room), room, length);
+}
+
+bully_status bully_agent_replied(bully_agent *agent, const char *line, size_t line_length, uint32_t *answer) {
+    if (agent == NULL || !can_lie(line, line_length, 1) || answer == NULL) {
+        return BULLY_NULL;
+    }
+    return bully_c_agent_replied(agent, source(line, line_length), line_length, answer);
+}
+
+bully_status bully_agent_failed(bully_agent *agent, uint32_t number, uint32_t *answer) {
+    return agent == NULL || answer == NULL ? BULLY_NULL : bully_c_agent_failed(agent, number, answer);
+}
+
+/* ---- What an agent shows ---- */
+
+bully_status bully_agent_show(bully_agent *agent, bully_state *state) {
+    return agent == NULL || state == NULL ? BULLY_NULL : bully_c_agent_show(agent, state);
+}
+
+bully_status bully_agent_up(bully_agent *agent, uint16_t *nodes, size_t room, size_t *count) {
+    if (agent == NULL || !can_lie(nodes, room, sizeof *nodes) || count == NULL) {
+        return BULLY_NULL;
+    }
+    return bully_c_agent_up(agent, target(nodes, room), room, count);
+}
+
+bully_status bully_agent_task(bully_agent *agent, uint16_t *owners, size_t room, size_t *count) {
+    if (agent == NULL || !can_lie(owners, room, sizeof *owners) || count == NULL) {
+        return BULLY_NULL;
+    }
+    return bully_c_agent_task(agent, target(owners, room), room, count);
+}
+
+bully_status bully_agent_rows(bully_agent *agent, char *rows, size_t room, size_t *length) {
+    if (agent == NULL || !can_lie(rows, room, 1) || length == NULL) {
+        return BULLY_NULL;
+    }
+    return bully_c_agent_rows(agent, target(rows, room), room, length);
+}
+
+bully_status bully_agent_claim(bully_agent *agent, char *row, size_t room, size_t *length) {
+    if (agent == NULL || !can_lie(row, room, 1) || length == NULL) {
+        return BULLY_NULL;
+    }
+    return bully_c_agent_claim(agent, target(row, room), room, length);
+}
+
+/* ---- Names ---- */
+
+#define NAME(status) [BULLY_##status] = #status
+
+static const char *const names[] = {
+    NAME(OK),
+    /* why an event is refused */
+    NAME(FULL), NAME(BAD_NODE), NAME(IS_DOWN), NAME(IS_UP), NAME(BUSY), NAME(NO_STEP), NAME(SLOT_BUSY), NAME(NO_CALL),
+    NAME(CALLEE_DOWN), NAME(CALLEE_UP), NAME(BAD_TABLE), NAME(NOT_ORPHAN),
+    /* of arguments */
+    NAME(NULL), NAME(CLOSED), NAME(OPEN), NAME(OUT_OF_MEMORY), NAME(SHORT), NAME(BAD_NODES), NAME(BAD_PARTITIONS),
+    NAME(BAD_LIMIT), NAME(BAD_WEIGHTS), NAME(TABLE_LENGTH), NAME(TABLE_OWNER), NAME(NO_MEMBER),
+    /* of lines */
+    NAME(LINE_WORD), NAME(LINE_CALLER), NAME(LINE_NUMBER), NAME(LINE_CALLEE), NAME(LINE_KIND), NAME(LINE_TABLE),
+    NAME(LINE_ANSWER),
+    /* of traces */
+    NAME(BAD_HEADER), NAME(BAD_ROW), NAME(TOO_MANY_ROWS),
+};
+
+const char *bully_status_name(bully_status status) {
+    return status < sizeof names / sizeof *names && names[status] != NULL ? names[status] : "?";
+}

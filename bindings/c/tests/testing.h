@@ -1,0 +1,74 @@
+/* What the tests beside this file have in common: counting, and two nodes that elect. */
+#ifndef TESTING_H
+#define TESTING_H
+
+#include "bully.h"
+
+/* Counts a test that held (not 0) or didn't, and tells the latter. */
+void count_test(int held, const char *file, int line, const char *text);
+void count_status(bully_status wanted, bully_status status, const char *file, int line, const char *text);
+/* Prints 'N passed, M failed', and answers the exit status: 0 where M is 0. */
+int tell_counts(void);
+
+#define EXPECT(condition) count_test((condition) ? 1 : 0, __FILE__, __LINE__, #condition)
+/* That a call answers this status, which is named without its BULLY_. */
+#define ANSWERS(name, call) count_status(BULLY_##name, (call), __FILE__, __LINE__, #call)
+
+/* How many items an array has. */
+#define COUNT(array) (sizeof(array) / sizeof *(array))
+
+/* Lengths above PTRDIFF_MAX bytes, of single bytes and of two. */
+#define TOO_MANY_BYTES ((size_t)PTRDIFF_MAX + 1)
+#define TOO_MANY_PAIRS ((size_t)PTRDIFF_MAX / 2 + 1)
+
+/* Room for any line and any row of the tests' groups. */
+#define ROOM 400
+
+/* Whether a text of this length is that one, which ends with a zero byte. */
+int is_text(const char *text, size_t length, const char *wanted);
+
+/* A setup that keeps no tasks. */
+bully_setup setup_of(uint16_t nodes, uint16_t partitions, uint32_t events_max);
+
+/* What an agent shows: all of it but its task, which the claim has. */
+struct look {
+    bully_state state;
+    char claim[ROOM], rows[ROOM], request[ROOM];
+    size_t claim_length, rows_length, request_length;
+};
+struct look look_at(bully_agent *agent);
+int is_same_look(const struct look *one, const struct look *other);
+/* Whether the agent's claim and the rows of its last step are these. */
+int claims(bully_agent *agent, const char *claim);
+int logged(bully_agent *agent, const char *rows);
+
+/* Nodes 1 and 2 of two, with two partitions. */
+struct pair {
+    bully_setup setup;
+    bully_agent first, second;
+};
+
+/* How far node 2 is: it wants to plan; its Ready to node 1 is started; both nodes are Normal. */
+enum stage { PLANNING, READYING, RESTING };
+
+struct pair open_pair(uint32_t events_max, enum stage stage);
+void close_pair(struct pair *pair);
+/* A whole call: it is started, runs at the callee and returns with this answer. */
+void call_once(bully_agent *caller, bully_agent *callee, uint32_t answer);
+/* The same behind its start. */
+void come_back(bully_agent *caller, bully_agent *callee, uint32_t answer);
+
+/* The owners that node 2 plans, and that the examples have. */
+extern const uint16_t two_owners[2];
+
+/* The tests of each file. `folder` has the examples. */
+void try_names(void);
+void try_arguments(void);
+void try_traces(const char *folder);
+void try_tables(void);
+void try_agents(void);
+void try_lines(void);
+void try_examples(const char *folder);
+void try_elections(void);
+
+#endif
