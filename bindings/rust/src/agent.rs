@@ -1,0 +1,169 @@
+//! One node of a group.
+
+use crate::calls::{unexpected, Handle};
+use crate::faults::{
+    OpenError, OutOfMemory, PlanError, PrepareError, Refused, ReplyError, ServeError,
+};
+use crate::setup::Setup;
+use crate::shown::{Answer, State};
+use std::fmt;
+
+/// One node on its own: what a process of that node keeps.
+///
+/// Each call that takes `&mut self` is an event of the group, two where a call failed, which [`Agent::rows`] then has for the log; or
+/// it is refused and changes nothing. The calls that take `&self` change nothing. `docs/NODE.md` has the loop of a process, and
+/// what the program has to keep: the premises below are part of that.
+///
+/// An agent may go from thread to thread. Threads can't share one without a lock: also a call that only shows something may
+/// write the handle for its own use.
+///
+/// ```compile_fail,E0277
+/// fn shared<T: Sync>() {}
+/// shared::<bully::Agent>();
+/// ```
+pub struct Agent {
+    handle: Handle,
+    partitions: u16,
+}
+
+impl Agent {
+    /// The agent of a node that is Down, whose log has so many events, 0 at first, and has kept this task, if any. An empty
+    /// task is none.
+    pub fn open(
+        setup: &Setup,
+        node: u16,
+        events: u32,
+        task: Option<&[u16]>,
+    ) -> Result<Agent, OpenError> {
+        let handle = Handle::open(setup, node, events, task.unwrap_or_default());
+        Ok(Agent {
+            handle: handle.map_err(OpenError::told)?,
+            partitions: setup.partitions,
+        })
+    }
+
+    /// The node recovers, and stands for election. Refused as `Full`, `IsUp`.
+    pub fn recover(&mut self) -> Result<(), Refused> {
+        self.handle.recover().map_err(Refused::told)
+    }
+
+    /// The node crashes, or has to stop. Refused as `Full`, `IsDown`.
+    pub fn crash(&mut self) -> Result<(), Refused> {
+        self.handle.crash().map_err(Refused::told)
+    }
+
+    /// The idle node begins to check. Refused as `Full`, `IsDown`, `Busy`.
+    pub fn check(&mut self) -> Result<(), Refused> {
+        self.handle.check().map_err(Refused::told)
+    }
+
+    /// The idle node heard nothing for too long. Refused as `Full`, `IsDown`, `Busy`.
+    pub fn timeout(&mut self) -> Result<(), Refused> {
+        self.handle.timeout().map_err(Refused::told)
+    }
+
+    /// The node starts the call that it wants to start; [`Agent::request`] then has what is to be sent. Refused as `Full`,
+    /// `IsDown`, `NoStep`, `SlotBusy`.
+    pub fn start(&mut self) -> Result<(), Refused> {
+        self.handle.start().map_err(Refused::told)
+    }
+
+    /// The node moves on without a call. Refused as `Full`, `IsDown`, `NoStep`, `SlotBusy`.
+    pub fn advance(&mut self) -> Result<(), Refused> {
+        self.handle.advance().map_err(Refused::told)
+    }
+
+    /// The node has planned this table, as [`Agent::prepare`] makes one. Refused as `Full`, `IsDown`, `NoStep`, `SlotBusy`,
+    /// `BadTable`, behind a fault of the table.
+    pub fn plan(&mut self, owners: &[u16]) -> Result<(), PlanError> {
+        self.handle.plan(owners).map_err(PlanError::told)
+    }
+
+    /// The node's call, an orphan, is given up. Refused as `Full`, `IsDown`, `NoCall`, `NotOrphan`.
+    pub fn drop_orphan(&mut self) -> Result<(), Refused> {
+        self.handle.drop_orphan().map_err(Refused::told)
+    }
+
+    /// The table that the node should plan, with the fewest moves from this old one, if any: mostly its own task. An empty old
+    /// table is none.
+    pub fn prepare(&self, old: Option<&[u16]>) -> Result<Vec<u16>, PrepareError> {
+        self.handle
+            .prepare(old.unwrap_or_default(), self.partitions)
+            .map_err(PrepareError::told)
+    }
+
+    /// The line of the request of the node's call, while that is under way: to be sent to its callee, once. Lines have no line
+    /// end.
+    pub fn request(&self) -> Result<Option<String>, OutOfMemory> {
+        let line = self.handle.request().map_err(OutOfMemory::told)?;
+        Ok((!line.is_empty()).then_some(line))
+    }
+
+    /// The request of this line runs at the node. It gives the line of the reply to its caller. Refused as `Full`, `BadNode`,
+    /// `NoCall`, `CalleeDown`, behind a fault of the line.
+    ///
+    /// Premise: the request is the caller's call, and runs once, while that is under way.
+    pub fn serve(&mut self, line: &str) -> Result<String, ServeError> {
+        self.handle.serve(line).map_err(ServeError::told)
+    }
+
+    /// The node's call returns with the reply of this line. It gives what the node is told. Refused as `Full`; `NoCall`, where it
+    /// is no reply to the call under way; behind a fault of the line.
+    ///
+    /// Premise: the call ran at its callee, and was answered so.
+    pub fn replied(&mut self, line: &str) -> Result<Answer, ReplyError> {
+        self.handle
+            .replied(line)
+            .map(Answer::told)
+            .map_err(ReplyError::told)
+    }
+
+    /// The node's call of this number failed, and returns: two events. It gives what the node is told. Refused as `Full`, `NoCall`.
+    ///
+    /// Premise: the callee is Down.
+    pub fn failed(&mut self, number: u32) -> Result<Answer, Refused> {
+        self.handle
+            .failed(number)
+            .map(Answer::told)
+            .map_err(Refused::told)
+    }
+
+    /// How the node stands.
+    pub fn state(&self) -> State {
+        State::of(
+            &self
+                .handle
+                .show()
+                .unwrap_or_else(|status| unexpected(status)),
+        )
+    }
+
+    /// The nodes of its up set, rising.
+    pub fn up(&self) -> Vec<u16> {
+        self.handle.up().unwrap_or_else(|status| unexpected(status))
+    }
+
+    /// The owners of its task, if it has one.
+    pub fn task(&self) -> Option<Vec<u16>> {
+        let owners = self.handle.task();
+        let owners = owners.unwrap_or_else(|status| unexpected(status));
+        (!owners.is_empty()).then_some(owners)
+    }
+
+    /// The rows of its last event or events, for the log, each with its line end, as `docs/FORMATS.md` has them of version 3. Nothing,
+    /// where there was none since it was opened.
+    pub fn rows(&self) -> Result<String, OutOfMemory> {
+        self.handle.rows().map_err(OutOfMemory::told)
+    }
+
+    /// The row that says all of its vector, a whole claim.
+    pub fn claim(&self) -> Result<String, OutOfMemory> {
+        self.handle.claim().map_err(OutOfMemory::told)
+    }
+}
+
+impl fmt::Debug for Agent {
+    fn fmt(&self, formatter: &mut fmt::Formatter<'_>) -> fmt::Result {
+        formatter.debug_tuple("Agent").field(&self.state()).finish()
+    }
+}

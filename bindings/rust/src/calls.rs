@@ -1,0 +1,263 @@
+//! The calls of the C interface, made safe. No other module has unsafe code.
+//!
+//! What `bully.h` wants of a program and no test can see is kept here:
+//!
+//! - A handle is zeroed at first, and private to a [`Handle`], which can't be copied. So only the library writes it.
+//! - An event takes its handle as `&mut`. What shows something takes it as `&`, but a `Handle` isn't `Sync`, and the library calls
+//!   nothing back: so a handle has one call at a time. It may go to another thread, as `Send` says.
+//! - Pointers and lengths are those of slices and of values that live through the call. What is written is a value of the call's
+//!   own, so it overlaps nothing.
+//! - The library takes memory from the C library, whichever allocator the program has, and gives it back itself.
+
+use crate::raw::{self, bully_agent, bully_setup, bully_state, bully_status, bully_verdict};
+use crate::setup::Setup;
+use std::cell::UnsafeCell;
+use std::ffi::CStr;
+use std::ptr;
+
+// How many items the room has that is offered first.
+const FIRST_ROOM: usize = 64;
+
+/// A handle that is open. The status of a call that isn't OK is its error.
+pub(crate) struct Handle(UnsafeCell<bully_agent>);
+
+// SAFETY: the header lets a handle go from thread to thread.
+unsafe impl Send for Handle {}
+
+impl Drop for Handle {
+    fn drop(&mut self) {
+        // SAFETY: the handle is this one's alone, and isn't used again. It is open, so nothing can be refused.
+        let _ok = unsafe { raw::bully_agent_close(self.0.get()) };
+    }
+}
+
+macro_rules! events {
+    ($($event:ident: $call:ident;)*) => {
+        $(pub(crate) fn $event(&mut self) -> Result<(), bully_status> {
+            // SAFETY: the handle is open, and `&mut` lets no other call of it be under way.
+            ok(unsafe { raw::$call(self.0.get()) })
+        })*
+    };
+}
+
+macro_rules! texts {
+    ($($text:ident: $call:ident;)*) => {
+        $(pub(crate) fn $text(&self) -> Result<String, bully_status> {
+            let bytes = filled(|room: &mut [u8], length| {
+                // SAFETY: the handle is open, and no other call of it is under way. The room is as long as is said.
+                unsafe { raw::$call(self.0.get(), room.as_mut_ptr().cast(), room.len(), length) }
+            })?;
+            Ok(text_of(bytes))
+        })*
+    };
+}
+
+macro_rules! numbers {
+    ($($numbers:ident: $call:ident;)*) => {
+        $(pub(crate) fn $numbers(&self) -> Result<Vec<u16>, bully_status> {
+            filled(|room: &mut [u16], count| {
+                // SAFETY: the handle is open, and no other call of it is under way. The room is as long as is said.
+                unsafe { raw::$call(self.0.get(), room.as_mut_ptr(), room.len(), count) }
+            })
+        })*
+    };
+}
+
+impl Handle {
+    pub(crate) fn open(
+        setup: &Setup,
+        node: u16,
+        events: u32,
+        task: &[u16],
+    ) -> Result<Handle, bully_status> {
+        let weights = &setup.weights;
+        let mut opened = bully_agent {
+            held: ptr::null_mut(),
+        };
+        // SAFETY: the handle is zeroed, and each pointer is that of a slice or a value of this call.
+        ok(unsafe {
+            raw::bully_agent_open(
+                &mut opened,
+                &raw_setup(setup),
+                weights.as_ptr(),
+                weights.len(),
+                node,
+                events,
+                task.as_ptr(),
+                task.len(),
+            )
+        })?;
+        Ok(Handle(UnsafeCell::new(opened)))
+    }
+
+    events! {
+        recover: bully_agent_recover;
+        crash: bully_agent_crash;
+        check: bully_agent_check;
+        timeout: bully_agent_timeout;
+        start: bully_agent_start;
+        advance: bully_agent_advance;
+        drop_orphan: bully_agent_drop_orphan;
+    }
+
+    texts! {
+        request: bully_agent_request;
+        rows: bully_agent_rows;
+        claim: bully_agent_claim;
+    }
+
+    numbers! {
+        up: bully_agent_up;
+        task: bully_agent_task;
+    }
+
+    pub(crate) fn plan(&mut self, owners: &[u16]) -> Result<(), bully_status> {
+        // SAFETY: the handle is open, and `&mut` lets no other call of it be under way. The slice is read alone.
+        ok(unsafe { raw::bully_agent_plan(self.0.get(), owners.as_ptr(), owners.len()) })
+    }
+
+    pub(crate) fn prepare(&self, old: &[u16], partitions: u16) -> Result<Vec<u16>, bully_status> {
+        let mut owners = vec![0; usize::from(partitions)];
+        // SAFETY: the handle is open, and no other call of it is under way. The old table is read alone, and the owners are a
+        // vector of this call's own.
+        ok(unsafe {
+            raw::bully_agent_prepare(
+                self.0.get(),
+                old.as_ptr(),
+                old.len(),
+                owners.as_mut_ptr(),
+                owners.len(),
+            )
+        })?;
+        Ok(owners)
+    }
+
+    pub(crate) fn serve(&mut self, line: &str) -> Result<String, bully_status> {
+        let mut reply = vec![0_u8; raw::BULLY_REPLY_MAX];
+        let mut length = 0;
+        // SAFETY: the handle is open, and `&mut` lets no other call of it be under way. The line is read alone, and the reply is a
+        // vector of this call's own.
+        ok(unsafe {
+            raw::bully_agent_serve(
+                self.0.get(),
+                line.as_ptr().cast(),
+                line.len(),
+                reply.as_mut_ptr().cast(),
+                reply.len(),
+                &mut length,
+            )
+        })?;
+        reply.truncate(length);
+        Ok(text_of(reply))
+    }
+
+    pub(crate) fn replied(&mut self, line: &str) -> Result<u32, bully_status> {
+        let mut answer = 0;
+        // SAFETY: the handle is open, and `&mut` lets no other call of it be under way. The line is read alone.
+        ok(unsafe {
+            raw::bully_agent_replied(self.0.get(), line.as_ptr().cast(), line.len(), &mut answer)
+        })?;
+        Ok(answer)
+    }
+
+    pub(crate) fn failed(&mut self, number: u32) -> Result<u32, bully_status> {
+        let mut answer = 0;
+        // SAFETY: the handle is open, and `&mut` lets no other call of it be under way.
+        ok(unsafe { raw::bully_agent_failed(self.0.get(), number, &mut answer) })?;
+        Ok(answer)
+    }
+
+    pub(crate) fn show(&self) -> Result<bully_state, bully_status> {
+        let mut state = bully_state::default();
+        // SAFETY: the handle is open, and no other call of it is under way.
+        ok(unsafe { raw::bully_agent_show(self.0.get(), &mut state) })?;
+        Ok(state)
+    }
+}
+
+/// Judges a trace. Beside the status of one that has a fault of form stands its row.
+pub(crate) fn check(trace: &[u8]) -> Result<bully_verdict, (bully_status, u32)> {
+    let mut verdict = bully_verdict::default();
+    // SAFETY: the trace is read alone, and the verdict is a value of this call's own.
+    let status = unsafe { raw::bully_check(trace.as_ptr(), trace.len(), &mut verdict) };
+    match ok(status) {
+        Ok(()) => Ok(verdict),
+        Err(status) => Err((status, verdict.number)),
+    }
+}
+
+/// Plans a table, and counts its moves.
+pub(crate) fn table(
+    setup: &Setup,
+    members: &[u16],
+    old: &[u16],
+) -> Result<(Vec<u16>, u16), bully_status> {
+    let weights = &setup.weights;
+    let mut owners = vec![0; usize::from(setup.partitions)];
+    let mut moves = 0;
+    // SAFETY: each pointer is that of a slice or a value, and what is written is this call's own.
+    ok(unsafe {
+        raw::bully_table(
+            &raw_setup(setup),
+            weights.as_ptr(),
+            weights.len(),
+            members.as_ptr(),
+            members.len(),
+            old.as_ptr(),
+            old.len(),
+            owners.as_mut_ptr(),
+            owners.len(),
+            &mut moves,
+        )
+    })?;
+    Ok((owners, moves))
+}
+
+/// A call answered a status that its comment in `bully.h` doesn't have.
+pub(crate) fn unexpected(status: bully_status) -> ! {
+    // SAFETY: the name is a text with a zero byte at its end, which is never freed.
+    let name = unsafe { CStr::from_ptr(raw::bully_status_name(status)) };
+    panic!("the bully library answered {status}, {name:?}, which isn't of this call")
+}
+
+/// The library showed a number that stands for nothing in `bully.h`.
+pub(crate) fn unexpected_number(number: u32) -> ! {
+    panic!("the bully library showed {number}, which stands for nothing")
+}
+
+// Fills a room, a larger one where the first is too small. The call is told the room, and where to write how much it has.
+fn filled<T: Clone + Default>(
+    mut call: impl FnMut(&mut [T], &mut usize) -> bully_status,
+) -> Result<Vec<T>, bully_status> {
+    let mut room = vec![T::default(); FIRST_ROOM];
+    let mut length = 0;
+    let mut status = call(&mut room, &mut length);
+    if status == raw::BULLY_SHORT {
+        room.resize(length, T::default());
+        status = call(&mut room, &mut length);
+    }
+    ok(status)?;
+    room.truncate(length);
+    Ok(room)
+}
+
+fn ok(status: bully_status) -> Result<(), bully_status> {
+    match status {
+        raw::BULLY_OK => Ok(()),
+        _ => Err(status),
+    }
+}
+
+// The text of these bytes, which are ASCII, as `bully.h` has it.
+fn text_of(bytes: Vec<u8>) -> String {
+    String::from_utf8(bytes).expect("the bully library wrote a text that isn't ASCII")
+}
+
+fn raw_setup(setup: &Setup) -> bully_setup {
+    bully_setup {
+        nodes: setup.nodes,
+        partitions: setup.partitions,
+        events_max: setup.events_max,
+        keeps: u32::from(setup.keeps),
+    }
+}

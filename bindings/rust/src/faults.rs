@@ -1,0 +1,217 @@
+//! What may be wrong with a call.
+
+use crate::calls;
+use crate::coded::{coded, errors, faults};
+use crate::raw::bully_status;
+use std::error::Error;
+use std::fmt;
+
+faults! {
+    /// Why an event is refused, as `docs/ALGORITHM.md` lists the causes. Nothing changes then.
+    Refused {
+        Full = BULLY_FULL, "as many events as the setup bounds were told";
+        BadNode = BULLY_BAD_NODE, "the node is none of the setup's";
+        IsDown = BULLY_IS_DOWN, "the node is down";
+        IsUp = BULLY_IS_UP, "the node recovers and isn't down";
+        Busy = BULLY_BUSY, "a check or a timeout of a node that isn't idle";
+        NoStep = BULLY_NO_STEP, "the node doesn't want to do that next";
+        SlotBusy = BULLY_SLOT_BUSY, "the node has a call under way";
+        NoCall = BULLY_NO_CALL, "there is no such call";
+        CalleeDown = BULLY_CALLEE_DOWN, "the request comes to a node that is down";
+        CalleeUp = BULLY_CALLEE_UP, "a call is lost whose callee is up (of a trace alone)";
+        BadTable = BULLY_BAD_TABLE, "the table isn't balanced over the node and its up set";
+        NotOrphan = BULLY_NOT_ORPHAN, "the call isn't an orphan";
+    }
+}
+
+faults! {
+    /// What is wrong with a [`Setup`](crate::Setup): the first that holds.
+    SetupFault {
+        BadNodes = BULLY_BAD_NODES, "the setup has no node, or more than 1,024";
+        BadPartitions = BULLY_BAD_PARTITIONS, "the setup has no partition, or more than 4,096";
+        BadLimit = BULLY_BAD_LIMIT, "the setup bounds no event, or more than 1,000,000";
+        BadWeights = BULLY_BAD_WEIGHTS, "the setup has another number of weights than nodes, or one of 0 or above 1,000";
+    }
+}
+
+faults! {
+    /// Whom a call speaks of that isn't there.
+    NodeFault {
+        BadNode = BULLY_BAD_NODE, "the node is none of the setup's";
+        NoMember = BULLY_NO_MEMBER, "a table over no members";
+    }
+}
+
+faults! {
+    /// What is wrong with a table.
+    TableFault {
+        Length = BULLY_TABLE_LENGTH, "the table has another number of owners than there are partitions";
+        Owner = BULLY_TABLE_OWNER, "an owner is no node of the setup";
+    }
+}
+
+faults! {
+    /// The first fault of a line, from its left, as `docs/NODE.md` lists them.
+    LineFault {
+        Word = BULLY_LINE_WORD, "the line doesn't begin with `ask`, or with `tell`";
+        Caller = BULLY_LINE_CALLER, "the line's caller is no node of the setup";
+        Number = BULLY_LINE_NUMBER, "the line's number is none below the bound on events";
+        Callee = BULLY_LINE_CALLEE, "the line's callee is no node of the setup";
+        Kind = BULLY_LINE_KIND, "the line has no word of a call, or a table behind another call than a Ready";
+        Table = BULLY_LINE_TABLE, "the line is a Ready without a table of the setup";
+        Answer = BULLY_LINE_ANSWER, "the line has neither `yes` nor `no`";
+    }
+}
+
+coded! {
+    /// What is wrong with a trace's form, as `docs/FORMATS.md` lists the faults.
+    FormFault {
+        /// Row 1 is no header, or there is none.
+        BadHeader = BULLY_BAD_HEADER, "BadHeader";
+        /// The row has none of the forms.
+        BadRow = BULLY_BAD_ROW, "BadRow";
+        /// A row comes after 1,000,000 rows behind the header.
+        TooManyRows = BULLY_TOO_MANY_ROWS, "TooManyRows";
+    }
+}
+
+/// An allocation of the library failed. Nothing changed.
+#[derive(Clone, Copy, Debug, PartialEq, Eq, Hash)]
+pub struct OutOfMemory;
+
+impl OutOfMemory {
+    // Whether this status says so.
+    pub(crate) fn of(status: bully_status) -> Option<OutOfMemory> {
+        (status == crate::raw::BULLY_OUT_OF_MEMORY).then_some(OutOfMemory)
+    }
+
+    // What this status of a call tells.
+    pub(crate) fn told(status: bully_status) -> OutOfMemory {
+        OutOfMemory::of(status).unwrap_or_else(|| calls::unexpected(status))
+    }
+}
+
+impl fmt::Display for OutOfMemory {
+    fn fmt(&self, formatter: &mut fmt::Formatter<'_>) -> fmt::Result {
+        formatter.pad("an allocation failed")
+    }
+}
+
+impl Error for OutOfMemory {}
+
+impl Refused {
+    // Why the event was refused that has this status.
+    pub(crate) fn told(status: bully_status) -> Refused {
+        Refused::of(status).unwrap_or_else(|| calls::unexpected(status))
+    }
+}
+
+/// Why no verdict on a trace was given: the fault of its first faulty row, or a want of memory.
+#[derive(Clone, Copy, Debug, PartialEq, Eq, Hash)]
+pub enum TraceFault {
+    /// The row, counted from 1, breaks the form.
+    Form {
+        /// The number of the row.
+        row: u32,
+        /// What is wrong with it.
+        fault: FormFault,
+    },
+    /// An allocation failed.
+    OutOfMemory,
+}
+
+impl TraceFault {
+    // What this status tells, with the row that came beside it.
+    pub(crate) fn told(status: bully_status, row: u32) -> TraceFault {
+        match FormFault::of(status) {
+            Some(fault) => TraceFault::Form { row, fault },
+            None => {
+                let OutOfMemory = OutOfMemory::told(status);
+                TraceFault::OutOfMemory
+            }
+        }
+    }
+}
+
+impl fmt::Display for TraceFault {
+    fn fmt(&self, formatter: &mut fmt::Formatter<'_>) -> fmt::Result {
+        match self {
+            TraceFault::Form { row, fault } => write!(formatter, "trace row {row}: {fault}"),
+            TraceFault::OutOfMemory => fmt::Display::fmt(&OutOfMemory, formatter),
+        }
+    }
+}
+
+impl Error for TraceFault {}
+
+errors! {
+    /// Why no agent was opened.
+    OpenError {
+        /// The setup is at fault.
+        Setup: SetupFault;
+        /// The node is none of the setup's.
+        Node: NodeFault;
+        /// The task that was kept is no table of the setup.
+        Task: TableFault;
+        /// An allocation failed.
+        Memory: OutOfMemory;
+    }
+}
+
+errors! {
+    /// Why no table was planned.
+    MembersError {
+        /// The setup is at fault.
+        Setup: SetupFault;
+        /// A member is none of the setup's nodes, or there is none.
+        Members: NodeFault;
+        /// The old table is none of the setup.
+        Old: TableFault;
+        /// An allocation failed.
+        Memory: OutOfMemory;
+    }
+}
+
+errors! {
+    /// Why an agent prepared no table.
+    PrepareError {
+        /// The old table is none of the setup.
+        Old: TableFault;
+        /// An allocation failed.
+        Memory: OutOfMemory;
+    }
+}
+
+errors! {
+    /// Why an agent didn't take a table. Nothing changed.
+    PlanError {
+        /// It is no table of the setup.
+        Table: TableFault;
+        /// An allocation failed.
+        Memory: OutOfMemory;
+        /// The event is refused.
+        Refused: Refused;
+    }
+}
+
+errors! {
+    /// Why a request didn't run. Nothing changed.
+    ServeError {
+        /// The line is no request.
+        Line: LineFault;
+        /// An allocation failed.
+        Memory: OutOfMemory;
+        /// The event is refused.
+        Refused: Refused;
+    }
+}
+
+errors! {
+    /// Why a call didn't return with a reply. Nothing changed.
+    ReplyError {
+        /// The line is no reply.
+        Line: LineFault;
+        /// The event is refused.
+        Refused: Refused;
+    }
+}

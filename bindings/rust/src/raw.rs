@@ -1,0 +1,222 @@
+//! What `include/bully.h` declares, in its order and by its names. `tests/layout.rs` compares the two.
+#![allow(dead_code, missing_docs, non_camel_case_types)]
+
+use std::ffi::{c_char, c_void};
+
+pub const BULLY_NODES_MAX: u16 = 1024;
+pub const BULLY_PARTITIONS_MAX: u16 = 4096;
+pub const BULLY_WEIGHT_MAX: u16 = 1000;
+pub const BULLY_EVENTS_MAX: u32 = 1000000;
+
+pub const BULLY_REPLY_MAX: usize = 32;
+
+pub type bully_status = u32;
+
+pub const BULLY_OK: bully_status = 0;
+pub const BULLY_FULL: bully_status = 1;
+pub const BULLY_BAD_NODE: bully_status = 2;
+pub const BULLY_IS_DOWN: bully_status = 3;
+pub const BULLY_IS_UP: bully_status = 4;
+pub const BULLY_BUSY: bully_status = 5;
+pub const BULLY_NO_STEP: bully_status = 6;
+pub const BULLY_SLOT_BUSY: bully_status = 7;
+pub const BULLY_NO_CALL: bully_status = 8;
+pub const BULLY_CALLEE_DOWN: bully_status = 9;
+pub const BULLY_CALLEE_UP: bully_status = 10;
+pub const BULLY_BAD_TABLE: bully_status = 11;
+pub const BULLY_NOT_ORPHAN: bully_status = 12;
+pub const BULLY_NULL: bully_status = 20;
+pub const BULLY_CLOSED: bully_status = 21;
+pub const BULLY_OPEN: bully_status = 22;
+pub const BULLY_OUT_OF_MEMORY: bully_status = 23;
+pub const BULLY_SHORT: bully_status = 24;
+pub const BULLY_BAD_NODES: bully_status = 25;
+pub const BULLY_BAD_PARTITIONS: bully_status = 26;
+pub const BULLY_BAD_LIMIT: bully_status = 27;
+pub const BULLY_BAD_WEIGHTS: bully_status = 28;
+pub const BULLY_TABLE_LENGTH: bully_status = 29;
+pub const BULLY_TABLE_OWNER: bully_status = 30;
+pub const BULLY_NO_MEMBER: bully_status = 31;
+pub const BULLY_LINE_WORD: bully_status = 40;
+pub const BULLY_LINE_CALLER: bully_status = 41;
+pub const BULLY_LINE_NUMBER: bully_status = 42;
+pub const BULLY_LINE_CALLEE: bully_status = 43;
+pub const BULLY_LINE_KIND: bully_status = 44;
+pub const BULLY_LINE_TABLE: bully_status = 45;
+pub const BULLY_LINE_ANSWER: bully_status = 46;
+pub const BULLY_BAD_HEADER: bully_status = 50;
+pub const BULLY_BAD_ROW: bully_status = 51;
+pub const BULLY_TOO_MANY_ROWS: bully_status = 52;
+
+#[repr(C)]
+pub struct bully_setup {
+    pub nodes: u16,
+    pub partitions: u16,
+    pub events_max: u32,
+    pub keeps: u32,
+}
+
+pub const BULLY_LAWFUL: u32 = 0;
+pub const BULLY_REFUSED: u32 = 1;
+pub const BULLY_DIFFERS: u32 = 2;
+
+#[derive(Default)]
+#[repr(C)]
+pub struct bully_verdict {
+    pub kind: u32,
+    pub number: u32,
+    pub cause: bully_status,
+}
+
+#[repr(C)]
+pub struct bully_agent {
+    pub held: *mut c_void,
+}
+
+pub const BULLY_DONE: u32 = 0;
+pub const BULLY_YES: u32 = 1;
+pub const BULLY_NO: u32 = 2;
+pub const BULLY_FAILED: u32 = 3;
+pub const BULLY_DISCARDED: u32 = 4;
+
+pub const BULLY_DOWN: u32 = 0;
+pub const BULLY_ELECTION: u32 = 1;
+pub const BULLY_REORGANIZATION: u32 = 2;
+pub const BULLY_NORMAL: u32 = 3;
+
+pub const BULLY_WANTS_NOTHING: u32 = 0;
+pub const BULLY_WANTS_START: u32 = 1;
+pub const BULLY_WANTS_MOVE: u32 = 2;
+pub const BULLY_WANTS_PLAN: u32 = 3;
+pub const BULLY_WANTS_AWAIT: u32 = 4;
+
+pub const BULLY_NO_CALL_KIND: u32 = 0;
+pub const BULLY_ARE_YOU_UP: u32 = 1;
+pub const BULLY_ARE_YOU_NORMAL: u32 = 2;
+pub const BULLY_HALT: u32 = 3;
+pub const BULLY_NEW_COORDINATOR: u32 = 4;
+pub const BULLY_READY: u32 = 5;
+
+#[derive(Default)]
+#[repr(C)]
+pub struct bully_state {
+    pub status: u32,
+    pub wants: u32,
+    pub events: u32,
+    pub generation: u32,
+    pub call: u32,
+    pub orphan: u32,
+    pub number: u32,
+    pub node: u16,
+    pub coordinator: u16,
+    pub halter: u16,
+    pub callee: u16,
+}
+
+extern "C" {
+    pub fn bully_status_name(status: bully_status) -> *const c_char;
+
+    pub fn bully_check(
+        trace: *const u8,
+        length: usize,
+        verdict: *mut bully_verdict,
+    ) -> bully_status;
+
+    pub fn bully_table(
+        setup: *const bully_setup,
+        weights: *const u16,
+        weight_count: usize,
+        members: *const u16,
+        member_count: usize,
+        old: *const u16,
+        old_count: usize,
+        owners: *mut u16,
+        owner_count: usize,
+        moves: *mut u16,
+    ) -> bully_status;
+
+    pub fn bully_agent_open(
+        agent: *mut bully_agent,
+        setup: *const bully_setup,
+        weights: *const u16,
+        weight_count: usize,
+        node: u16,
+        events: u32,
+        task: *const u16,
+        task_count: usize,
+    ) -> bully_status;
+    pub fn bully_agent_close(agent: *mut bully_agent) -> bully_status;
+
+    pub fn bully_agent_recover(agent: *mut bully_agent) -> bully_status;
+    pub fn bully_agent_crash(agent: *mut bully_agent) -> bully_status;
+    pub fn bully_agent_check(agent: *mut bully_agent) -> bully_status;
+    pub fn bully_agent_timeout(agent: *mut bully_agent) -> bully_status;
+    pub fn bully_agent_start(agent: *mut bully_agent) -> bully_status;
+    pub fn bully_agent_advance(agent: *mut bully_agent) -> bully_status;
+    pub fn bully_agent_plan(
+        agent: *mut bully_agent,
+        owners: *const u16,
+        owner_count: usize,
+    ) -> bully_status;
+    pub fn bully_agent_drop_orphan(agent: *mut bully_agent) -> bully_status;
+
+    pub fn bully_agent_prepare(
+        agent: *mut bully_agent,
+        old: *const u16,
+        old_count: usize,
+        owners: *mut u16,
+        owner_count: usize,
+    ) -> bully_status;
+
+    pub fn bully_agent_request(
+        agent: *mut bully_agent,
+        line: *mut c_char,
+        room: usize,
+        length: *mut usize,
+    ) -> bully_status;
+    pub fn bully_agent_serve(
+        agent: *mut bully_agent,
+        line: *const c_char,
+        line_length: usize,
+        reply: *mut c_char,
+        room: usize,
+        length: *mut usize,
+    ) -> bully_status;
+    pub fn bully_agent_replied(
+        agent: *mut bully_agent,
+        line: *const c_char,
+        line_length: usize,
+        answer: *mut u32,
+    ) -> bully_status;
+    pub fn bully_agent_failed(
+        agent: *mut bully_agent,
+        number: u32,
+        answer: *mut u32,
+    ) -> bully_status;
+
+    pub fn bully_agent_show(agent: *mut bully_agent, state: *mut bully_state) -> bully_status;
+    pub fn bully_agent_up(
+        agent: *mut bully_agent,
+        nodes: *mut u16,
+        room: usize,
+        count: *mut usize,
+    ) -> bully_status;
+    pub fn bully_agent_task(
+        agent: *mut bully_agent,
+        owners: *mut u16,
+        room: usize,
+        count: *mut usize,
+    ) -> bully_status;
+    pub fn bully_agent_rows(
+        agent: *mut bully_agent,
+        rows: *mut c_char,
+        room: usize,
+        length: *mut usize,
+    ) -> bully_status;
+    pub fn bully_agent_claim(
+        agent: *mut bully_agent,
+        row: *mut c_char,
+        room: usize,
+        length: *mut usize,
+    ) -> bully_status;
+}

@@ -1,0 +1,142 @@
+//! What an agent shows.
+
+use crate::calls::unexpected_number;
+use crate::coded::coded;
+use crate::raw::bully_state;
+
+coded! {
+    /// The status of a node's vector, as `docs/ALGORITHM.md` has them.
+    Status {
+        /// The node is down.
+        Down = BULLY_DOWN, "down";
+        /// It has no coordinator yet.
+        Election = BULLY_ELECTION, "election";
+        /// It has a coordinator, and no task of it yet.
+        Reorganization = BULLY_REORGANIZATION, "reorganization";
+        /// It has a coordinator and a task.
+        Normal = BULLY_NORMAL, "normal";
+    }
+}
+
+coded! {
+    /// What a node wants to do next.
+    Want {
+        /// Nothing.
+        Nothing = BULLY_WANTS_NOTHING, "nothing";
+        /// To start a call: [`Agent::start`](crate::Agent::start).
+        Start = BULLY_WANTS_START, "start";
+        /// To move on without a call: [`Agent::advance`](crate::Agent::advance).
+        Move = BULLY_WANTS_MOVE, "move";
+        /// To plan a table: [`Agent::prepare`](crate::Agent::prepare), and then [`Agent::plan`](crate::Agent::plan).
+        Plan = BULLY_WANTS_PLAN, "plan";
+        /// To await the end of its call.
+        Await = BULLY_WANTS_AWAIT, "await";
+    }
+}
+
+coded! {
+    /// The kind of a call, shown as the rows of traces spell it.
+    CallKind {
+        /// Whether the callee is up.
+        AreYouUp = BULLY_ARE_YOU_UP, "are-you-up";
+        /// Whether it is Normal.
+        AreYouNormal = BULLY_ARE_YOU_NORMAL, "are-you-normal";
+        /// It is stopped.
+        Halt = BULLY_HALT, "halt";
+        /// The caller is its coordinator.
+        NewCoordinator = BULLY_NEW_COORDINATOR, "new-coordinator";
+        /// It gets its task.
+        Ready = BULLY_READY, "ready";
+    }
+}
+
+coded! {
+    /// What a call that returned brought, shown as the rows of traces spell it.
+    Answer {
+        /// It ran, and was answered Yes.
+        Yes = BULLY_YES, "yes";
+        /// It ran, and was answered No.
+        No = BULLY_NO, "no";
+        /// It failed.
+        Failed = BULLY_FAILED, "failed";
+        /// It was an orphan, and what it brought is thrown away.
+        Discarded = BULLY_DISCARDED, "discarded";
+    }
+}
+
+/// The call in a node's slot.
+#[derive(Clone, Copy, Debug, PartialEq, Eq, Hash)]
+pub struct Call {
+    /// What it asks for.
+    pub kind: CallKind,
+    /// The node that it goes to.
+    pub callee: u16,
+    /// Whether its caller was stopped since its start: what it brings is thrown away, or it is dropped.
+    pub orphan: bool,
+}
+
+/// How a node stands.
+#[derive(Clone, Copy, Debug, PartialEq, Eq, Hash)]
+pub struct State {
+    /// Its own number.
+    pub node: u16,
+    /// Its status.
+    pub status: Status,
+    /// Its coordinator, if any.
+    pub coordinator: Option<u16>,
+    /// Who halted it last, if anybody.
+    pub halter: Option<u16>,
+    /// What it wants to do next.
+    pub wants: Want,
+    /// The call in its slot, if any.
+    pub call: Option<Call>,
+    /// The number of its last call.
+    pub number: u32,
+    /// How many events it told, with those before it was opened.
+    pub events: u32,
+    /// How often it was stopped or crashed since it was opened.
+    pub generation: u32,
+}
+
+impl State {
+    // The state that the library shows.
+    pub(crate) fn of(shown: &bully_state) -> State {
+        State {
+            node: shown.node,
+            status: known(shown.status, Status::of(shown.status)),
+            coordinator: node_of(shown.coordinator),
+            halter: node_of(shown.halter),
+            wants: known(shown.wants, Want::of(shown.wants)),
+            call: call_of(shown),
+            number: shown.number,
+            events: shown.events,
+            generation: shown.generation,
+        }
+    }
+}
+
+impl Answer {
+    // What the library says that a call brought.
+    pub(crate) fn told(number: u32) -> Answer {
+        known(number, Answer::of(number))
+    }
+}
+
+// The call in the slot; a callee of 0 says that there is none.
+fn call_of(shown: &bully_state) -> Option<Call> {
+    node_of(shown.callee).map(|callee| Call {
+        kind: known(shown.call, CallKind::of(shown.call)),
+        callee,
+        orphan: shown.orphan != 0,
+    })
+}
+
+// The node of this number, of which 0 stands for none.
+fn node_of(number: u16) -> Option<u16> {
+    (number != 0).then_some(number)
+}
+
+// What the number stands for. It always stands for something, as `bully.h` has it.
+fn known<T>(number: u32, meaning: Option<T>) -> T {
+    meaning.unwrap_or_else(|| unexpected_number(number))
+}

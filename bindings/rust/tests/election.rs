@@ -1,0 +1,247 @@
+//! Two nodes elect through lines, each in the loop of `docs/NODE.md`. What they have to say follows from the rows of an election in
+//! `docs/FORMATS.md`, and the numbers of calls from `docs/NODE.md`.
+
+use bully::{check, Agent, Answer, Call, CallKind, Setup, State, Status, Verdict, Want};
+use std::thread;
+
+const HEADER: &str = "bully,3,2,3,1 1,clear\n";
+
+const LOG: &str = "\
+recover,1
+recover,2
+start,1,are-you-up,2
+run,1,are-you-up,2,yes
+return,1,are-you-up,2,yes
+move,2
+start,2,halt,1
+run,2,halt,1,yes
+return,2,halt,1,yes
+move,2
+start,2,new-coordinator,1
+run,2,new-coordinator,1,yes
+return,2,new-coordinator,1,yes
+move,2
+plan,2,1 1 2
+start,2,ready,1
+run,2,ready,1,yes
+return,2,ready,1,yes
+move,2
+";
+
+const LINES: [&str; 8] = [
+    "ask,1,1,2,are-you-up",
+    "tell,1,1,yes",
+    "ask,2,3,1,halt",
+    "tell,2,3,yes",
+    "ask,2,6,1,new-coordinator",
+    "tell,2,6,yes",
+    "ask,2,10,1,ready,1 1 2",
+    "tell,2,10,yes",
+];
+
+/// Both nodes, what they sent each other, and the log of both in one order.
+struct Pair {
+    agents: [Agent; 2],
+    lines: Vec<String>,
+    log: String,
+}
+
+impl Pair {
+    fn open(setup: &Setup) -> Pair {
+        let open = |node| Agent::open(setup, node, 0, None).expect("an agent");
+        Pair {
+            agents: [open(1), open(2)],
+            lines: Vec::new(),
+            log: String::new(),
+        }
+    }
+
+    fn recover_both(&mut self) {
+        for place in [0, 1] {
+            self.agents[place].recover().expect("it was down");
+            self.log_rows(place);
+        }
+    }
+
+    fn log_rows(&mut self, place: usize) {
+        self.log
+            .push_str(&self.agents[place].rows().expect("memory"));
+    }
+
+    // The node goes on until it wants nothing more by itself.
+    fn settle(&mut self, place: usize) {
+        loop {
+            let agent = &mut self.agents[place];
+            match agent.state().wants {
+                Want::Start => agent.start().expect("a start"),
+                Want::Move => agent.advance().expect("a move"),
+                Want::Plan => {
+                    let table = agent.prepare(agent.task().as_deref()).expect("a table");
+                    agent.plan(&table).expect("a plan");
+                }
+                Want::Await | Want::Nothing => return,
+            }
+            self.log_rows(place);
+            self.hand_on(place);
+        }
+    }
+
+    // The request of the node, if any, goes to the other one, and the reply comes back.
+    fn hand_on(&mut self, place: usize) {
+        let Some(request) = self.agents[place].request().expect("memory") else {
+            return;
+        };
+        let reply = self.agents[1 - place].serve(&request).expect("it is up");
+        self.log_rows(1 - place);
+        let answer = self.agents[place].replied(&reply);
+        assert_eq!(answer, Ok(Answer::Yes));
+        self.log_rows(place);
+        self.lines.extend([request, reply]);
+    }
+}
+
+fn elected() -> Pair {
+    let mut pair = Pair::open(&Setup::new(2, 3, 1000));
+    pair.recover_both();
+    pair.settle(0);
+    pair.settle(1);
+    pair
+}
+
+#[test]
+fn both_are_normal() {
+    let pair = elected();
+    for (agent, (node, events)) in pair.agents.iter().zip([(1, 6), (2, 13)]) {
+        let state = State {
+            node,
+            status: Status::Normal,
+            coordinator: Some(2),
+            halter: Some(2),
+            wants: Want::Nothing,
+            call: None,
+            number: if node == 1 { 1 } else { 10 },
+            events,
+            generation: if node == 1 { 1 } else { 0 },
+        };
+        assert_eq!(agent.state(), state);
+        assert_eq!(agent.task(), Some(vec![1, 1, 2]));
+    }
+    let [lower, higher] = &pair.agents;
+    assert_eq!((lower.up(), higher.up()), (vec![], vec![1]));
+    assert_eq!(lower.claim().as_deref(), Ok("saw,1,normal,2,2,-,1 1 2\n"));
+    assert_eq!(higher.claim().as_deref(), Ok("saw,2,normal,2,2,1,1 1 2\n"));
+}
+
+#[test]
+fn their_rows_and_lines_are_those_of_an_election() {
+    let pair = elected();
+    assert_eq!(pair.log, LOG);
+    assert_eq!(pair.lines, LINES);
+}
+
+/// So do they with a claim of each, and not with another one.
+#[test]
+fn their_rows_are_lawful_behind_a_header() {
+    let pair = elected();
+    let mut trace = format!("{HEADER}{}", pair.log);
+    assert_eq!(check(trace.as_bytes()), Ok(Verdict::Lawful { events: 19 }));
+    for agent in &pair.agents {
+        trace.push_str(&agent.claim().expect("memory"));
+    }
+    assert_eq!(check(trace.as_bytes()), Ok(Verdict::Lawful { events: 19 }));
+    trace.push_str("saw,1,normal,1,2,-,1 1 2\n");
+    assert_eq!(check(trace.as_bytes()), Ok(Verdict::Differs { row: 23 }));
+}
+
+/// The call in the slot, from its start to its return.
+#[test]
+fn a_call_under_way() {
+    let mut pair = Pair::open(&Setup::new(2, 3, 1000));
+    pair.recover_both();
+    let [lower, higher] = &mut pair.agents;
+    assert_eq!(lower.request(), Ok(None));
+    lower.start().expect("a start");
+    let call = Call {
+        kind: CallKind::AreYouUp,
+        callee: 2,
+        orphan: false,
+    };
+    assert_eq!(lower.state().call, Some(call));
+    assert_eq!(lower.state().wants, Want::Await);
+    let request = lower.request().expect("memory").expect("a request");
+    let reply = higher.serve(&request).expect("it is up");
+    assert_eq!(lower.replied(&reply), Ok(Answer::Yes));
+    assert_eq!((lower.state().call, lower.request()), (None, Ok(None)));
+    assert_eq!(lower.state().wants, Want::Nothing);
+}
+
+/// A coordinator that checks finds a node that isn't Normal by its No.
+#[test]
+fn a_check_is_answered_no() {
+    let mut pair = elected();
+    let [lower, higher] = &mut pair.agents;
+    higher.check().expect("it is idle");
+    higher.start().expect("a start");
+    let request = higher.request().expect("memory").expect("a request");
+    assert_eq!(request, "ask,2,14,1,are-you-normal");
+    lower.crash().expect("it is up");
+    lower.recover().expect("it is down");
+    let reply = lower.serve(&request).expect("it is up");
+    assert_eq!(reply, "tell,2,14,no");
+    assert_eq!(lower.rows().as_deref(), Ok("run,2,are-you-normal,1,no\n"));
+    assert_eq!(higher.replied(&reply), Ok(Answer::No));
+    assert_eq!(
+        higher.rows().as_deref(),
+        Ok("return,2,are-you-normal,1,no\n")
+    );
+    assert_eq!(higher.state().wants, Want::Move); // no node is above: it stands for election again
+}
+
+/// A node whose coordinator is gone stands for election, and leads alone. A call that failed is two events.
+#[test]
+fn the_coordinator_is_gone() {
+    let [mut lower, _] = elected().agents;
+    lower.timeout().expect("it is idle");
+    lower.start().expect("a start");
+    let number = lower.state().number;
+    assert_eq!((number, lower.state().events), (7, 8));
+    assert_eq!(lower.failed(number), Ok(Answer::Failed));
+    let rows = "lose,1,are-you-up,2\nreturn,1,are-you-up,2,failed\n";
+    assert_eq!(lower.rows().as_deref(), Ok(rows));
+    assert_eq!(lower.state().events, 10);
+    lower.start().expect("the first call of an election");
+    assert_eq!(lower.failed(lower.state().number), Ok(Answer::Failed));
+    for _ in 0..3 {
+        lower.advance().expect("there is no lower node");
+    }
+    let table = lower.prepare(lower.task().as_deref()).expect("a table");
+    assert_eq!(table, [1, 1, 1]);
+    lower.plan(&table).expect("a plan");
+    lower.advance().expect("there is no other node");
+    assert_eq!(lower.claim().as_deref(), Ok("saw,1,normal,1,1,-,1 1 1\n"));
+}
+
+/// An agent may go on in another thread, since it is `Send`.
+#[test]
+fn from_thread_to_thread() {
+    let mut pair = Pair::open(&Setup::new(2, 3, 1000));
+    pair.recover_both();
+    let moved = thread::spawn(move || {
+        pair.settle(0);
+        pair
+    });
+    let mut pair = moved.join().expect("a thread");
+    pair.settle(1);
+    assert_eq!(pair.log, LOG);
+}
+
+/// Agents of their own in many threads at once.
+#[test]
+fn beside_other_threads() {
+    let threads: Vec<_> = (0..8)
+        .map(|_| thread::spawn(|| (0..200).all(|_| elected().log == LOG)))
+        .collect();
+    for thread in threads {
+        assert!(thread.join().expect("a thread"));
+    }
+}
