@@ -28,9 +28,11 @@ fn film_text<R: Read + Drop>(alloc: Global, reader: R, window: Window) -> Result
     ensures filmed { IfOk result (AreAllFilmed (R.remaining reader) window) }
     ensures fault { IfErr result (EndsReading (R.remaining reader)) }
 {
-    // (by a reference, as in `read_trace`: so the reader of rows is of another type than that of `check`, and each is built into its loop)
+    // (by a reference to a reference: so the reader of rows is of another type than those of `check` and of `read_trace`, and is built
+    // into this loop)
     let mut reader = reader;
-    let mut rows = RowReader::open(alloc, &mut reader);
+    let mut lent = &mut reader;
+    let mut rows = RowReader::open(alloc, &mut lent);
     film_rows(alloc, &mut rows, window)
 }
 
