@@ -4,17 +4,17 @@
     BULLY_LIBRARY=FOLDER cluster.py [--nodes N] [--partitions P] [--kills K] [--every ROWS] [--pauses K] [--seed SEED]
                                     [--folder FOLDER] [--all-details] [--bug BUG]
 
-It prints who leads as it goes. Processes are killed by SIGKILL, one in so many rows of the log in the mean, and started again. Then
-it stops killing, starts all, and waits until all are at rest under the highest node. The log is FOLDER/log.csv, a trace of version 3,
-which `check` judges; where the program `bully` is on the path, that explains and draws it, too. With --all-details behind each row
-that may change a vector stands a claim of all of it. With --pauses processes are also stopped for a while by SIGSTOP: they are only
-slow, and nobody takes them for Down.
+It prints who leads as it goes. Processes are killed by SIGKILL, one in so many rows of the log in the mean, and started again.
+Then it stops killing, starts all, and waits until all are at rest under the highest node. The log is FOLDER/log.csv, a trace of
+version 3, which `check` judges; where the program `bully` is on the path, that explains and draws it, too. With --all-details
+behind each row that may change a vector stands a claim of all of it. With --pauses processes are also stopped for a while by
+SIGSTOP: they are only slow, and nobody takes them for Down.
 
 With a BUG one node makes a mistake, once in each of its processes, and the check has to find it:
 
     garbled    it stores another table than the one that it is sent (only seen with --all-details)
     deaf       it answers a Halt, and goes on as if it had not been halted
-    impatient  it takes a call as failed though nobody told that the callee is Down
+    impatient  it takes a call as failed though its callee is up, and nobody told otherwise
 
 The exit status is 0 where the log is lawful and all were seen at rest, and else 1. `README.md` says how the premises are kept.
 """

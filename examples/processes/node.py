@@ -46,6 +46,7 @@ class Process:
         self.is_up = False
         self.others: Dict[int, Life] = {}  # those that aren't Down, as far as the supervisor told
         self.ended: Dict[int, int] = {}  # the last life of each node whose end was told
+        self.answered: Dict[int, int] = {}  # the last life of each node that replied
         self.callers: Dict[int, Lines] = {}
         self.callees: Dict[int, Lines] = {}
         self.orders: Deque[Order] = collections.deque()
@@ -177,7 +178,7 @@ class Process:
         callee = self.callees.get(call.callee) or self.call_first(call.callee)
         if callee is not None:
             callee.send(request)
-            if self.slips('impatient'):
+            if self.is_surely_up(call.callee) and self.slips('impatient'):
                 self.agent.failed(self.agent.number)
                 self.log(wrong=0)
 
@@ -278,6 +279,7 @@ class Process:
             self.forget(self.callees, callee)
             return
         for reply in came:
+            self.answered[callee] = self.others[callee].number
             try:
                 self.agent.replied(reply)
             except bully.NoCall:
@@ -292,6 +294,11 @@ class Process:
             return False
         self.bug = None
         return True
+
+    def is_surely_up(self, node: int) -> bool:
+        """Whether the log has a recovery of the other node and no crash behind it, whatever comes now."""
+        life = self.others[node].number
+        return self.answered.get(node) == life and self.ended.get(node) != life
 
     def follows(self, caller: int) -> bool:
         """Whether a Ready of the caller gives the node its task."""
