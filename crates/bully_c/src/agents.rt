@@ -32,6 +32,9 @@ use bully_world::Refused;
 use std::alloc::Global;
 use std::str;
 
+// What a line mostly takes, so that it is allocated once.
+const LINE_ROOM: usize = 32;
+
 // The status of a step.
 fn done(taken: Result<Answer, Refused>) -> u32
     ensures { result ≡ step_number taken }
@@ -312,10 +315,11 @@ pub extern "C" fn bully_c_agent_request(
 fn request_line(alloc: Global, agent: &Agent) -> Result<String, OutOfMemory>
     ensures { IfOk result (λ text. string_bytes text ≡ request_line agent.now) }
 {
-    let mut text = String::new(alloc);
-    if let Some(request) = agent.request()? {
-        push_request(&mut text, &request)?;
-    }
+    let Some(request) = agent.request()? else {
+        return Ok(String::new(alloc));
+    };
+    let mut text = String::with_capacity(alloc, LINE_ROOM)?;
+    push_request(&mut text, &request)?;
     Ok(text)
 }
 
@@ -378,7 +382,7 @@ fn line_told<'a>(answer: Answer, yes: &'a str, no: &'a str) -> &'a str
 fn reply_line(alloc: Global, request: &Request, answer: Answer) -> Result<String, OutOfMemory>
     ensures { IfOk result (λ text. string_bytes text ≡ reply_text (record { caller = request.now.caller; number = request.now.number; answer = answer })) }
 {
-    let mut text = String::new(alloc);
+    let mut text = String::with_capacity(alloc, LINE_ROOM)?;
     let reply = Reply {
         caller: request.caller,
         number: request.number,
