@@ -182,7 +182,7 @@ bully_status bully_agent_prepare(bully_agent *agent, const uint16_t *old, size_t
 bully_status bully_agent_request(bully_agent *agent, char *line, size_t room, size_t *length);
 /* The request of this line runs at the node; what is written is the line of the reply to its caller. One event. Premise: the
  * request is the caller's call, and runs once, while that is under way.
- * BULLY_NULL, BULLY_CLOSED, BULLY_LINE_.., BULLY_OUT_OF_MEMORY; BULLY_SHORT: room below the line of a Yes, with its length,
+ * BULLY_NULL, BULLY_CLOSED, BULLY_LINE_.., BULLY_OUT_OF_MEMORY; BULLY_SHORT: room below that line, with its length,
  * which is at most BULLY_REPLY_MAX; BULLY_FULL, BULLY_BAD_NODE, BULLY_NO_CALL, BULLY_CALLEE_DOWN. */
 bully_status bully_agent_serve(bully_agent *agent, const char *line, size_t line_length, char *reply, size_t room, size_t *length);
 /* The node's call returns with the reply of this line; `answer` gets what it is told. One event. Premise: the call ran at its

@@ -133,11 +133,11 @@ static void try_replies(void) {
     ANSWERS(OK, bully_agent_close(&agent));
 }
 
-/* A line's fault is told before the room for a reply, and that before the request runs: it is that of a Yes, whatever is answered. */
+/* A line's fault is told before the room for the reply, and that before the request runs. */
 static void try_reply_room(void) {
     bully_agent agent = open_asking();
     char reply[BULLY_REPLY_MAX] = "as it was";
-    const size_t wanted = strlen("tell,2,7,yes");
+    const size_t wanted = strlen("tell,2,7,no");
     size_t room, length = 77;
     for (room = 0; room < wanted; room++) {
         ANSWERS(LINE_WORD, bully_agent_serve(&agent, "?", 1, reply, room, &length));

@@ -6,6 +6,7 @@ use Rattle.bully_base.specs.Setup.{IsNode, IsSetup, Setup}
 use Rattle.bully_calls.specs.declared.call.Answer.{Answer}
 use Rattle.bully_calls.specs.declared.call.Call.{Call}
 use Rattle.bully_calls.specs.Slot.{is_orphan}
+use Rattle.bully_handlers.specs.Handler.{reply}
 use Rattle.bully_lines.specs.Texts.{IsRequestFault, reply_of_text, reply_text, request_of_text, request_text}
 use Rattle.bully_lines.specs.declared.fault.RequestFault.{RequestFault}
 use Rattle.bully_lines.specs.declared.fault.ReplyFault.{ReplyFault}
@@ -57,11 +58,11 @@ abbrev pub RefusesReplyLine : Setup → List ℕ → ℕ → Type 0
 RefusesReplyLine s line status =
     ((status ≡ LINE_WORD) × ¬ IsUtf8 line) ⊎ ((fault : ReplyFault) × (status ≡ reply_number fault) × (reply_of_text s line ≡ Err fault))
 
--- the request of a line runs, and the line of its reply is written. Nothing happens where there isn't room for that of a Yes, where
+-- the request of a line runs, and the line of its reply is written. Nothing happens where there isn't room for that, where
 -- the line is no request, or where an allocation failed.
 pub record NothingServed (line : List ℕ) (room count : ℕ) (held : Held) (status count_after : ℕ) : Type 0 where
   pub why : ((request : Request) × (request_of_text held.agent.setup line ≡ Ok request) × (status ≡ SHORT) × (room < count_after)
-      × (count_after ≡ length (reply_text (record { caller = request.caller; number = request.number; answer = Answer.Yes }))))
+      × (count_after ≡ length (reply_text (record { caller = request.caller; number = request.number; answer = reply request.call.kind held.agent.member.vector.vector }))))
       ⊎ ((status ≡ OUT_OF_MEMORY) × (count_after ≡ count)) ⊎ (RefusesRequestLine held.agent.setup line status × (count_after ≡ count))
 
 -- what was written of the reply, if there is one

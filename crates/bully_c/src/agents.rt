@@ -2,7 +2,8 @@
 ghost use Rattle.std.specs.Prelude.{◌≡◌, ◌⊎◌, ◌≤◌, [], Err, Ok, IfErr, IfOk, IfSome, length, None, string_bytes, unwrap_or, reverse};
 ghost use Rattle.std.specs.Option.{option_copied};
 ghost use Rattle.bully_base.specs.Setup.{IsNode, IsSetup};
-ghost use Rattle.bully_calls.specs.declared.call.Answer.{Answer as AnswerState};
+ghost use Rattle.bully_calls.specs.declared.call.CallKind.{CallKind as CallKindState};
+ghost use Rattle.bully_handlers.specs.Handler.{reply};
 ghost use Rattle.bully_lines.specs.Texts.{reply_of_text, reply_text, request_of_text};
 ghost use Rattle.bully_node.specs.Agent.{new_agent};
 ghost use Rattle.bully_rows.specs.TraceText.{line_of, row_fields, rows_text};
@@ -21,8 +22,9 @@ use crate::held::Held;
 use crate::shown::{CState, copy_owners, copy_text, copy_up, state_of};
 use crate::status::{self, CLOSED, LINE_WORD, OK, OPEN, OUT_OF_MEMORY, SHORT, TABLE_LENGTH};
 use crate::tables::{CSetup, node_of, put_owners, read_table, setup_of, table_of};
-use bully_base::{Node, OutOfMemory, Setup};
-use bully_calls::Answer;
+use bully_base::{Node, OutOfMemory, Setup, Status};
+use bully_calls::{Answer, CallKind};
+use bully_handlers::Vector;
 use bully_lines::{push_reply, push_request, read_reply, read_request};
 use bully_messages::{Reply, Request};
 use bully_node::Agent;
@@ -351,30 +353,38 @@ fn served(alloc: Global, held: &mut Held, line: &[u8], reply: &mut [u8], length:
         Ok(request) => request,
         Err(status) => return status,
     };
-    let (Ok(yes), Ok(no)) = (
-        reply_line(alloc, &request, Answer::Yes),
-        reply_line(alloc, &request, Answer::No),
-    ) else {
+    let answer = answer_to(&request, held.agent.vector());
+    let Ok(text) = reply_line(alloc, &request, answer) else {
         return OUT_OF_MEMORY;
     };
-    if reply.len() < yes.len() {
-        *length = yes.len();
+    if reply.len() < text.len() {
+        *length = text.len();
         return SHORT;
     }
     match held.serve(&request) {
-        Ok(told) => copy_text(line_told(told.answer, &yes, &no), reply, length),
+        Ok(_) => copy_text(&text, reply, length),
         Err(why) => status::of_refusal(why),
     }
 }
 
-// The line of a No or else that of a Yes.
-fn line_told<'a>(answer: Answer, yes: &'a str, no: &'a str) -> &'a str
-    ensures yes { answer ≡ AnswerState.Yes → result.now ≡ yes.now }
-    ensures no { answer ≡ AnswerState.No → result.now ≡ no.now }
+// What the request is answered by a node of this vector, where it runs.
+fn answer_to(request: &Request, vector: &Vector) -> Answer
+    ensures { result ≡ reply request.now.call.kind vector.now.vector }
 {
-    match answer {
-        Answer::No => no,
-        _ => yes,
+    match request.call.kind {
+        CallKind::AreYouNormal => if_normal(vector),
+        CallKind::AreYouUp | CallKind::Halt | CallKind::NewCoordinator | CallKind::Ready =>
+            Answer::Yes,
+    }
+}
+
+// Whether a node of this vector, which may be Down, is Normal, as it answers.
+fn if_normal(vector: &Vector) -> Answer
+    ensures { result ≡ reply CallKindState.AreYouNormal vector.now.vector }
+{
+    match vector.status() {
+        Status::Down => Answer::No,
+        Status::Election | Status::Reorganization | Status::Normal => vector.are_you_normal(),
     }
 }
 

@@ -1,8 +1,11 @@
-use Rattle.std.proofs.Common.{◌≡◌, ◌∙◌, ◌≤◌, List, ℕ, Ok, arith, inl, inr, length, refl, string_bytes, subst}
+use Rattle.std.proofs.Common.{◌≡◌, ◌∙◌, ◌≤◌, List, ℕ, Ok, ap, arith, inl, inr, length, refl, string_bytes, subst, sym}
 use Rattle.bully_base.specs.Setup.{Setup}
+use Rattle.bully_calls.specs.declared.call.Answer.{Answer}
+use Rattle.bully_handlers.specs.Handler.{reply}
 use Rattle.bully_lines.specs.Texts.{reply_text, request_of_text}
+use Rattle.bully_messages.specs.declared.message.Reply.{Reply}
 use Rattle.bully_c.specs.Exports.{RefusesRequestLine}
-use Rattle.bully_c.proofs.ReplyLemmas.{copied-as, told-line}
+use Rattle.bully_c.proofs.ReplyLemmas.{copied-as}
 use Rattle.bully_c.proofs.agents.served.Goals as goal
 
 pub returns-in-Err : goal.returns-in-Err
@@ -11,11 +14,12 @@ returns-in-Err c =
 
 pub returns-in-Ok-serve : goal.returns-in-Ok-serve
 returns-in-Ok-serve c =
-    let request = c.in-Ok.request in let told = c.in-Ok-serve.told in let room = c.args.reply.now in
-    let (chosen, low) =
-    told-line request c.args.held.now.agent.member.vector.vector told c.line_told.result.now (string_bytes c.in-Ok-Ok.yes) (string_bytes c.in-Ok-Ok.no)
-    c.in-Ok-serve.ensures.0.answered c.in-Ok-Ok.ensures c.in-Ok-Ok.ensures' (λ e. c.line_told.ensures.yes e ∙ c.deref.ensures) (λ e. c.line_told.ensures.no e ∙ c.deref-in-Ok-serve.ensures) in
-    let fits : length c.line_told.result.now ≤ length room = omega (arith, low, c.if-reply-len.false, c.len.ensures) in
-    let (ok, copied) = copied-as c.line_told.result.now (reply_text told) room c.copy_text.new.room c.copy_text.result c.copy_text.new.length chosen fits c.copy_text.ensures in
+    let request = c.in-Ok.request in let told = c.in-Ok-serve.field-0 in let room = c.args.reply.now in
+    let answer : c.answer_to-answer.result ≡ reply request.call.kind c.args.held.now.agent.member.vector.vector = grind (arith, c.answer_to-answer.ensures, c.vector.ensures.vector) in
+    let line : c.deref.result.now ≡ reply_text told =
+    c.deref.ensures ∙ (c.in-Ok-reply_line.ensures
+    ∙ (ap (λ (a : Answer). reply_text (record { caller = request.caller; number = request.number; answer = a })) answer ∙ sym (ap reply_text c.in-Ok-serve.ensures.0.answered))) in
+    let fits : length c.deref.result.now ≤ length room = grind (arith, c.if-reply-len.false, c.len.ensures, c.deref.ensures) in
+    let (ok, copied) = copied-as c.deref.result.now (reply_text told) room c.copy_text.new.room c.copy_text.result c.copy_text.new.length line fits c.copy_text.ensures in
     let asked = subst (λ (s : Setup). request_of_text s c.args.line.now ≡ Ok request) c.setup.ensures.setup c.in-Ok.ensures.ok in
     inr (request, asked, Ok told, ok, c.in-Ok-serve.ensures, copied)
