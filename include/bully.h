@@ -12,7 +12,8 @@
  *
  * What no test can see, the program has to keep:
  *
- * - a handle is zeroed before it is opened, and nothing but this library writes it then; it isn't copied to be used twice;
+ * - a handle is zeroed before it is opened, and nothing but this library writes it then; it may be moved, but no copy is used
+ *   beside it;
  * - one call of a handle at a time; it may go from thread to thread, and other threads may use other handles meanwhile;
  * - a pointer and its length speak of memory that is there, and no two of them of the same memory, unless both are only read;
  * - malloc, realloc and free are those of the C library, and no call comes from a signal handler.
@@ -54,7 +55,7 @@ enum {
     BULLY_BUSY = 5,         /* a check or a timeout of a node that isn't idle */
     BULLY_NO_STEP = 6,      /* the node doesn't want to do that next */
     BULLY_SLOT_BUSY = 7,    /* the node has a call under way */
-    BULLY_NO_CALL = 8,      /* there is no such call */
+    BULLY_NO_CALL = 8,      /* there is no such call, or none to this node, or none that is answered so */
     BULLY_CALLEE_DOWN = 9,  /* the request comes to a node that is Down */
     BULLY_CALLEE_UP = 10,   /* of a trace alone: a call is lost whose callee is up */
     BULLY_BAD_TABLE = 11,   /* a planned table isn't balanced over the node and its up set */
@@ -120,9 +121,9 @@ bully_status bully_check(const uint8_t *trace, size_t length, bully_verdict *ver
 
 /* ---- Tables ---- */
 
-/* Plans the table over these members, balanced, with the fewest moves from the old table; old_count 0: from none. `owners` has
- * room for owner_count owners, as many as there are partitions, and `moves` gets how many partitions change their owner: all
- * of them, where there is no old table.
+/* Plans the table over these members, in any order and each counted once: balanced, with the fewest moves from the old table;
+ * old_count 0: from none. `owners` has room for owner_count owners, as many as there are partitions, and `moves` gets how many
+ * partitions change their owner: all of them, where there is no old table.
  * BULLY_NULL, BULLY_BAD_NODES, BULLY_BAD_PARTITIONS, BULLY_BAD_LIMIT, BULLY_BAD_WEIGHTS; BULLY_BAD_NODE: a member;
  * BULLY_TABLE_LENGTH: of the old table, or of owner_count; BULLY_TABLE_OWNER: of the old table; BULLY_NO_MEMBER;
  * BULLY_OUT_OF_MEMORY. */
@@ -140,11 +141,11 @@ typedef struct bully_agent {
 #define BULLY_AGENT_CLOSED { NULL }
 
 /* Opens the handle: the agent of a node that is Down, whose log has so many events, 0 at first, and has kept this task;
- * task_count 0: none.
+ * task_count 0: none. With as many events as the setup bounds, or more, it is opened, and each event is BULLY_FULL.
  * BULLY_NULL, BULLY_OPEN, BULLY_BAD_NODES, BULLY_BAD_PARTITIONS, BULLY_BAD_LIMIT, BULLY_BAD_WEIGHTS, BULLY_BAD_NODE,
  * BULLY_TABLE_LENGTH, BULLY_TABLE_OWNER, BULLY_OUT_OF_MEMORY. */
-bully_status bully_agent_open(bully_agent *agent, const bully_setup *setup, const uint16_t *weights, size_t weight_count, uint16_t node,
-                        uint32_t events, const uint16_t *task, size_t task_count);
+bully_status bully_agent_open(bully_agent *agent, const bully_setup *setup, const uint16_t *weights, size_t weight_count,
+                              uint16_t node, uint32_t events, const uint16_t *task, size_t task_count);
 
 /* Closes the handle, and gives back all that was kept. BULLY_NULL, BULLY_CLOSED. */
 bully_status bully_agent_close(bully_agent *agent);
@@ -190,7 +191,7 @@ bully_status bully_agent_serve(bully_agent *agent, const char *line, size_t line
  * way. */
 bully_status bully_agent_replied(bully_agent *agent, const char *line, size_t line_length, uint32_t *answer);
 /* The node's call of this number failed, and returns; `answer` gets what it is told. Two events. Premise: the callee is Down.
- * BULLY_NULL, BULLY_CLOSED, BULLY_FULL, BULLY_NO_CALL. */
+ * BULLY_NULL, BULLY_CLOSED; BULLY_FULL: without room for both; BULLY_NO_CALL. */
 bully_status bully_agent_failed(bully_agent *agent, uint32_t number, uint32_t *answer);
 
 /* What a call that returned brought. */
@@ -229,10 +230,11 @@ bully_status bully_agent_show(bully_agent *agent, bully_state *state);
 bully_status bully_agent_up(bully_agent *agent, uint16_t *nodes, size_t room, size_t *count);
 /* The owners of its task; a count of 0: it has none. BULLY_NULL, BULLY_CLOSED; BULLY_SHORT, with the count. */
 bully_status bully_agent_task(bully_agent *agent, uint16_t *owners, size_t room, size_t *count);
-/* The rows of its last step, for the log, each with its line end, as `docs/FORMATS.md` has them of version 3; a length of 0: it took
- * none since it was opened. BULLY_NULL, BULLY_CLOSED, BULLY_OUT_OF_MEMORY; BULLY_SHORT, with the length. */
+/* The rows of its last step, for the log, each with its line end, as `docs/FORMATS.md` has them of version 3; a length of 0: it
+ * took none since it was opened. BULLY_NULL, BULLY_CLOSED, BULLY_OUT_OF_MEMORY; BULLY_SHORT, with the length. */
 bully_status bully_agent_rows(bully_agent *agent, char *rows, size_t room, size_t *length);
-/* The row that says all of its vector, with its line end. BULLY_NULL, BULLY_CLOSED, BULLY_OUT_OF_MEMORY; BULLY_SHORT, with the length. */
+/* The row that says all of its vector, with its line end.
+ * BULLY_NULL, BULLY_CLOSED, BULLY_OUT_OF_MEMORY; BULLY_SHORT, with the length. */
 bully_status bully_agent_claim(bully_agent *agent, char *row, size_t room, size_t *length);
 
 #ifdef __cplusplus

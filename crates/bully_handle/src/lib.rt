@@ -1,4 +1,6 @@
 //! A box as its pointer, for a struct that C holds.
+//!
+//! It stands on the kit alone. bully_c relies on a value coming out of its pointer as it went in, and on null having none.
 #![tactic(auto)]
 
 ghost use Rattle.std.specs.Prelude.{◌≡◌, Option, None, Some, MatchOption};
@@ -8,9 +10,10 @@ use std::alloc::Global;
 use std::marker::Model;
 use std::ptr::null_mut;
 
-/// A box as its pointer, or null where there is none.
+/// A box as its pointer, which it owns, or null where there is none. To let it go without [`Loose::into_box`] is to lose the box.
 pub struct Loose<T> {
     pub at: *mut T,
+    /// What lies there; none where the pointer is null.
     pub ghost value: { Option T },
 }
 
@@ -19,12 +22,14 @@ impl<T> Model for Loose<T> {
 }
 
 impl<T> Loose<T> {
+    /// Null.
     pub fn none() -> Loose<T>
         ensures { result.value ≡ None }
     {
         Loose { at: null_mut() }
     }
 
+    /// The box as its pointer.
     pub fn of(value: Box<T>) -> Loose<T>
     where
         T: Drop,
@@ -35,6 +40,7 @@ impl<T> Loose<T> {
         }
     }
 
+    /// The box again; none of null. Its block goes back to the heap of C, of which there is one.
     pub fn into_box(self, alloc: Global) -> Option<Box<T>>
         ensures { MatchOption result (self.value ≡ None) (λ b. self.value ≡ Some b.value) }
     {
