@@ -1,11 +1,11 @@
 -- A setup in which each node weighs 1, and owners that are given.
 use Rattle.std.proofs.Common.{◌≡◌, ℕ, zero, suc, ◌+◌, ◌≤◌, List, [], ◌∷◌, Result, Ok, Err, IfErr, IfOk, ap, arith, refl, replicate, subst, take}
-use Rattle.std.specs.Prelude.{IfSome}
+use Rattle.std.specs.Prelude.{IfSome, false, length, ◌==◌}
 use Rattle.bully_base.specs.Setup.{IsSetup, Setup}
 use Rattle.bully_base.specs.declared.TheConstants.{NODES_MAX}
 use Rattle.bully_base.specs.declared.setup.SetupFault.{SetupFault}
 use Rattle.bully_rows.specs.ReadBack.{AreOwners}
-use Rattle.bully_c.specs.Arguments.{IsSetupRefusal, RefusesSetup, setup_given, setup_with, table_given}
+use Rattle.bully_c.specs.Arguments.{IsSetupRefusal, RefusesGiven, RefusesOwners, RefusesSetup, setup_given, setup_with, table_given}
 use Rattle.bully_c.specs.declared.tables.CSetup.{CSetup}
 
 -- the first of so many that are alike
@@ -37,3 +37,7 @@ ones-err s weights (Err status) is why = (why.0, why.1, refused s weights why.0 
 pub owners-given : (s : Setup) (owners : List ℕ) → AreOwners s owners → IfSome (table_given owners) (AreOwners s)
 owners-given s [] are = tt
 owners-given s (owner ∷ owners) are = are
+
+pub refused-given : (s : Setup) (owners : List ℕ) (status : ℕ) → (length owners == 0) ≡ false → RefusesOwners s owners status → RefusesGiven s owners status
+refused-given s [] status some why = absurd (cc some)
+refused-given s (owner ∷ owners) status some why = why

@@ -1,11 +1,11 @@
 -- What the arguments of C come to.
-use Rattle.std.specs.Prelude.{◌≡◌, ◌≢◌, ◌⊎◌, ℕ, ◌<◌, ◌≤◌, Bool, List, [], ◌∷◌, ◌++◌, Option, Some, None, Result, Ok, Err, All, drop, length, not, replicate, ◌==◌}
+use Rattle.std.specs.Prelude.{◌≡◌, ◌≢◌, ◌⊎◌, ℕ, ◌<◌, ◌≤◌, List, [], ◌∷◌, ◌++◌, Option, Some, None, IfSome, All, drop, length, not, replicate, ◌==◌}
 use Rattle.bully_base.specs.Setup.{AreWeights, IsEventsBound, IsNode, IsNodeNumber, IsPartitionCount, Setup}
 use Rattle.bully_base.specs.declared.setup.SetupFault.{SetupFault}
 use Rattle.bully_rows.specs.ReadBack.{AreOwners}
 use Rattle.bully_c.specs.Numbers.{setup_number}
 use Rattle.bully_c.specs.declared.tables.CSetup.{CSetup}
-use Rattle.bully_c.specs.declared.status.TheConstants.{BAD_NODE, OK, OUT_OF_MEMORY, SHORT, TABLE_LENGTH, TABLE_OWNER}
+use Rattle.bully_c.specs.declared.status.TheConstants.{OK, OUT_OF_MEMORY, SHORT, TABLE_LENGTH, TABLE_OWNER}
 
 -- ---- setups
 
@@ -45,6 +45,15 @@ pub record RefusesOwners (s : Setup) (owners : List ℕ) (status : ℕ) : Type 0
 abbrev pub table_given : List ℕ → Option (List ℕ)
 table_given [] = None
 table_given (owner ∷ owners) = Some (owner ∷ owners)
+
+-- there are no owners, or they are those of a table of the setup
+abbrev pub AreGiven : Setup → List ℕ → Type 0
+AreGiven s owners = IfSome (table_given owners) (AreOwners s)
+
+-- why owners that are given are none of the setup, or that an allocation failed; none at all is never refused
+abbrev pub RefusesGiven : Setup → List ℕ → ℕ → Type 0
+RefusesGiven s [] status = ⊥
+RefusesGiven s (owner ∷ owners) status = RefusesOwners s (owner ∷ owners) status
 
 -- ---- what is written into the room that is given
 

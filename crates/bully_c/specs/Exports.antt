@@ -21,7 +21,7 @@ use Rattle.bully_rows.specs.declared.trace.Row.{Row}
 use Rattle.bully_table.specs.Planning.{planned}
 use Rattle.bully_world.specs.declared.event.Event.{Event}
 use Rattle.bully_world.specs.declared.event.Refused.{Refused}
-use Rattle.bully_c.specs.Arguments.{IsCopied, IsMadeAndCopied, IsSetupRefusal, RefusesOwners, setup_given, table_given}
+use Rattle.bully_c.specs.Arguments.{AreGiven, IsCopied, IsSetupRefusal, RefusesGiven, RefusesOwners, table_given}
 use Rattle.bully_c.specs.Held.{Serves, call_in, Takes, TakesFailure, TakesReply, TellsEvent, rows_told}
 use Rattle.bully_c.specs.Numbers.{answer_number, kind_number, refusal_number, reply_number, request_number, status_number, step_number, want_number}
 use Rattle.bully_c.specs.declared.status.TheConstants.{BAD_NODE, CLOSED, LINE_WORD, OK, OPEN, OUT_OF_MEMORY, SHORT, TABLE_LENGTH}
@@ -51,19 +51,27 @@ IsPlan owners held status after =
 -- why a line is no request, by its number
 abbrev pub RefusesRequestLine : Setup → List ℕ → ℕ → Type 0
 RefusesRequestLine s line status =
-    ((status ≡ LINE_WORD) × ¬ IsUtf8 line) ⊎ ((fault : RequestFault) × (status ≡ request_number fault) × IsRequestFault s line fault)
+    ((status ≡ LINE_WORD) × ¬ IsUtf8 line) ⊎ (IsUtf8 line × (fault : RequestFault) × (status ≡ request_number fault) × IsRequestFault s line fault)
 
 -- and no reply
 abbrev pub RefusesReplyLine : Setup → List ℕ → ℕ → Type 0
 RefusesReplyLine s line status =
-    ((status ≡ LINE_WORD) × ¬ IsUtf8 line) ⊎ ((fault : ReplyFault) × (status ≡ reply_number fault) × (reply_of_text s line ≡ Err fault))
+    ((status ≡ LINE_WORD) × ¬ IsUtf8 line) ⊎ (IsUtf8 line × (fault : ReplyFault) × (status ≡ reply_number fault) × (reply_of_text s line ≡ Err fault))
 
--- the request of a line runs, and the line of its reply is written. Nothing happens where there isn't room for that, where
--- the line is no request, or where an allocation failed.
+-- the line is that of a request
+abbrev pub IsRequestLine : Setup → List ℕ → Request → Type 0
+IsRequestLine s line request = IsUtf8 line × (request_of_text s line ≡ Ok request)
+
+-- the line of what the node answers it, where it runs
+abbrev pub answer_line : Held → Request → List ℕ
+answer_line held request = reply_text (record { caller = request.caller; number = request.number; answer = reply request.call.kind held.agent.member.vector.vector })
+
+-- the request of a line runs, and the line of its reply is written. Nothing happens where there isn't room for that, where the line
+-- is no request, or where an allocation failed.
 pub record NothingServed (line : List ℕ) (room count : ℕ) (held : Held) (status count_after : ℕ) : Type 0 where
-  pub why : ((request : Request) × (request_of_text held.agent.setup line ≡ Ok request) × (status ≡ SHORT) × (room < count_after)
-      × (count_after ≡ length (reply_text (record { caller = request.caller; number = request.number; answer = reply request.call.kind held.agent.member.vector.vector }))))
-      ⊎ ((status ≡ OUT_OF_MEMORY) × (count_after ≡ count)) ⊎ (RefusesRequestLine held.agent.setup line status × (count_after ≡ count))
+  pub why : ((request : Request) × IsRequestLine held.agent.setup line request × (status ≡ SHORT) × (room < count_after) × (count_after ≡ length (answer_line held request)))
+      ⊎ ((request : Request) × IsRequestLine held.agent.setup line request × (status ≡ OUT_OF_MEMORY) × (count_after ≡ count))
+      ⊎ (RefusesRequestLine held.agent.setup line status × (count_after ≡ count))
 
 -- what was written of the reply, if there is one
 abbrev pub IsReplyCopied : Result Reply Refused → List ℕ → ℕ → List ℕ → ℕ → Type 0
@@ -73,8 +81,8 @@ IsReplyCopied (Err why) before count_before after count = (after ≡ before) × 
 abbrev pub IsServe : List ℕ → List ℕ → ℕ → List ℕ → ℕ → Held → ℕ → Held → Type 0
 IsServe line before count_before after_reply count held status after =
     (NothingServed line (length before) count_before held status count × (after ≡ held) × (after_reply ≡ before))
-    ⊎ ((request : Request) × (request_of_text held.agent.setup line ≡ Ok request) × (said : Result Reply Refused) × (status ≡ step_number said)
-    × Serves request held said after × IsReplyCopied said before count_before after_reply count)
+    ⊎ ((request : Request) × IsRequestLine held.agent.setup line request × (length (answer_line held request) ≤ length before)
+    × (said : Result Reply Refused) × (status ≡ step_number said) × Serves request held said after × IsReplyCopied said before count_before after_reply count)
 
 -- what a call brought, in the place of what was there
 abbrev pub told_answer : ℕ → Result Answer Refused → ℕ
@@ -84,7 +92,7 @@ told_answer before (Err why) = before
 abbrev pub IsReply : List ℕ → ℕ → ℕ → Held → ℕ → Held → Type 0
 IsReply line before answer held status after =
     (RefusesReplyLine held.agent.setup line status × (after ≡ held) × (answer ≡ before))
-    ⊎ ((reply : Reply) × (reply_of_text held.agent.setup line ≡ Ok reply) × (said : Result Answer Refused) × (status ≡ step_number said)
+    ⊎ ((reply : Reply) × IsUtf8 line × (reply_of_text held.agent.setup line ≡ Ok reply) × (said : Result Answer Refused) × (status ≡ step_number said)
     × TakesReply reply held said after × (answer ≡ told_answer before said))
 
 abbrev pub IsFailure : ℕ → ℕ → ℕ → Held → ℕ → Held → Type 0
@@ -121,13 +129,13 @@ Shows Says held status after = Says held status × (after ≡ held)
 
 -- the table that the agent prepares from these owners, if any
 abbrev pub IsPreparedTable : AgentState → List ℕ → List ℕ → Type 0
-IsPreparedTable a old table =
-    IfSome (table_given old) (λ owners. AreOwners a.setup owners) × (table ≡ planned a.setup (table_given old) (with_node a.node a.member.vector.vector.up))
+IsPreparedTable a old table = AreGiven a.setup old × (table ≡ planned a.setup (table_given old) (with_node a.node a.member.vector.vector.up))
 
 -- why there is none: the room isn't that of a table, the old owners are none of the setup, or an allocation failed
 abbrev pub RefusesPrepare : AgentState → List ℕ → ℕ → ℕ → Type 0
 RefusesPrepare a old room status =
-    ((status ≡ TABLE_LENGTH) × (room ≢ a.setup.partitions)) ⊎ RefusesOwners a.setup old status ⊎ (status ≡ OUT_OF_MEMORY)
+    ((status ≡ TABLE_LENGTH) × (room ≢ a.setup.partitions)) ⊎ ((room ≡ a.setup.partitions) × RefusesGiven a.setup old status)
+    ⊎ ((status ≡ OUT_OF_MEMORY) × (room ≡ a.setup.partitions) × AreGiven a.setup old)
 
 abbrev pub IsPrepared : List ℕ → List ℕ → List ℕ → Held → ℕ → Held → Type 0
 IsPrepared old before owners = Shows (λ held status.
@@ -135,12 +143,18 @@ IsPrepared old before owners = Shows (λ held status.
 
 -- ---- opening and closing
 
+-- there is such a setup, such a node of it, and such a task
+pub record CanOpen (s : Setup) (node : ℕ) (task : List ℕ) : Type 0 where
+  pub within : IsSetup s
+  pub is_node : IsNode s node
+  pub task_is : AreGiven s task
+
 -- why a handle isn't opened
 pub record RefusesOpening (s : Setup) (node : ℕ) (task : List ℕ) (status : ℕ) : Type 0 where
   pub why : IsSetupRefusal s status
       ⊎ ((status ≡ BAD_NODE) × IsSetup s × ¬ IsNode s node)
-      ⊎ (IsSetup s × IsNode s node × RefusesOwners s task status)
-      ⊎ ((status ≡ OUT_OF_MEMORY) × IsSetup s × IsNode s node)
+      ⊎ (IsSetup s × IsNode s node × RefusesGiven s task status)
+      ⊎ ((status ≡ OUT_OF_MEMORY) × IsSetup s × IsNode s node × AreGiven s task)
 
 -- the agent that took no step
 abbrev pub opened : Setup → ℕ → ℕ → List ℕ → Held
@@ -149,7 +163,7 @@ opened s node events task = record { agent = new_agent s node events (table_give
 abbrev pub IsOpening : Setup → ℕ → ℕ → List ℕ → Option Held → ℕ → Option Held → Type 0
 IsOpening s node events task (Some held) status new = (status ≡ OPEN) × (new ≡ Some held)
 IsOpening s node events task None status new =
-    ((status ≡ OK) × (new ≡ Some (opened s node events task))) ⊎ (RefusesOpening s node task status × (new ≡ None))
+    ((status ≡ OK) × CanOpen s node task × (new ≡ Some (opened s node events task))) ⊎ (RefusesOpening s node task status × (new ≡ None))
 
 abbrev pub IsClosing : Option Held → ℕ → Option Held → Type 0
 IsClosing None status new = (status ≡ CLOSED) × (new ≡ None)

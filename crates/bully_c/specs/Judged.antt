@@ -1,9 +1,8 @@
 -- What is told of a trace, and of a table.
-use Rattle.std.specs.Prelude.{◌≡◌, ◌≢◌, ◌⊎◌, ◌+◌, ◌↔◌, ℕ, List, [], Option, Some, All, Contains, length}
+use Rattle.std.specs.Prelude.{◌==◌, if◌then◌else◌, ◌≡◌, ◌≢◌, ◌⊎◌, ◌+◌, ◌↔◌, ℕ, List, [], Option, Some, All, Contains, length}
 use Rattle.bully_base.specs.NodeSet.{IsFallingBelow}
 use Rattle.bully_base.specs.Setup.{IsNode, IsSetup, Setup}
 use Rattle.bully_base.specs.declared.TheConstants.{NODES_MAX}
-use Rattle.bully_rows.specs.ReadBack.{AreOwners}
 use Rattle.bully_rows.specs.Rows.{IsFirstFault, OfTrace}
 use Rattle.bully_rows.specs.declared.trace.TraceFault.{TraceFault}
 use Rattle.bully_table.specs.Planning.{IsFewest, moves_from, planned}
@@ -11,7 +10,7 @@ use Rattle.bully_trace.specs.Recorded.{RecordedAgreement}
 use Rattle.bully_trace.specs.Verdict.{AgreesAfterEachRow, IsLawfulCount}
 use Rattle.bully_trace.specs.VerdictText.{IsJudgedAs}
 use Rattle.bully_trace.specs.declared.verdict.Verdict.{Verdict}
-use Rattle.bully_c.specs.Arguments.{IsSetupRefusal, RefusesOwners, table_given}
+use Rattle.bully_c.specs.Arguments.{AreGiven, IsSetupRefusal, RefusesGiven, table_given}
 use Rattle.bully_c.specs.Numbers.{refusal_number, trace_number}
 use Rattle.bully_c.specs.declared.status.TheConstants.{BAD_NODE, NO_MEMBER, OK, OUT_OF_MEMORY, TABLE_LENGTH}
 use Rattle.bully_c.specs.declared.traces.CVerdict.{CVerdict}
@@ -30,10 +29,14 @@ pub record IsVerdictOn (bytes : List ℕ) (found : Verdict) : Type 0 where
   pub agreement : OfTrace (Some bytes) (λ trace. AgreesAfterEachRow trace found)
   pub recorded : OfTrace (Some bytes) (λ trace. RecordedAgreement trace found)
 
+-- the row of a fault of form; 0 where memory was wanted
+abbrev pub row_told : TraceFault → ℕ
+row_told fault = if trace_number fault.cause == OUT_OF_MEMORY then 0 else fault.row
+
 abbrev pub IsCheck : List ℕ → CVerdict → ℕ → CVerdict → Type 0
 IsCheck bytes before status after =
     ((found : Verdict) × (status ≡ OK) × (after ≡ verdict_numbers found) × IsVerdictOn bytes found)
-    ⊎ ((fault : TraceFault) × (status ≡ trace_number fault.cause) × (after ≡ record before { number = fault.row }) × IsFirstFault (Some bytes) fault)
+    ⊎ ((fault : TraceFault) × (status ≡ trace_number fault.cause) × (after ≡ record before { number = row_told fault }) × IsFirstFault (Some bytes) fault)
 
 -- ---- tables
 
@@ -44,6 +47,9 @@ pub record IsSetOf (numbers set : List ℕ) : Type 0 where
 
 -- the table over these nodes, and how many partitions change their owner
 pub record IsPlannedTable (s : Setup) (numbers old owners : List ℕ) (moves : ℕ) : Type 0 where
+  pub within : IsSetup s
+  pub nodes : All (IsNode s) numbers
+  pub old_is : AreGiven s old
   pub members : List ℕ
   pub is : IsSetOf numbers members
   pub planned_is : owners ≡ planned s (table_given old) members
@@ -56,9 +62,9 @@ RefusesTable s numbers old room status =
     IsSetupRefusal s status
     ⊎ ((status ≡ BAD_NODE) × IsSetup s × ¬ All (IsNode s) numbers)
     ⊎ ((status ≡ TABLE_LENGTH) × IsSetup s × All (IsNode s) numbers × (room ≢ s.partitions))
-    ⊎ (IsSetup s × All (IsNode s) numbers × (room ≡ s.partitions) × RefusesOwners s old status)
-    ⊎ ((status ≡ NO_MEMBER) × IsSetup s × (numbers ≡ []))
-    ⊎ ((status ≡ OUT_OF_MEMORY) × IsSetup s × All (IsNode s) numbers)
+    ⊎ (IsSetup s × All (IsNode s) numbers × (room ≡ s.partitions) × RefusesGiven s old status)
+    ⊎ ((status ≡ NO_MEMBER) × IsSetup s × (room ≡ s.partitions) × AreGiven s old × (numbers ≡ []))
+    ⊎ ((status ≡ OUT_OF_MEMORY) × IsSetup s × All (IsNode s) numbers × (room ≡ s.partitions) × AreGiven s old)
 
 abbrev pub IsTable : Setup → List ℕ → List ℕ → List ℕ → ℕ → ℕ → List ℕ → ℕ → Type 0
 IsTable s numbers old before moves_before status owners moves =

@@ -1,5 +1,5 @@
 //! Agents behind their handles.
-ghost use Rattle.std.specs.Prelude.{◌≡◌, ◌⊎◌, ◌≤◌, [], Err, Ok, IfErr, IfOk, IfSome, length, None, string_bytes, unwrap_or, reverse};
+ghost use Rattle.std.specs.Prelude.{◌≡◌, ◌≤◌, [], IsUtf8, Ok, IfErr, IfOk, IfSome, length, None, string_bytes, unwrap_or, reverse};
 ghost use Rattle.std.specs.Option.{option_copied};
 ghost use Rattle.bully_base.specs.Setup.{IsNode, IsSetup};
 ghost use Rattle.bully_calls.specs.declared.call.CallKind.{CallKind as CallKindState};
@@ -11,7 +11,7 @@ ghost use Rattle.bully_rows.specs.Whole.{whole_of};
 ghost use Rattle.bully_rows.specs.declared.trace.Row.{Row as RowState};
 ghost use Rattle.bully_world.specs.declared.event.Event.{Event as EventState};
 ghost use Rattle.bully_c.specs.Arguments.{IsCopied, IsMadeAndCopied, RefusesOwners, setup_given, table_given};
-ghost use Rattle.bully_c.specs.Exports.{AtOpen, IsClosing, IsEvent, IsFailure, IsOpening, IsPlan, IsPrepared, IsPreparedTable, IsReply, IsServe, RefusesOpening, RefusesPrepare, RefusesReplyLine, RefusesRequestLine, Shows, opened, request_line, shown, told_answer};
+ghost use Rattle.bully_c.specs.Exports.{AtOpen, CanOpen, IsRequestLine, IsClosing, IsEvent, IsFailure, IsOpening, IsPlan, IsPrepared, IsPreparedTable, IsReply, IsServe, RefusesOpening, RefusesPrepare, RefusesReplyLine, RefusesRequestLine, Shows, opened, request_line, shown, told_answer};
 ghost use Rattle.bully_c.specs.Held.{TellsDrop, TellsEvent, TellsStart, rows_told};
 ghost use Rattle.bully_c.specs.Numbers.{step_number};
 ghost use Rattle.bully_c.specs.declared.status.TheConstants.{OK as OkNumber, OUT_OF_MEMORY as OutOfMemoryNumber};
@@ -97,6 +97,7 @@ fn opened(
     task: &[u16],
 ) -> Result<Box<Held>, u32>
     ensures ok { IfOk result (λ held. held.value ≡ opened (setup_given setup.now weights.now) node events task.now) }
+    ensures can { IfOk result (λ _. CanOpen (setup_given setup.now weights.now) node task.now) }
     ensures err { IfErr result (RefusesOpening (setup_given setup.now weights.now) node task.now) }
 {
     let setup = setup_of(setup, weights)?;
@@ -404,7 +405,7 @@ fn reply_line(alloc: Global, request: &Request, answer: Answer) -> Result<String
 
 // The request that the line spells.
 fn request_in(alloc: Global, setup: &Setup, line: &[u8]) -> Result<Request, u32>
-    ensures ok { IfOk result (λ request. request_of_text setup.now line.now ≡ Ok request) }
+    ensures ok { IfOk result (IsRequestLine setup.now line.now) }
     ensures err { IfErr result (RefusesRequestLine setup.now line.now) }
 {
     let Ok(line) = str::from_utf8(line) else {
@@ -440,7 +441,7 @@ pub extern "C" fn bully_c_agent_replied(
 
 // The reply that the line spells.
 fn reply_in(setup: &Setup, line: &[u8]) -> Result<Reply, u32>
-    ensures ok { IfOk result (λ reply. reply_of_text setup.now line.now ≡ Ok reply) }
+    ensures ok { IfOk result (λ reply. IsUtf8 line.now × (reply_of_text setup.now line.now ≡ Ok reply)) }
     ensures err { IfErr result (RefusesReplyLine setup.now line.now) }
 {
     let Ok(line) = str::from_utf8(line) else {

@@ -1,6 +1,8 @@
 //! The numbers of include/bully.h.
 ghost use Rattle.std.specs.Prelude.{◌≡◌};
+ghost use Rattle.bully_world.specs.declared.event.Refused.{Refused};
 ghost use Rattle.bully_lines.specs.declared.fault.RequestFault.{RequestFault};
+ghost use Rattle.bully_c.specs.declared.status.TheConstants.{BAD_NODE, CLOSED, LINE_WORD, NO_MEMBER, OK, OPEN, OUT_OF_MEMORY, SHORT, TABLE_LENGTH, TABLE_OWNER};
 ghost use Rattle.bully_c.specs.Numbers.{answer_number, kind_number, refusal_number, reply_number, request_number, setup_number, status_number, trace_number, want_number};
 
 use bully_base::{SetupFault, Status};
@@ -30,6 +32,20 @@ pub const TABLE_OWNER: u32 = 30;
 pub const NO_MEMBER: u32 = 31;
 
 pub const LINE_WORD: u32 = 40;
+
+/// The numbers that stand by themselves.
+pub fn numbers()
+    ensures ok { OK ≡ 0 }
+    ensures node { BAD_NODE ≡ refusal_number Refused.BadNode }
+    ensures closed { CLOSED ≡ 21 }
+    ensures open { OPEN ≡ 22 }
+    ensures memory { OUT_OF_MEMORY ≡ 23 }
+    ensures short { SHORT ≡ 24 }
+    ensures length { TABLE_LENGTH ≡ 29 }
+    ensures owner { TABLE_OWNER ≡ 30 }
+    ensures member { NO_MEMBER ≡ 31 }
+    ensures word { LINE_WORD ≡ 40 }
+{}
 
 /// Of an event that is refused.
 pub fn of_refusal(why: Refused) -> u32

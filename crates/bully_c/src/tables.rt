@@ -4,7 +4,7 @@ ghost use Rattle.std.specs.Option.{option_copied};
 ghost use Rattle.bully_base.specs.Setup.{IsNode, IsSetup};
 ghost use Rattle.bully_rows.specs.ReadBack.{AreOwners};
 ghost use Rattle.bully_table.specs.TableText.{owners_text};
-ghost use Rattle.bully_c.specs.Arguments.{IsSetupRefusal, RefusesOwners, setup_given, setup_with, table_given};
+ghost use Rattle.bully_c.specs.Arguments.{AreGiven, IsSetupRefusal, RefusesGiven, RefusesOwners, setup_given, setup_with, table_given};
 
 use crate::status::{self, BAD_NODE, OUT_OF_MEMORY, TABLE_LENGTH, TABLE_OWNER};
 use bully_base::{NODES_MAX, Node, NodeSet, OutOfMemory, Setup};
@@ -80,9 +80,9 @@ pub fn node_of(setup: &Setup, number: u16) -> Result<Node, u32>
 /// owner that is no node of the setup, and where an allocation fails.
 pub fn table_of(alloc: Global, setup: &Setup, owners: &[u16]) -> Result<Option<Table>, u32>
     ensures ok { IfOk result (λ table. table ≡ table_given owners.now) }
-    ensures owners { IfOk result (λ _. IfSome (table_given owners.now) (AreOwners setup.now)) }
+    ensures owners { IfOk result (λ _. AreGiven setup.now owners.now) }
     ensures length { IfOk result (λ table. IfSome table (λ t. length t ≡ setup.now.partitions)) }
-    ensures err { IfErr result (RefusesOwners setup.now owners.now) }
+    ensures err { IfErr result (RefusesGiven setup.now owners.now) }
 {
     if owners.is_empty() {
         return Ok(None);

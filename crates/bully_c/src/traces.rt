@@ -33,8 +33,13 @@ pub extern "C" fn bully_c_check(alloc: Global, trace: &[u8], verdict: &mut CVerd
             OK
         }
         Err(fault) => {
-            verdict.number = fault.row;
-            status::of_trace(fault.cause)
+            let status = status::of_trace(fault.cause);
+            verdict.number = if status == OUT_OF_MEMORY {
+                0
+            } else {
+                fault.row
+            };
+            status
         }
     }
 }

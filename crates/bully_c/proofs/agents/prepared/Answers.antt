@@ -2,15 +2,14 @@ use Rattle.std.proofs.Common.{◌≡◌, List, ℕ, Option, arith, subst}
 use Rattle.std.specs.Prelude.{IfSome}
 use Rattle.bully_base.specs.NodeSet.{with_node}
 use Rattle.bully_base.specs.Setup.{Setup}
-use Rattle.bully_rows.specs.ReadBack.{AreOwners}
 use Rattle.bully_table.specs.Planning.{owners_before, planned, quota}
 use Rattle.bully_table.proofs.PlannedLemmas.{planned-covers}
-use Rattle.bully_c.specs.Arguments.{table_given}
+use Rattle.bully_c.specs.Arguments.{AreGiven}
 use Rattle.bully_c.proofs.agents.prepared.Goals as goal
 
 pub returns-in-Ok-clause-ok : goal.returns-in-Ok-clause-ok
 returns-in-Ok-clause-ok c = (
-  subst (λ (s : Setup). IfSome (table_given c.args.old.now) (AreOwners s)) c.setup-setup.ensures.setup c.in_ok-old.ensures.owners,
+  subst (λ (s : Setup). AreGiven s c.args.old.now) c.setup-setup.ensures.setup c.in_ok-old.ensures.owners,
   grind (arith, c.in-Ok.ensures, c.as_ref.ensures.value, c.in_ok-old.ensures.ok),
 )
 
