@@ -19,8 +19,9 @@ use Rattle.bully_world.specs.World.{Member, World, pending, point, vector, with_
 use Rattle.bully_world.proofs.CauseLemmas.{no_cause_if_step, step_if_no_cause}
 use Rattle.bully_world.proofs.MembersOf.{member-members_of}
 use Rattle.bully_world.proofs.TurnLemmas.{reached_fits}
-use Rattle.bully_account.specs.declared.deed.Deed.{Deed}
-use Rattle.bully_account.specs.Possible.{ArePossible, IsPossible, TellsPossible, deed_of, event_at, every_deed, passes}
+use Rattle.bully_rows.specs.declared.deed.Deed.{Deed}
+use Rattle.bully_rows.specs.Deeds.{deed_of, event_of_deed}
+use Rattle.bully_account.specs.Possible.{ArePossible, IsPossible, TellsPossible, every_deed, passes}
 
 -- ---- the table that is planned
 
@@ -100,7 +101,7 @@ no-plan w i reached other = (
 -- ---- all deeds
 
 -- an event of node i that is this deed is the one that the deed names
-same_event : (i : ℕ) (deed : Deed) (f : Event) → node_of f ≡ i → deed_of f ≡ deed → IfSome (event_at deed i) (λ e. f ≡ e)
+same_event : (i : ℕ) (deed : Deed) (f : Event) → node_of f ≡ i → deed_of f ≡ deed → IfSome (event_of_deed deed i) (λ e. f ≡ e)
 same_event i deed (Event.Recover j) at is = rw (← is) (ap (λ (k : ℕ). Event.Recover k) at)
 same_event i deed (Event.Crash j) at is = rw (← is) (ap (λ (k : ℕ). Event.Crash k) at)
 same_event i deed (Event.Check j) at is = rw (← is) (ap (λ (k : ℕ). Event.Check k) at)

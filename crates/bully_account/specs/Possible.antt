@@ -4,35 +4,8 @@ use Rattle.std.specs.Option.{option_map_or}
 use Rattle.bully_world.specs.declared.event.Event.{Event}
 use Rattle.bully_world.specs.Cause.{node_of}
 use Rattle.bully_world.specs.State.{WorldState, cause_in}
-use Rattle.bully_account.specs.declared.deed.Deed.{Deed}
-
--- what the event is, but for its node and for the table of a plan
-abbrev pub deed_of : Event → Deed
-deed_of (Event.Recover i) = Deed.Recover
-deed_of (Event.Crash i) = Deed.Crash
-deed_of (Event.Check i) = Deed.Check
-deed_of (Event.Timeout i) = Deed.Timeout
-deed_of (Event.Start i) = Deed.Start
-deed_of (Event.Run i) = Deed.Run
-deed_of (Event.Lose i) = Deed.Lose
-deed_of (Event.Return i) = Deed.Return
-deed_of (Event.Drop i) = Deed.Drop
-deed_of (Event.Move i) = Deed.Move
-deed_of (Event.Plan i table) = Deed.Plan
-
--- the event of node i that is this deed; none for a plan, which has a table, too
-abbrev pub event_at : Deed → ℕ → Option Event
-event_at Deed.Recover i = Some (Event.Recover i)
-event_at Deed.Crash i = Some (Event.Crash i)
-event_at Deed.Check i = Some (Event.Check i)
-event_at Deed.Timeout i = Some (Event.Timeout i)
-event_at Deed.Start i = Some (Event.Start i)
-event_at Deed.Run i = Some (Event.Run i)
-event_at Deed.Lose i = Some (Event.Lose i)
-event_at Deed.Return i = Some (Event.Return i)
-event_at Deed.Drop i = Some (Event.Drop i)
-event_at Deed.Move i = Some (Event.Move i)
-event_at Deed.Plan i = None
+use Rattle.bully_rows.specs.declared.deed.Deed.{Deed}
+use Rattle.bully_rows.specs.Deeds.{deed_of, event_of_deed}
 
 -- all deeds, in the order of the table of rows
 abbrev pub every_deed : List Deed
@@ -57,4 +30,4 @@ ArePossible w i deeds = (test : Deed → Bool) × TellsPossible w i test × (dee
 
 -- nothing refuses the event that is this deed; a plan is judged by whether some table can be planned
 abbrev pub passes : WorldState → ℕ → Bool → Deed → Bool
-passes w i can_plan deed = option_map_or (λ e. is_none (cause_in w e)) (event_at deed i) can_plan
+passes w i can_plan deed = option_map_or (λ e. is_none (cause_in w e)) (event_of_deed deed i) can_plan

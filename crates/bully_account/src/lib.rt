@@ -8,7 +8,6 @@
 #![tactic(auto)]
 
 mod account;
-mod deed;
 mod lines;
 mod memory;
 mod moving;
@@ -18,7 +17,7 @@ mod showing;
 mod telling;
 
 pub use account::{Account, Stop, line_of};
-pub use deed::Deed;
+pub use bully_rows::Deed;
 pub use lines::Lines;
 pub use memory::{Memory, Note, What};
 pub use possible::possible_now;

@@ -32,12 +32,12 @@ use Rattle.bully_rows.specs.declared.trace.Claim.{Claim}
 use Rattle.bully_rows.specs.declared.trace.Row.{Row}
 use Rattle.bully_trace.specs.declared.verdict.Verdict.{Verdict}
 use Rattle.bully_rows.specs.EventsTold.{call_told, event_of}
-use Rattle.bully_trace.specs.Details.{brought, call_at, has_answer, has_call, is_so, is_true, is_whole, offered_call, returned_of, said_of, same_status, same_task, says, unanswered_of}
+use Rattle.bully_trace.specs.Details.{brought, call_at, callee_or, has_answer, has_call, is_so, is_true, is_whole, offered_call, returned_of, said_of, same_status, same_task, says, unanswered_of}
 use Rattle.bully_rows.specs.Trace.{Trace}
 use Rattle.bully_trace.specs.Verdict.{IsJudged, IsVerdict}
 use Rattle.bully_rows.specs.Whole.{Whole, whole_of}
 use Rattle.bully_trace.proofs.SameLemmas.{answer-itself, call-itself, is-node, node-itself, status-itself, task-itself}
-use Rattle.bully_annotate.specs.Annotated.{annotated, callee_or, event_rows, place_of, rows_said, said_row, same_vector, shown_change, shown_row}
+use Rattle.bully_annotate.specs.Annotated.{annotated, event_rows, place_of, rows_said, said_row, same_vector, shown_change, shown_row}
 
 -- ---- what is shown is true
 

@@ -2,13 +2,12 @@
 use Rattle.std.specs.Prelude.{ℕ, Bool, List, [], ◌∷◌, ◌++◌, Option, Some, None, ◌&&◌, if◌then◌else◌}
 use Rattle.bully_base.specs.NodeSetEq.{same_set}
 use Rattle.bully_base.specs.Setup.{Setup}
-use Rattle.bully_calls.specs.declared.call.Call.{Call}
 use Rattle.bully_handlers.specs.Vector.{Vector}
 use Rattle.bully_rows.specs.declared.detail.DetailedEvent.{DetailedEvent}
 use Rattle.bully_rows.specs.declared.header.Version.{Version}
 use Rattle.bully_rows.specs.declared.trace.Row.{Row}
 use Rattle.bully_rows.specs.EventsTold.{event_of}
-use Rattle.bully_trace.specs.Details.{call_at, said_of, same_status, same_task}
+use Rattle.bully_trace.specs.Details.{call_at, callee_or, said_of, same_status, same_task}
 use Rattle.bully_rows.specs.Trace.{Trace}
 use Rattle.bully_rows.specs.Whole.{whole_of}
 use Rattle.bully_world.specs.declared.event.Event.{Event}
@@ -21,10 +20,6 @@ use Rattle.bully_world.specs.World.{World, first_world, vector}
 abbrev pub said_row : Event → Option DetailedEvent → Row
 said_row e None = Row.Event e
 said_row e (Some detailed) = Row.Detailed detailed
-
-abbrev pub callee_or : ℕ → Option Call → ℕ
-callee_or i None = i
-callee_or i (Some call) = call.callee
 
 -- the node whose vector the event may change: the callee of a Run, and else the node that it names
 abbrev pub place_of : World → Event → ℕ

@@ -24,12 +24,11 @@ use Rattle.bully_rows.specs.declared.detail.Detail.{Detail}
 use Rattle.bully_rows.specs.declared.detail.DetailedEvent.{DetailedEvent}
 use Rattle.bully_rows.specs.EventsTold.{event_of, event_told}
 use Rattle.bully_trace.specs.declared.verdict.Verdict.{Verdict}
-use Rattle.bully_trace.specs.Details.{is_so, is_true, is_whole}
+use Rattle.bully_trace.specs.Details.{callee_or, is_so, is_true, is_whole}
 use Rattle.bully_trace.specs.Judging.{HasJudged, IsJudgedOn, JudgeState}
 use Rattle.bully_trace.specs.Verdict.{IsJudged}
 use Rattle.bully_trace.proofs.JudgeLemmas.{judged-all}
-use Rattle.bully_account.specs.Possible.{deed_of}
-use Rattle.bully_annotate.specs.Annotated.{callee_or}
+use Rattle.bully_rows.specs.Deeds.{deed_of}
 use Rattle.bully_film.specs.Behind.{LeadsBehind, decides, next_count, next_world, stepped, taken, world_behind}
 use Rattle.bully_film.specs.Scene.{deed_in, node_in, place_at, seen_of, sight}
 

@@ -5,9 +5,8 @@ use crate::scene::{
     Opening, Scene, Sight, deed_at, deed_in, is_quiet, node_in, open_on, quiet_shot, shot, sights,
 };
 use crate::window::Window;
-use bully_account::Deed;
 use bully_base::{Node, OutOfMemory, Setup};
-use bully_rows::{EventKind, Header, NodeEvent, Row, Version};
+use bully_rows::{Deed, EventKind, Header, NodeEvent, Row, Version};
 use bully_trace::{Judge, Verdict};
 use bully_world::World;
 use std::alloc::Global;

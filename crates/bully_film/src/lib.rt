@@ -1,9 +1,8 @@
 //! Traces as films: of each row in a window what it shows, and of each node how it stood behind each of these rows.
 //!
-//! It stands on bully_trace, whose judge decides, on bully_annotate and bully_account, whose words for what an event is and
-//! what it may change it takes, and on the crates below these. bully_picture, which draws a film, relies on the verdict being the
-//! trace's, on the rows being those of the window, on each stretch of a node's lane telling the status that the node has behind each
-//! row of it, and on each stretch of its slot telling the call that is there behind each row of it.
+//! It stands on bully_trace, whose judge decides, and on the crates below it. bully_picture, which draws a film, relies on the verdict
+//! being the trace's, on the rows being those of the window, on each stretch of a node's lane telling the status that the node has behind
+//! each row of it, and on each stretch of its slot telling the call that is there behind each row of it.
 #![tactic(auto)]
 
 ghost use Rattle.std.specs.Prelude.{◌≡◌};

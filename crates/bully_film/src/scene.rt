@@ -1,6 +1,6 @@
 //! What a row of a trace shows.
 ghost use Rattle.std.specs.Prelude.{◌≡◌, ◌≤◌, ℕ, true, [], IfOk, option_map, vec_capacity};
-ghost use Rattle.bully_account.specs.Possible.{deed_of};
+ghost use Rattle.bully_rows.specs.Deeds.{deed_of};
 ghost use Rattle.bully_calls.specs.Slot.{pending_in};
 ghost use Rattle.bully_handlers.specs.Vector.{is_normal};
 ghost use Rattle.bully_rows.specs.NodeEvents.{event_at};
@@ -12,10 +12,9 @@ ghost use Rattle.bully_world.specs.State.{is_halt, world_of};
 ghost use Rattle.bully_world.specs.World.{World as WorldOf, point, vector};
 
 use crate::OWNERS_SHOWN;
-use bully_account::Deed;
 use bully_base::{Node, OutOfMemory, Status};
 use bully_calls::{Call, CallKind, Phase, Slot};
-use bully_rows::{EventKind, NodeEvent, Row};
+use bully_rows::{Deed, EventKind, NodeEvent, Row};
 use bully_steps::Point;
 use bully_table::Table;
 use bully_world::World;

@@ -1,10 +1,9 @@
 //! The words of a picture.
 
-use bully_account::Deed;
 use bully_base::{Node, OutOfMemory, Status};
 use bully_calls::{Call, CallKind};
 use bully_film::{Scene, Sight, Stand};
-use bully_rows::{SAW, status_word};
+use bully_rows::{Deed, SAW, status_word};
 
 /// The colour of a status.
 pub fn colour(status: Status) -> &'static str {

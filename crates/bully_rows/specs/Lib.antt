@@ -8,3 +8,4 @@ pub mod RecordsLeft
 pub mod TraceText
 pub mod ReadBack
 pub mod NodeEvents
+pub mod Deeds

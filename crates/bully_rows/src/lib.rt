@@ -9,6 +9,7 @@ ghost use Rattle.std.specs.Prelude.{◌≡◌};
 ghost use Rattle.bully_rows.specs.declared.TheConstants.{ROWS_MAX, FIRST_NODES_MAX, FIRST_PARTITIONS_MAX};
 ghost use Rattle.bully_rows.specs.ReadBack.{ReadsBack, ReadsTold};
 
+mod deed;
 mod detail;
 mod header;
 mod node_event;
@@ -21,6 +22,7 @@ mod trace;
 mod words;
 mod writing;
 
+pub use deed::Deed;
 pub use detail::{Detail, DetailedEvent};
 pub use header::{Header, Version, read_weights};
 pub use node_event::{EventKind, NodeEvent};

@@ -61,6 +61,11 @@ offered_call _ = None
 abbrev pub call_at : World → ℕ → Option Call
 call_at w i = option_map (λ c. c.call) (pending w i)
 
+-- the callee of the call, or this node where there is none
+abbrev pub callee_or : ℕ → Option Call → ℕ
+callee_or i None = i
+callee_or i (Some call) = call.callee
+
 -- what a call brings where it returns; that of an orphan is discarded
 abbrev pub brought : Pending → Option Answer
 brought c = option_map (λ o. if c.is_live then answer_of o else Discarded) (outcome_of c.phase)

@@ -1,5 +1,10 @@
+ghost use Rattle.std.specs.Prelude.{◌≡◌};
+ghost use Rattle.bully_rows.specs.Deeds.{deed_of, event_of_deed};
+ghost use Rattle.bully_rows.specs.Words.{event_word};
+ghost use Rattle.bully_world.specs.declared.event.Event.{Event as EventState};
+
+use crate::words::{CHECK, CRASH, DROP, LOSE, MOVE, PLAN, RECOVER, RETURN, RUN, START, TIMEOUT};
 use bully_base::Node;
-use bully_rows::{CHECK, CRASH, DROP, LOSE, MOVE, PLAN, RECOVER, RETURN, RUN, START, TIMEOUT};
 use bully_world::Event;
 
 /// What an event is, but for its node and for the table of a plan.
@@ -18,25 +23,7 @@ pub enum Deed {
     Plan,
 }
 
-/// All deeds, in the order of the profile's table of rows.
-pub const EVERY_DEED: [Deed; 11] = [
-    Deed::Recover,
-    Deed::Crash,
-    Deed::Check,
-    Deed::Timeout,
-    Deed::Start,
-    Deed::Run,
-    Deed::Lose,
-    Deed::Return,
-    Deed::Drop,
-    Deed::Move,
-    Deed::Plan,
-];
-
 impl Deed {
-    ghost use Rattle.std.specs.Prelude.{◌≡◌};
-    ghost use Rattle.bully_account.specs.Possible.{deed_of, event_at};
-
     /// What the event is.
     pub fn of(event: &Event) -> Deed
         ensures { result ≡ deed_of event.now }
@@ -58,7 +45,7 @@ impl Deed {
 
     /// The event of the node that is this deed; none for a plan, which has a table, too.
     pub fn event(self, node: Node) -> Option<Event>
-        ensures { result ≡ event_at self node }
+        ensures { result ≡ event_of_deed self node }
     {
         match self {
             Deed::Recover => Some(Event::Recover(node)),
@@ -76,7 +63,9 @@ impl Deed {
     }
 
     /// The word of its row.
-    pub fn word(self) -> &'static str {
+    pub fn word(self) -> &'static str
+        ensures { (event : EventState) → deed_of event ≡ self → result.now ≡ event_word event }
+    {
         match self {
             Deed::Recover => RECOVER,
             Deed::Crash => CRASH,
