@@ -5,9 +5,9 @@ use crate::canvas::{Canvas, Style};
 use crate::lanes::draw_stand;
 use crate::layout::{ASIDE, HALF, Layout, WORDS_MIN};
 use crate::words::{colour, meaning, push_row_text};
-use bully_rows::Deed;
 use bully_base::{Node, OutOfMemory, Status};
 use bully_film::{Scene, Sight, Stand};
+use bully_rows::Deed;
 use bully_table::Table;
 
 // What is said of a table that is too long to be shown.
