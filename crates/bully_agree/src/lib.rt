@@ -12,7 +12,7 @@ ghost use Rattle.bully_world.specs.Cause.{cause};
 ghost use Rattle.bully_world.specs.Lawful.{IsLawful};
 ghost use Rattle.bully_world.specs.Step.{Step};
 ghost use Rattle.bully_world.specs.World.{World};
-ghost use Rattle.bully_world.specs.declared.event.Event.{Event};
+ghost use Rattle.bully_events.specs.declared.event.Event.{Event};
 
 mod runs;
 mod views;

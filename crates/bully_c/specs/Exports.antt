@@ -19,8 +19,8 @@ use Rattle.bully_rows.specs.TraceText.{line_of, row_fields, rows_text}
 use Rattle.bully_rows.specs.Whole.{whole_of}
 use Rattle.bully_rows.specs.declared.trace.Row.{Row}
 use Rattle.bully_table.specs.Planning.{planned}
-use Rattle.bully_world.specs.declared.event.Event.{Event}
-use Rattle.bully_world.specs.declared.event.Refused.{Refused}
+use Rattle.bully_events.specs.declared.event.Event.{Event}
+use Rattle.bully_events.specs.declared.event.Refused.{Refused}
 use Rattle.bully_c.specs.Arguments.{AreGiven, IsCopied, IsSetupRefusal, RefusesGiven, RefusesOwners, table_given}
 use Rattle.bully_c.specs.Held.{Serves, call_in, Takes, TakesFailure, TakesReply, TellsEvent, rows_told}
 use Rattle.bully_c.specs.Numbers.{answer_number, kind_number, refusal_number, reply_number, request_number, status_number, step_number, want_number}

@@ -10,8 +10,8 @@ use Rattle.bully_node.specs.Calls.{IsFailed, IsReplyTo, IsRequested, IsReturned,
 use Rattle.bully_node.specs.Part.{Always}
 use Rattle.bully_rows.specs.declared.detail.Detail.{Detail}
 use Rattle.bully_rows.specs.declared.trace.Row.{Row}
-use Rattle.bully_world.specs.declared.event.Event.{Event}
-use Rattle.bully_world.specs.declared.event.Refused.{Refused}
+use Rattle.bully_events.specs.declared.event.Event.{Event}
+use Rattle.bully_events.specs.declared.event.Refused.{Refused}
 use Rattle.bully_c.specs.declared.held.Held.{Held}
 use Rattle.bully_c.specs.declared.held.Told.{Told}
 

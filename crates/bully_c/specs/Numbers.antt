@@ -9,7 +9,7 @@ use Rattle.bully_lines.specs.declared.fault.RequestFault.{RequestFault}
 use Rattle.bully_rows.specs.declared.trace.TraceCause.{TraceCause}
 use Rattle.bully_steps.specs.declared.point.Want.{Want}
 use Rattle.bully_table.specs.declared.table.TableFault.{TableFault}
-use Rattle.bully_world.specs.declared.event.Refused.{Refused}
+use Rattle.bully_events.specs.declared.event.Refused.{Refused}
 
 abbrev pub refusal_number : Refused → ℕ
 refusal_number Refused.Full = 1

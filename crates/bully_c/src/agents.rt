@@ -9,7 +9,7 @@ ghost use Rattle.bully_node.specs.Agent.{new_agent};
 ghost use Rattle.bully_rows.specs.TraceText.{line_of, row_fields, rows_text};
 ghost use Rattle.bully_rows.specs.Whole.{whole_of};
 ghost use Rattle.bully_rows.specs.declared.trace.Row.{Row as RowState};
-ghost use Rattle.bully_world.specs.declared.event.Event.{Event as EventState};
+ghost use Rattle.bully_events.specs.declared.event.Event.{Event as EventState};
 ghost use Rattle.bully_c.specs.Arguments.{IsCopied, IsMadeAndCopied, RefusesOwners, setup_given, table_given};
 ghost use Rattle.bully_c.specs.Exports.{AtOpen, CanOpen, IsRequestLine, IsClosing, IsEvent, IsFailure, IsOpening, IsPlan, IsPrepared, IsPreparedTable, IsReply, IsServe, RefusesOpening, RefusesPrepare, RefusesReplyLine, RefusesRequestLine, Shows, opened, request_line, shown, told_answer};
 ghost use Rattle.bully_c.specs.Held.{TellsDrop, TellsEvent, TellsStart, rows_told};

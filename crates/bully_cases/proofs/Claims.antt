@@ -6,8 +6,8 @@ use Rattle.std.proofs.lemmas.List.{length-take}
 use Rattle.std.proofs.lemmas.Bool.Decides.{nat_tests}
 use Rattle.bully_base.specs.Setup.{Setup}
 use Rattle.bully_calls.specs.declared.call.Answer.{Answer}
-use Rattle.bully_world.specs.declared.event.Event.{Event}
-use Rattle.bully_world.specs.declared.event.Refused.{Refused}
+use Rattle.bully_events.specs.declared.event.Event.{Event}
+use Rattle.bully_events.specs.declared.event.Refused.{Refused}
 use Rattle.bully_world.specs.Cause.{cause}
 use Rattle.bully_world.specs.Lawful.{LeadTo}
 use Rattle.bully_world.specs.World.{World, first_world}

@@ -3,7 +3,7 @@ use Rattle.std.proofs.Common.{◌≡◌, ℕ, ◌≤◌, true, List, length, Som
 use Rattle.std.specs.Prelude.{nat_le, is_some}
 use Rattle.std.proofs.lemmas.Bool.Decides.{nat_tests}
 use Rattle.bully_base.specs.Setup.{Setup}
-use Rattle.bully_world.specs.declared.event.Event.{Event}
+use Rattle.bully_events.specs.declared.event.Event.{Event}
 use Rattle.bully_world.specs.Lawful.{IsLawful}
 use Rattle.bully_world.specs.StepOf.{StepsResult, steps_of}
 use Rattle.bully_world.specs.World.{first_world}

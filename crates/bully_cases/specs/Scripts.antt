@@ -8,8 +8,8 @@ use Rattle.bully_calls.specs.declared.call.CallKind.{CallKind}
 use Rattle.bully_calls.specs.declared.call.CallKind.TheVariants.{AreYouUp, Halt, NewCoordinator, Ready}
 use Rattle.bully_steps.specs.declared.point.Point.{Point}
 use Rattle.bully_steps.specs.declared.point.Point.TheVariants.{Idle, Asking, Halting, Announcing, Planning, Readying, Inquiring}
-use Rattle.bully_world.specs.declared.event.Event.{Event}
-use Rattle.bully_world.specs.declared.event.Event.TheVariants.{Recover, Crash, Check, Timeout, Start, Run, Lose, Return, Drop, Move, Plan}
+use Rattle.bully_events.specs.declared.event.Event.{Event}
+use Rattle.bully_events.specs.declared.event.Event.TheVariants.{Recover, Crash, Check, Timeout, Start, Run, Lose, Return, Drop, Move, Plan}
 use Rattle.bully_cases.specs.Claims.{Shown}
 
 -- the setup of a trace with so many nodes and partitions

@@ -13,8 +13,8 @@ ghost use Rattle.bully_cases.specs.Claims.{EndsAs, IsRefusedAt, IsAnsweredAt, Af
 ghost use Rattle.bully_cases.specs.Scripts.{trace_setup, weighted_setup, down, alone, alone_shown, alone_crashed, alone_back, kept_shown, kept_back_shown, cleared_back_shown, others_down, node_3_alone, others_down_points, all_up, all_up_with, all_normal, all_up_calls, by_weight, by_number, by_weight_shown, coordinator_crashed, coordinator_crashed_shown, coordinator_crashed_points, recovered_twice, reply_lost, reply_lost_unbalanced, orphan_halt, orphan_halt_shown, orphan_halt_late, orphan_halt_points, orphan_ready, orphan_ready_points, orphan_ready_returned, orphan_ready_shown, orphan_ready_dropped, orphan_ready_dropped_calls, orphan_ready_dropped_shown, dropped_live, dropped_nothing, dropped_down, late_failure, late_failure_points, announced_too_late, announced_too_late_shown, announced_too_late_node};
 ghost use Rattle.bully_world.specs.Lawful.{IsLawful};
 ghost use Rattle.bully_world.specs.World.{World, point};
-ghost use Rattle.bully_world.specs.declared.event.Event.{Event};
-ghost use Rattle.bully_world.specs.declared.event.Refused.{Refused};
+ghost use Rattle.bully_events.specs.declared.event.Event.{Event};
+ghost use Rattle.bully_events.specs.declared.event.Refused.{Refused};
 
 /// The scripts come out as this project's profile prints them. A number after a script counts events: `After`, `Goes`
 /// and the claims that a trace saw speak of the world behind the first so many, `IsRefusedAt` and `IsAnsweredAt` of the

@@ -6,9 +6,9 @@ use Rattle.bully_calls.specs.declared.call.Phase.{Phase}
 use Rattle.bully_handlers.specs.Handler.{reply}
 use Rattle.bully_messages.specs.declared.message.Reply.{Reply}
 use Rattle.bully_messages.specs.declared.message.Request.{Request}
-use Rattle.bully_world.specs.declared.event.Event.{Event}
+use Rattle.bully_events.specs.declared.event.Event.{Event}
 use Rattle.bully_world.specs.declared.take.TakenStep.{TakenStep}
-use Rattle.bully_world.specs.Cause.{node_of}
+use Rattle.bully_events.specs.Events.{node_of}
 use Rattle.bully_world.specs.State.{MemberState}
 use Rattle.bully_world.specs.StateAfter.{heard_state, node_after, node_answer, phased_state}
 use Rattle.bully_node.specs.declared.agent.FailedCall.{FailedCall}

@@ -7,8 +7,9 @@ use Rattle.bully_calls.specs.Pending.{is_sent}
 use Rattle.bully_calls.specs.Slot.{holds_call}
 use Rattle.bully_steps.specs.declared.point.Want.{Want}
 use Rattle.bully_steps.specs.Point.{offered}
-use Rattle.bully_world.specs.declared.event.Event.{Event}
-use Rattle.bully_world.specs.Cause.{cause, node_of, IsToldByNode}
+use Rattle.bully_events.specs.declared.event.Event.{Event}
+use Rattle.bully_events.specs.Events.{node_of}
+use Rattle.bully_world.specs.Cause.{cause, IsToldByNode}
 use Rattle.bully_world.specs.State.{MemberState, member_of}
 use Rattle.bully_world.specs.StateAfter.{node_after, node_answer, opened_state, phased_state, CanApplyHere}
 use Rattle.bully_world.specs.Step.{Step}

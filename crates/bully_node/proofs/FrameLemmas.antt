@@ -10,8 +10,9 @@ use Rattle.bully_calls.specs.declared.call.Phase.{Phase}
 use Rattle.bully_calls.specs.Pending.{Pending, is_sent}
 use Rattle.bully_calls.specs.Slot.{SlotCall, pending_of}
 use Rattle.bully_handlers.specs.Handler.{reply}
-use Rattle.bully_world.specs.declared.event.Event.{Event}
-use Rattle.bully_world.specs.Cause.{node_of, in_phase}
+use Rattle.bully_events.specs.declared.event.Event.{Event}
+use Rattle.bully_events.specs.Events.{node_of}
+use Rattle.bully_world.specs.Cause.{in_phase}
 use Rattle.bully_world.specs.State.{MemberState, member_of}
 use Rattle.bully_world.specs.Step.{Step, Returns, Proceeds, IsUp, ran}
 use Rattle.bully_world.specs.World.{World, Member, member, pending, vector}

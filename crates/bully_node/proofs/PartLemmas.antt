@@ -4,8 +4,9 @@ use Rattle.std.specs.Prelude.{option_map, IfSome}
 use Rattle.bully_base.specs.Setup.{Setup, IsNode}
 use Rattle.bully_calls.specs.declared.call.Phase.{Phase}
 use Rattle.bully_calls.specs.Slot.{SlotCall, pending_of}
-use Rattle.bully_world.specs.declared.event.Event.{Event}
-use Rattle.bully_world.specs.Cause.{cause, node_of}
+use Rattle.bully_events.specs.declared.event.Event.{Event}
+use Rattle.bully_events.specs.Events.{node_of}
+use Rattle.bully_world.specs.Cause.{cause}
 use Rattle.bully_world.specs.NodeInvariant.{NodeInvariant, WorldInvariant, SuitsPhase}
 use Rattle.bully_world.specs.State.{MemberState, member_of}
 use Rattle.bully_world.specs.StateAfter.{down_state, node_after, node_answer, phased_state, CanApplyHere}

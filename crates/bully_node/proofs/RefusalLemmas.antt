@@ -7,9 +7,10 @@ use Rattle.bully_base.specs.Setup.{Setup, IsNode}
 use Rattle.bully_calls.specs.declared.call.Phase.{Phase}
 use Rattle.bully_calls.specs.Slot.{SlotCall, pending_of, phased}
 use Rattle.bully_handlers.specs.Vector.{Vector}
-use Rattle.bully_world.specs.declared.event.Event.{Event}
-use Rattle.bully_world.specs.declared.event.Refused.{Refused}
-use Rattle.bully_world.specs.Cause.{cause, node_of, refuses, first_of, later_refusals, is_pending, is_live_in, is_down_at}
+use Rattle.bully_events.specs.declared.event.Event.{Event}
+use Rattle.bully_events.specs.declared.event.Refused.{Refused}
+use Rattle.bully_events.specs.Events.{node_of}
+use Rattle.bully_world.specs.Cause.{cause, refuses, first_of, later_refusals, is_pending, is_live_in, is_down_at}
 use Rattle.bully_world.specs.State.{MemberState, member_of}
 use Rattle.bully_world.specs.StateAfter.{phased_state}
 use Rattle.bully_world.specs.World.{World, Member, member, vector}

@@ -9,7 +9,7 @@ use Rattle.bully_calls.specs.declared.call.CallKind.{CallKind}
 use Rattle.bully_calls.specs.declared.call.Phase.{Phase}
 use Rattle.bully_calls.specs.Pending.{Pending, is_sent, is_failed, outcome_of}
 use Rattle.bully_calls.specs.Slot.{Slot, SlotCall, pending_of, phased, holds_call, outcome_in}
-use Rattle.bully_world.specs.declared.event.Event.{Event}
+use Rattle.bully_events.specs.declared.event.Event.{Event}
 use Rattle.bully_world.specs.Cause.{cause}
 use Rattle.bully_world.specs.NodeInvariant.{WorldInvariant, SuitsPhase}
 use Rattle.bully_world.specs.State.{MemberState, member_of}

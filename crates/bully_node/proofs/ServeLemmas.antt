@@ -11,8 +11,8 @@ use Rattle.bully_calls.specs.Slot.{SlotCall, CarriesFor, holds_call}
 use Rattle.bully_handlers.specs.Handler.{callee_after, reply}
 use Rattle.bully_handlers.specs.Vector.{Vector}
 use Rattle.bully_messages.specs.declared.message.Request.{Request}
-use Rattle.bully_world.specs.declared.event.Event.{Event}
-use Rattle.bully_world.specs.declared.event.Refused.{Refused}
+use Rattle.bully_events.specs.declared.event.Event.{Event}
+use Rattle.bully_events.specs.declared.event.Refused.{Refused}
 use Rattle.bully_world.specs.Cause.{cause}
 use Rattle.bully_world.specs.NodeInvariant.{NodeInvariant, WorldInvariant, SuitsCallee, SuitsTable}
 use Rattle.bully_world.specs.State.{MemberState, member_of}

@@ -10,8 +10,8 @@ use Rattle.bully_calls.specs.declared.call.Phase.{Phase}
 use Rattle.bully_calls.specs.Pending.{Pending, orphan_of}
 use Rattle.bully_handlers.specs.Handler.{callee_after}
 use Rattle.bully_handlers.specs.Vector.{Vector}
-use Rattle.bully_world.specs.declared.event.Event.{Event}
-use Rattle.bully_world.specs.Cause.{node_of}
+use Rattle.bully_events.specs.declared.event.Event.{Event}
+use Rattle.bully_events.specs.Events.{node_of}
 use Rattle.bully_world.specs.NodeInvariant.{WorldInvariant}
 use Rattle.bully_world.specs.Step.{Step, IsUp, called, ran, stopped_by}
 use Rattle.bully_world.specs.World.{World, Member, member, pending, with_member}

@@ -6,8 +6,8 @@ use Rattle.bully_handlers.specs.Vector.{empty_vector}
 use Rattle.bully_steps.specs.declared.point.Point.TheVariants.{Idle}
 use Rattle.bully_steps.specs.declared.point.Want.{Want}
 use Rattle.bully_steps.specs.Point.{offered}
-use Rattle.bully_world.specs.declared.event.Event.{Event}
-use Rattle.bully_world.specs.declared.event.Refused.{Refused}
+use Rattle.bully_events.specs.declared.event.Event.{Event}
+use Rattle.bully_events.specs.declared.event.Refused.{Refused}
 use Rattle.bully_world.specs.declared.take.TakenStep.{TakenStep}
 use Rattle.bully_world.specs.NodeInvariant.{NodeInvariant}
 use Rattle.bully_world.specs.State.{MemberState, member_of, IsKept}

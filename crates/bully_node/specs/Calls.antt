@@ -9,8 +9,8 @@ use Rattle.bully_calls.specs.Slot.{Slot, SlotCall, holds_call}
 use Rattle.bully_handlers.specs.Handler.{reply}
 use Rattle.bully_messages.specs.declared.message.Request.{Request}
 use Rattle.bully_messages.specs.declared.message.Reply.{Reply}
-use Rattle.bully_world.specs.declared.event.Event.{Event}
-use Rattle.bully_world.specs.declared.event.Refused.{Refused}
+use Rattle.bully_events.specs.declared.event.Event.{Event}
+use Rattle.bully_events.specs.declared.event.Refused.{Refused}
 use Rattle.bully_world.specs.declared.take.TakenStep.{TakenStep}
 use Rattle.bully_world.specs.NodeInvariant.{SuitsCallee, SuitsPhase, SuitsTable}
 use Rattle.bully_world.specs.State.{MemberState}

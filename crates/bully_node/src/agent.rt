@@ -4,7 +4,7 @@ ghost use Rattle.bully_world.specs.NodeInvariant.{WorldInvariant};
 ghost use Rattle.bully_world.specs.World.{World, member, first_world};
 ghost use Rattle.bully_base.specs.NodeSet.{with_node};
 ghost use Rattle.bully_table.specs.Planning.{planned};
-ghost use Rattle.bully_world.specs.Cause.{node_of};
+ghost use Rattle.bully_events.specs.Events.{node_of};
 ghost use Rattle.bully_node.specs.Agent.{IsAlone, IsRefused, IsTaken, PartOf, down_member, new_agent, number_after, wanted};
 ghost use Rattle.bully_node.specs.Calls.{GivesOut, IsAwaited, IsDue, IsFailed, IsReplyTo, IsRequested, IsReturned, IsServed, RefusesFailure, RefusesReply, RefusesRequest, TellsRun, request_of};
 ghost use Rattle.bully_node.specs.Part.{Always};

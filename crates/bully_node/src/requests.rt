@@ -2,7 +2,7 @@
 ghost use Rattle.std.specs.Prelude.{◌≡◌, ◌↔◌, ◌+◌, ◌<◌, ◌^◌, IsTrue, IfSome, IfNone};
 ghost use Rattle.std.specs.Option.{option_copied};
 ghost use Rattle.bully_handlers.specs.Handler.{reply};
-ghost use Rattle.bully_world.specs.declared.event.Event.{Event};
+ghost use Rattle.bully_events.specs.declared.event.Event.{Event};
 ghost use Rattle.bully_world.specs.NodeInvariant.{SuitsCallee, SuitsTable};
 ghost use Rattle.bully_world.specs.StateAfter.{heard_state};
 ghost use Rattle.bully_node.specs.Agent.{IsAgentOf};

@@ -4,7 +4,7 @@ ghost use Rattle.bully_calls.specs.declared.call.Phase.{Phase};
 ghost use Rattle.bully_calls.specs.Pending.{is_sent};
 ghost use Rattle.bully_calls.specs.Slot.{holds_call};
 ghost use Rattle.bully_world.specs.StateAfter.{phased_state};
-ghost use Rattle.bully_world.specs.declared.event.Event.{Event};
+ghost use Rattle.bully_events.specs.declared.event.Event.{Event};
 ghost use Rattle.bully_node.specs.Agent.{IsAgentOf};
 ghost use Rattle.bully_node.specs.Calls.{CanReturn, CalleeIsDown, HasRun, returned_by, returned_answer};
 ghost use Rattle.bully_node.specs.Part.{Always, FollowsAt};

@@ -1,6 +1,6 @@
 //! The events that a node takes by itself.
 ghost use Rattle.std.specs.Prelude.{◌≡◌, ◌+◌, ◌<◌, ◌^◌, Some, None, IfOk, IfErr, OnOk, if◌then◌else◌};
-ghost use Rattle.bully_world.specs.Cause.{node_of};
+ghost use Rattle.bully_events.specs.Events.{node_of};
 ghost use Rattle.bully_world.specs.StateAfter.{node_after, node_answer};
 ghost use Rattle.bully_node.specs.Agent.{IsAgentOf, IsAlone};
 ghost use Rattle.bully_node.specs.Part.{Always, CauseAt, FollowsAt, IsRefusedAt};

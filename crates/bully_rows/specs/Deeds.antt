@@ -1,6 +1,6 @@
 -- What an event is, but for its node and for the table of a plan.
 use Rattle.std.specs.Prelude.{ℕ, Option, Some, None}
-use Rattle.bully_world.specs.declared.event.Event.{Event}
+use Rattle.bully_events.specs.declared.event.Event.{Event}
 use Rattle.bully_rows.specs.declared.deed.Deed.{Deed}
 
 -- what the event is, but for its node and for the table of a plan

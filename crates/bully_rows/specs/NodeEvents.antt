@@ -1,6 +1,6 @@
 -- Events that name a node and no more.
 use Rattle.std.specs.Prelude.{ℕ}
-use Rattle.bully_world.specs.declared.event.Event.{Event}
+use Rattle.bully_events.specs.declared.event.Event.{Event}
 use Rattle.bully_rows.specs.declared.node_event.EventKind.{EventKind}
 
 -- the event of this kind at node i

@@ -1,11 +1,11 @@
 ghost use Rattle.std.specs.Prelude.{◌≡◌};
 ghost use Rattle.bully_rows.specs.Deeds.{deed_of, event_of_deed};
 ghost use Rattle.bully_rows.specs.Words.{event_word};
-ghost use Rattle.bully_world.specs.declared.event.Event.{Event as EventState};
+ghost use Rattle.bully_events.specs.declared.event.Event.{Event as EventState};
 
 use crate::words::{CHECK, CRASH, DROP, LOSE, MOVE, PLAN, RECOVER, RETURN, RUN, START, TIMEOUT};
 use bully_base::Node;
-use bully_world::Event;
+use bully_events::Event;
 
 /// What an event is, but for its node and for the table of a plan.
 #[derive(Clone, Copy, PartialEq, Eq, Debug)]

@@ -4,7 +4,7 @@ ghost use Rattle.bully_rows.specs.EventsTold.{call_told, event_of, event_told};
 
 use bully_base::Node;
 use bully_calls::{Answer, Call};
-use bully_world::Event;
+use bully_events::Event;
 
 /// What is said beside an event of a call: which call it is; of a Run what it is answered, and of a Return what it brings.
 #[derive(Clone, Copy, Debug)]

@@ -2,7 +2,7 @@ ghost use Rattle.std.specs.Prelude.{◌≡◌};
 ghost use Rattle.bully_rows.specs.NodeEvents.{event_at};
 
 use bully_base::Node;
-use bully_world::Event;
+use bully_events::Event;
 
 /// The kind of an event that names a node and no more.
 #[derive(Clone, Copy)]

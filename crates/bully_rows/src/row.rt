@@ -14,8 +14,8 @@ use crate::saying::{answered_row, unanswered_row, whole_row};
 use crate::trace::{Claim, Row};
 use crate::words::{PLAN, SAW, is_word, kind_named, status_named};
 use bully_base::{Node, OutOfMemory, Setup};
+use bully_events::Event;
 use bully_table::{Table, TableFault, read_number};
-use bully_world::Event;
 use csv::ByteRecord;
 use std::alloc::{AllocError, Global};
 

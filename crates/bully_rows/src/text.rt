@@ -5,7 +5,7 @@ ghost use Rattle.std.specs.Option.{option_copied};
 ghost use Rattle.bully_base.specs.NodeSet.{IsFallingBelow, below_node, highest_of};
 ghost use Rattle.bully_base.specs.declared.TheConstants.{NODES_MAX};
 ghost use Rattle.bully_table.specs.TableText.{owners_text};
-ghost use Rattle.bully_world.specs.declared.event.Event.{Event};
+ghost use Rattle.bully_events.specs.declared.event.Event.{Event};
 ghost use Rattle.bully_rows.specs.TraceText.{call_fields, claim_fields, event_fields, gap_behind, header_fields, later_fields, line_of, node_text, rest_text, row_fields, set_text, task_text};
 ghost use Rattle.bully_rows.specs.Whole.{whole_of};
 ghost use Rattle.bully_rows.specs.Words.{answer_word};
@@ -17,9 +17,9 @@ use crate::words::{
 use crate::{Claim, Detail, DetailedEvent, Row, Version, WholeClaim};
 use bully_base::{Node, NodeSet, OutOfMemory, Setup};
 use bully_calls::{Answer, Call};
+use bully_events::Event;
 use bully_handlers::Vector;
 use bully_table::{Table, push_owners};
-use bully_world::Event;
 
 /// Appends a node's number, or a dash for none.
 pub fn push_node(text: &mut String, node: Option<Node>) -> Result<(), OutOfMemory>

@@ -8,7 +8,7 @@ ghost use Rattle.bully_rows.specs.Words.{answer_word, call_named, call_word, cau
 use crate::node_event::EventKind;
 use bully_base::Status;
 use bully_calls::{Answer, CallKind};
-use bully_world::Refused;
+use bully_events::Refused;
 
 /// The words of the events.
 pub const RECOVER: &str = "recover";

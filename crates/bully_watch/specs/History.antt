@@ -3,8 +3,8 @@ use Rattle.std.specs.Prelude.{◌≡◌, ◌==◌, ◌+◌, ℕ, List, [], ◌�
 use Rattle.bully_base.specs.Setup.{Setup}
 use Rattle.bully_calls.specs.declared.call.Answer.{Answer}
 use Rattle.bully_calls.specs.Pending.{Pending}
-use Rattle.bully_world.specs.declared.event.Event.{Event}
-use Rattle.bully_world.specs.Cause.{node_of}
+use Rattle.bully_events.specs.declared.event.Event.{Event}
+use Rattle.bully_events.specs.Events.{node_of}
 use Rattle.bully_world.specs.Lawful.{IsLawful}
 use Rattle.bully_world.specs.Step.{Step}
 use Rattle.bully_world.specs.World.{World, first_world, pending}

@@ -1,7 +1,7 @@
 -- The laws of each event, one file for each.
 use Rattle.std.proofs.Common.{◌≡◌, ℕ, refl}
 use Rattle.bully_base.specs.Setup.{Setup}
-use Rattle.bully_world.specs.declared.event.Event.{Event}
+use Rattle.bully_events.specs.declared.event.Event.{Event}
 use Rattle.bully_world.proofs.EventLaws.{OwnLaws, EventLaws, of_own}
 use Rattle.bully_world.proofs.OwnEvents.{IsNoRun, is_own}
 use Rattle.bully_world.proofs.Events.Recovering.{recover_laws}

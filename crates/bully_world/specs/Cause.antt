@@ -8,25 +8,12 @@ use Rattle.bully_calls.specs.Pending.{Pending, is_sent, is_failed}
 use Rattle.bully_handlers.specs.Vector.{is_down}
 use Rattle.bully_steps.specs.declared.point.Point.{Point}
 use Rattle.bully_steps.specs.declared.point.Want.{Want}
-use Rattle.bully_world.specs.declared.event.Event.{Event}
-use Rattle.bully_world.specs.declared.event.Refused.{Refused}
-use Rattle.bully_world.specs.declared.event.Refused.TheVariants.{Full, BadNode, IsDown, IsUp, Busy, NoStep, SlotBusy, NoCall, CalleeDown, CalleeUp, BadTable, NotOrphan}
+use Rattle.bully_events.specs.declared.event.Event.{Event}
+use Rattle.bully_events.specs.Events.{node_of}
+use Rattle.bully_events.specs.declared.event.Refused.{Refused}
+use Rattle.bully_events.specs.declared.event.Refused.TheVariants.{Full, BadNode, IsDown, IsUp, Busy, NoStep, SlotBusy, NoCall, CalleeDown, CalleeUp, BadTable, NotOrphan}
 use Rattle.bully_world.specs.Step.{offer}
 use Rattle.bully_world.specs.World.{World, vector, point, pending}
-
--- the node that the event names
-abbrev pub node_of : Event → ℕ
-node_of (Event.Recover i) = i
-node_of (Event.Crash i) = i
-node_of (Event.Check i) = i
-node_of (Event.Timeout i) = i
-node_of (Event.Start i) = i
-node_of (Event.Run i) = i
-node_of (Event.Lose i) = i
-node_of (Event.Return i) = i
-node_of (Event.Drop i) = i
-node_of (Event.Move i) = i
-node_of (Event.Plan i table) = i
 
 -- why the event is refused stands in the member of its node alone
 abbrev pub IsToldByNode : Event → Type 0

@@ -7,9 +7,9 @@ ghost use Rattle.bully_world.specs.Turn.{turn, has_table, event_of, is_in_step, 
 ghost use Rattle.bully_world.specs.declared.turn.Next.{Next};
 
 use crate::World;
-use crate::event::{Event, Refused};
 use crate::turn::StepKind;
 use bully_calls::{Answer, Outcome};
+use bully_events::{Event, Refused};
 use bully_steps::Procedure;
 
 /// A step that a node took by its procedure.

@@ -9,10 +9,10 @@ ghost use Rattle.bully_world.specs.Turn.{event_at, procedure_by, procedure_in, i
 ghost use Rattle.bully_world.specs.declared.turn.StepKind.{StepKind};
 
 use crate::World;
-use crate::event::Event;
 use crate::member::Member;
 use bully_base::{Node, NodeSet, Status};
 use bully_calls::{Phase, Slot};
+use bully_events::Event;
 use bully_steps::{PointKind, Procedure, Want};
 use bully_table::Table;
 

@@ -4,11 +4,11 @@ ghost use Rattle.bully_world.specs.NodeInvariant.{NodeInvariant};
 ghost use Rattle.bully_world.specs.World.{first_world};
 
 use crate::causes::{cause_of, place_of};
-use crate::event::{Event, Refused};
 use crate::member::Member;
 use crate::steps::apply_event;
 use bully_base::{Node, OutOfMemory, Setup};
 use bully_calls::{Answer, Slot, Waiting};
+use bully_events::{Event, Refused};
 use bully_handlers::Vector;
 use bully_steps::Point;
 use std::alloc::Global;

@@ -1,7 +1,7 @@
 -- The request suits the node, and what the call makes of it is kept.
 use Rattle.std.proofs.Common.{◌≡◌, ◌+◌, arith, sym, ◌∙◌, ap, subst}
 use Rattle.bully_calls.specs.Slot.{CarriesFor}
-use Rattle.bully_world.specs.declared.event.Event.{Event}
+use Rattle.bully_events.specs.declared.event.Event.{Event}
 use Rattle.bully_world.specs.StateAfter.{heard_state}
 use Rattle.bully_node.specs.Agent.{IsAgentOf}
 use Rattle.bully_node.specs.Calls.{IsRequested}

@@ -2,7 +2,7 @@
 use Rattle.std.proofs.Common.{◌≡◌, ◌+◌, arith, sym, ◌∙◌, ap, subst}
 use Rattle.bully_calls.specs.declared.call.Phase.{Phase}
 use Rattle.bully_steps.specs.Point.{IsPointOf}
-use Rattle.bully_world.specs.declared.event.Event.{Event}
+use Rattle.bully_events.specs.declared.event.Event.{Event}
 use Rattle.bully_world.specs.State.{MemberState}
 use Rattle.bully_world.specs.StateAfter.{node_after_return, phased_state, return_answer}
 use Rattle.bully_node.specs.Agent.{IsAgentOf}

@@ -2,8 +2,9 @@
 use Rattle.std.proofs.Common.{◌<◌, arith, sym, ◌∙◌, ap, subst}
 use Rattle.std.specs.Prelude.{if◌then◌else◌, Some}
 use Rattle.bully_base.specs.Setup.{IsNode}
-use Rattle.bully_world.specs.declared.event.Refused.{Refused}
-use Rattle.bully_world.specs.Cause.{cause, node_of}
+use Rattle.bully_events.specs.declared.event.Refused.{Refused}
+use Rattle.bully_events.specs.Events.{node_of}
+use Rattle.bully_world.specs.Cause.{cause}
 use Rattle.bully_node.specs.Part.{IsPart}
 use Rattle.bully_node.proofs.AloneLemmas.{alone_told}
 use Rattle.bully_node.proofs.RefusalLemmas.{full_cause, recover_cause_at, down_cause_at, later_cause_at}

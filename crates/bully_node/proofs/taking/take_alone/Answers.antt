@@ -1,6 +1,6 @@
 -- Where nothing refuses the event, it leads on.
 use Rattle.std.proofs.Common.{◌+◌, refl, sym, subst}
-use Rattle.bully_world.specs.Cause.{node_of}
+use Rattle.bully_events.specs.Events.{node_of}
 use Rattle.bully_world.specs.StateAfter.{node_after}
 use Rattle.bully_node.specs.Agent.{IsAgentOf}
 use Rattle.bully_node.specs.Part.{Always, FollowsAt}

@@ -1,6 +1,6 @@
 -- The agent's call failed.
 use Rattle.std.proofs.Common.{◌<◌, ◌+◌, refl, rules}
-use Rattle.bully_world.specs.declared.event.Event.{Event}
+use Rattle.bully_events.specs.declared.event.Event.{Event}
 use Rattle.bully_node.specs.Calls.{IsAwaited}
 use Rattle.bully_node.proofs.AgentLemmas.{agent, failed_is}
 use Rattle.bully_node.proofs.agent.Agent.failed.Goals as goal

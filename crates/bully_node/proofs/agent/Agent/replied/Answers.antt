@@ -1,6 +1,6 @@
 -- The agent's call returned.
 use Rattle.std.proofs.Common.{◌<◌, refl, rules}
-use Rattle.bully_world.specs.declared.event.Event.{Event}
+use Rattle.bully_events.specs.declared.event.Event.{Event}
 use Rattle.bully_node.specs.Calls.{IsDue}
 use Rattle.bully_node.proofs.AgentLemmas.{agent, returned_is}
 use Rattle.bully_node.proofs.agent.Agent.replied.Goals as goal

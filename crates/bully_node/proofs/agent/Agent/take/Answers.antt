@@ -1,6 +1,6 @@
 -- The event is one of the agent's node.
 use Rattle.std.proofs.Common.{◌≡◌, refl, sym, ◌∙◌, ap, subst}
-use Rattle.bully_world.specs.Cause.{node_of}
+use Rattle.bully_events.specs.Events.{node_of}
 use Rattle.bully_node.specs.Agent.{AgentState, IsAgentOf}
 use Rattle.bully_node.proofs.AgentLemmas.{taken_is}
 use Rattle.bully_node.proofs.agent.Agent.take.Goals as goal

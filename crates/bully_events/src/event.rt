@@ -49,7 +49,7 @@ pub enum Refused {
 
 impl Event {
     ghost use Rattle.std.specs.Prelude.{◌≡◌, ◌↔◌, IsTrue, IfOk};
-    ghost use Rattle.bully_world.specs.Cause.{node_of};
+    ghost use Rattle.bully_events.specs.Events.{node_of};
 
     /// The node that the event names.
     pub fn node(&self) -> Node
