@@ -15,6 +15,7 @@ import heapq
 import itertools
 import random
 import sys
+from pathlib import Path
 
 NODES, PARTITIONS, END = 4, 7, 800
 BUGS = {
@@ -290,23 +291,34 @@ class Group:
                 self.show_all(caller, wrong=answer == 'yes' and call.callee not in caller.up)
 
 
+def write_log(options, seed, log, wrong):
+    """Writes the log of a seed, and by which row and node it is wrong, if by any."""
+    group = Group(seed, options.bug, options.say_all)
+    clock = {node: random.Random(f'{seed} {node.number}').uniform(0, options.skew) for node in group.nodes}
+    weights = numbers_text([1] * NODES)
+    print(f'bully,3,{NODES},{PARTITIONS},{weights},clear' if options.say_all else f'bully,1,{NODES},{PARTITIONS}', file=log)
+    for _, writer, row in sorted(group.rows, key=lambda row: row[0] + clock[row[1]]):
+        print(row, file=log)
+    if group.wrong:
+        print(group.wrong, file=wrong)
+
+
 def main():
     words = argparse.ArgumentParser(description=__doc__, formatter_class=argparse.RawDescriptionHelpFormatter)
     words.add_argument('seed', type=int)
     words.add_argument('--say-all', action='store_true')
     words.add_argument('--bug', choices=[*BUGS, *TOLD_BUGS])
     words.add_argument('--skew', type=float, default=0)
+    words.add_argument('--into', type=Path, metavar='FOLDER', help='write SEED.log and SEED.wrong of each seed from 1 to this one')
     options = words.parse_args()
     if options.bug in TOLD_BUGS and not options.say_all:
         words.error(f'{options.bug} shows only with --say-all')
-    group = Group(options.seed, options.bug, options.say_all)
-    clock = {node: random.Random(f'{options.seed} {node.number}').uniform(0, options.skew) for node in group.nodes}
-    weights = numbers_text([1] * NODES)
-    print(f'bully,3,{NODES},{PARTITIONS},{weights},clear' if options.say_all else f'bully,1,{NODES},{PARTITIONS}')
-    for _, writer, row in sorted(group.rows, key=lambda row: row[0] + clock[row[1]]):
-        print(row)
-    if group.wrong:
-        print(group.wrong, file=sys.stderr)
+    if not options.into:
+        write_log(options, options.seed, sys.stdout, sys.stderr)
+        return
+    for seed in range(1, options.seed + 1):
+        with open(options.into / f'{seed}.log', 'w') as log, open(options.into / f'{seed}.wrong', 'w') as wrong:
+            write_log(options, seed, log, wrong)
 
 
 main()
