@@ -3,7 +3,7 @@
 
     BULLY_LIBRARY=FOLDER network.py NODES SEED STEPS [BREACH] > TRACE
 
-It does over the binding, step by step and with the same random numbers, what the program of `crates/bully_cluster` does in Rattle:
+It does over the binding, step by step and with the same random numbers, what the program of `crates/bully_bench` does in Rattle:
 so both write the same trace. With a BREACH one premise is broken now and then:
 
     slow      calls are taken as failed while their callees are up

@@ -1,18 +1,25 @@
-//! What the benchmarks time beside plain Rust: plans for random groups, turns of a group under its lock, and looks of
-//! observers; the records of a trace alone, beside `bully check`; and a watched group in threads.
+//! What scripts run beside the program. The benchmarks time it beside plain Rust: plans for random groups, turns of a group under
+//! its lock, looks of observers, the records of a trace alone, beside `bully check`, and a watched group in threads. And nodes on
+//! their own do what `bully check` then judges: over a simulated network, and beside a world.
 //!
-//! It stands on bully_group, the crates below it, and csv. Nothing stands on it.
+//! It stands on bully_group and bully_node, the crates below them, bully_rows and csv. Nothing stands on it.
 #![tactic(auto)]
 
+mod following;
+mod network;
 mod planning;
 mod player;
 mod random;
 mod records;
+mod simulating;
 mod turns;
 mod watching;
 
+use crate::following::Turns;
+use crate::network::Breach;
 use crate::planning::plan_rounds;
 use crate::records::count_records;
+use crate::simulating::{answer_follow, answer_requests, answer_trace};
 use crate::turns::take_turns;
 use crate::watching::{THREADS, Watching, watch_group};
 use std::alloc::Global;
@@ -28,47 +35,88 @@ enum Task {
     Records,
     Turns(u16, u32),
     Watch(u16, u16, Watching),
+    Trace(u16, u64, u32, Breach),
+    Requests(u16, u32),
+    Follow(Turns),
 }
 
 fn main(rt: HostRuntime) -> ExitCode {
-    let answered = match task_asked(&rt) {
-        Some(Task::Plans(rounds)) => answer_plans(&rt, rounds),
-        Some(Task::Records) => answer_records(&rt),
-        Some(Task::Turns(nodes, count)) => answer_turns(&rt, rt.alloc(), nodes, count),
-        Some(Task::Watch(nodes, observers, task)) => answer_watch(
+    let Some(task) = task_asked(&rt) else {
+        return ExitCode::from(2);
+    };
+    let done = match task {
+        Task::Plans(rounds) => answer_plans(&rt, rounds),
+        Task::Records => answer_records(&rt),
+        Task::Turns(nodes, count) => answer_turns(&rt, rt.alloc(), nodes, count),
+        Task::Watch(nodes, observers, task) => answer_watch(
             &rt,
             rt.alloc(),
             nodes,
             observers,
             task,
         ),
-        None => return ExitCode::from(2),
+        Task::Trace(nodes, seed, steps, breach) => answer_trace(&rt, nodes, seed, steps, breach),
+        Task::Requests(nodes, steps) => answer_requests(&rt, nodes, steps),
+        Task::Follow(turns) => answer_follow(&rt, turns),
     };
-    match answered {
+    match done {
         Some(()) => ExitCode::from(0),
         None => ExitCode::from(4),
     }
 }
 
 // What the words behind the program's name ask for: `plan ROUNDS`, `records`, `turns NODES COUNT`, `quiet NODES LOOKS`,
-// `publishing NODES LOOKS` or `watch TURNS`.
+// `publishing NODES LOOKS`, `watch TURNS`, `trace NODES SEED STEPS [BREACH]`, `requests NODES STEPS`, `follow`, `agents TURNS` or
+// `world TURNS`.
 fn task_asked(rt: &HostRuntime) -> Option<Task> {
     let mut words = env::args(rt).ok()?;
     let task = words.nth(1)?;
-    let first = words
-        .next()
-        .and_then(|word| word.as_str().parse::<u32>().ok());
-    let count = words
-        .next()
-        .and_then(|word| word.as_str().parse::<u32>().ok());
+    let numbers = [
+        number_in(words.next()),
+        number_in(words.next()),
+        number_in(words.next()),
+    ];
+    let breach = breach_named(words.next());
+    task_named(task.as_str(), numbers, breach)
+}
+
+fn number_in(word: Option<String>) -> Option<u32> {
+    word?.as_str().parse::<u32>().ok()
+}
+
+// The premise that is broken on purpose; without a word none is.
+fn breach_named(word: Option<String>) -> Option<Breach> {
+    let Some(word) = word else {
+        return Some(Breach::Nothing);
+    };
+    match word.as_str() {
+        "slow" => Some(Breach::Slow),
+        "invented" => Some(Breach::Invented),
+        "late" => Some(Breach::Late),
+        "twice" => Some(Breach::Twice),
+        _ => None,
+    }
+}
+
+// The task of this name, with the numbers and the breach behind it.
+fn task_named(
+    name: &str,
+    [first, second, third]: [Option<u32>; 3],
+    breach: Option<Breach>,
+) -> Option<Task> {
     let nodes = first.and_then(|first| u16::try_from(first).ok());
-    match task.as_str() {
+    match name {
         "plan" => Some(Task::Plans(first?)),
         "records" => Some(Task::Records),
-        "turns" => Some(Task::Turns(nodes?, count?)),
-        "quiet" => Some(Task::Watch(nodes?, 1, Watching::Quiet(count?))),
-        "publishing" => Some(Task::Watch(nodes?, 1, Watching::Publishing(count?))),
+        "turns" => Some(Task::Turns(nodes?, second?)),
+        "quiet" => Some(Task::Watch(nodes?, 1, Watching::Quiet(second?))),
+        "publishing" => Some(Task::Watch(nodes?, 1, Watching::Publishing(second?))),
         "watch" => Some(Task::Watch(THREADS, THREADS, Watching::Threads(first?))),
+        "trace" => Some(Task::Trace(nodes?, u64::from(second?), third?, breach?)),
+        "requests" => Some(Task::Requests(nodes?, second?)),
+        "follow" => Some(Task::Follow(Turns::None)),
+        "agents" => Some(Task::Follow(Turns::OfAgents(first?))),
+        "world" => Some(Task::Follow(Turns::OfWorld(first?))),
         _ => None,
     }
 }

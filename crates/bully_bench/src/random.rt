@@ -1,3 +1,5 @@
+ghost use Rattle.std.specs.Prelude.{◌<◌, IfSome};
+
 /// Pseudo-random numbers: Marsaglia's xorshift with 64 bits.
 #[derive(Drop)]
 pub struct Random(pub u64);
@@ -9,5 +11,12 @@ impl Random {
         self.0 ^= self.0 >> 7;
         self.0 ^= self.0 << 17;
         self.0
+    }
+
+    /// A number below this one; none below 0.
+    pub fn below(&mut self, count: usize) -> Option<usize>
+        ensures { IfSome result (λ number. number < count) }
+    {
+        usize::try_from(self.next()).ok()?.checked_rem(count)
     }
 }

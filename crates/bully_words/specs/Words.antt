@@ -23,17 +23,21 @@ config_rule = record (new_rule (codes "CONFIG")) { required = true }
 abbrev pub member_rule : Rule
 member_rule = record (new_rule (codes "MEMBER")) { required = true; action = Some Append }
 
+-- an option with a value
+abbrev pub option_rule : Text → Rule
+option_rule name = record (new_rule name) { long = Some name; value_names = 1; action = Some Set }
+
 -- the owners of the old table, where there is one
 abbrev pub old_rule : Rule
-old_rule = record (new_rule (codes "old")) { long = Some (codes "old"); value_names = 1; action = Some Set }
+old_rule = option_rule (codes "old")
 
 -- the path of a configuration that is to be explained, where there is one
 abbrev pub explained_rule : Rule
-explained_rule = record (new_rule (codes "config")) { long = Some (codes "config"); value_names = 1; action = Some Set }
+explained_rule = option_rule (codes "config")
 
 -- which rows are drawn, where that is said
 abbrev pub rows_rule : Rule
-rows_rule = record (new_rule (codes "rows")) { long = Some (codes "rows"); value_names = 1; action = Some Set }
+rows_rule = option_rule (codes "rows")
 
 -- that the picture is drawn as text
 abbrev pub text_rule : Rule
@@ -41,7 +45,7 @@ text_rule = record (new_rule (codes "text")) { long = Some (codes "text"); actio
 
 -- the path of the configuration whose names stand over the lanes, where there is one
 abbrev pub names_rule : Rule
-names_rule = record (new_rule (codes "names")) { long = Some (codes "names"); value_names = 1; action = Some Set }
+names_rule = option_rule (codes "names")
 
 abbrev pub check_app : App
 check_app = new_app (codes "check")

@@ -1,6 +1,7 @@
 ghost use Rattle.std.specs.Prelude.{◌≡◌, codes, false, IfOk, IsOkAnd, Ok};
-ghost use Rattle.clap.specs.Words.{new_app, rule_of, with_rule};
-ghost use Rattle.bully_words.specs.Words.{bare, config_rule, draw_app, explain_app, explained_rule, member_rule, names_rule, old_rule, play_app, program, rows_rule, run_app, table_app, text_rule, IsLocalCommand, ReadsAs};
+ghost use Rattle.clap.specs.Words.{app_of, new_app, rule_of, with_rule};
+ghost use Rattle.clap.specs.declared.builder.command.Command.TheViews.{out-Command as fields_of};
+ghost use Rattle.bully_words.specs.Words.{bare, config_rule, draw_app, explain_app, explained_rule, member_rule, names_rule, old_rule, option_rule, play_app, program, rows_rule, run_app, table_app, text_rule, IsLocalCommand, ReadsAs};
 
 use crate::help;
 use clap::{Arg, ArgAction, Command};
@@ -10,15 +11,12 @@ use std::alloc::{AllocError, Global};
 pub fn command_line<'a>(alloc: Global) -> Result<Command<'a>, AllocError>
     ensures { ReadsAs program result }
 {
-    let check = Command::new(alloc, "check")
-        .about("Judges the trace on the standard input")
-        .after_help(help::CHECK);
-    let upgrade = Command::new(alloc, "upgrade")
-        .about("Writes the trace on the standard input as one of version 2 or 3")
-        .after_help(help::UPGRADE);
-    let annotate = Command::new(alloc, "annotate")
-        .about("Writes the lawful trace on the standard input with everything said")
-        .after_help(help::ANNOTATE);
+    let about = "Judges the trace on the standard input";
+    let check = described_command(alloc, "check", about, help::CHECK);
+    let about = "Writes the trace on the standard input as one of version 2 or 3";
+    let upgrade = described_command(alloc, "upgrade", about, help::UPGRADE);
+    let about = "Writes the lawful trace on the standard input with everything said";
+    let annotate = described_command(alloc, "annotate", about, help::ANNOTATE);
     let command = joined(bare_command(alloc), Ok(check), Command::subcommand);
     let command = joined(command, explain_command(alloc), Command::subcommand);
     let command = joined(command, Ok(upgrade), Command::subcommand);
@@ -44,14 +42,28 @@ fn joined<A: Drop, B: Drop, C, F: FnOnce(A, B) -> Result<C, AllocError> + Drop>(
     }
 }
 
+// A command with no arguments.
+fn described_command<'a>(
+    alloc: Global,
+    name: &'a str,
+    about: &'a str,
+    after_help: &'a str,
+) -> Command<'a>
+    ensures reads { app_of result ≡ new_app name.entry.now }
+    ensures local { (fields_of result).has_globals ≡ false }
+{
+    Command::new(alloc, name)
+        .about(about)
+        .after_help(after_help)
+}
+
 // The command line without its commands, of which one is required.
 fn bare_command<'a>(alloc: Global) -> Result<Command<'a>, AllocError>
     ensures { ReadsAs bare result }
 {
-    Command::new(alloc, "bully")
-        .about("Checks recorded runs of the Bully election algorithm")
+    let about = "Checks recorded runs of the Bully election algorithm";
+    described_command(alloc, "bully", about, help::PROGRAM)
         .version(help::VERSION)
-        .after_help(help::PROGRAM)
         .no_binary_name(true)
         .subcommand_required(true)
         .bin_name("bully")
@@ -61,10 +73,8 @@ fn bare_command<'a>(alloc: Global) -> Result<Command<'a>, AllocError>
 fn explain_command<'a>(alloc: Global) -> Result<Command<'a>, AllocError>
     ensures { IsLocalCommand explain_app result }
 {
-    Command::new(alloc, "explain")
-        .about("Explains the verdict on the trace on the standard input")
-        .after_help(help::EXPLAIN)
-        .arg(explained_arg(alloc))
+    let about = "Explains the verdict on the trace on the standard input";
+    described_command(alloc, "explain", about, help::EXPLAIN).arg(explained_arg(alloc))
 }
 
 // The command that draws a trace.
@@ -80,10 +90,8 @@ fn draw_command<'a>(alloc: Global) -> Result<Command<'a>, AllocError>
 fn rows_command<'a>(alloc: Global) -> Result<Command<'a>, AllocError>
     ensures { IsLocalCommand (with_rule (new_app (codes "draw")) rows_rule) result }
 {
-    Command::new(alloc, "draw")
-        .about("Draws the trace on the standard input as an SVG picture")
-        .after_help(help::DRAW)
-        .arg(rows_arg(alloc))
+    let about = "Draws the trace on the standard input as an SVG picture";
+    described_command(alloc, "draw", about, help::DRAW).arg(rows_arg(alloc))
 }
 
 // The command that plays a group.
@@ -121,41 +129,51 @@ fn config_command<'a>(
 ) -> Result<Command<'a>, AllocError>
     ensures { IsLocalCommand (with_rule (new_app name.entry.now) config_rule) result }
 {
-    Command::new(alloc, name)
-        .about(about)
-        .after_help(after_help)
-        .arg(config_arg(alloc))
+    described_command(alloc, name, about, after_help).arg(config_arg(alloc))
 }
 
-fn config_arg<'a>(alloc: Global) -> Arg<'a>
-    ensures rule { rule_of result ≡ config_rule }
+// An option with a value.
+fn option_arg<'a>(alloc: Global, name: &'a str, value_name: &'a str, help: &'a str) -> Arg<'a>
+    ensures rule { rule_of result ≡ option_rule name.entry.now }
     ensures local { result.global ≡ false }
 {
-    Arg::new(alloc, "CONFIG")
-        .required(true)
-        .help("The path of the configuration")
+    Arg::new(alloc, name)
+        .long(name)
+        .value_name(value_name)
+        .action(ArgAction::Set)
+        .help(help)
 }
 
 fn explained_arg<'a>(alloc: Global) -> Arg<'a>
     ensures rule { rule_of result ≡ explained_rule }
     ensures local { result.global ≡ false }
 {
-    Arg::new(alloc, "config")
-        .long("config")
-        .value_name("CONFIG")
-        .action(ArgAction::Set)
-        .help("The path of a configuration, to explain its first fault in place of a trace")
+    let help = "The path of a configuration, to explain its first fault in place of a trace";
+    option_arg(alloc, "config", "CONFIG", help)
 }
 
 fn rows_arg<'a>(alloc: Global) -> Arg<'a>
     ensures rule { rule_of result ≡ rows_rule }
     ensures local { result.global ≡ false }
 {
-    Arg::new(alloc, "rows")
-        .long("rows")
-        .value_name("FROM-TO")
-        .action(ArgAction::Set)
-        .help("The rows that are drawn, counted from 1, the header: 2000 at most")
+    let help = "The rows that are drawn, counted from 1, the header: 2000 at most";
+    option_arg(alloc, "rows", "FROM-TO", help)
+}
+
+fn names_arg<'a>(alloc: Global) -> Arg<'a>
+    ensures rule { rule_of result ≡ names_rule }
+    ensures local { result.global ≡ false }
+{
+    let help = "The path of a configuration, whose names stand over the lanes";
+    option_arg(alloc, "names", "CONFIG", help)
+}
+
+fn old_arg<'a>(alloc: Global) -> Arg<'a>
+    ensures rule { rule_of result ≡ old_rule }
+    ensures local { result.global ≡ false }
+{
+    let help = "The owners in the old table, parted by single spaces";
+    option_arg(alloc, "old", "OWNERS", help)
 }
 
 fn text_arg<'a>(alloc: Global) -> Arg<'a>
@@ -168,15 +186,13 @@ fn text_arg<'a>(alloc: Global) -> Arg<'a>
         .help("Draws it as text, for a terminal")
 }
 
-fn names_arg<'a>(alloc: Global) -> Arg<'a>
-    ensures rule { rule_of result ≡ names_rule }
+fn config_arg<'a>(alloc: Global) -> Arg<'a>
+    ensures rule { rule_of result ≡ config_rule }
     ensures local { result.global ≡ false }
 {
-    Arg::new(alloc, "names")
-        .long("names")
-        .value_name("CONFIG")
-        .action(ArgAction::Set)
-        .help("The path of a configuration, whose names stand over the lanes")
+    Arg::new(alloc, "CONFIG")
+        .required(true)
+        .help("The path of the configuration")
 }
 
 fn member_arg<'a>(alloc: Global) -> Arg<'a>
@@ -187,15 +203,4 @@ fn member_arg<'a>(alloc: Global) -> Arg<'a>
         .required(true)
         .action(ArgAction::Append)
         .help("The name of a member")
-}
-
-fn old_arg<'a>(alloc: Global) -> Arg<'a>
-    ensures rule { rule_of result ≡ old_rule }
-    ensures local { result.global ≡ false }
-{
-    Arg::new(alloc, "old")
-        .long("old")
-        .value_name("OWNERS")
-        .action(ArgAction::Set)
-        .help("The owners in the old table, parted by single spaces")
 }
