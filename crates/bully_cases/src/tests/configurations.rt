@@ -4,7 +4,10 @@ mod changes;
 
 use bully_base::Node;
 use bully_config::{Config, ConfigFault, Fault, Key};
-use changes::{CHANGES, EqualFaults, GOOD, LINES, MANY, READ, TAILS, TOP};
+use changes::{
+    EqualFaults, FAR, GOOD, KEPT, LACKING, LINES, MANY, MISTYPED, READ, SEVERAL, SEVERAL_OPTIONS,
+    SEVERAL_RANGES, TAILS, TOP, UNFIT, UNREAD,
+};
 use std::alloc::Global;
 
 /// A configuration of one node, which recovers in the first turn.
@@ -165,15 +168,73 @@ fn answers_to(alloc: Global, count: usize, changes: &str, tail: &str, wanted: &s
     answers(alloc, text.as_str(), wanted)
 }
 
-#[test]
-fn refuses_changes(rt: HostRuntime) {
-    assert!(rt; answers(rt.alloc(), "", "Missing nodes"));
-    for (changes, wanted) in CHANGES.iter() {
-        assert!(rt;
-            answers_to(rt.alloc(), LINES, *changes, "", *wanted),
-            "{changes}"
-        );
+// The first of these changes whose answer is not the wanted one; none is empty.
+fn first_misfit<'a>(alloc: Global, changes: &'a [(&'a str, &'a str)]) -> &'a str {
+    for (changes, wanted) in changes {
+        if !answers_to(alloc, LINES, *changes, "", *wanted) {
+            return *changes;
+        }
     }
+    ""
+}
+
+#[test]
+fn reads_nothing(rt: HostRuntime) {
+    assert!(rt; answers(rt.alloc(), "", "Missing nodes"));
+}
+
+#[test]
+fn reads_changes(rt: HostRuntime) {
+    let misfit = first_misfit(rt.alloc(), &KEPT);
+    assert!(rt; misfit.is_empty(), "{misfit}");
+}
+
+#[test]
+fn refuses_what_is_no_toml(rt: HostRuntime) {
+    let misfit = first_misfit(rt.alloc(), &UNREAD);
+    assert!(rt; misfit.is_empty(), "{misfit}");
+}
+
+#[test]
+fn refuses_lacking_keys(rt: HostRuntime) {
+    let misfit = first_misfit(rt.alloc(), &LACKING);
+    assert!(rt; misfit.is_empty(), "{misfit}");
+}
+
+#[test]
+fn refuses_other_kinds(rt: HostRuntime) {
+    let misfit = first_misfit(rt.alloc(), &MISTYPED);
+    assert!(rt; misfit.is_empty(), "{misfit}");
+}
+
+#[test]
+fn refuses_far_numbers(rt: HostRuntime) {
+    let misfit = first_misfit(rt.alloc(), &FAR);
+    assert!(rt; misfit.is_empty(), "{misfit}");
+}
+
+#[test]
+fn refuses_what_does_not_fit(rt: HostRuntime) {
+    let misfit = first_misfit(rt.alloc(), &UNFIT);
+    assert!(rt; misfit.is_empty(), "{misfit}");
+}
+
+#[test]
+fn refuses_the_first_of_several(rt: HostRuntime) {
+    let misfit = first_misfit(rt.alloc(), &SEVERAL);
+    assert!(rt; misfit.is_empty(), "{misfit}");
+}
+
+#[test]
+fn refuses_the_first_of_several_ranges(rt: HostRuntime) {
+    let misfit = first_misfit(rt.alloc(), &SEVERAL_RANGES);
+    assert!(rt; misfit.is_empty(), "{misfit}");
+}
+
+#[test]
+fn refuses_the_first_with_options(rt: HostRuntime) {
+    let misfit = first_misfit(rt.alloc(), &SEVERAL_OPTIONS);
+    assert!(rt; misfit.is_empty(), "{misfit}");
 }
 
 #[test]
