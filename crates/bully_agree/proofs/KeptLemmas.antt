@@ -1,10 +1,10 @@
 -- A setup that is kept without its weights where it is even.
 use Rattle.std.proofs.Common.{◌≡◌, ◌∙◌, ℕ, Bool, true, false, List, [], ◌∷◌, length, replicate, refl, ap, arith}
-use Rattle.std.specs.Prelude.{◌==◌, ◌&&◌, not}
+use Rattle.std.specs.Prelude.{◌==◌, not}
 use Rattle.std.specs.List.{list_all}
 use Rattle.std.proofs.lemmas.Bool.{and_parts}
 use Rattle.std.proofs.lemmas.Bool.Decides.{Decides-eqb}
-use Rattle.bully_base.specs.Setup.{Setup, IsSetup, even_setup, is_even, limits_of}
+use Rattle.bully_base.specs.Setup.{Setup, IsSetup, is_even, limits_of}
 use Rattle.bully_agree.specs.KeptSetup.{kept_setup}
 
 all-ones : (ws : List ℕ) → list_all (λ w. w == 1) ws ≡ true → ws ≡ replicate (length ws) 1

@@ -11,7 +11,7 @@ use Rattle.std.proofs.lemmas.Nat.Bits.{bit_at-zero}
 use Rattle.std.proofs.lemmas.Slice.Eq.{bytes_eq-Decides}
 use Rattle.bully_base.specs.declared.TheConstants.{NODES_MAX}
 use Rattle.bully_base.specs.declared.node_set.TheConstants.{WORDS}
-use Rattle.bully_base.specs.NodeSet.{members_among, members_of, number_of, words_among, words_of, word_of, AreWords}
+use Rattle.bully_base.specs.NodeSet.{members_among, members_of, number_of, words_among, word_of}
 use Rattle.bully_base.specs.UsedWords.{used_of, used_words, IsRow}
 use Rattle.bully_base.specs.NodeSetLaws.{words_of-members_of}
 use Rattle.bully_base.proofs.RowLemmas.{insert-words, order, remove-words, row-past}

@@ -15,13 +15,11 @@ use Rattle.bully_config.specs.Answers.{refusal_of}
 use Rattle.bully_config.specs.Configuration.{Configuration, has_double, is_empty, IsConfiguration}
 use Rattle.bully_config.specs.Document.{list_of, value_at, items_at}
 use Rattle.bully_config.specs.Refusals.{are_names, are_weights, first_in, fits, is_table, fault_out_of_range, out_of_range_in, missing_in, misfit_in, has_double_in, has_unlisted_in}
-use Rattle.std.specs.Prelude.{map, Result, Ok, Err, ◌↔◌}
-use Rattle.std.specs.Result.{IsOk}
+use Rattle.std.specs.Prelude.{map}
 use Rattle.std.proofs.lemmas.List.{length-map}
 use Rattle.toml.specs.declared.value.Value.{Value}
 use Rattle.toml.specs.View.{view}
-use Rattle.bully_base.specs.Setup.{Setup, AreWeights}
-use Rattle.bully_base.specs.declared.setup.SetupFault.{SetupFault}
+use Rattle.bully_base.specs.Setup.{Setup}
 use Rattle.bully_config.specs.Document.{text_of}
 use Rattle.std.proofs.lemmas.Bool.{false≢true}
 use Rattle.bully_base.specs.declared.TheConstants.{NODES_MAX, PARTITIONS_MAX, EVENTS_MAX}

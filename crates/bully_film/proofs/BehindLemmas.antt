@@ -1,5 +1,5 @@
 -- The world behind the first rows of a trace, and which nodes a row leaves as they were.
-use Rattle.std.proofs.Common.{◌≡◌, ◌≢◌, ◌∙◌, ℕ, ◌+◌, ◌<◌, ◌++◌, Bool, true, false, List, [], ◌∷◌, Option, Some, None, MatchOption, if◌then◌else◌, length, refl, sym, ap, subst, arith}
+use Rattle.std.proofs.Common.{◌≡◌, ◌≢◌, ◌∙◌, ℕ, ◌+◌, ◌<◌, ◌++◌, Bool, true, false, List, [], ◌∷◌, Option, Some, None, MatchOption, if◌then◌else◌, refl, sym, ap, subst, arith}
 use Rattle.std.specs.Prelude.{option_map}
 use Rattle.std.specs.Bool.{MatchBool}
 use Rattle.bully_base.specs.Setup.{Setup}
@@ -13,7 +13,7 @@ use Rattle.bully_world.specs.Cause.{cause}
 use Rattle.bully_world.specs.NodeInvariant.{WorldInvariant}
 use Rattle.bully_base.proofs.PlaceLemmas.{at_node_past}
 use Rattle.bully_world.specs.State.{IsReached, WorldState, world_of}
-use Rattle.bully_world.specs.Step.{Proceeds, Returns, Step, ran}
+use Rattle.bully_world.specs.Step.{Proceeds, Returns, Step}
 use Rattle.bully_world.specs.StepOf.{StepResult, step_of}
 use Rattle.bully_world.specs.World.{Member, World, empty_member, first_world, member, with_member}
 use Rattle.bully_world.proofs.MemberLemmas.{member_other}
@@ -26,7 +26,7 @@ use Rattle.bully_rows.specs.declared.detail.DetailedEvent.{DetailedEvent}
 use Rattle.bully_rows.specs.EventsTold.{event_of, event_told}
 use Rattle.bully_trace.specs.declared.verdict.Verdict.{Verdict}
 use Rattle.bully_trace.specs.Details.{callee_or, is_so, is_true, is_whole}
-use Rattle.bully_trace.specs.Judging.{HasJudged, IsJudgedOn, JudgeState}
+use Rattle.bully_trace.specs.Judging.{HasJudged, JudgeState}
 use Rattle.bully_trace.specs.Verdict.{IsJudged}
 use Rattle.bully_trace.proofs.JudgeLemmas.{judged-all}
 use Rattle.bully_rows.specs.Deeds.{deed_of}

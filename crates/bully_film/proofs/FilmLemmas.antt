@@ -1,5 +1,5 @@
 -- One more row is filmed.
-use Rattle.std.proofs.Common.{suc, ◌≡◌, ◌≢◌, ◌⊎◌, inl, inr, ◌∙◌, ℕ, ◌+◌, ◌-◌, ◌==◌, ◌<◌, ◌≤◌, ◌++◌, Bool, true, false, List, [], ◌∷◌, Option, Some, None, MatchOption, if◌then◌else◌, length, drop, refl, sym, ap, subst, arith}
+use Rattle.std.proofs.Common.{suc, ◌≡◌, ◌≢◌, ◌⊎◌, inl, inr, ◌∙◌, ℕ, ◌+◌, ◌==◌, ◌<◌, ◌≤◌, ◌++◌, Bool, true, false, List, [], ◌∷◌, Option, Some, None, MatchOption, if◌then◌else◌, length, drop, refl, sym, ap, subst, arith}
 use Rattle.std.specs.declared.alloc.AllocError.{AllocError}
 use Rattle.std.specs.Prelude.{is_none, is_some, nat_lt, nat_le, OnOk, Result, Ok, Err}
 use Rattle.std.proofs.lemmas.Bool.Decides.{nat_tests}
@@ -9,15 +9,15 @@ use Rattle.bully_rows.specs.declared.node_event.EventKind.{EventKind}
 use Rattle.bully_rows.specs.declared.trace.Row.{Row}
 use Rattle.bully_rows.specs.NodeEvents.{event_at}
 use Rattle.bully_trace.specs.declared.verdict.Verdict.{Verdict}
-use Rattle.bully_trace.specs.Judging.{HasJudged, IsJudgedOn, JudgeState}
+use Rattle.bully_trace.specs.Judging.{HasJudged, JudgeState}
 use Rattle.bully_trace.specs.Verdict.{IsJudged}
-use Rattle.bully_world.specs.State.{WorldState, world_of}
-use Rattle.bully_world.specs.World.{World, first_world}
+use Rattle.bully_world.specs.State.{world_of}
+use Rattle.bully_world.specs.World.{first_world}
 use Rattle.bully_film.specs.declared.scene.Opening.{Opening}
 use Rattle.bully_film.specs.declared.scene.Scene.{Scene}
 use Rattle.bully_film.specs.declared.scene.Sight.{Sight}
 use Rattle.bully_film.specs.Behind.{world_behind}
-use Rattle.bully_film.specs.Film.{FilmState, GoesOn, HasFilmed, HasFilmedUp, HasShot, IsInWindow, IsLook, closed, kept}
+use Rattle.bully_film.specs.Film.{FilmState, GoesOn, HasFilmed, HasShot, IsInWindow, IsLook, closed, kept}
 use Rattle.bully_film.specs.Scene.{deed_in, node_in, scene_at, scene_of, scenes_from, sights_of}
 use Rattle.bully_film.specs.Window.{IsWindow, WindowState}
 use Rattle.bully_film.proofs.BehindLemmas.{judged-world}

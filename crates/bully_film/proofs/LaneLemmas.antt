@@ -6,7 +6,7 @@ use Rattle.bully_rows.specs.Trace.{Trace}
 use Rattle.bully_film.specs.declared.film.Reel.{Reel}
 use Rattle.bully_film.specs.Film.{IsReelOf}
 use Rattle.bully_film.specs.Window.{WindowState}
-use Rattle.std.proofs.Common.{zero, suc, Some, None, ◌≡◌, ◌≢◌, ◌∙◌, ℕ, ◌+◌, ◌-◌, ◌<◌, ◌≤◌, ◌==◌, ◌++◌, Bool, true, false, List, [], ◌∷◌, if◌then◌else◌, length, refl, sym, ap, subst, arith}
+use Rattle.std.proofs.Common.{zero, suc, Some, ◌≡◌, ◌≢◌, ◌∙◌, ℕ, ◌+◌, ◌-◌, ◌<◌, ◌≤◌, ◌==◌, ◌++◌, Bool, true, false, List, [], ◌∷◌, if◌then◌else◌, refl, sym, ap, subst, arith}
 use Rattle.std.proofs.lemmas.Bool.Decides.{nat_tests}
 use Rattle.std.proofs.lemmas.List.{append_assoc, append-nil}
 use Rattle.bully_base.specs.Setup.{IsNodeNumber, Setup}

@@ -1,6 +1,6 @@
 -- What the filmed rows of a text come to.
 use Rattle.std.proofs.Common.{◌≡◌, ◌∙◌, ◌+◌, ◌<◌, ◌≤◌, ◌⊎◌, Bool, true, false, ◌++◌, ℕ, List, [], ◌∷◌, Option, Some, None, inl, inr, length, refl, sym, subst, arith, ap}
-use Rattle.std.specs.Prelude.{IfOk, MatchOption, Ok, Err, Result, IfSome}
+use Rattle.std.specs.Prelude.{MatchOption, IfSome}
 use Rattle.bully_base.specs.Setup.{Setup}
 use Rattle.bully_world.specs.State.{world_of}
 use Rattle.bully_world.specs.World.{World, first_world}
@@ -12,7 +12,6 @@ use Rattle.bully_rows.specs.declared.trace.TraceFault.{TraceFault}
 use Rattle.bully_rows.specs.Headers.{Record, header_with}
 use Rattle.bully_rows.specs.RecordsLeft.{EndsReading, HasRead, IsUnread, ReadSoFar, Takes, rows_left}
 use Rattle.bully_rows.specs.Rows.{OfTrace}
-use Rattle.bully_rows.specs.Trace.{Trace}
 use Rattle.bully_rows.proofs.TraceLemmas.{header-bad, header-missing, header-read, memory-ends, read-bad, read-end, read-more}
 use Rattle.bully_trace.specs.declared.verdict.Verdict.{Verdict}
 use Rattle.bully_trace.specs.Judging.{HasJudged, IsNoRow, IsNoStart}

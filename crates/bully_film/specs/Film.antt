@@ -1,16 +1,14 @@
 -- What is kept of the rows of a trace: those of a window, each with what it shows, and how the nodes stand behind the last of them.
-use Rattle.std.specs.Prelude.{◌≡◌, ◌⊎◌, ℕ, ◌+◌, ◌<◌, ◌≤◌, ◌++◌, List, [], ◌∷◌, length, drop, nat_lt, nat_le, ◌==◌, Bool, true, false, is_none, if◌then◌else◌, Option, Some, None, MatchOption, IfSome}
+use Rattle.std.specs.Prelude.{◌≡◌, ◌⊎◌, ℕ, ◌+◌, ◌<◌, ◌≤◌, ◌++◌, List, [], ◌∷◌, length, drop, nat_lt, nat_le, ◌==◌, true, false, is_none, if◌then◌else◌, Option, Some, None, MatchOption}
 use Rattle.bully_base.specs.Setup.{Setup}
 use Rattle.bully_rows.specs.declared.header.Header.{Header}
 use Rattle.bully_rows.specs.declared.header.Version.{Version}
 use Rattle.bully_rows.specs.declared.trace.Row.{Row}
 use Rattle.bully_rows.specs.declared.trace.TraceCause.{TraceCause}
-use Rattle.bully_rows.specs.declared.trace.TraceFault.{TraceFault}
 use Rattle.bully_rows.specs.Headers.{Record, header_of, header_with}
 use Rattle.bully_rows.specs.RecordsLeft.{EndsReading, HasRead, IsUnread, ReadSoFar, rows_left}
 use Rattle.bully_rows.specs.Rows.{IsTraceOf, fault_at, row_of}
 use Rattle.bully_rows.specs.Trace.{Trace}
-use Rattle.bully_trace.specs.declared.verdict.Verdict.{Verdict}
 use Rattle.bully_trace.specs.Judging.{HasJudged, JudgeState}
 use Rattle.bully_trace.specs.Verdict.{IsJudged, IsVerdict}
 use Rattle.bully_world.specs.State.{world_of}

@@ -45,15 +45,25 @@ fn new_call<R: Print>(trial: &Trial<R>) -> Option<Outcome> {
 
 // The last of two nodes, where it plans.
 fn planning(alloc: Global) -> Option<Agent> {
+    let mut agent = last_of_two(alloc)?;
+    take_to_plan(&mut agent)?;
+    Some(agent)
+}
+
+fn last_of_two(alloc: Global) -> Option<Agent> {
     let setup = pair()?;
     let node = Node::new(setup.nodes())?;
-    let mut agent = Agent::new(alloc, &setup, node, 0, None).ok()?;
+    Agent::new(alloc, &setup, node, 0, None).ok()
+}
+
+// Takes the node on from its recovery until it plans.
+fn take_to_plan(agent: &mut Agent) -> Option<()> {
     agent.recover().ok()?;
     for _ in 0..STEPS {
         match agent.wants() {
-            Want::Start(_) => call(&mut agent)?,
-            Want::Move => advance(&mut agent)?,
-            _ => return Some(agent),
+            Want::Start(_) => call(agent)?,
+            Want::Move => advance(agent)?,
+            _ => return Some(()),
         }
     }
     None
@@ -86,12 +96,22 @@ fn prepare_call<R: Print>(trial: &Trial<R>) -> Option<Outcome> {
 // The request of a Ready.
 fn request_call<R: Print>(trial: &Trial<R>) -> Option<Outcome> {
     let mut agent = planning(trial.alloc)?;
-    let table = agent.prepare(trial.alloc, None).ok()?;
-    agent.plan(table).ok()?;
-    agent.start().ok()?;
+    start_ready(trial.alloc, &mut agent)?;
     trial.begin();
     let answer = agent.request();
     trial.outcome(&answer, "AllocError")
+}
+
+// Plans the table, and starts the first Ready.
+fn start_ready(alloc: Global, agent: &mut Agent) -> Option<()> {
+    let table = agent.prepare(alloc, None).ok()?;
+    agent.plan(table).ok()?;
+    start(agent)
+}
+
+fn start(agent: &mut Agent) -> Option<()> {
+    agent.start().ok()?;
+    Some(())
 }
 
 fn read_call<R: Print>(trial: &Trial<R>, setup: &Setup) -> Option<Outcome> {

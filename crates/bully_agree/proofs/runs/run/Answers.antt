@@ -1,4 +1,4 @@
-use Rattle.std.proofs.Common.{◌≡◌, None, Some, arith, refl, subst, ◌∙◌}
+use Rattle.std.proofs.Common.{◌≡◌, None, Some, arith, rules, refl, subst, ◌∙◌}
 use Rattle.std.proofs.lemmas.Option.{slice_get_read}
 use Rattle.bully_world.specs.Cause.{cause}
 use Rattle.bully_world.specs.State.{world_of}
@@ -27,7 +27,8 @@ returns-in-Err-clause-stop c =
     let e = c.index-events-index.result in
     let there = slice_get_read c.args.events.now _ c.loop-index.index e refl c.loop-index-test.true c.index-events-index.is in
     let why : cause c.args.setup (world_of w) w.events e ≡ Some c.in-Err.cause = subst (λ s. cause s (world_of w) w.events e ≡ Some c.in-Err.cause) c.loop-index.invariant.setup c.in-Err.ensures.why in
-    run-stops c.args.setup c.args.events.now c.loop-index.index w.events e (world_of w) c.in-Err.cause there c.loop-index.invariant.counted why c.loop-index.invariant.lawful
+    let stops = run-stops c.args.setup c.args.events.now c.loop-index.index w.events e (world_of w) c.in-Err.cause there c.loop-index.invariant.counted why c.loop-index.invariant.lawful in
+    search (rules, stops)
 
 pub returns-in-Err-clause-lawful_runs : goal.returns-in-Err-clause-lawful_runs
 returns-in-Err-clause-lawful_runs c = λ can. absurd (never_stops c.args.setup c.args.events.now c.loop-index.index c.in-Err.cause can.1.0 can.0 (returns-in-Err-clause-stop c) can.1.1)

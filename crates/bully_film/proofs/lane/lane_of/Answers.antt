@@ -1,4 +1,4 @@
-use Rattle.std.proofs.Common.{◌≡◌, ◌∙◌, ap, rules}
+use Rattle.std.proofs.Common.{rules}
 use Rattle.bully_film.proofs.LaneLemmas.{lane-told}
 use Rattle.bully_film.proofs.lane.lane_of.Goals as goal
 

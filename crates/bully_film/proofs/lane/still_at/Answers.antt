@@ -1,6 +1,5 @@
 -- The node's place has its sight.
-use Rattle.std.proofs.Common.{◌≡◌, ◌-◌, ◌++◌, Some, ap, ◌∙◌, rules}
-use Rattle.std.specs.Prelude.{slice_get}
+use Rattle.std.proofs.Common.{◌++◌, rules}
 use Rattle.bully_film.specs.Behind.{world_behind}
 use Rattle.bully_film.specs.Scene.{sight}
 use Rattle.bully_film.proofs.LaneLemmas.{still-there}

@@ -1,7 +1,6 @@
 -- A node that the group doesn't have is idle.
-use Rattle.std.proofs.Common.{◌≡◌, ◌<◌, ap, arith, sym, true}
+use Rattle.std.proofs.Common.{◌<◌, ap, arith, sym}
 use Rattle.bully_world.specs.Cause.{is_idle}
-use Rattle.bully_world.specs.State.{world_of}
 use Rattle.bully_world.specs.World.{Member}
 use Rattle.bully_film.proofs.BehindLemmas.{beyond-empty}
 use Rattle.bully_film.proofs.scene.is_idle.Goals as goal

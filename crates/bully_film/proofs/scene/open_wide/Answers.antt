@@ -1,5 +1,5 @@
-use Rattle.std.proofs.Common.{◌≡◌, ◌∙◌, ap}
-use Rattle.bully_film.specs.Scene.{cuts, place_at, sight}
+use Rattle.std.proofs.Common.{◌∙◌, ap}
+use Rattle.bully_film.specs.Scene.{cuts, sight}
 use Rattle.bully_world.specs.State.{world_of}
 use Rattle.bully_film.proofs.scene.open_wide.Goals as goal
 

@@ -1,4 +1,4 @@
-use Rattle.std.proofs.Common.{◌≡◌, ◌≤◌, ◌<◌, ◌+◌, ◌++◌, ◌∷◌, [], arith, rules}
+use Rattle.std.proofs.Common.{◌≡◌, ◌<◌, ◌+◌, ◌++◌, ◌∷◌, [], arith, rules}
 use Rattle.bully_film.specs.declared.scene.Sight.{Sight}
 use Rattle.bully_film.specs.Scene.{sight}
 use Rattle.bully_world.specs.State.{world_of}

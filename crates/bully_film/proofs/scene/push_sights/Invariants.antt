@@ -1,4 +1,4 @@
-use Rattle.std.proofs.Common.{◌≡◌, ◌≤◌, ◌+◌, ◌-◌, ◌++◌, length, vec_capacity, vec_len}
+use Rattle.std.proofs.Common.{◌≡◌, ◌≤◌, ◌+◌, ◌-◌, ◌++◌, vec_capacity, vec_len}
 use Rattle.bully_world.specs.State.{world_of}
 use Rattle.bully_film.specs.Scene.{sights_of}
 use Rattle.bully_film.proofs.scene.push_sights.Given as goal

@@ -1,5 +1,5 @@
 -- A node that the group doesn't have is down.
-use Rattle.std.proofs.Common.{◌≡◌, ◌<◌, ◌∙◌, ap, arith, sym}
+use Rattle.std.proofs.Common.{◌<◌, ◌∙◌, ap, arith, sym}
 use Rattle.bully_film.specs.Scene.{seen_of}
 use Rattle.bully_film.proofs.BehindLemmas.{beyond-empty}
 use Rattle.bully_film.proofs.scene.sight_of.Goals as goal

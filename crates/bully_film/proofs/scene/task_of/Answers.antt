@@ -1,5 +1,5 @@
 -- A node that the group doesn't have has no task.
-use Rattle.std.proofs.Common.{◌≡◌, ◌<◌, ap, arith, sym}
+use Rattle.std.proofs.Common.{◌<◌, ap, arith, sym}
 use Rattle.bully_world.specs.World.{Member}
 use Rattle.bully_film.proofs.BehindLemmas.{beyond-empty}
 use Rattle.bully_film.proofs.scene.task_of.Goals as goal

@@ -1,5 +1,5 @@
 -- A row goes on with the stretch, or begins another one.
-use Rattle.std.proofs.Common.{◌≡◌, length, rules, arith}
+use Rattle.std.proofs.Common.{arith}
 use Rattle.bully_film.proofs.StretchLemmas.{holding-begins, holding-ends, holding-goes-on, holding-starts}
 use Rattle.bully_film.proofs.slots.push_holdings.Goals as goal
 use Rattle.bully_film.proofs.slots.push_holdings.Goals.{then-not-same_held+in_ok-push, else-not-same_held}

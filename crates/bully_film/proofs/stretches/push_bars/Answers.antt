@@ -1,5 +1,5 @@
 -- A row goes on with the stretch, or begins another one.
-use Rattle.std.proofs.Common.{◌≡◌, length, rules, arith}
+use Rattle.std.proofs.Common.{arith}
 use Rattle.bully_film.proofs.StretchLemmas.{bar-begins, bar-ends, bar-goes-on, bar-starts}
 use Rattle.bully_film.proofs.stretches.push_bars.Goals as goal
 use Rattle.bully_film.proofs.stretches.push_bars.Goals.{then-not-same_stand+in_ok-push, else-not-same_stand}

@@ -1,6 +1,6 @@
 -- One more lane, of the next node.
 use Rattle.std.proofs.Common.{◌≡◌, ◌+◌, ◌++◌, ◌∷◌, [], arith, rules}
-use Rattle.bully_film.specs.Lane.{AreLanes, row_before}
+use Rattle.bully_film.specs.Lane.{row_before}
 use Rattle.bully_film.specs.Scene.{lane_of}
 use Rattle.bully_film.proofs.StretchLemmas.{lanes-more}
 use Rattle.bully_film.proofs.whole.lanes.Goals as goal

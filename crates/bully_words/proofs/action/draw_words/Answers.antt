@@ -1,6 +1,4 @@
-use Rattle.std.proofs.Common.{sym, codes, ap, ◌∙◌}
-use Rattle.clap.specs.Words.{first_of, found_of, rows_of}
-use Rattle.bully_words.specs.Words.{drawing}
+use Rattle.clap.specs.Words.{found_of}
 use Rattle.bully_words.proofs.ActionLemmas.{words-drawn}
 use Rattle.bully_words.proofs.action.draw_words.Goals as goal
 

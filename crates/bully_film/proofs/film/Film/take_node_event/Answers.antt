@@ -1,5 +1,5 @@
 -- A row that tells an event of a node and no more is filmed as any other one.
-use Rattle.std.proofs.Common.{◌≡◌, rules, true}
+use Rattle.std.proofs.Common.{rules}
 use Rattle.bully_rows.specs.declared.trace.Row.{Row}
 use Rattle.bully_rows.specs.NodeEvents.{event_at}
 use Rattle.bully_film.specs.Film.{IsLook}

@@ -1,6 +1,5 @@
 -- Behind the row that decided nothing more is filmed.
-use Rattle.std.proofs.Common.{◌≡◌, rules, true}
-use Rattle.std.specs.Prelude.{is_some}
+use Rattle.std.proofs.Common.{rules}
 use Rattle.bully_film.proofs.FilmLemmas.{filmed-on, filmed-over}
 use Rattle.bully_film.proofs.film.Film.take_row.Goals as goal
 
