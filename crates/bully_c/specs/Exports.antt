@@ -1,5 +1,5 @@
 -- What an export over a handle answers.
-use Rattle.std.specs.Prelude.{◌≡◌, ◌≢◌, ◌⊎◌, ℕ, ◌<◌, ◌≤◌, All, List, [], Option, Some, None, Result, Ok, Err, IfSome, IsUtf8, length, reverse, unwrap_or, if◌then◌else◌}
+use Rattle.std.specs.Prelude.{◌≡◌, ◌≢◌, ◌⊎◌, ℕ, ◌<◌, ◌≤◌, List, [], Option, Some, None, Result, Ok, Err, IsUtf8, length, unwrap_or, if◌then◌else◌}
 use Rattle.std.specs.Option.{option_map_or}
 use Rattle.bully_base.specs.NodeSet.{with_node}
 use Rattle.bully_base.specs.Setup.{IsNode, IsSetup, Setup}
@@ -15,15 +15,12 @@ use Rattle.bully_messages.specs.declared.message.Request.{Request}
 use Rattle.bully_node.specs.Agent.{AgentState, new_agent, wanted}
 use Rattle.bully_node.specs.Calls.{request_of}
 use Rattle.bully_rows.specs.ReadBack.{AreOwners}
-use Rattle.bully_rows.specs.TraceText.{line_of, row_fields, rows_text}
-use Rattle.bully_rows.specs.Whole.{whole_of}
-use Rattle.bully_rows.specs.declared.trace.Row.{Row}
 use Rattle.bully_table.specs.Planning.{planned}
 use Rattle.bully_events.specs.declared.event.Event.{Event}
 use Rattle.bully_events.specs.declared.event.Refused.{Refused}
 use Rattle.bully_c.specs.Arguments.{AreGiven, IsCopied, IsSetupRefusal, RefusesGiven, RefusesOwners, table_given}
-use Rattle.bully_c.specs.Held.{Serves, call_in, Takes, TakesFailure, TakesReply, TellsEvent, rows_told}
-use Rattle.bully_c.specs.Numbers.{answer_number, kind_number, refusal_number, reply_number, request_number, status_number, step_number, want_number}
+use Rattle.bully_c.specs.Held.{Serves, call_in, Takes, TakesFailure, TakesReply, TellsEvent}
+use Rattle.bully_c.specs.Numbers.{answer_number, kind_number, reply_number, request_number, status_number, step_number, want_number}
 use Rattle.bully_c.specs.declared.status.TheConstants.{BAD_NODE, CLOSED, LINE_WORD, OK, OPEN, OUT_OF_MEMORY, SHORT, TABLE_LENGTH}
 use Rattle.bully_c.specs.declared.held.Held.{Held}
 use Rattle.bully_c.specs.declared.held.Told.{Told}

@@ -1,5 +1,5 @@
 -- What is told of a trace, and of a table.
-use Rattle.std.specs.Prelude.{◌==◌, if◌then◌else◌, ◌≡◌, ◌≢◌, ◌⊎◌, ◌+◌, ◌↔◌, ℕ, List, [], Option, Some, All, Contains, length}
+use Rattle.std.specs.Prelude.{◌==◌, if◌then◌else◌, ◌≡◌, ◌≢◌, ◌⊎◌, ◌+◌, ◌↔◌, ℕ, List, [], Some, All, Contains, length}
 use Rattle.bully_base.specs.NodeSet.{IsFallingBelow}
 use Rattle.bully_base.specs.Setup.{IsNode, IsSetup, Setup}
 use Rattle.bully_base.specs.declared.TheConstants.{NODES_MAX}

@@ -1,20 +1,19 @@
 //! Agents behind their handles.
 ghost use Rattle.std.specs.Prelude.{◌≡◌, ◌≤◌, [], IsUtf8, Ok, IfErr, IfOk, IfSome, length, None, string_bytes, unwrap_or, reverse};
 ghost use Rattle.std.specs.Option.{option_copied};
-ghost use Rattle.bully_base.specs.Setup.{IsNode, IsSetup};
 ghost use Rattle.bully_calls.specs.declared.call.CallKind.{CallKind as CallKindState};
 ghost use Rattle.bully_handlers.specs.Handler.{reply};
-ghost use Rattle.bully_lines.specs.Texts.{reply_of_text, reply_text, request_of_text};
+ghost use Rattle.bully_lines.specs.Texts.{reply_of_text, reply_text};
 ghost use Rattle.bully_node.specs.Agent.{new_agent};
 ghost use Rattle.bully_rows.specs.TraceText.{line_of, row_fields, rows_text};
 ghost use Rattle.bully_rows.specs.Whole.{whole_of};
 ghost use Rattle.bully_rows.specs.declared.trace.Row.{Row as RowState};
 ghost use Rattle.bully_events.specs.declared.event.Event.{Event as EventState};
-ghost use Rattle.bully_c.specs.Arguments.{IsCopied, IsMadeAndCopied, RefusesOwners, setup_given, table_given};
+ghost use Rattle.bully_c.specs.Arguments.{IsCopied, IsMadeAndCopied, setup_given};
 ghost use Rattle.bully_c.specs.Exports.{AtOpen, CanOpen, IsRequestLine, IsClosing, IsEvent, IsFailure, IsOpening, IsPlan, IsPrepared, IsPreparedTable, IsReply, IsServe, RefusesOpening, RefusesPrepare, RefusesReplyLine, RefusesRequestLine, Shows, opened, request_line, shown, told_answer};
 ghost use Rattle.bully_c.specs.Held.{TellsDrop, TellsEvent, TellsStart, rows_told};
 ghost use Rattle.bully_c.specs.Numbers.{step_number};
-ghost use Rattle.bully_c.specs.declared.status.TheConstants.{OK as OkNumber, OUT_OF_MEMORY as OutOfMemoryNumber};
+ghost use Rattle.bully_c.specs.declared.status.TheConstants.{OK as OkNumber};
 ghost use Rattle.bully_c.specs.declared.held.Told.{Told as ToldState};
 
 use crate::handle::AgentHandle;

@@ -1,10 +1,9 @@
 //! What is kept behind a handle.
 ghost use Rattle.std.specs.Prelude.{◌≡◌, ◌++◌, ◌∷◌, [], OnOk, string_bytes};
 ghost use Rattle.bully_rows.specs.TraceText.{rows_text};
-ghost use Rattle.bully_rows.specs.declared.detail.Detail.{Detail as DetailState};
 ghost use Rattle.bully_rows.specs.declared.trace.Row.{Row as RowState};
 ghost use Rattle.bully_events.specs.declared.event.Event.{Event as EventState};
-ghost use Rattle.bully_c.specs.Held.{Serves, Takes, TakesFailure, TakesReply, TellsDrop, TellsEvent, TellsStart, call_in, detail_told, failure_told, rows_told};
+ghost use Rattle.bully_c.specs.Held.{Serves, Takes, TakesFailure, TakesReply, TellsDrop, TellsEvent, TellsStart, detail_told, failure_told, rows_told};
 ghost use Rattle.bully_c.specs.declared.held.Told.{Told as ToldState};
 
 use bully_base::{Node, OutOfMemory};

@@ -1,6 +1,5 @@
 //! Setups and tables as C has them.
 ghost use Rattle.std.specs.Prelude.{◌≡◌, ◌↔◌, ◌++◌, ◌<◌, ◌≤◌, [], All, IfErr, IfOk, IfSome, IsTrue, OnOk, drop, length, string_bytes, take};
-ghost use Rattle.std.specs.Option.{option_copied};
 ghost use Rattle.bully_base.specs.Setup.{IsNode, IsSetup};
 ghost use Rattle.bully_rows.specs.ReadBack.{AreOwners};
 ghost use Rattle.bully_table.specs.TableText.{owners_text};
