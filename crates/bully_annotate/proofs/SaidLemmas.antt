@@ -148,12 +148,7 @@ said-so setup w (Event.Run i) w' a d fits node step is = run-said setup w i d fi
 said-so setup w (Event.Lose i) w' a d fits node step is = lose-said setup w i d fits node is
 said-so setup w (Event.Return i) w' a d fits node step is = return-said setup w i d fits node is
 said-so setup w (Event.Drop i) w' a d fits node step is = drop-said setup w i d fits node is
-said-so setup w (Event.Recover i) w' a d fits node step is = absurd (cc is)
-said-so setup w (Event.Crash i) w' a d fits node step is = absurd (cc is)
-said-so setup w (Event.Check i) w' a d fits node step is = absurd (cc is)
-said-so setup w (Event.Timeout i) w' a d fits node step is = absurd (cc is)
-said-so setup w (Event.Move i) w' a d fits node step is = absurd (cc is)
-said-so setup w (Event.Plan i table) w' a d fits node step is = absurd (cc is)
+said-so setup w e w' a d fits node step is = absurd (cc is)
 
 -- ---- where an event takes place is a node
 
@@ -163,16 +158,7 @@ place-node setup w (Event.Run i) fits node = by_call (call_at w i) refl
     by_call : (there : Option Call) → call_at w i ≡ there → IsNode setup (callee_or i there)
     by_call None at = node
     by_call (Some call) at = slot-node setup w i call fits at
-place-node setup w (Event.Recover i) fits node = node
-place-node setup w (Event.Crash i) fits node = node
-place-node setup w (Event.Check i) fits node = node
-place-node setup w (Event.Timeout i) fits node = node
-place-node setup w (Event.Start i) fits node = node
-place-node setup w (Event.Lose i) fits node = node
-place-node setup w (Event.Return i) fits node = node
-place-node setup w (Event.Drop i) fits node = node
-place-node setup w (Event.Move i) fits node = node
-place-node setup w (Event.Plan i table) fits node = node
+place-node setup w e fits node = node
 
 -- ---- rows with everything said are as lawful
 

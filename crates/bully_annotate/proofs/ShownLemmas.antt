@@ -9,16 +9,15 @@ use Rattle.bully_base.specs.NodeSetEq.{same_set}
 use Rattle.bully_base.specs.Setup.{Setup, is_node}
 use Rattle.bully_base.proofs.NodeSetLemmas.{IsFallingBelow-more, same_set_test}
 use Rattle.bully_calls.specs.declared.call.Answer.{Answer}
-use Rattle.bully_calls.specs.declared.call.Outcome.{Outcome}
 use Rattle.bully_calls.specs.Pending.{Pending}
 use Rattle.bully_handlers.specs.Vector.{Vector}
 use Rattle.bully_events.specs.declared.event.Event.{Event}
 use Rattle.bully_world.specs.NodeInvariant.{WorldInvariant}
-use Rattle.bully_world.specs.Step.{Proceeds, Returns, Step, ran}
+use Rattle.bully_world.specs.Step.{Step, ran}
 use Rattle.bully_world.specs.Turn.{same_node}
-use Rattle.bully_world.specs.World.{Member, World, vector, with_member}
+use Rattle.bully_world.specs.World.{Member, World, vector}
+use Rattle.bully_world.proofs.Events.{own_other}
 use Rattle.bully_world.proofs.NodeInvariantLemmas.{lawful_fits, step_fits}
-use Rattle.bully_world.proofs.MemberLemmas.{member_other}
 use Rattle.bully_world.proofs.RunInvariant.{ran_here, ran_other}
 use Rattle.bully_rows.specs.Whole.{Whole, whole_of}
 use Rattle.bully_trace.specs.Details.{callee_or, is_true, is_whole, same_status, same_task}
@@ -56,16 +55,6 @@ vector-is bound a b falls other e =
 abbrev Stays : World → World → ℕ → Type 0
 Stays w w' j = vector w' j ≡ vector w j
 
-written-stays : (w w' : World) (i j : ℕ) (m : Member) → w' ≡ with_member w i m → j ≢ i → Stays w w' j
-written-stays w w' i j m is other = rw is (ap (λ (n : Member). n.vector) (member_other w i j m other))
-
-proceeds-stays : (setup : Setup) (w : World) (i : ℕ) (o : Outcome) (w' : World) (j : ℕ) → Proceeds setup w i o w' → j ≢ i → Stays w w' j
-proceeds-stays setup w i o w' j (p, at, is) other = written-stays w w' i j _ is other
-
-returns-stays : (setup : Setup) (w : World) (i : ℕ) (is_live : Bool) (o : Outcome) (w' : World) (a : Answer) (j : ℕ) → Returns setup w i is_live o w' a → j ≢ i → Stays w w' j
-returns-stays setup w i true o w' a j (proceeds, is) other = proceeds-stays setup w i o w' j proceeds other
-returns-stays setup w i false o w' a j (is, discarded) other = written-stays w w' i j _ is other
-
 -- a run changes its callee alone
 run-stays : (setup : Setup) (w : World) (i : ℕ) (w' : World) (a : Answer) (j : ℕ) → WorldInvariant setup w → Step setup w (Event.Run i) w' a
     → j ≢ place_of w (Event.Run i) → Stays w w' j
@@ -79,17 +68,8 @@ run-stays setup w i w' a j fits (c, at, sent, up, is, answered) other = rw is (b
     by_case (inr apart) = ap (λ (n : Member). n.vector) (ran_other setup w i c fits at up j apart callee)
 
 others-stay : (setup : Setup) (w : World) (e : Event) (w' : World) (a : Answer) (j : ℕ) → WorldInvariant setup w → Step setup w e w' a → j ≢ place_of w e → Stays w w' j
-others-stay setup w (Event.Recover i) w' a j fits (node, down, is, done) other = written-stays w w' i j _ is other
-others-stay setup w (Event.Crash i) w' a j fits (up, is, done) other = written-stays w w' i j _ is other
-others-stay setup w (Event.Check i) w' a j fits (up, idle, is, done) other = written-stays w w' i j _ is other
-others-stay setup w (Event.Timeout i) w' a j fits (up, idle, is, done) other = written-stays w w' i j _ is other
-others-stay setup w (Event.Start i) w' a j fits (up, free, call, offers, is, done) other = written-stays w w' i j _ is other
 others-stay setup w (Event.Run i) w' a j fits step other = run-stays setup w i w' a j fits step other
-others-stay setup w (Event.Lose i) w' a j fits (c, at, phase, down, is, done) other = written-stays w w' i j _ is other
-others-stay setup w (Event.Return i) w' a j fits (c, o, at, outcome, returns) other = returns-stays setup w i c.is_live o w' a j returns other
-others-stay setup w (Event.Drop i) w' a j fits (c, at, orphan, is, discarded) other = written-stays w w' i j _ is other
-others-stay setup w (Event.Move i) w' a j fits (up, free, offers, proceeds, done) other = proceeds-stays setup w i Outcome.Moved w' j proceeds other
-others-stay setup w (Event.Plan i table) w' a j fits (at, free, count, balanced, is, done) other = written-stays w w' i j _ is other
+others-stay setup w e w' a j fits step other = ap (λ (n : Member). n.vector) (own_other setup w w' e a j (λ i same. absurd (cc same)) step other)
 
 -- ---- the laws
 

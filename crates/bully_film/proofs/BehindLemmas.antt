@@ -4,7 +4,6 @@ use Rattle.std.specs.Prelude.{option_map}
 use Rattle.std.specs.Bool.{MatchBool}
 use Rattle.bully_base.specs.Setup.{Setup}
 use Rattle.bully_calls.specs.declared.call.Answer.{Answer}
-use Rattle.bully_calls.specs.declared.call.Outcome.{Outcome}
 use Rattle.bully_calls.specs.Pending.{Pending}
 use Rattle.bully_events.specs.declared.event.Event.{Event}
 use Rattle.bully_events.specs.declared.event.Refused.{Refused}
@@ -13,10 +12,10 @@ use Rattle.bully_world.specs.Cause.{cause}
 use Rattle.bully_world.specs.NodeInvariant.{WorldInvariant}
 use Rattle.bully_base.proofs.PlaceLemmas.{at_node_past}
 use Rattle.bully_world.specs.State.{IsReached, WorldState, world_of}
-use Rattle.bully_world.specs.Step.{Proceeds, Returns, Step}
+use Rattle.bully_world.specs.Step.{Step}
 use Rattle.bully_world.specs.StepOf.{StepResult, step_of}
-use Rattle.bully_world.specs.World.{Member, World, empty_member, first_world, member, with_member}
-use Rattle.bully_world.proofs.MemberLemmas.{member_other}
+use Rattle.bully_world.specs.World.{World, empty_member, first_world, member}
+use Rattle.bully_world.proofs.Events.{own_other}
 use Rattle.bully_world.proofs.NodeInvariantLemmas.{first_fits, lawful_fits, step_fits}
 use Rattle.bully_world.proofs.RunInvariant.{ran_other}
 use Rattle.bully_world.proofs.StepOfLemmas.{computed_steps, step_is_computed}
@@ -29,7 +28,7 @@ use Rattle.bully_trace.specs.Details.{callee_or, is_so, is_true, is_whole}
 use Rattle.bully_trace.specs.Judging.{HasJudged, JudgeState}
 use Rattle.bully_trace.specs.Verdict.{IsJudged}
 use Rattle.bully_trace.proofs.JudgeLemmas.{judged-all}
-use Rattle.bully_rows.specs.Deeds.{deed_of}
+use Rattle.bully_rows.specs.Kinds.{deed_of}
 use Rattle.bully_film.specs.Behind.{LeadsBehind, decides, next_count, next_world, stepped, taken, world_behind}
 use Rattle.bully_film.specs.Scene.{deed_in, node_in, place_at, seen_of, sight}
 
@@ -91,16 +90,6 @@ judged-world setup rows judge judged = by_stop judge.stopped refl
 
 -- ---- which nodes stay as they were
 
-written-stays : (w w' : World) (i j : ℕ) (m : Member) → w' ≡ with_member w i m → j ≢ i → member w' j ≡ member w j
-written-stays w w' i j m is other = rw is (member_other w i j m other)
-
-proceeds-stays : (setup : Setup) (w : World) (i : ℕ) (o : Outcome) (w' : World) (j : ℕ) → Proceeds setup w i o w' → j ≢ i → member w' j ≡ member w j
-proceeds-stays setup w i o w' j (p, at, is) other = written-stays w w' i j _ is other
-
-returns-stays : (setup : Setup) (w : World) (i : ℕ) (is_live : Bool) (o : Outcome) (w' : World) (a : Answer) (j : ℕ) → Returns setup w i is_live o w' a → j ≢ i → member w' j ≡ member w j
-returns-stays setup w i true o w' a j (proceeds, is) other = proceeds-stays setup w i o w' j proceeds other
-returns-stays setup w i false o w' a j (is, discarded) other = written-stays w w' i j _ is other
-
 -- a run changes its caller and its callee alone
 run-stays : (setup : Setup) (w : World) (i : ℕ) (w' : World) (a : Answer) (j : ℕ) → WorldInvariant setup w → Step setup w (Event.Run i) w' a
     → j ≢ i → j ≢ place_at w i (Some (deed_of (Event.Run i))) → member w' j ≡ member w j
@@ -112,17 +101,8 @@ run-stays setup w i w' a j fits (c, at, sent, up, is, answered) apart other = rw
 -- an event leaves each node but its own and the one whose vector it may change
 pub event-stays : (setup : Setup) (w : World) (e : Event) (w' : World) (a : Answer) (j : ℕ) → WorldInvariant setup w → Step setup w e w' a
     → j ≢ node_of e → j ≢ place_at w (node_of e) (Some (deed_of e)) → member w' j ≡ member w j
-event-stays setup w (Event.Recover i) w' a j fits (node, down, is, done) apart other = written-stays w w' i j _ is apart
-event-stays setup w (Event.Crash i) w' a j fits (up, is, done) apart other = written-stays w w' i j _ is apart
-event-stays setup w (Event.Check i) w' a j fits (up, idle, is, done) apart other = written-stays w w' i j _ is apart
-event-stays setup w (Event.Timeout i) w' a j fits (up, idle, is, done) apart other = written-stays w w' i j _ is apart
-event-stays setup w (Event.Start i) w' a j fits (up, free, call, offers, is, done) apart other = written-stays w w' i j _ is apart
 event-stays setup w (Event.Run i) w' a j fits step apart other = run-stays setup w i w' a j fits step apart other
-event-stays setup w (Event.Lose i) w' a j fits (c, at, phase, down, is, done) apart other = written-stays w w' i j _ is apart
-event-stays setup w (Event.Return i) w' a j fits (c, o, at, outcome, returns) apart other = returns-stays setup w i c.is_live o w' a j returns apart
-event-stays setup w (Event.Drop i) w' a j fits (c, at, orphan, is, discarded) apart other = written-stays w w' i j _ is apart
-event-stays setup w (Event.Move i) w' a j fits (up, free, offers, proceeds, done) apart other = proceeds-stays setup w i Outcome.Moved w' j proceeds apart
-event-stays setup w (Event.Plan i table) w' a j fits (at, free, count, balanced, is, done) apart other = written-stays w w' i j _ is apart
+event-stays setup w e w' a j fits step apart other = own_other setup w w' e a j (λ i same. absurd (cc same)) step apart
 
 -- the same of the world behind it, if it is possible
 stepped-stays : (setup : Setup) (w : World) (e : Event) (j : ℕ) → WorldInvariant setup w → j ≢ node_of e → j ≢ place_at w (node_of e) (Some (deed_of e))

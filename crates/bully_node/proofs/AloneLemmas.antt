@@ -47,12 +47,10 @@ ahead_like setup (Event.Start i) m a own sent = by_want (offered setup m.vector.
     by_want Want.Move = inr (record { answer = a; sent = sent; ran = refl })
     by_want Want.Plan = inr (record { answer = a; sent = sent; ran = refl })
     by_want Want.Await = inr (record { answer = a; sent = sent; ran = refl })
-ahead_like setup (Event.Run i) m a own sent = elim own [ ]
-ahead_like setup (Event.Lose i) m a own sent = elim own [ ]
-ahead_like setup (Event.Return i) m a own sent = elim own [ ]
 ahead_like setup (Event.Drop i) m a own sent = inl refl
 ahead_like setup (Event.Move i) m a own sent = inr (record { answer = a; sent = sent; ran = refl })
 ahead_like setup (Event.Plan i table) m a own sent = inr (record { answer = a; sent = sent; ran = refl })
+ahead_like setup e m a own sent = elim own [ ]
 
 -- Where nothing refuses the event in any world of which this is the node, it leads on in each of them.
 module _ (setup : Setup) (e : Event) (count : ℕ) (m : MemberState) (own : IsAlone e) (free : CauseAt Always setup (node_of e) count m e None) where

@@ -1,53 +1,28 @@
 -- A step leaves what is kept of every node but the one at which it takes place a part of the world.
-use Rattle.std.proofs.Common.{◌≡◌, ◌≢◌, ℕ, ◌⊎◌, inl, inr, Bool, true, false, Some, refl, sym, ◌∙◌, ap, subst, arith}
+use Rattle.std.proofs.Common.{◌≡◌, ◌≢◌, ℕ, ◌⊎◌, inl, inr, true, false, Some, refl, sym, ◌∙◌, ap, subst, arith}
 use Rattle.std.specs.Prelude.{◌==◌, if◌then◌else◌}
 use Rattle.std.specs.Option.{option_map_or}
 use Rattle.std.proofs.lemmas.Bool.Decides.{nat_tests}
 use Rattle.bully_base.specs.Setup.{Setup}
 use Rattle.bully_calls.specs.declared.call.Answer.{Answer}
-use Rattle.bully_calls.specs.declared.call.Outcome.{Outcome}
 use Rattle.bully_calls.specs.declared.call.Phase.{Phase}
 use Rattle.bully_calls.specs.Pending.{Pending, is_sent}
 use Rattle.bully_calls.specs.Slot.{SlotCall, pending_of}
 use Rattle.bully_handlers.specs.Handler.{reply}
 use Rattle.bully_events.specs.declared.event.Event.{Event}
-use Rattle.bully_events.specs.Events.{node_of}
 use Rattle.bully_world.specs.Cause.{in_phase}
 use Rattle.bully_world.specs.State.{MemberState, member_of}
-use Rattle.bully_world.specs.Step.{Step, Returns, Proceeds, IsUp, ran}
+use Rattle.bully_world.specs.Step.{Step, IsUp, ran}
 use Rattle.bully_world.specs.World.{World, Member, member, pending, vector}
 use Rattle.bully_world.specs.NodeInvariant.{WorldInvariant}
+use Rattle.bully_world.proofs.Events.{own_other}
 use Rattle.bully_world.proofs.LawfulLemmas.{lawful_more}
-use Rattle.bully_world.proofs.MemberLemmas.{member_other}
 use Rattle.bully_world.proofs.NodeInvariantLemmas.{step_fits}
-use Rattle.bully_world.proofs.OwnEvents.{IsNoRun}
 use Rattle.bully_world.proofs.RunInvariant.{ran_here, ran_other}
 use Rattle.bully_world.proofs.SlotLemmas.{call_in_slot, pending_there, phased_is}
 use Rattle.bully_node.specs.Laws.{GroupGoesOn, KeepsOthers, callee_of, place_of, with_part}
 use Rattle.bully_node.specs.Part.{IsLike, IsPart, IsUnderWay}
 use Rattle.bully_node.proofs.ReturnLemmas.{sent_call}
-
--- another node's member is as it was
-
-proceeds_other : (setup : Setup) (w : World) (i : ℕ) (o : Outcome) (w' : World) (k : ℕ) → Proceeds setup w i o w' → k ≢ i → member w' k ≡ member w k
-proceeds_other setup w i o w' k (q, next, becomes) d = ap (λ (v : World). member v k) becomes ∙ member_other w i k _ d
-
-returns_other : (setup : Setup) (w : World) (i : ℕ) (live : Bool) (o : Outcome) (w' : World) (a : Answer) (k : ℕ) → Returns setup w i live o w' a → k ≢ i → member w' k ≡ member w k
-returns_other setup w i true o w' a k r d = proceeds_other setup w i o w' k r.0 d
-returns_other setup w i false o w' a k r d = ap (λ (v : World). member v k) r.0 ∙ member_other w i k _ d
-
-pub own_other : (setup : Setup) (w w' : World) (e : Event) (a : Answer) (k : ℕ) → IsNoRun e → Step setup w e w' a → k ≢ node_of e → member w' k ≡ member w k
-own_other setup w w' (Event.Recover i) a k own s d = ap (λ (v : World). member v k) s.2 ∙ member_other w i k _ d
-own_other setup w w' (Event.Crash i) a k own s d = ap (λ (v : World). member v k) s.1 ∙ member_other w i k _ d
-own_other setup w w' (Event.Check i) a k own s d = ap (λ (v : World). member v k) s.2 ∙ member_other w i k _ d
-own_other setup w w' (Event.Timeout i) a k own s d = ap (λ (v : World). member v k) s.2 ∙ member_other w i k _ d
-own_other setup w w' (Event.Start i) a k own s d = ap (λ (v : World). member v k) s.4 ∙ member_other w i k _ d
-own_other setup w w' (Event.Run i) a k own s d = absurd (own i refl)
-own_other setup w w' (Event.Lose i) a k own s d = ap (λ (v : World). member v k) s.4 ∙ member_other w i k _ d
-own_other setup w w' (Event.Return i) a k own s d = returns_other setup w i s.0.is_live s.1 w' a k s.4 d
-own_other setup w w' (Event.Drop i) a k own s d = ap (λ (v : World). member v k) s.3 ∙ member_other w i k _ d
-own_other setup w w' (Event.Move i) a k own s d = proceeds_other setup w i Outcome.Moved w' k s.3 d
-own_other setup w w' (Event.Plan i table) a k own s d = ap (λ (v : World). member v k) s.4 ∙ member_other w i k _ d
 
 -- A call that runs: its caller's reply is under way from then on.
 

@@ -53,12 +53,10 @@ same_refusals setup w v count (Event.Crash i) x y own there here alike = refl
 same_refusals setup w v count (Event.Check i) x y own there here alike = grind (arith, check-cause setup w count i x there, check-cause setup v count i y here, alike.point)
 same_refusals setup w v count (Event.Timeout i) x y own there here alike = grind (arith, timeout-cause setup w count i x there, timeout-cause setup v count i y here, alike.point)
 same_refusals setup w v count (Event.Start i) x y own there here alike = grind (arith, start-cause setup w count i x there, start-cause setup v count i y here, alike.vector, alike.point, alike.pending)
-same_refusals setup w v count (Event.Run i) x y own there here alike = elim own [ ]
-same_refusals setup w v count (Event.Lose i) x y own there here alike = elim own [ ]
-same_refusals setup w v count (Event.Return i) x y own there here alike = elim own [ ]
 same_refusals setup w v count (Event.Drop i) x y own there here alike = grind (arith, drop-cause setup w count i x there, drop-cause setup v count i y here, alike.pending, alike.live)
 same_refusals setup w v count (Event.Move i) x y own there here alike = grind (arith, move-cause setup w count i x there, move-cause setup v count i y here, alike.vector, alike.point, alike.pending)
 same_refusals setup w v count (Event.Plan i table) x y own there here alike = grind (arith, plan-cause setup w count i x table there, plan-cause setup v count i y table here, alike.vector, alike.point, alike.pending)
+same_refusals setup w v count e x y own there here alike = elim own [ ]
 
 module _ (setup : Setup) (e : Event) (count : ℕ) (m : MemberState) (node : IsNode setup (node_of e)) (room : count < setup.events_max) where
   abbrev i : ℕ

@@ -15,11 +15,11 @@ use Rattle.bully_events.specs.Events.{node_of}
 use Rattle.bully_world.specs.NodeInvariant.{WorldInvariant}
 use Rattle.bully_world.specs.Step.{Step, IsUp, called, ran, stopped_by}
 use Rattle.bully_world.specs.World.{World, Member, member, pending, with_member}
+use Rattle.bully_world.proofs.Events.{own_other}
 use Rattle.bully_world.proofs.MemberLemmas.{member_here, node_of_pending}
 use Rattle.bully_world.proofs.RunInvariant.{ran_other, ran_there}
 use Rattle.bully_node.specs.Calls.{HasRun}
 use Rattle.bully_node.specs.Laws.{RunsStay, ends_call}
-use Rattle.bully_node.proofs.FrameLemmas.{own_other}
 
 -- the member's call ran with this answer
 record Ran (answer : Answer) (x : Member) : Type 0 where

@@ -29,13 +29,14 @@ pub record IsFree (setup : Setup) (w : World) (count : ℕ) (e : Event) (m : Mem
   pub none : cause setup w count e ≡ None
 
 -- The laws of an event of one node. Of the definitions: its step is computed, nothing refuses it where it is possible,
--- and it keeps what holds of each node. Of what is kept of its node: where nothing refuses it, what it makes of that is the
+-- it keeps what holds of each node, and it writes its own node and no other. Of what is kept of its node: where nothing refuses it, what it makes of that is the
 -- step, and the member may take it; it keeps what goes with the setup and the count of events, raises the generation as
 -- the definitions say, and leaves the tag of a slot that it neither fills nor empties.
 pub record OwnLaws (setup : Setup) (e : Event) : Type 0 where
   pub computed : (w w' : World) (a : Answer) → (step_of setup w e ≡ Some (w', a)) ↔ Step setup w e w' a
   pub free : (w w' : World) (count : ℕ) (a : Answer) → WorldInvariant setup w → count < setup.events_max → Step setup w e w' a → cause setup w count e ≡ None
   pub fits : (w w' : World) (a : Answer) → Step setup w e w' a → WorldInvariant setup w → WorldInvariant setup w'
+  pub writes : (w w' : World) (a : Answer) → Step setup w e w' a → (m : Member) × (w' ≡ with_member w (node_of e) m)
   pub steps : (w : World) (count : ℕ) (m : MemberState) → IsFree setup w count e m → Step setup w e (with_member w (node_of e) (member_of (node_after setup e m))) (node_answer e m)
   pub may : (w : World) (count : ℕ) (m : MemberState) → IsFree setup w count e m → IsKept setup count (node_of e) m → MayApply setup e m
   pub kept : (count : ℕ) (m : MemberState) → IsKept setup count (node_of e) m → IsKept setup (count + 1) (node_of e) (node_after setup e m)

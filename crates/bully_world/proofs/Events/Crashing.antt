@@ -15,6 +15,7 @@ crash_laws setup i = record {
   computed = λ w w' a. ((λ t. grind (arith, t)), (λ s. grind (arith, s)));
   free = λ w w' count a all room s. grind (arith, s, room, (all.fits i).a_node);
   fits = λ w w' a s all. rw s.1 (written_fits setup w i _ all (node_of_up setup w i all s.0) (crash_fits setup i (member w i) (all.fits i)));
+  writes = λ w w' a s. (_, s.1);
   steps = λ w count m f. grind (arith, f.none, f.here);
   may = λ w count m f k. tt;
   kept = λ count m k. kept_with setup count i (with_content None m) _ _ (m.generation + 1) (omega arith) (omega arith) (kept_empty setup count i m k);

@@ -35,6 +35,7 @@ drop_laws setup i = record {
   computed = λ w w' a. ((λ t. grind (arith, t)), (λ s. grind (arith, s)));
   free = λ w w' count a all room s. grind (arith, s, room, (all.fits i).a_node, (all.fits i).down_free);
   fits = λ w w' a s all. rw s.3 (emptied_fits setup w i s.0 all s.1);
+  writes = λ w w' a s. (_, s.3);
   steps = drop_steps setup i;
   may = λ w count m f k. tt;
   kept = λ count m k. kept_emptied setup count i m k;

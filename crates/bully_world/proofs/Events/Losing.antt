@@ -43,6 +43,7 @@ lose_laws setup i = record {
   computed = λ w w' a. ((λ t. grind (arith, t)), (λ s. grind (arith, s)));
   free = λ w w' count a all room s. grind (arith, s, room, (all.fits i).a_node, (all.fits i).down_free);
   fits = λ w w' a s all. rw s.4 (with_phase_fits setup w i s.0 Phase.Failed all s.1 tt);
+  writes = λ w w' a s. (_, s.4);
   steps = lose_steps setup i;
   may = lose_may setup i;
   kept = λ count m k. kept_later setup count i (phased_state Phase.Failed m) (kept_phased setup count i m Phase.Failed k);

@@ -41,6 +41,7 @@ move_laws setup i = record {
   computed = λ w w' a. ((λ t. grind (arith, t)), (λ s. grind (arith, s)));
   free = λ w w' count a all room s. grind (arith, s, room, (all.fits i).a_node);
   fits = λ w w' a s all. proceeds_fits setup w i Outcome.Moved w' all s.0 (λ e. grind (arith, e)) s.3;
+  writes = λ w w' a s. (_, s.3.2);
   steps = move_steps setup i;
   may = λ w count m f k. tt;
   kept = λ count m. kept_proceeded setup count i Outcome.Moved m;

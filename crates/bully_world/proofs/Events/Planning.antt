@@ -49,6 +49,7 @@ plan_laws setup i table = record {
   computed = λ w w' a. ((λ t. grind (arith, t, plannable_by setup table i (vector w i).up)), (λ s. grind (arith, s, plannable_if setup table i (vector w i).up s.2 s.3)));
   free = λ w w' count a all room s. grind (arith, s, room, (all.fits i).a_node, (all.fits i).down_idle, (is_balanced_decides setup table (with_node i (vector w i).up)).1);
   fits = λ w w' a s all. rw s.4 (written_fits setup w i _ all (node_of_up setup w i all (planning_up setup i (member w i) (all.fits i) s.0)) (plan_fits setup i (member w i) table (all.fits i) s.0 s.2));
+  writes = λ w w' a s. (_, s.4);
   steps = plan_steps setup i table;
   may = λ w count m f k. (plan_facts setup w count i table f.none).2 ∙ sym k.vector_room;
   kept = λ count m. kept_with setup count i m _ _ m.generation (omega arith) (omega arith);

@@ -14,6 +14,7 @@ recover_laws setup i = record {
   computed = λ w w' a. ((λ t. grind (arith, nat_tests, t)), (λ s. grind (arith, nat_tests, s)));
   free = λ w w' count a all room s. grind (arith, s, room);
   fits = λ w w' a s all. rw s.2 (written_fits setup w i _ all s.0 (recover_fits setup i (member w i) (all.fits i) s.0 s.1));
+  writes = λ w w' a s. (_, s.2);
   steps = λ w count m f. grind (arith, f.none, f.here);
   may = λ w count m f k. tt;
   kept = λ count m. kept_with setup count i m _ _ m.generation (omega arith) (omega arith);

@@ -138,11 +138,17 @@ returns_computed : (setup : Setup) (w : World) (i : ℕ) (b : Bool) (o : Outcome
 returns_computed setup w i true o w' a r = grind (arith, r)
 returns_computed setup w i false o w' a r = grind (arith, r)
 
+-- a return writes its own node alone
+returns_writes : (setup : Setup) (w : World) (i : ℕ) (is_live : Bool) (o : Outcome) (w' : World) (a : Answer) → Returns setup w i is_live o w' a → (m : Member) × (w' ≡ with_member w i m)
+returns_writes setup w i true o w' a r = (_, r.0.2)
+returns_writes setup w i false o w' a r = (_, r.0)
+
 pub return_laws : (setup : Setup) (i : ℕ) → OwnLaws setup (Event.Return i)
 return_laws setup i = record {
   computed = λ w w' a. ((λ t. grind (arith, t)), (λ s. grind (arith, s, returns_computed setup w i s.0.is_live s.1 w' a s.4)));
   free = λ w w' count a all room s. grind (arith, s, room, (all.fits i).a_node, (all.fits i).down_free);
   fits = λ w w' a s all. returns_fits setup w i s.0 s.1 w' a s.0.is_live all s.2 s.3 s.4;
+  writes = λ w w' a s. returns_writes setup w i s.0.is_live s.1 w' a s.4;
   steps = return_steps setup i;
   may = return_may setup i;
   kept = λ count m. kept_returned setup count i m m.slot.content;

@@ -121,6 +121,7 @@ start_laws setup i = record {
   computed = λ w w' a. ((λ t. grind (arith, t)), (λ s. grind (arith, s)));
   free = λ w w' count a all room s. grind (arith, s, room, (all.fits i).a_node);
   fits = λ w w' a s all. rw s.4 (written_fits setup w i _ all (node_of_up setup w i all s.0) (start_fits setup i (member w i) s.2 (all.fits i) s.0 s.3));
+  writes = λ w w' a s. (_, s.4);
   steps = start_steps setup i;
   may = start_may setup i;
   kept = λ count m k. kept_later setup count i (started_state setup i m) (kept_started setup count i m k);
