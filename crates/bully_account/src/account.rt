@@ -12,7 +12,7 @@ use std::io::Read;
 use std::marker::Model;
 
 /// The row that decided: its number and the line at which it starts, both counted from 1, and what it says.
-#[derive(Drop, Debug)]
+#[derive(Drop)]
 pub struct Stop {
     pub number: u32,
     pub line: u64,

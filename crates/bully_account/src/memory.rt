@@ -11,7 +11,7 @@ use std::alloc::Global;
 use std::marker::Model;
 
 /// What a row did to a node.
-#[derive(Clone, Copy, PartialEq, Eq, Debug)]
+#[derive(Clone, Copy, PartialEq, Eq)]
 pub enum What {
     /// An event of the node, other than the start of a call.
     Did(Deed),
@@ -22,7 +22,7 @@ pub enum What {
 }
 
 /// A row that a node has remembered.
-#[derive(Clone, Copy, PartialEq, Eq, Debug)]
+#[derive(Clone, Copy, PartialEq, Eq)]
 pub struct Note {
     /// The number of the row, from 2.
     pub row: u32,
@@ -33,7 +33,7 @@ pub struct Note {
 
 /// What is remembered of a node's rows: the last [`ROWS_KEPT`], in which row its last call was started, and the table of
 /// its last plan.
-#[derive(Drop, Debug)]
+#[derive(Drop)]
 pub struct Memory {
     notes: Vec<Note>,
     started: Option<u32>,
@@ -160,7 +160,7 @@ fn what_of(event: &Event, call: Option<Call>) -> What {
 }
 
 /// What is remembered of each node's rows, from node 1 on.
-#[derive(Drop, Debug)]
+#[derive(Drop)]
 pub struct Memories {
     nodes: Vec<Memory>,
 }

@@ -12,7 +12,7 @@ use std::alloc::Global;
 
 /// What a sheet shows of a node: its vector but for the task, its generation, its point with what that offers, and the
 /// call in its slot.
-#[derive(Clone, Copy, Debug)]
+#[derive(Clone, Copy)]
 pub struct Shown {
     pub status: Status,
     pub coordinator: Option<Node>,
@@ -26,7 +26,7 @@ pub struct Shown {
 }
 
 /// The call in a node's slot: how far it came, and whether its caller wasn't stopped since it was started.
-#[derive(Clone, Copy, Debug)]
+#[derive(Clone, Copy)]
 pub struct ShownCall {
     pub call: Call,
     pub phase: Phase,
@@ -35,7 +35,7 @@ pub struct ShownCall {
 
 /// What a sheet tells of a node: what is shown of it, and the deeds that nothing refuses now, in the order of the profile's
 /// table of rows.
-#[derive(Drop, Debug)]
+#[derive(Drop)]
 pub struct NodeSheet {
     pub shown: Shown,
     pub possible: Vec<Deed>,

@@ -14,7 +14,7 @@ use std::alloc::Global;
 use std::io::Read;
 
 /// What is told of a trace, a verdict or a fault of form; and what is shown of each node, from node 1 on, where it is a verdict.
-#[derive(Drop, Debug)]
+#[derive(Drop)]
 pub struct Told {
     pub verdict: Result<Verdict, TraceFault>,
     pub nodes: Vec<NodeSheet>,

@@ -35,7 +35,7 @@ impl From<RunFault> for WholeFault {
 }
 
 /// How far the call at hand has come: there is none, the node's was started, or the node's ran or was lost.
-#[derive(Clone, Copy, Debug)]
+#[derive(Clone, Copy)]
 enum Stage {
     Between,
     Started(Node),

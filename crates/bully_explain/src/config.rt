@@ -11,7 +11,7 @@ use std::alloc::{AllocError, Global};
 use toml::Table;
 
 /// What is told of a configuration, its first fault, if any, and the text that explains it.
-#[derive(Drop, Debug)]
+#[derive(Drop)]
 pub struct ConfigSheet {
     pub told: Option<ConfigFault>,
     pub text: String,

@@ -14,7 +14,7 @@ use std::io::Read;
 
 /// What is told of a trace, a verdict or a fault of form; what its sheet shows of each node, from node 1 on, where it is a
 /// verdict; and the text of the sheet.
-#[derive(Drop, Debug)]
+#[derive(Drop)]
 pub struct Sheet {
     pub told: Result<Verdict, TraceFault>,
     pub nodes: Vec<NodeSheet>,

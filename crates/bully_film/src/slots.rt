@@ -8,7 +8,7 @@ use bully_calls::{Call, Phase};
 use std::alloc::Global;
 
 /// A call in a slot, and how far it came.
-#[derive(Clone, Copy, PartialEq, Eq, Debug)]
+#[derive(Clone, Copy, PartialEq, Eq)]
 pub struct Held {
     pub call: Call,
     pub phase: Phase,
@@ -16,7 +16,7 @@ pub struct Held {
 
 /// A stretch of rows behind each of which a node's slot held this, or nothing: from the first to the last. A call that was sent is an
 /// arrow from the first row of its stretch to the one behind the last, in which it runs, is lost, or is given up.
-#[derive(Clone, Copy, Debug)]
+#[derive(Clone, Copy)]
 pub struct Holding {
     pub first: u32,
     pub last: u32,
@@ -39,7 +39,7 @@ pub fn holdings(alloc: Global, first: u32, sights: &[Sight]) -> Result<Vec<Holdi
 
 /// How a stretch of a slot ends: the call runs at its callee, it is lost, it is taken out of the slot, or it is still there behind the
 /// last row.
-#[derive(Clone, Copy, PartialEq, Eq, Debug)]
+#[derive(Clone, Copy, PartialEq, Eq)]
 pub enum End {
     Ran,
     Failed,

@@ -7,14 +7,14 @@ use bully_base::{Node, OutOfMemory, Status};
 use std::alloc::Global;
 
 /// What a bar shows: a status, and whom the node follows.
-#[derive(Clone, Copy, PartialEq, Eq, Debug)]
+#[derive(Clone, Copy, PartialEq, Eq)]
 pub struct Stand {
     pub status: Status,
     pub coordinator: Option<Node>,
 }
 
 /// A stretch of rows behind each of which a node stood so: from the first to the last.
-#[derive(Clone, Copy, Debug)]
+#[derive(Clone, Copy)]
 pub struct Bar {
     pub first: u32,
     pub last: u32,

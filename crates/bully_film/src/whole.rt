@@ -16,7 +16,7 @@ use std::alloc::{AllocError, Global};
 
 /// The lane of a node: the stretches over which it kept its status and its coordinator, and those over which its slot held the same;
 /// and whether the slot held an orphan, row by row.
-#[derive(Drop, Debug)]
+#[derive(Drop)]
 pub struct Lane {
     pub node: Node,
     pub bars: Vec<Bar>,

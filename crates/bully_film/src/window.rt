@@ -11,7 +11,7 @@ pub const WINDOW_MAX: u32 = 2_000;
 
 /// Which rows of a trace are shown: those from one to another, counted from 1, the header; and of these the last ones, as many as
 /// are kept.
-#[derive(Clone, Copy, Debug)]
+#[derive(Clone, Copy)]
 pub struct Window {
     from: u32,
     to: u32,

@@ -9,7 +9,7 @@ use bully_calls::{Call, CallKind, Phase};
 use bully_film::{End, Held, Holding, end_at};
 
 /// A line between two lanes.
-#[derive(Clone, Copy, Debug)]
+#[derive(Clone, Copy)]
 struct Line {
     x1: u32,
     y1: u32,

@@ -4,7 +4,7 @@ use bully_base::OutOfMemory;
 use std::alloc::Global;
 
 /// Which end of words lies at the point that they are placed by, or their middle.
-#[derive(Clone, Copy, PartialEq, Eq, Debug)]
+#[derive(Clone, Copy, PartialEq, Eq)]
 pub enum Anchor {
     Start,
     Middle,
@@ -12,7 +12,7 @@ pub enum Anchor {
 }
 
 /// The box of a word: its left end, its top, its width and its height, in pixels.
-#[derive(Clone, Copy, Debug)]
+#[derive(Clone, Copy)]
 pub struct Area {
     pub x: u32,
     pub y: u32,
@@ -70,7 +70,7 @@ pub fn letter_width(letter: char) -> u32 {
 }
 
 /// The boxes of the words that were placed.
-#[derive(Drop, Debug)]
+#[derive(Drop)]
 pub struct Boxes {
     taken: Vec<Area>,
 }

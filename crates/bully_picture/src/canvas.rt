@@ -6,7 +6,7 @@ use bully_base::OutOfMemory;
 use std::alloc::Global;
 
 /// How words look: where the point lies that they are placed by, their size, their colour, and whether they have a white ground.
-#[derive(Clone, Copy, Debug)]
+#[derive(Clone, Copy)]
 pub struct Style {
     pub anchor: Anchor,
     pub size: u32,
@@ -15,7 +15,7 @@ pub struct Style {
 }
 
 /// A picture on which is drawn.
-#[derive(Drop, Debug)]
+#[derive(Drop)]
 pub struct Canvas {
     pub layout: Layout,
     pub lines: String,

@@ -11,7 +11,7 @@ use std::alloc::Global;
 
 /// How the columns of the nodes look: a word of the status with the coordinator, where there are few; a letter with the coordinator; a
 /// letter alone, with what the row changes behind all of them; or that alone, where they are too many for a line.
-#[derive(Clone, Copy, PartialEq, Eq, Debug)]
+#[derive(Clone, Copy, PartialEq, Eq)]
 enum Form {
     Words,
     Short,

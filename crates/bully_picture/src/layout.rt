@@ -30,7 +30,7 @@ pub const WORDS_MIN: u32 = 70;
 pub const WORDS_ALL: u32 = 150;
 
 /// Where lanes and rows lie.
-#[derive(Clone, Copy, Debug)]
+#[derive(Clone, Copy)]
 pub struct Layout {
     /// How many lanes there are.
     pub nodes: u32,

@@ -19,7 +19,7 @@ use std::alloc::Global;
 use std::marker::Model;
 
 /// A world, and a row of a trace for each event that led to it, in order.
-#[derive(Drop, Debug)]
+#[derive(Drop)]
 pub struct Recording {
     world: World,
     rows: Vec<Row>,

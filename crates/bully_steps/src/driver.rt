@@ -8,7 +8,7 @@ use crate::{PointKind, Procedure};
 const PERIOD: u32 = 16;
 
 /// What a node does on its own in a turn.
-#[derive(Clone, Copy, PartialEq, Eq, Debug)]
+#[derive(Clone, Copy, PartialEq, Eq)]
 pub enum Choice {
     /// Its procedure goes on, if it can.
     Proceed,
@@ -19,7 +19,7 @@ pub enum Choice {
 }
 
 /// Chooses what a node does on its own.
-#[derive(Clone, Copy, Debug)]
+#[derive(Clone, Copy)]
 pub struct Driver;
 
 impl Driver {

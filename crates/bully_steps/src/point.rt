@@ -32,7 +32,7 @@ pub enum Point {
 }
 
 /// What a point offers, or what a procedure wants.
-#[derive(Clone, Copy, PartialEq, Eq, Debug)]
+#[derive(Clone, Copy, PartialEq, Eq)]
 pub enum Want {
     /// Nothing: no procedure runs.
     Nothing,

@@ -17,7 +17,7 @@ use bully_steps::{PointKind, Procedure, Want};
 use bully_table::Table;
 
 /// A step of a node by its procedure, which the turn rule offers.
-#[derive(Clone, Copy, PartialEq, Eq, Debug)]
+#[derive(Clone, Copy, PartialEq, Eq)]
 pub enum StepKind {
     /// Its call is started.
     Start,
@@ -51,7 +51,7 @@ impl StepKind {
 }
 
 /// What the turn rule says. The rule: docs/ALGORITHM.md.
-#[derive(Clone, Copy, PartialEq, Eq, Debug)]
+#[derive(Clone, Copy, PartialEq, Eq)]
 pub enum Next {
     /// The procedure isn't in step with the world.
     Resync,
