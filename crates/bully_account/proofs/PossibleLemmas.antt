@@ -2,6 +2,7 @@
 use Rattle.std.proofs.Common.{◌≡◌, ◌≢◌, ◌↔◌, ◌∙◌, ◌<◌, ℕ, Bool, true, false, List, Option, Some, None, refl, sym, ap, subst}
 use Rattle.std.specs.Global.{Vec}
 use Rattle.std.specs.Prelude.{is_none, filter, IfOk, IfSome, Ok, Err, Result}
+use Rattle.std.specs.Option.{option_map_or}
 use Rattle.bully_base.specs.NodeSet.{with_node}
 use Rattle.bully_base.specs.Setup.{Setup}
 use Rattle.bully_table.specs.Balance.{IsBalanced}
@@ -19,9 +20,10 @@ use Rattle.bully_world.specs.World.{Member, World, pending, point, vector, with_
 use Rattle.bully_world.proofs.CauseLemmas.{no_cause_if_step, step_if_no_cause}
 use Rattle.bully_world.proofs.MembersOf.{member-members_of}
 use Rattle.bully_world.proofs.TurnLemmas.{reached_fits}
-use Rattle.bully_rows.specs.declared.deed.Deed.{Deed}
-use Rattle.bully_rows.specs.Deeds.{deed_of, event_of_deed}
-use Rattle.bully_account.specs.Possible.{ArePossible, IsPossible, TellsPossible, every_deed, passes}
+use Rattle.bully_rows.specs.declared.kind.Deed.{Deed}
+use Rattle.bully_rows.specs.Kinds.{deed_of, event_of_deed, every_deed}
+use Rattle.bully_rows.proofs.KindLemmas.{Names, names, same_event}
+use Rattle.bully_account.specs.Possible.{ArePossible, IsPossible, TellsPossible, passes}
 
 -- ---- the table that is planned
 
@@ -61,19 +63,10 @@ none_if (Some why) e = absurd (cc e)
 -- what a plan that nothing refuses needs of its node, whatever its table
 plan_needs : (w : WorldState) (i : ℕ) (e : Event) → IsReached w → node_of e ≡ i → deed_of e ≡ Deed.Plan → cause_in w e ≡ None
     → (w.events < w.setup.events_max) × (point (world_of w) i ≡ Point.Planning) × (pending (world_of w) i ≡ None)
-plan_needs w i (Event.Recover j) reached at is free = absurd (cc is)
-plan_needs w i (Event.Crash j) reached at is free = absurd (cc is)
-plan_needs w i (Event.Check j) reached at is free = absurd (cc is)
-plan_needs w i (Event.Timeout j) reached at is free = absurd (cc is)
-plan_needs w i (Event.Start j) reached at is free = absurd (cc is)
-plan_needs w i (Event.Run j) reached at is free = absurd (cc is)
-plan_needs w i (Event.Lose j) reached at is free = absurd (cc is)
-plan_needs w i (Event.Return j) reached at is free = absurd (cc is)
-plan_needs w i (Event.Drop j) reached at is free = absurd (cc is)
-plan_needs w i (Event.Move j) reached at is free = absurd (cc is)
 plan_needs w i (Event.Plan j table) reached at is free =
     let (room, w', a, step) = step_if_no_cause w.setup (world_of w) w.events (Event.Plan j table) (reached_fits w reached) free in
     (room, rw (← at) step.0, rw (← at) step.1)
+plan_needs w i e reached at is free = absurd (cc is)
 
 -- a plan with a table that is balanced over the node and its up set is possible where any plan is
 pub plan-possible : (w : WorldState) (i : ℕ) (table : List ℕ) (b : Bool) → IsReached w → IsPlannedOver w.setup i (member_of (state_at w i)).vector.up table
@@ -100,20 +93,6 @@ no-plan w i reached other = (
 
 -- ---- all deeds
 
--- an event of node i that is this deed is the one that the deed names
-same_event : (i : ℕ) (deed : Deed) (f : Event) → node_of f ≡ i → deed_of f ≡ deed → IfSome (event_of_deed deed i) (λ e. f ≡ e)
-same_event i deed (Event.Recover j) at is = rw (← is) (ap (λ (k : ℕ). Event.Recover k) at)
-same_event i deed (Event.Crash j) at is = rw (← is) (ap (λ (k : ℕ). Event.Crash k) at)
-same_event i deed (Event.Check j) at is = rw (← is) (ap (λ (k : ℕ). Event.Check k) at)
-same_event i deed (Event.Timeout j) at is = rw (← is) (ap (λ (k : ℕ). Event.Timeout k) at)
-same_event i deed (Event.Start j) at is = rw (← is) (ap (λ (k : ℕ). Event.Start k) at)
-same_event i deed (Event.Run j) at is = rw (← is) (ap (λ (k : ℕ). Event.Run k) at)
-same_event i deed (Event.Lose j) at is = rw (← is) (ap (λ (k : ℕ). Event.Lose k) at)
-same_event i deed (Event.Return j) at is = rw (← is) (ap (λ (k : ℕ). Event.Return k) at)
-same_event i deed (Event.Drop j) at is = rw (← is) (ap (λ (k : ℕ). Event.Drop k) at)
-same_event i deed (Event.Move j) at is = rw (← is) (ap (λ (k : ℕ). Event.Move k) at)
-same_event i deed (Event.Plan j table) at is = rw (← is) tt
-
 -- the only event that is this deed has no cause exactly where the deed is possible
 plain : (w : WorldState) (i : ℕ) (deed : Deed) (e : Event) → node_of e ≡ i → deed_of e ≡ deed → ((f : Event) → node_of f ≡ i → deed_of f ≡ deed → f ≡ e)
     → (is_none (cause_in w e) ≡ true) ↔ IsPossible w i deed
@@ -123,17 +102,11 @@ plain w i deed e at is only = (
 )
 
 tells : (w : WorldState) (i : ℕ) (can : Bool) → ((can ≡ true) ↔ IsPossible w i Deed.Plan) → TellsPossible w i (λ deed. passes w i can deed)
-tells w i can plan Deed.Recover = plain w i Deed.Recover (Event.Recover i) refl refl (same_event i Deed.Recover)
-tells w i can plan Deed.Crash = plain w i Deed.Crash (Event.Crash i) refl refl (same_event i Deed.Crash)
-tells w i can plan Deed.Check = plain w i Deed.Check (Event.Check i) refl refl (same_event i Deed.Check)
-tells w i can plan Deed.Timeout = plain w i Deed.Timeout (Event.Timeout i) refl refl (same_event i Deed.Timeout)
-tells w i can plan Deed.Start = plain w i Deed.Start (Event.Start i) refl refl (same_event i Deed.Start)
-tells w i can plan Deed.Run = plain w i Deed.Run (Event.Run i) refl refl (same_event i Deed.Run)
-tells w i can plan Deed.Lose = plain w i Deed.Lose (Event.Lose i) refl refl (same_event i Deed.Lose)
-tells w i can plan Deed.Return = plain w i Deed.Return (Event.Return i) refl refl (same_event i Deed.Return)
-tells w i can plan Deed.Drop = plain w i Deed.Drop (Event.Drop i) refl refl (same_event i Deed.Drop)
-tells w i can plan Deed.Move = plain w i Deed.Move (Event.Move i) refl refl (same_event i Deed.Move)
-tells w i can plan Deed.Plan = plan
+tells w i can plan deed = by_name (event_of_deed deed i) refl (names deed i)
+  where
+    by_name : (o : Option Event) → event_of_deed deed i ≡ o → Names deed i o → (option_map_or (λ e. is_none (cause_in w e)) o can ≡ true) ↔ IsPossible w i deed
+    by_name None at is = subst (λ d. (can ≡ true) ↔ IsPossible w i d) (sym is) plan
+    by_name (Some e) at is = plain w i deed e is.0 is.1 (λ f node same. subst (λ o. IfSome o (λ x. f ≡ x)) at (same_event i deed f node same))
 
 -- the deeds that pass are those that are possible
 passing-possible : (w : WorldState) (i : ℕ) (can : Bool) (deeds : List Deed) → ((can ≡ true) ↔ IsPossible w i Deed.Plan)

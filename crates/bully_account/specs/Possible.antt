@@ -1,17 +1,11 @@
 -- What may come next at a node: the deeds that nothing refuses there.
-use Rattle.std.specs.Prelude.{◌≡◌, ◌↔◌, ℕ, Bool, true, List, [], ◌∷◌, Option, Some, None, filter, is_none}
+use Rattle.std.specs.Prelude.{◌≡◌, ◌↔◌, ℕ, Bool, true, List, Option, Some, None, filter, is_none}
 use Rattle.std.specs.Option.{option_map_or}
 use Rattle.bully_events.specs.declared.event.Event.{Event}
 use Rattle.bully_events.specs.Events.{node_of}
 use Rattle.bully_world.specs.State.{WorldState, cause_in}
-use Rattle.bully_rows.specs.declared.deed.Deed.{Deed}
-use Rattle.bully_rows.specs.Deeds.{deed_of, event_of_deed}
-
--- all deeds, in the order of the table of rows
-abbrev pub every_deed : List Deed
-every_deed =
-    Deed.Recover ∷ Deed.Crash ∷ Deed.Check ∷ Deed.Timeout ∷ Deed.Start ∷ Deed.Run ∷ Deed.Lose ∷ Deed.Return ∷ Deed.Drop
-    ∷ Deed.Move ∷ Deed.Plan ∷ []
+use Rattle.bully_rows.specs.declared.kind.Deed.{Deed}
+use Rattle.bully_rows.specs.Kinds.{deed_of, event_of_deed, every_deed}
 
 -- some event of node i is this deed, and nothing refuses it there
 pub record IsPossible (w : WorldState) (i : ℕ) (deed : Deed) : Type 0 where

@@ -1,26 +1,12 @@
 ghost use Rattle.std.specs.Prelude.{◌≡◌, ◌↔◌, ◌≤◌, true, filter, IfOk};
-ghost use Rattle.bully_account.specs.Possible.{ArePossible, IsPossible, every_deed, passes};
+ghost use Rattle.bully_rows.specs.Kinds.{every_deed};
+ghost use Rattle.bully_account.specs.Possible.{ArePossible, IsPossible, passes};
 
 use bully_base::{Node, OutOfMemory};
-use bully_rows::Deed;
+use bully_rows::{Deed, EVERY_DEED};
 use bully_trace::reached;
 use bully_world::{Event, World};
 use std::alloc::Global;
-
-// All deeds, in the order of the profile's table of rows.
-const EVERY_DEED: [Deed; 11] = [
-    Deed::Recover,
-    Deed::Crash,
-    Deed::Check,
-    Deed::Timeout,
-    Deed::Start,
-    Deed::Run,
-    Deed::Lose,
-    Deed::Return,
-    Deed::Drop,
-    Deed::Move,
-    Deed::Plan,
-];
 
 /// The deeds of the node that nothing refuses now, in the order of the profile's table of rows. A plan is among them where
 /// some table can be planned. The node is at most the setup's last. Refused where an allocation fails.

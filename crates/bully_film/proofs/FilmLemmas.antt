@@ -5,9 +5,10 @@ use Rattle.std.specs.Prelude.{is_none, is_some, nat_lt, nat_le, OnOk, Result, Ok
 use Rattle.std.proofs.lemmas.Bool.Decides.{nat_tests}
 use Rattle.std.proofs.lemmas.List.{append_assoc, append-nil, length-append}
 use Rattle.bully_base.specs.Setup.{Setup}
-use Rattle.bully_rows.specs.declared.node_event.EventKind.{EventKind}
+use Rattle.bully_rows.specs.declared.kind.EventKind.{EventKind}
 use Rattle.bully_rows.specs.declared.trace.Row.{Row}
-use Rattle.bully_rows.specs.NodeEvents.{event_at}
+use Rattle.bully_rows.specs.Kinds.{event_at}
+use Rattle.bully_rows.proofs.KindLemmas.{kind-node}
 use Rattle.bully_trace.specs.declared.verdict.Verdict.{Verdict}
 use Rattle.bully_trace.specs.Judging.{HasJudged, JudgeState}
 use Rattle.bully_trace.specs.Verdict.{IsJudged}
@@ -339,13 +340,4 @@ filmed-on setup rows row number film judged after (Some opening) (Ok x) going lo
 
 -- a row of an event that names a node and no more names that node
 pub node-told : (kind : EventKind) (i : ℕ) → node_in (Row.Event (event_at kind i)) ≡ i
-node-told EventKind.Recover i = refl
-node-told EventKind.Crash i = refl
-node-told EventKind.Check i = refl
-node-told EventKind.Timeout i = refl
-node-told EventKind.Start i = refl
-node-told EventKind.Run i = refl
-node-told EventKind.Lose i = refl
-node-told EventKind.Return i = refl
-node-told EventKind.Drop i = refl
-node-told EventKind.Move i = refl
+node-told kind i = kind-node kind i

@@ -14,7 +14,7 @@ use Rattle.bully_trace.specs.Verdict.{IsJudged, IsVerdict}
 use Rattle.bully_world.specs.State.{world_of}
 use Rattle.bully_world.specs.World.{World, first_world}
 use Rattle.bully_film.specs.declared.film.Reel.{Reel}
-use Rattle.bully_rows.specs.declared.deed.Deed.{Deed}
+use Rattle.bully_rows.specs.declared.kind.Deed.{Deed}
 use Rattle.bully_film.specs.declared.scene.Opening.{Opening}
 use Rattle.bully_film.specs.declared.scene.Scene.{Scene}
 use Rattle.bully_film.specs.declared.scene.Sight.{Sight}

@@ -12,8 +12,8 @@ use Rattle.bully_world.specs.World.{Member, World, member, point, vector}
 use Rattle.bully_rows.specs.declared.trace.Row.{Row}
 use Rattle.bully_rows.specs.EventsTold.{event_of}
 use Rattle.bully_trace.specs.Details.{call_at, callee_or}
-use Rattle.bully_rows.specs.declared.deed.Deed.{Deed}
-use Rattle.bully_rows.specs.Deeds.{deed_of}
+use Rattle.bully_rows.specs.declared.kind.Deed.{Deed}
+use Rattle.bully_rows.specs.Kinds.{deed_of}
 use Rattle.bully_film.specs.declared.TheConstants.{OWNERS_SHOWN}
 use Rattle.bully_film.specs.declared.scene.Change.{Change}
 use Rattle.bully_film.specs.declared.scene.Opening.{Opening}

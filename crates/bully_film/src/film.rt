@@ -54,7 +54,7 @@ impl Film {
     ghost use Rattle.bully_trace.specs.Judging.{HasJudged};
     ghost use Rattle.bully_trace.specs.Verdict.{IsJudged};
     ghost use Rattle.bully_world.specs.World.{World as WorldOf, first_world};
-    ghost use Rattle.bully_rows.specs.NodeEvents.{event_at};
+    ghost use Rattle.bully_rows.specs.Kinds.{event_at};
     ghost use Rattle.bully_rows.specs.declared.trace.Row.{Row as RowState};
     ghost use Rattle.bully_world.specs.State.{world_of};
 

@@ -1,9 +1,9 @@
 //! What a row of a trace shows.
 ghost use Rattle.std.specs.Prelude.{◌≡◌, ◌≤◌, ℕ, true, [], IfOk, option_map, vec_capacity};
-ghost use Rattle.bully_rows.specs.Deeds.{deed_of};
+ghost use Rattle.bully_rows.specs.Kinds.{deed_of};
 ghost use Rattle.bully_calls.specs.Slot.{pending_in};
 ghost use Rattle.bully_handlers.specs.Vector.{is_normal};
-ghost use Rattle.bully_rows.specs.NodeEvents.{event_at};
+ghost use Rattle.bully_rows.specs.Kinds.{event_at};
 ghost use Rattle.bully_rows.specs.declared.trace.Row.{Row as RowState};
 ghost use Rattle.bully_trace.specs.Details.{call_at};
 ghost use Rattle.bully_film.specs.Scene.{IsOpening, cuts, deed_in, gets_table, is_halting, is_quiet, is_run, node_in, place_at, scene_of, sight, sights_of, slot_call, table_shown, unseen};
@@ -21,7 +21,7 @@ use bully_world::World;
 use std::alloc::Global;
 
 /// The call in a node's slot: how far it came, and whether its caller wasn't stopped since it was started.
-#[derive(Clone, Copy, Debug)]
+#[derive(Clone, Copy)]
 pub struct SlotCall {
     pub call: Call,
     pub phase: Phase,
@@ -29,7 +29,7 @@ pub struct SlotCall {
 }
 
 /// A node as the world shows it: its status, its coordinator, and the call in its slot.
-#[derive(Clone, Copy, Debug)]
+#[derive(Clone, Copy)]
 pub struct Sight {
     pub status: Status,
     pub coordinator: Option<Node>,
@@ -37,7 +37,7 @@ pub struct Sight {
 }
 
 /// A node before a row and behind it.
-#[derive(Clone, Copy, Debug)]
+#[derive(Clone, Copy)]
 pub struct Change {
     pub node: Node,
     pub before: Sight,
@@ -47,7 +47,7 @@ pub struct Change {
 /// What a row shows: its number, from 2; what its event is, none of a claim; the node that it names, and the one whose vector it may
 /// change, which is the callee of a Run; whether a procedure is cut off there; and the table that a node gets by it, if it does, where
 /// the table has at most [`OWNERS_SHOWN`] owners.
-#[derive(Drop, Debug)]
+#[derive(Drop)]
 pub struct Scene {
     pub number: u32,
     pub deed: Option<Deed>,
@@ -59,7 +59,7 @@ pub struct Scene {
 }
 
 /// What is seen of a row before it is taken.
-#[derive(Clone, Copy, Debug)]
+#[derive(Clone, Copy)]
 pub struct Opening {
     deed: Option<Deed>,
     own: Node,

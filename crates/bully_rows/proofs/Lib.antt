@@ -1,3 +1,4 @@
+pub mod KindLemmas
 pub mod FieldLemmas
 pub mod RowForms
 pub mod HeaderLemmas

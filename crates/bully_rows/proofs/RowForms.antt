@@ -10,7 +10,7 @@ use Rattle.bully_rows.specs.declared.trace.Row.{Row}
 use Rattle.bully_rows.specs.Headers.{Record, node_in, says_more}
 use Rattle.bully_rows.specs.Rows.{claim_in, plan_in, row_of, unanswered_row, whole_row}
 use Rattle.bully_rows.specs.Trace.{AreRowsFor, is_short}
-use Rattle.bully_rows.specs.Words.{event_named, plan_word}
+use Rattle.bully_rows.specs.Kinds.{event_named, plan_word}
 
 -- a row that is made of a value in a short form
 made-short : {A : Type 0} (make : A → Row) (o : Option A) (row : Row) → ((x : A) → is_short (make x) ≡ true) → option_map make o ≡ Some row → is_short row ≡ true

@@ -26,7 +26,8 @@ use Rattle.bully_rows.specs.declared.trace.Row.{Row}
 use Rattle.bully_rows.specs.Headers.{Record, node_in, nodes_max, says_more}
 use Rattle.bully_rows.specs.ReadBack.{AreOwners, IsClaimTold, IsDetailTold, IsEventTold, IsNamed, IsReply, IsRowTold, IsWholeTold}
 use Rattle.bully_rows.specs.Rows.{answered_in, call_in, claim_in, coordinator_in, detail_word, detailed, is_above, plan_in, row_of, set_from, set_in, task_in, unanswered_in, unanswered_row, whole_of, whole_row}
-use Rattle.bully_rows.specs.Words.{answer_word, call_named, event_named, event_word, first_named, outcome_named, plan_word, reply_named, status_named}
+use Rattle.bully_rows.specs.Kinds.{event_named, event_word, plain_events, plan_word}
+use Rattle.bully_rows.specs.Words.{answer_word, call_named, first_named, outcome_named, reply_named, status_named}
 use Rattle.bully_rows.proofs.HeaderLemmas.{told-within}
 
 -- ---- what stands behind a value that is there
@@ -138,11 +139,12 @@ set-told version text set e =
 
 -- ---- events
 
+-- each event that names a node and no more is within the limits where its node is
+plain-each : (version : Version) (setup : Setup) (i : ℕ) → IsNamed version i → Each (IsEventTold version setup) (plain_events i)
+plain-each version setup i node = grind (arith, node)
+
 event-told : (version : Version) (setup : Setup) (word : List ℕ) (i : ℕ) (e : Event) → IsNamed version i → event_named word i ≡ Some e → IsEventTold version setup e
-event-told version setup word i e node is =
-    named (IsEventTold version setup) event_word word
-    (Event.Recover i ∷ Event.Crash i ∷ Event.Check i ∷ Event.Timeout i ∷ Event.Start i ∷ Event.Run i ∷ Event.Lose i ∷ Event.Return i ∷ Event.Drop i ∷ Event.Move i ∷ []) e
-    (node, (node, (node, (node, (node, (node, (node, (node, (node, (node, tt)))))))))) is
+event-told version setup word i e node is = named (IsEventTold version setup) event_word word (plain_events i) e (plain-each version setup i node) is
 
 plan-told : (version : Version) (setup : Setup) (node owners : List ℕ) (row : Row) → plan_in version setup node owners ≡ Some row → IsRowTold version setup row
 plan-told version setup node owners row e =

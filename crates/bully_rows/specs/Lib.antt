@@ -7,5 +7,4 @@ pub mod Rows
 pub mod RecordsLeft
 pub mod TraceText
 pub mod ReadBack
-pub mod NodeEvents
-pub mod Deeds
+pub mod Kinds

@@ -19,7 +19,8 @@ use Rattle.bully_rows.specs.declared.trace.TraceFault.{TraceFault}
 use Rattle.bully_rows.specs.EventsTold.{event_told}
 use Rattle.bully_rows.specs.Headers.{Record, header_of, node_in, says_more}
 use Rattle.bully_rows.specs.Trace.{Trace, headed}
-use Rattle.bully_rows.specs.Words.{call_named, event_named, event_word, first_named, outcome_named, plan_word, reply_named, status_named}
+use Rattle.bully_rows.specs.Kinds.{event_named, event_word, plan_word}
+use Rattle.bully_rows.specs.Words.{call_named, first_named, outcome_named, reply_named, status_named}
 
 -- the number is above all members of the set
 abbrev pub is_above : ℕ → List ℕ → Bool

@@ -14,7 +14,8 @@ use Rattle.bully_rows.specs.declared.trace.Row.{Row}
 use Rattle.bully_rows.specs.declared.trace.TraceCause.{TraceCause}
 use Rattle.bully_rows.specs.EventsTold.{event_of}
 use Rattle.bully_rows.specs.Trace.{Trace}
-use Rattle.bully_rows.specs.Words.{answer_word, call_word, event_word, keeps_word, plan_word, status_word}
+use Rattle.bully_rows.specs.Kinds.{event_word, plan_word}
+use Rattle.bully_rows.specs.Words.{answer_word, call_word, keeps_word, status_word}
 
 -- the cause of a trace's fault as the program tells it
 abbrev pub trace_cause_text : TraceCause → List ℕ

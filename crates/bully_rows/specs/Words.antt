@@ -1,4 +1,4 @@
--- The words of a trace and of a verdict, each once: for reading and for writing.
+-- The words of a trace and of a verdict, each once: for reading and for writing. Those of events stand in Kinds.
 use Rattle.std.specs.Prelude.{ℕ, Bool, true, false, List, [], ◌∷◌, Option, Some, None, codes, if◌then◌else◌}
 use Rattle.std.specs.Str.{bytes_eq}
 use Rattle.bully_base.specs.declared.node.Status.{Status}
@@ -7,25 +7,8 @@ use Rattle.bully_calls.specs.declared.call.Answer.{Answer}
 use Rattle.bully_calls.specs.declared.call.Answer.TheVariants.{Done, Yes, No, Failed, Discarded}
 use Rattle.bully_calls.specs.declared.call.CallKind.{CallKind}
 use Rattle.bully_calls.specs.declared.call.CallKind.TheVariants.{AreYouUp, AreYouNormal, Halt, NewCoordinator, Ready}
-use Rattle.bully_events.specs.declared.event.Event.{Event}
 use Rattle.bully_events.specs.declared.event.Refused.{Refused}
 use Rattle.bully_events.specs.declared.event.Refused.TheVariants.{Full, BadNode, IsDown, IsUp, Busy, NoStep, SlotBusy, NoCall, CalleeDown, CalleeUp, BadTable, NotOrphan}
-
-abbrev pub plan_word : List ℕ
-plan_word = codes "plan"
-
-abbrev pub event_word : Event → List ℕ
-event_word (Event.Recover i) = codes "recover"
-event_word (Event.Crash i) = codes "crash"
-event_word (Event.Check i) = codes "check"
-event_word (Event.Timeout i) = codes "timeout"
-event_word (Event.Start i) = codes "start"
-event_word (Event.Run i) = codes "run"
-event_word (Event.Lose i) = codes "lose"
-event_word (Event.Return i) = codes "return"
-event_word (Event.Drop i) = codes "drop"
-event_word (Event.Move i) = codes "move"
-event_word (Event.Plan i table) = plan_word
 
 abbrev pub status_word : Status → List ℕ
 status_word Down = codes "down"
@@ -70,12 +53,6 @@ cause_word NotOrphan = codes "NotOrphan"
 abbrev pub first_named : {A : Type 0} → (A → List ℕ) → List ℕ → List A → Option A
 first_named word_of word [] = None
 first_named word_of word (x ∷ xs) = if bytes_eq word (word_of x) then Some x else first_named word_of word xs
-
--- the event of this word at node i, where it is one that names a node and no more
-abbrev pub event_named : List ℕ → ℕ → Option Event
-event_named word i =
-    first_named event_word word (Event.Recover i ∷ Event.Crash i ∷ Event.Check i ∷ Event.Timeout i ∷ Event.Start i
-    ∷ Event.Run i ∷ Event.Lose i ∷ Event.Return i ∷ Event.Drop i ∷ Event.Move i ∷ [])
 
 abbrev pub status_named : List ℕ → Option Status
 status_named word = first_named status_word word (Down ∷ Election ∷ Reorganization ∷ Normal ∷ [])

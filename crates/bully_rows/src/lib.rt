@@ -9,10 +9,9 @@ ghost use Rattle.std.specs.Prelude.{◌≡◌};
 ghost use Rattle.bully_rows.specs.declared.TheConstants.{ROWS_MAX, FIRST_NODES_MAX, FIRST_PARTITIONS_MAX};
 ghost use Rattle.bully_rows.specs.ReadBack.{ReadsBack, ReadsTold};
 
-mod deed;
 mod detail;
 mod header;
-mod node_event;
+mod kind;
 mod reading;
 mod row;
 mod row_reader;
@@ -22,10 +21,12 @@ mod trace;
 mod words;
 mod writing;
 
-pub use deed::Deed;
 pub use detail::{Detail, DetailedEvent};
 pub use header::{Header, Version, read_weights};
-pub use node_event::{EventKind, NodeEvent};
+pub use kind::{
+    CHECK, CRASH, DROP, Deed, EVERY_DEED, EventKind, LOSE, MOVE, NodeEvent, PLAN, RECOVER, RETURN,
+    RUN, START, TIMEOUT, kind_named,
+};
 pub use reading::read_trace;
 pub use row::{number_within, read_coordinator, read_node};
 pub use row_reader::{RowReader, no_header};
@@ -35,8 +36,7 @@ pub use text::{
 };
 pub use trace::{Claim, Row, Rows, Trace, TraceCause, TraceFault, WholeClaim};
 pub use words::{
-    CHECK, CRASH, DROP, LOSE, MOVE, PLAN, RECOVER, RETURN, RUN, SAW, START, TIMEOUT, answer_word,
-    call_named, call_word, cause_word, is_word, kind_named, outcome_named, reply_named,
+    SAW, answer_word, call_named, call_word, cause_word, is_word, outcome_named, reply_named,
     status_named, status_word,
 };
 pub use writing::{not_written, write_trace};

@@ -5,14 +5,14 @@ ghost use Rattle.bully_base.specs.Setup.{Setup as SetupState};
 ghost use Rattle.bully_table.specs.Numeral.{number_of};
 ghost use Rattle.bully_rows.specs.declared.trace.Row.{Row};
 ghost use Rattle.bully_rows.specs.Headers.{node_in, within};
-ghost use Rattle.bully_rows.specs.NodeEvents.{event_at};
+ghost use Rattle.bully_rows.specs.Kinds.{event_at};
 ghost use Rattle.bully_rows.specs.Rows.{claim_in, coordinator_in, row_of};
 
 use crate::header::Version;
-use crate::node_event::NodeEvent;
+use crate::kind::{NodeEvent, PLAN, kind_named};
 use crate::saying::{answered_row, unanswered_row, whole_row};
 use crate::trace::{Claim, Row};
-use crate::words::{PLAN, SAW, is_word, kind_named, status_named};
+use crate::words::{SAW, is_word, status_named};
 use bully_base::{Node, OutOfMemory, Setup};
 use bully_events::Event;
 use bully_table::{Table, TableFault, read_number};

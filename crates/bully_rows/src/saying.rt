@@ -4,11 +4,10 @@ ghost use Rattle.bully_rows.specs.Rows.{answered_in, answered_row, call_in, deta
 
 use crate::detail::{Detail, DetailedEvent};
 use crate::header::Version;
+use crate::kind::{DROP, LOSE, RETURN, RUN, START};
 use crate::row::{read_coordinator, read_node};
 use crate::trace::{Claim, Row, WholeClaim};
-use crate::words::{
-    DROP, LOSE, RETURN, RUN, START, call_named, is_word, outcome_named, reply_named,
-};
+use crate::words::{call_named, is_word, outcome_named, reply_named};
 use bully_base::{Node, NodeSet, OutOfMemory, Setup};
 use bully_calls::Call;
 use bully_table::{Pieces, Table, TableFault};

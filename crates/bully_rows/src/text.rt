@@ -10,10 +10,8 @@ ghost use Rattle.bully_rows.specs.TraceText.{call_fields, claim_fields, event_fi
 ghost use Rattle.bully_rows.specs.Whole.{whole_of};
 ghost use Rattle.bully_rows.specs.Words.{answer_word};
 
-use crate::words::{
-    CHECK, CRASH, DROP, LOSE, MOVE, PLAN, RECOVER, RETURN, RUN, START, TIMEOUT, answer_word,
-    call_word, keeps_word, status_word,
-};
+use crate::kind::{DROP, Deed, LOSE, PLAN, RETURN, RUN, START};
+use crate::words::{answer_word, call_word, keeps_word, status_word};
 use crate::{Claim, Detail, DetailedEvent, Row, Version, WholeClaim};
 use bully_base::{Node, NodeSet, OutOfMemory, Setup};
 use bully_calls::{Answer, Call};
@@ -115,17 +113,8 @@ pub fn push_event(text: &mut String, event: &Event) -> Result<(), OutOfMemory>
     ensures { OnOk result (string_bytes text.new ≡ string_bytes text.old ++ line_of (event_fields event.now)) }
 {
     match event {
-        Event::Recover(node) => push_named(text, RECOVER, *node),
-        Event::Crash(node) => push_named(text, CRASH, *node),
-        Event::Check(node) => push_named(text, CHECK, *node),
-        Event::Timeout(node) => push_named(text, TIMEOUT, *node),
-        Event::Start(node) => push_named(text, START, *node),
-        Event::Run(node) => push_named(text, RUN, *node),
-        Event::Lose(node) => push_named(text, LOSE, *node),
-        Event::Return(node) => push_named(text, RETURN, *node),
-        Event::Drop(node) => push_named(text, DROP, *node),
-        Event::Move(node) => push_named(text, MOVE, *node),
         Event::Plan(node, table) => push_plan(text, *node, table),
+        _ => push_named(text, Deed::of(event).word(), event.node()),
     }
 }
 

@@ -1,37 +1,11 @@
-//! The words of a trace and of a verdict, each once: for reading and for writing.
-ghost use Rattle.std.specs.Prelude.{◌≡◌, ℕ};
-ghost use Rattle.std.specs.Option.{option_map};
+//! The words of a trace and of a verdict, each once: for reading and for writing. Those of events stand in `kind`.
+ghost use Rattle.std.specs.Prelude.{◌≡◌};
 ghost use Rattle.std.specs.Str.{bytes_eq};
-ghost use Rattle.bully_rows.specs.NodeEvents.{event_at};
-ghost use Rattle.bully_rows.specs.Words.{answer_word, call_named, call_word, cause_word, event_named, keeps_named, keeps_word, outcome_named, reply_named, status_named, status_word};
+ghost use Rattle.bully_rows.specs.Words.{answer_word, call_named, call_word, cause_word, keeps_named, keeps_word, outcome_named, reply_named, status_named, status_word};
 
-use crate::node_event::EventKind;
 use bully_base::Status;
 use bully_calls::{Answer, CallKind};
 use bully_events::Refused;
-
-/// The words of the events.
-pub const RECOVER: &str = "recover";
-
-pub const CRASH: &str = "crash";
-
-pub const CHECK: &str = "check";
-
-pub const TIMEOUT: &str = "timeout";
-
-pub const START: &str = "start";
-
-pub const RUN: &str = "run";
-
-pub const LOSE: &str = "lose";
-
-pub const RETURN: &str = "return";
-
-pub const DROP: &str = "drop";
-
-pub const MOVE: &str = "move";
-
-pub const PLAN: &str = "plan";
 
 /// The word of a claim.
 pub const SAW: &str = "saw";
@@ -98,37 +72,6 @@ pub fn cause_word(cause: Refused) -> &'static str
         Refused::CalleeUp => "CalleeUp",
         Refused::BadTable => "BadTable",
         Refused::NotOrphan => "NotOrphan",
-    }
-}
-
-/// The kind of this word.
-// (the words that come most are tried first; inlined as `read_node_event` of `row` is)
-#[inline(always)]
-pub fn kind_named(word: &[u8]) -> Option<EventKind>
-    ensures { (i : ℕ) → event_named word.now i ≡ option_map (λ kind. event_at kind i) result }
-{
-    if is_word(word, START) {
-        Some(EventKind::Start)
-    } else if is_word(word, RUN) {
-        Some(EventKind::Run)
-    } else if is_word(word, RETURN) {
-        Some(EventKind::Return)
-    } else if is_word(word, CHECK) {
-        Some(EventKind::Check)
-    } else if is_word(word, TIMEOUT) {
-        Some(EventKind::Timeout)
-    } else if is_word(word, MOVE) {
-        Some(EventKind::Move)
-    } else if is_word(word, LOSE) {
-        Some(EventKind::Lose)
-    } else if is_word(word, DROP) {
-        Some(EventKind::Drop)
-    } else if is_word(word, CRASH) {
-        Some(EventKind::Crash)
-    } else if is_word(word, RECOVER) {
-        Some(EventKind::Recover)
-    } else {
-        None
     }
 }
 

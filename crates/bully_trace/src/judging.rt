@@ -3,7 +3,7 @@ ghost use Rattle.bully_base.specs.Setup.{Setup as SetupState};
 ghost use Rattle.bully_rows.specs.declared.trace.Row.{Row as RowState};
 ghost use Rattle.bully_trace.specs.declared.verdict.Verdict.{Verdict as VerdictState};
 ghost use Rattle.bully_trace.specs.Judging.{HasJudged, IsJudgedOn};
-ghost use Rattle.bully_rows.specs.NodeEvents.{event_at};
+ghost use Rattle.bully_rows.specs.Kinds.{event_at};
 ghost use Rattle.bully_trace.specs.Verdict.{IsJudged};
 ghost use Rattle.bully_world.specs.State.{world_of};
 ghost use Rattle.bully_world.specs.World.{World as WorldOf, first_world};
