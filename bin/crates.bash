@@ -1,5 +1,6 @@
-# What bin/bully and bin/library share: the crates of crates.txt, and how `rattle` is told of one. It is sourced, where `root` is the
-# top of the repository.
+# What bin/bully and bin/library share: the crates of crates.txt, and how those that one of them stands on are proved and built. It is
+# sourced, where `root` is the top of the repository, and `say` tells a line on standard error. A library is built into its folder
+# out/built, beside a sum of all that it is made of.
 
 # Of each crate the libraries that its line names, and those of this repository that it stands on, lowest first. In crates.txt a
 # crate's line stands behind those of the crates that it names.
@@ -20,20 +21,69 @@ read_crates() {
     done <"$root/crates.txt"
 }
 
+# Finds the folder of the kit, `kit`.
+find_kit() {
+    kit=$(rt doc 2>/dev/null) && kit=${kit%/*}
+}
+
+# Waits until nobody else builds or checks in the folders of these crates, and keeps others out, in the way that rt does it.
+locks=()
+
+lock_crates() {
+    local name lock
+    for name in $(printf '%s\n' "$@" | LC_ALL=C sort); do
+        exec {lock}<"$root/crates/$name" || return
+        locks+=("$lock")
+        flock -n "$lock" || { say "waits for another call, which builds or checks $name"; flock "$lock"; }
+    done
+}
+
+unlock_crates() {
+    local lock
+    for lock in "${locks[@]}"; do
+        exec {lock}<&-
+    done
+    locks=()
+}
+
+# The sum of what a crate itself is made of: its line in crates.txt, and the names and the contents of its files.
+sum_of() {
+    cd "$root/crates/$1" || return
+    {
+        grep -E "^$1( staticlib)?:" "$root/crates.txt"
+        find src specs proofs -type f -print0 2>/dev/null | LC_ALL=C sort -z | xargs -0 sha256sum
+    } | sha256sum | cut -d ' ' -f 1
+}
+
+# A line for the kit, and one with its sum for each of these crates.
+sums() {
+    local name
+    rt version 2>/dev/null
+    for name in "$@"; do
+        printf '%s %s\n' "$name" "$(sum_of "$name")"
+    done
+}
+
+# Where a library was built.
+library_of() {
+    printf '%s/crates/%s/out/%s/%s.rlib' "$root" "$1" "${built:-built}" "$1"
+}
+
 # The words by which `rattle` builds a crate with this root file over the libraries that were built: the array `words`. rt uses
 # the same words.
 find_words() {
-    local name=$1 file=$2 kit=$3 library
+    local name=$1 file=$2 library
     words=(--crate-name "$name" "$file" --extern "std=$kit/rlibs/std.rlib" -L "dependency=$kit/rlibs")
     for library in ${named[$name]}; do
         if [[ -d $root/crates/$library ]]; then
-            words+=(--extern "$library=$root/crates/$library/out/rlib/$library.rlib")
+            words+=(--extern "$library=$(library_of "$library")")
         else
             words+=(--extern "$library=$kit/rlibs/$library.rlib")
         fi
     done
     for library in ${below[$name]}; do
-        words+=(-L "dependency=$root/crates/$library/out/rlib")
+        library=$(library_of "$library")
+        words+=(-L "dependency=${library%/*}")
     done
     words+=(--antt-project "$kit/rattle/logic/antt-project.json" --logic-built "$kit/logic_built" --links "$name=" --toolchain "$kit/toolchain")
 }
@@ -51,4 +101,114 @@ all_jobs() {
     local jobs
     jobs=$(jobs_within_memory "$(nproc)")
     echo $((jobs < 1 ? 1 : jobs))
+}
+
+# Proves each library that this crate stands on and that isn't built of what it is made of now, each as soon as those below it are,
+# and then what the command behind it proves and builds. The files of the folder `room` tell what was said.
+prove_below() {
+    # (of each crate: empty while no proof was begun, `begun` or `proved`; and how many were proved, are to be, and were begun)
+    local -A state=() made_of=()
+    local proved=0 all=0 begun=0 libraries
+    read -ra libraries <<<"${below[$1]}"
+    find_states
+    tell_plan "$1"
+    SECONDS=0
+    begin_all
+    while [[ $begun -gt 0 ]]; do
+        wait -n || { say 'a proof was ended from outside'; return 1; }
+        gather || return
+        begin_all
+    done
+}
+
+# Finds which libraries are built of what they are made of now: the kit, themselves, and all below them.
+find_states() {
+    local name lower sum text
+    local -A own=()
+    text=$(sums "${libraries[@]}")
+    while read -r name sum; do
+        own[$name]=$sum
+    done <<<"$text"
+    for name in "${libraries[@]}"; do
+        made_of[$name]=${text%%$'\n'*}
+        for lower in ${below[$name]} "$name"; do
+            made_of[$name]+=$'\n'"$lower ${own[$lower]}"
+        done
+        state[$name]=
+        [[ ! -e $(library_of "$name") || ${made_of[$name]} != "$(cat "$root/crates/$name/out/built/made_of" 2>/dev/null)" ]] || state[$name]=proved
+    done
+}
+
+# Tells how many crates are to be proved, and how long that takes: for each 40 s from nothing, as it is on four cores, and 10 s
+# over the work that an earlier build kept.
+tell_plan() {
+    local name seconds=0 new=0
+    for name in "${libraries[@]}" "$1"; do
+        [[ ${state[$name]-} == proved ]] && continue
+        all=$((all + 1))
+        if [[ -d $root/crates/$name/out/incremental ]]; then
+            seconds=$((seconds + 10))
+        else
+            seconds=$((seconds + 40)) new=$((new + 1))
+        fi
+    done
+    say "proves and builds $1: $all of $((${#libraries[@]} + 1)) crates, $new of them from nothing; on four cores about $(((seconds + 59) / 60)) min"
+}
+
+# Whether no proof of the library was begun, and all that it stands on is proved.
+is_ready() {
+    local lower
+    [[ -z ${state[$1]} ]] || return
+    for lower in ${below[$1]}; do
+        [[ ${state[$lower]} == proved ]] || return
+    done
+}
+
+# Begins each proof that nothing keeps waiting, as long as there are cores, by two processes each: more do much of the work twice.
+# One that is alone has all cores.
+begin_all() {
+    local name jobs=2 wanted waiting=()
+    for name in "${libraries[@]}"; do
+        ! is_ready "$name" || waiting+=("$name")
+    done
+    [[ $((begun + ${#waiting[@]})) != 1 ]] || jobs=$(nproc)
+    for name in "${waiting[@]}"; do
+        [[ $begun -lt $(nproc) ]] || return 0
+        wanted=$(jobs_within_memory "$jobs")
+        [[ $wanted -ge 1 || $begun == 0 ]] || return 0
+        state[$name]=begun begun=$((begun + 1))
+        prove_library "$name" $((wanted < 1 ? 1 : wanted)) &
+    done
+}
+
+# Proves a library by so many processes, and builds it. `room` has what was said, and how that ended.
+prove_library() {
+    local words out=$root/crates/$1/out
+    find_words "$1" src/lib.rt
+    mkdir -p "$out/built" && rm -f "$out/built/made_of"
+    if cd "$root/crates/$1" && "$kit/bin/rattle" build "${words[@]}" --jobs "$2" --incremental out/incremental -o "out/built/$1.rlib"; then
+        printf '%s\n' "${made_of[$1]}" >"$out/built/made_of"
+    fi &>"$room/$1.said" </dev/null
+    touch "$room/$1.ended"
+}
+
+# Takes in the proofs that ended.
+gather() {
+    local name
+    for name in "${libraries[@]}"; do
+        [[ ${state[$name]} == begun && -e $room/$name.ended ]] || continue
+        if [[ ! -e $root/crates/$name/out/built/made_of ]]; then
+            cat "$room/$name.said" >&2
+            say "$name was not built"
+            return 1
+        fi
+        state[$name]=proved begun=$((begun - 1))
+        tell_proved "$name"
+    done
+}
+
+# Tells that one more crate is proved, with the minutes so far.
+tell_proved() {
+    proved=$((proved + 1))
+    say "$proved of $all crates proved after $((SECONDS / 60)).$((SECONDS % 60 / 6)) min: $1"
 }
