@@ -106,11 +106,13 @@ all_jobs() {
 # Proves each library that this crate stands on and that isn't built of what it is made of now, each as soon as those below it are,
 # and then what the command behind it proves and builds. The files of the folder `room` tell what was said.
 prove_below() {
-    # (of each crate: empty while no proof was begun, `begun` or `proved`; and how many were proved, are to be, and were begun)
-    local -A state=() made_of=()
+    # (of each crate: empty while no proof was begun, `begun` or `proved`; what it is made of; and the lines of its chain. And how many were
+    # proved, are to be, and were begun)
+    local -A state=() made_of=() chain=()
     local proved=0 all=0 begun=0 libraries
     read -ra libraries <<<"${below[$1]}"
     find_states
+    find_chains "$1"
     tell_plan "$1"
     SECONDS=0
     begin_all
@@ -164,26 +166,73 @@ is_ready() {
     done
 }
 
-# Begins each proof that nothing keeps waiting, as long as there are cores, by two processes each: more do much of the work twice.
-# One that is alone has all cores.
-begin_all() {
-    local name jobs=2 wanted waiting=()
-    for name in "${libraries[@]}"; do
-        ! is_ready "$name" || waiting+=("$name")
-    done
-    [[ $((begun + ${#waiting[@]})) != 1 ]] || jobs=$(nproc)
-    for name in "${waiting[@]}"; do
-        [[ $begun -lt $(nproc) ]] || return 0
-        wanted=$(jobs_within_memory "$jobs")
-        [[ $wanted -ge 1 || $begun == 0 ]] || return 0
-        state[$name]=begun begun=$((begun + 1))
-        prove_library "$name" $((wanted < 1 ? 1 : wanted)) &
+# Of each crate how many lines stand in the longest chain of crates from it on up to the one that is to be built.
+find_chains() {
+    local name lower lines place all=("${libraries[@]}" "$1")
+    for ((place = ${#all[@]} - 1; place >= 0; place--)); do
+        name=${all[place]}
+        lines=$(find "$root/crates/$name"/{src,specs,proofs} -type f -exec cat {} + 2>/dev/null | wc -l)
+        chain[$name]=$((${chain[$name]-0} + lines))
+        for lower in ${below[$name]}; do
+            [[ ${chain[$lower]-0} -gt ${chain[$name]} ]] || chain[$lower]=${chain[$name]}
+        done
     done
 }
 
-# Proves a library by so many processes, and builds it. `room` has what was said, and how that ended.
+# Those libraries whose proof nothing keeps waiting, that of the longest chain first.
+waiting_libraries() {
+    local name
+    for name in "${libraries[@]}"; do
+        ! is_ready "$name" || printf '%s %s\n' "${chain[$name]}" "$name"
+    done | sort -rn | cut -d ' ' -f 2
+}
+
+# Whether a proof that was begun is of a longer chain than that of this library.
+is_behind() {
+    local name
+    for name in "${libraries[@]}"; do
+        [[ ${state[$name]} != begun || ${chain[$name]} -le ${chain[$1]} ]] || return 0
+    done
+    return 1
+}
+
+# How many processes prove a library, where so many proofs are under way or could be: two prove sooner than one, but with a fifth more
+# work. So that of the longest chain has three, the others one where there are enough to keep all cores busy, and one alone all cores.
+jobs_for() {
+    if [[ $2 == 1 ]]; then
+        nproc
+    elif ! is_behind "$1"; then
+        echo 3
+    else
+        echo $(($2 > $(nproc) ? 1 : 2))
+    fi
+}
+
+# Begins each proof that nothing keeps waiting, as long as there are cores, and one more.
+begin_all() {
+    local name waiting wanted count
+    mapfile -t waiting < <(waiting_libraries)
+    count=$((begun + ${#waiting[@]}))
+    for name in "${waiting[@]}"; do
+        [[ $begun -le $(nproc) ]] || return 0
+        wanted=$(jobs_within_memory "$(jobs_for "$name" "$count")")
+        [[ $wanted -ge 1 || $begun == 0 ]] || return 0
+        begin_proof "$name" $((wanted < 1 ? 1 : wanted))
+    done
+}
+
+# Begins the proof of a library by so many processes. The longest chain comes first where there are more of them than cores.
+begin_proof() {
+    local less=0
+    ! is_behind "$1" || less=10
+    state[$1]=begun begun=$((begun + 1))
+    prove_library "$1" "$2" "$less" &
+}
+
+# Proves a library by so many processes, which are so much nicer, and builds it. `room` has what was said, and how that ended.
 prove_library() {
     local words out=$root/crates/$1/out
+    renice -n "$3" "$BASHPID" >/dev/null
     find_words "$1" src/lib.rt
     mkdir -p "$out/built" && rm -f "$out/built/made_of"
     if cd "$root/crates/$1" && "$kit/bin/rattle" build "${words[@]}" --jobs "$2" --incremental out/incremental -o "out/built/$1.rlib"; then

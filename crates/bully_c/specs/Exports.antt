@@ -19,7 +19,7 @@ use Rattle.bully_table.specs.Planning.{planned}
 use Rattle.bully_events.specs.declared.event.Event.{Event}
 use Rattle.bully_events.specs.declared.event.Refused.{Refused}
 use Rattle.bully_c.specs.Arguments.{AreGiven, IsCopied, IsSetupRefusal, RefusesGiven, RefusesOwners, table_given}
-use Rattle.bully_c.specs.Held.{Serves, call_in, Takes, TakesFailure, TakesReply, TellsEvent}
+use Rattle.bully_c.specs.Held.{ServesRequest, call_in, Takes, TakesFailure, TakesReply, TellsEvent}
 use Rattle.bully_c.specs.Numbers.{answer_number, kind_number, reply_number, request_number, status_number, step_number, want_number}
 use Rattle.bully_c.specs.declared.status.TheConstants.{BAD_NODE, CLOSED, LINE_WORD, OK, OPEN, OUT_OF_MEMORY, SHORT, TABLE_LENGTH}
 use Rattle.bully_c.specs.declared.held.Held.{Held}
@@ -79,7 +79,7 @@ abbrev pub IsServe : List ℕ → List ℕ → ℕ → List ℕ → ℕ → Held
 IsServe line before count_before after_reply count held status after =
     (NothingServed line (length before) count_before held status count × (after ≡ held) × (after_reply ≡ before))
     ⊎ ((request : Request) × IsRequestLine held.agent.setup line request × (length (answer_line held request) ≤ length before)
-    × (said : Result Reply Refused) × (status ≡ step_number said) × Serves request held said after × IsReplyCopied said before count_before after_reply count)
+    × (said : Result Reply Refused) × (status ≡ step_number said) × ServesRequest request held said after × IsReplyCopied said before count_before after_reply count)
 
 -- what a call brought, in the place of what was there
 abbrev pub told_answer : ℕ → Result Answer Refused → ℕ

@@ -60,11 +60,11 @@ abbrev pub TellsDrop : AgentState → AgentState → Told → Type 0
 TellsDrop old new told = told ≡ detail_told old.node (option_map Detail.Drop (call_in old.member.slot))
 
 -- a request runs at the agent, and its run is told with the answer, or it is refused
-abbrev pub Serves : Request → Held → Result Reply Refused → Held → Type 0
-Serves request old (Ok reply) new =
+abbrev pub ServesRequest : Request → Held → Result Reply Refused → Held → Type 0
+ServesRequest request old (Ok reply) new =
     IsServed old.agent request new.agent (record { event = Event.Run request.caller; reply = reply }) × TellsRun old.agent request reply × IsReplyTo request reply
     × (new.told ≡ Told.Call (record { node = request.caller; detail = Detail.Run request.call reply.answer }))
-Serves request old (Err why) new =
+ServesRequest request old (Err why) new =
     IsRefused (IsRequested old.agent.node request) old.agent (Event.Run request.caller) why
     × RefusesRequest old.agent.setup old.agent.node old.agent.events old.agent.member request why × (new ≡ old)
 

@@ -3,7 +3,7 @@ ghost use Rattle.std.specs.Prelude.{◌≡◌, ◌++◌, ◌∷◌, [], OnOk, st
 ghost use Rattle.bully_rows.specs.TraceText.{rows_text};
 ghost use Rattle.bully_rows.specs.declared.trace.Row.{Row as RowState};
 ghost use Rattle.bully_events.specs.declared.event.Event.{Event as EventState};
-ghost use Rattle.bully_c.specs.Held.{Serves, Takes, TakesFailure, TakesReply, TellsDrop, TellsEvent, TellsStart, detail_told, failure_told, rows_told};
+ghost use Rattle.bully_c.specs.Held.{ServesRequest, Takes, TakesFailure, TakesReply, TellsDrop, TellsEvent, TellsStart, detail_told, failure_told, rows_told};
 ghost use Rattle.bully_c.specs.declared.held.Told.{Told as ToldState};
 
 use bully_base::{Node, OutOfMemory};
@@ -121,7 +121,7 @@ impl Held {
 
     /// [`Agent::serve`].
     pub fn serve(&mut self, request: &Request) -> Result<Reply, Refused>
-        ensures { Serves request.now self.old result self.new }
+        ensures { ServesRequest request.now self.old result self.new }
     {
         let served = self.agent.serve(request)?;
         let reply = served.reply;

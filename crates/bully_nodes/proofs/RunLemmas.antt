@@ -18,7 +18,7 @@ use Rattle.bully_group.specs.Seat.{SeatState, AreNewSeats}
 use Rattle.bully_group.specs.NodeTurns.{TurnsBy, adds_entry}
 use Rattle.bully_group.specs.Turns.{IsTurnFault}
 use Rattle.bully_play.specs.Play.{IsDue, IsPlay, event_of_fault}
-use Rattle.bully_nodes.specs.Run.{Held, Logs, AppliesAt, PreparesAt, ServesAt, ProceedsAt, HasDueLog, IsKept, IsRoleOf, procedure_of, IsActorsTurn, ActorsTurns}
+use Rattle.bully_nodes.specs.Run.{Held, Logs, AppliesAt, PreparesAt, ServesAt, ProceedsAt, HasDueLog, IsGivenBack, IsRoleOf, procedure_of, IsActorsTurn, ActorsTurns}
 use Rattle.bully_nodes.specs.declared.jobs.Role.{Role}
 use Rattle.bully_play.specs.Schedule.{AreLeft}
 use Rattle.bully_play.specs.Turns.{GoesOn, Follows, IsTurnOn, OperatesOn}
@@ -119,61 +119,61 @@ node_turned result IsState c period number role p h' before after at is same doe
 
 module _ (IsState : LockedState → Type 0) (faults : List Fault) (actor : ℕ) where
   -- an entry that is due is kept, and so is a seat as it was
-  logs_keep : (e : Event) (before after : Held) → IsDue faults e → Logs IsState e before after → IsKept faults actor before → IsKept faults actor after
+  logs_keep : (e : Event) (before after : Held) → IsDue faults e → Logs IsState e before after → IsGivenBack faults actor before → IsGivenBack faults actor after
   logs_keep e before after due logs kept = record {
     actor = logs.records.actor ∙ kept.actor;
     due = rw logs.records.log (All-push (λ (told : ℕ × Entry). IsDue faults told.1.event) before.seat.log _ kept.due due);
     counted = logs.counted ∙ (ap (λ (k : ℕ). k + 1) kept.counted ∙ sym (ap length logs.records.log ∙ length-append before.seat.log _));
   }
 
-  applies_keep : (e : Event) (before after : Held) → IsDue faults e → AppliesAt IsState e before after → IsKept faults actor before → IsKept faults actor after
+  applies_keep : (e : Event) (before after : Held) → IsDue faults e → AppliesAt IsState e before after → IsGivenBack faults actor before → IsGivenBack faults actor after
   applies_keep e before after due (inl logs) kept = logs_keep e before after due logs kept
   applies_keep e before after due (inr same) kept = rw same.0 kept
 
-  serves_keep : (node : ℕ) (served : Bool) (before after : Held) → ServesAt IsState before node served after → IsKept faults actor before → IsKept faults actor after
+  serves_keep : (node : ℕ) (served : Bool) (before after : Held) → ServesAt IsState before node served after → IsGivenBack faults actor before → IsGivenBack faults actor after
   serves_keep node true before after (inl ran) kept = logs_keep (Event.Run ran.0) before after tt ran.1 kept
   serves_keep node true before after (inr same) kept = rw same.0 kept
   serves_keep node false before after same kept = rw same.0 kept
 
-  proceeds_keep : (before : Held) (h : ProcedureState) (after : Held) (h' : ProcedureState) → ProceedsAt IsState before h after h' → IsKept faults actor before → IsKept faults actor after
+  proceeds_keep : (before : Held) (h : ProcedureState) (after : Held) (h' : ProcedureState) → ProceedsAt IsState before h after h' → IsGivenBack faults actor before → IsGivenBack faults actor after
   proceeds_keep before h after h' (inl taken) kept = logs_keep (event_of taken.0 h) before after (step_due faults taken.0 h) taken.1 kept
   proceeds_keep before h after h' (inr same) kept = rw same.0 kept
 
-  goes_on_keeps : (choice : Choice) (before : Held) (h : ProcedureState) (after : Held) (h' : ProcedureState) → GoesOn (AppliesAt IsState) (ProceedsAt IsState) choice before h after h' → IsKept faults actor before → IsKept faults actor after
+  goes_on_keeps : (choice : Choice) (before : Held) (h : ProcedureState) (after : Held) (h' : ProcedureState) → GoesOn (AppliesAt IsState) (ProceedsAt IsState) choice before h after h' → IsGivenBack faults actor before → IsGivenBack faults actor after
   goes_on_keeps Choice.Check before h after h' does kept = applies_keep (Event.Check h.node) before after tt does.0 kept
   goes_on_keeps Choice.Timeout before h after h' does kept = applies_keep (Event.Timeout h.node) before after tt does.0 kept
   goes_on_keeps Choice.Proceed before h after h' does kept = proceeds_keep before h after h' does kept
 
-  follows_keeps : (served : Bool) (period number : ℕ) (before : Held) (h : ProcedureState) (after : Held) (h' : ProcedureState) → Follows (AppliesAt IsState) (ProceedsAt IsState) served period number before h after h' → IsKept faults actor before → IsKept faults actor after
-  follows_keeps true period number before h after h' does kept = subst (λ (s : Held). IsKept faults actor s) (sym does.0) kept
+  follows_keeps : (served : Bool) (period number : ℕ) (before : Held) (h : ProcedureState) (after : Held) (h' : ProcedureState) → Follows (AppliesAt IsState) (ProceedsAt IsState) served period number before h after h' → IsGivenBack faults actor before → IsGivenBack faults actor after
+  follows_keeps true period number before h after h' does kept = subst (λ (s : Held). IsGivenBack faults actor s) (sym does.0) kept
   follows_keeps false period number before h after h' does kept = goes_on_keeps (chosen_every period number h.point) before h after h' does kept
 
   -- a node's turn
   turn_keeps : (period number : ℕ) (before : Held) (h : ProcedureState) (after : Held) (h' : ProcedureState)
       → IsTurnOn (AppliesAt IsState) (PreparesAt IsState) (ServesAt IsState) (ProceedsAt IsState) period number before h after h'
-      → IsKept faults actor before → IsKept faults actor after
+      → IsGivenBack faults actor before → IsGivenBack faults actor after
   turn_keeps period number before h after h' does kept =
       follows_keeps does.1 period number does.2 does.0 after h' does.5 (serves_keep h.node does.1 before does.2 does.4 kept)
 
-  operates_keep : (number place : ℕ) (rest : List Fault) (before after : Held) → drop place faults ≡ rest → OperatesOn (AppliesAt IsState) number rest before after → IsKept faults actor before → IsKept faults actor after
-  operates_keep number place [] before after is does kept = subst (λ (s : Held). IsKept faults actor s) (sym does) kept
+  operates_keep : (number place : ℕ) (rest : List Fault) (before after : Held) → drop place faults ≡ rest → OperatesOn (AppliesAt IsState) number rest before after → IsGivenBack faults actor before → IsGivenBack faults actor after
+  operates_keep number place [] before after is does kept = subst (λ (s : Held). IsGivenBack faults actor s) (sym does) kept
   operates_keep number place (fault ∷ rest) before after is does kept =
       by_turn (fault.at == number) does (faults_due faults place fault rest is) (λ mid later was. operates_keep number (place + 1) rest mid after (later_place faults place fault rest is) later was)
     where
       by_turn : (b : Bool) → MatchBool b ((mid : Held) × AppliesAt IsState (event_of_fault fault) before mid × OperatesOn (AppliesAt IsState) number rest mid after) (OperatesOn (AppliesAt IsState) number rest before after) → IsDue faults (event_of_fault fault)
-          → ((mid : Held) → OperatesOn (AppliesAt IsState) number rest mid after → IsKept faults actor mid → IsKept faults actor after) → IsKept faults actor after
+          → ((mid : Held) → OperatesOn (AppliesAt IsState) number rest mid after → IsGivenBack faults actor mid → IsGivenBack faults actor after) → IsGivenBack faults actor after
       by_turn true now due later = later now.0 now.2 (applies_keep (event_of_fault fault) before now.0 due now.1 kept)
       by_turn false now due later = later before now kept
 
 -- an actor's turn, and all of them
-actors_turn_keeps : (IsState : LockedState → Type 0) (c : Configuration) (i number : ℕ) (before : Held) (h : Option ProcedureState) (after : Held) (h' : Option ProcedureState) → IsActorsTurn IsState c number before h after h' → IsKept c.faults i before → IsKept c.faults i after
+actors_turn_keeps : (IsState : LockedState → Type 0) (c : Configuration) (i number : ℕ) (before : Held) (h : Option ProcedureState) (after : Held) (h' : Option ProcedureState) → IsActorsTurn IsState c number before h after h' → IsGivenBack c.faults i before → IsGivenBack c.faults i after
 actors_turn_keeps IsState c i number before None after None does kept = operates_keep IsState c.faults i number 0 c.faults before after refl does kept
 actors_turn_keeps IsState c i number before (Some h) after (Some h') does kept = turn_keeps IsState c.faults i c.period number before h after h' does kept
 actors_turn_keeps IsState c i number before None after (Some h') does kept = elim does [ ]
 actors_turn_keeps IsState c i number before (Some h) after None does kept = elim does [ ]
 
-pub actors_turns_keep : (IsState : LockedState → Type 0) (c : Configuration) (i turns number : ℕ) (before : Held) (h : Option ProcedureState) (after : Held) (h' : Option ProcedureState) → ActorsTurns IsState c turns number before h after h' → IsKept c.faults i before → IsKept c.faults i after
-actors_turns_keep IsState c i zero number before h after h' does kept = subst (λ (s : Held). IsKept c.faults i s) (sym does.0) kept
+pub actors_turns_keep : (IsState : LockedState → Type 0) (c : Configuration) (i turns number : ℕ) (before : Held) (h : Option ProcedureState) (after : Held) (h' : Option ProcedureState) → ActorsTurns IsState c turns number before h after h' → IsGivenBack c.faults i before → IsGivenBack c.faults i after
+actors_turns_keep IsState c i zero number before h after h' does kept = subst (λ (s : Held). IsGivenBack c.faults i s) (sym does.0) kept
 actors_turns_keep IsState c i (suc turns) number before h after h' does kept =
     actors_turns_keep IsState c i turns (number + 1) does.0 does.1 after h' does.3 (actors_turn_keeps IsState c i number before h does.0 does.1 does.2 kept)
 

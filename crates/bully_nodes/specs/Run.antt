@@ -116,7 +116,7 @@ abbrev pub HasDueLog : List Fault → SeatState → Type 0
 HasDueLog faults seat = All (λ (told : ℕ × Entry). IsDue faults told.1.event) seat.log
 
 -- what the thread of actor i gives back: its own seat, and a pass that counts its log
-pub record IsKept (faults : List Fault) (i : ℕ) (h : Held) : Type 0 where
+pub record IsGivenBack (faults : List Fault) (i : ℕ) (h : Held) : Type 0 where
   pub actor : h.seat.actor ≡ i
   pub due : HasDueLog faults h.seat
   pub counted : h.counted ≡ length h.seat.log

@@ -1,6 +1,6 @@
 ghost use Rattle.std.specs.Prelude.{◌≡◌, ◌+◌, ◌≤◌, [], ℕ, Option, All, IfOk, OnOk};
 ghost use Rattle.bully_group.specs.Locked.{IsLocked};
-ghost use Rattle.bully_nodes.specs.Run.{IsKept, HasDueLog, IsRoleOf, procedure_of, first_of, IsActorsTurn, ActorsTurns};
+ghost use Rattle.bully_nodes.specs.Run.{IsGivenBack, HasDueLog, IsRoleOf, procedure_of, first_of, IsActorsTurn, ActorsTurns};
 ghost use Rattle.bully_steps.specs.ProcedureState.{ProcedureState};
 
 use crate::post::Post;
@@ -28,9 +28,9 @@ pub(crate) struct SeatOf(pub u16);
 
 impl<L: Scheduled> Promise<Result<Job<L>, OutOfMemory>> for SeatOf {
     ghost use Rattle.std.specs.Prelude.{IfOk};
-    ghost use Rattle.bully_nodes.specs.Run.{IsKept};
+    ghost use Rattle.bully_nodes.specs.Run.{IsGivenBack};
 
-    ghost kept_by = { λ p r. IfOk r (λ job. IsKept L.faults p.0 (record { seat = job.seat; counted = job.pass })) };
+    ghost kept_by = { λ p r. IfOk r (λ job. IsGivenBack L.faults p.0 (record { seat = job.seat; counted = job.pass })) };
 }
 
 /// What an actor's turns go on from: the operator's from the faults that are left, a node's from its procedure.
@@ -102,7 +102,7 @@ pub(crate) fn do_job<L: Scheduled, R: Wait, G: Gate>(
     requires faults { config.now.faults ≡ L.faults }
     requires new { (job.seat.actor ≤ L.setup.nodes) × (job.seat.log ≡ []) × (job.pass ≡ 0) }
     ensures turns { IfOk result (λ back. (last : Option ProcedureState) × ActorsTurns (IsLocked L.setup L.publisher L.parts) config.now config.now.turns 1 (record { seat = job.seat; counted = job.pass }) (first_of config.now.setup job.seat.actor) (record { seat = back.seat; counted = back.pass }) last) }
-    ensures kept { IfOk result (λ back. IsKept L.faults job.seat.actor (record { seat = back.seat; counted = back.pass })) }
+    ensures kept { IfOk result (λ back. IsGivenBack L.faults job.seat.actor (record { seat = back.seat; counted = back.pass })) }
 {
     let Job { seat, pass } = job;
     let mut post = Post {
@@ -137,7 +137,7 @@ fn take_turns<'a, L: Scheduled, R: Wait, G: Gate>(
     requires faults { config.now.faults ≡ L.faults }
     requires within { post.old.seat.actor ≤ config.now.setup.nodes }
     ensures turns { OnOk result ((last : Option ProcedureState) × ActorsTurns (IsLocked L.setup L.publisher L.parts) config.now config.now.turns 1 (record { seat = post.old.seat; counted = post.old.pass }) (first_of config.now.setup post.old.seat.actor) (record { seat = post.new.seat; counted = post.new.pass }) last) }
-    ensures kept { OnOk result ((actor : ℕ) → IsKept L.faults actor (record { seat = post.old.seat; counted = post.old.pass }) → IsKept L.faults actor (record { seat = post.new.seat; counted = post.new.pass })) }
+    ensures kept { OnOk result ((actor : ℕ) → IsGivenBack L.faults actor (record { seat = post.old.seat; counted = post.old.pass }) → IsGivenBack L.faults actor (record { seat = post.new.seat; counted = post.new.pass })) }
 {
     let actor = post.seat.actor();
     let mut role = first_role(post.alloc, config, actor)?;

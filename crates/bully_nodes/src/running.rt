@@ -1,7 +1,7 @@
 ghost use Rattle.std.specs.Prelude.{◌≡◌, ◌+◌, ◌≤◌, [], None, All, map, IfOk, IfErr};
 ghost use Rattle.bully_group.specs.Seat.{AreNewSeats};
 ghost use Rattle.bully_play.specs.Play.{IsPlay};
-ghost use Rattle.bully_nodes.specs.Run.{IsKept, HasDueLog, IsNodesFault, fault_of_finish};
+ghost use Rattle.bully_nodes.specs.Run.{IsGivenBack, HasDueLog, IsNodesFault, fault_of_finish};
 ghost use Rattle.bully_watch.specs.History.{event_of};
 
 use crate::jobs::{Job, SeatOf, do_job, pair_jobs, split_jobs};
@@ -173,7 +173,7 @@ fn in_threads<L: Scheduled + Send + Sync, R: Threads + Wait + Sync, G: Gate>(
                     requires setup { config.now.setup ≡ L.setup }
                     requires faults { config.now.faults ≡ L.faults }
                     requires new { (job.seat.actor ≤ L.setup.nodes) × (job.seat.log ≡ []) × (job.pass ≡ 0) }
-                    ensures { IfOk result (λ back. IsKept L.faults job.seat.actor (record { seat = back.seat; counted = back.pass })) }
+                    ensures { IfOk result (λ back. IsGivenBack L.faults job.seat.actor (record { seat = back.seat; counted = back.pass })) }
                 { do_job(rt, alloc, group, config, gate, job) };
                 let Ok(handle) = scope.spawn_with(SeatOf(actor), thread) else {
                     return Err(NodesFault::Spawn);

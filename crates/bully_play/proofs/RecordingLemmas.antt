@@ -11,8 +11,8 @@ use Rattle.bully_config.specs.Configuration.{Configuration}
 use Rattle.bully_config.specs.declared.config.Fault.{Fault}
 use Rattle.bully_config.specs.declared.config.FaultKind.{FaultKind}
 use Rattle.bully_play.specs.Play.{HasFault, IsDue, IsPlay, event_of_kind, event_of_fault, trace_setup, trace_with}
-use Rattle.bully_play.specs.Recording.{RecordingState, IsRecorded, Records, Applies, Steps, Continues}
-use Rattle.bully_play.specs.Turns.{Serves, Proceeds, ProceedsIn, GoesOn, Follows, IsTurn, Operates, Rounds, IsScheduled, first_recording, idle_first}
+use Rattle.bully_play.specs.Recording.{RecordingState, IsRecorded, AddsRow, Applies, Steps, Continues}
+use Rattle.bully_play.specs.Turns.{RunsLowest, GoesBy, ProceedsIn, GoesOn, Follows, IsTurn, Operates, Rounds, IsScheduled, first_recording, idle_first}
 use Rattle.bully_play.proofs.LawfulLemmas.{lawful-bound}
 use Rattle.bully_play.proofs.OperatorLemmas.{at_place}
 use Rattle.bully_steps.specs.declared.driver.Choice.{Choice}
@@ -33,7 +33,7 @@ use Rattle.bully_world.proofs.TurnSteps.{turn_own}
 use Rattle.bully_world.proofs.TurnTaken.{no_turn_raises}
 
 -- an event more
-pub recorded_more : (c : Configuration) (e : Event) (before after : RecordingState) → Records e before after → IsDue c.faults e → IsRecorded c before → IsRecorded c after
+pub recorded_more : (c : Configuration) (e : Event) (before after : RecordingState) → AddsRow e before after → IsDue c.faults e → IsRecorded c before → IsRecorded c after
 recorded_more c e before after r due is =
     let room : length is.events < c.setup.events_max = grind (arith, is.counted, is.setup, r.counted, r.bounded, r.setup) in
     record {
@@ -50,14 +50,14 @@ recorded_more c e before after r due is =
 pub applied_recorded : (c : Configuration) (e : Event) (before after : RecordingState) → Applies e before after → IsDue c.faults e → IsRecorded c before → IsRecorded c after
 applied_recorded c e before after does due is = by_cause (cause_in before.world e) does
   where
-    by_cause : (q : Option Refused) → MatchOption q (Records e before after) (λ why. after ≡ before) → IsRecorded c after
+    by_cause : (q : Option Refused) → MatchOption q (AddsRow e before after) (λ why. after ≡ before) → IsRecorded c after
     by_cause None r = recorded_more c e before after r due is
     by_cause (Some why) same = rw same is
 
 pub applied_setup : (e : Event) (before after : RecordingState) → Applies e before after → after.world.setup ≡ before.world.setup
 applied_setup e before after does = by_cause (cause_in before.world e) does
   where
-    by_cause : (q : Option Refused) → MatchOption q (Records e before after) (λ why. after ≡ before) → after.world.setup ≡ before.world.setup
+    by_cause : (q : Option Refused) → MatchOption q (AddsRow e before after) (λ why. after ≡ before) → after.world.setup ≡ before.world.setup
     by_cause None r = r.setup
     by_cause (Some why) same = ap (λ (r : RecordingState). r.world.setup) same
 
@@ -94,11 +94,11 @@ steps_continue kind before h after h' (inl taken) = record {
 steps_continue kind before h after h' (inr full) = rw full.1 (nothing_continues before)
 
 -- a node's turn
-serves_continue : (before : RecordingState) (i : ℕ) (served : Bool) (after : RecordingState) → Serves before i served after → Continues before after
+serves_continue : (before : RecordingState) (i : ℕ) (served : Bool) (after : RecordingState) → RunsLowest before i served after → Continues before after
 serves_continue before i true after does = applied_continues (Event.Run does.0) before after does.3 (λ c. tt)
 serves_continue before i false after does = rw does.0 (nothing_continues before)
 
-proceeds_continue : (next : Next) (before : RecordingState) (h : ProcedureState) (after : RecordingState) (h' : ProcedureState) → Proceeds next before h after h' → Continues before after
+proceeds_continue : (next : Next) (before : RecordingState) (h : ProcedureState) (after : RecordingState) (h' : ProcedureState) → GoesBy next before h after h' → Continues before after
 proceeds_continue Next.Resync before h after h' does = rw does.0 (nothing_continues before)
 proceeds_continue Next.Rest before h after h' does = rw does.0 (nothing_continues before)
 proceeds_continue (Next.Take kind) before h after h' does = steps_continue kind before h after h' does

@@ -29,7 +29,7 @@ pub record IsRecorded (c : Configuration) (r : RecordingState) : Type 0 where
   pub due : All (IsDue c.faults) events
 
 -- the event is applied, and a row is added for it
-pub record Records (e : Event) (before after : RecordingState) : Type 0 where
+pub record AddsRow (e : Event) (before after : RecordingState) : Type 0 where
   pub answer : Answer
   pub step : Step before.world.setup (world_of before.world) e (world_of after.world) answer
   pub setup : after.world.setup ≡ before.world.setup
@@ -40,12 +40,12 @@ pub record Records (e : Event) (before after : RecordingState) : Type 0 where
 
 -- the event is applied and recorded where nothing refuses it, else it is passed over
 abbrev pub Applies : Event → RecordingState → RecordingState → Type 0
-Applies e before after = MatchOption (cause_in before.world e) (Records e before after) (λ why. after ≡ before)
+Applies e before after = MatchOption (cause_in before.world e) (AddsRow e before after) (λ why. after ≡ before)
 
 -- the procedure takes a step, which is recorded, and goes on by it; where the bound on events is reached, nothing changes
 abbrev pub Steps : StepKind → RecordingState → ProcedureState → RecordingState → ProcedureState → Type 0
 Steps kind before h after h' =
-    ((r : Records (event_of kind h) before after) × (h' ≡ procedure_after kind r.answer h))
+    ((r : AddsRow (event_of kind h) before after) × (h' ≡ procedure_after kind r.answer h))
     ⊎ ((before.world.setup.events_max ≤ before.world.events) × (after ≡ before) × (h' ≡ h))
 
 -- whatever happens, it is recorded, and no fault is needed for it but those of the configuration

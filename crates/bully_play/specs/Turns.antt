@@ -29,18 +29,18 @@ pub record IsLowest (w : WorldState) (i caller : ℕ) : Type 0 where
   pub lowest : (j : ℕ) → j < caller → is_sent_to i (pending (world_of w) j) ≡ false
 
 -- node i serves: the call of the lowest caller that waits for it runs. It serves nobody where it is Down or none waits
-abbrev pub Serves : RecordingState → ℕ → Bool → RecordingState → Type 0
-Serves before i true after =
+abbrev pub RunsLowest : RecordingState → ℕ → Bool → RecordingState → Type 0
+RunsLowest before i true after =
     (caller : ℕ) × IsLowest before.world i caller × ((state_at before.world i).vector.vector.status ≢ Down) × Applies (Event.Run caller) before after
-Serves before i false after =
+RunsLowest before i false after =
     (after ≡ before)
     × (((state_at before.world i).vector.vector.status ≡ Down) ⊎ ((j : ℕ) → is_sent_to i (pending (world_of before.world) j) ≡ false))
 
 -- what the procedure does where the turn rule offers this
-abbrev pub Proceeds : Next → RecordingState → ProcedureState → RecordingState → ProcedureState → Type 0
-Proceeds Next.Resync before h after h' = (after ≡ before) × (h' ≡ procedure_in before.world h.node)
-Proceeds Next.Rest before h after h' = (after ≡ before) × (h' ≡ h)
-Proceeds (Next.Take kind) before h after h' = Steps kind before h after h'
+abbrev pub GoesBy : Next → RecordingState → ProcedureState → RecordingState → ProcedureState → Type 0
+GoesBy Next.Resync before h after h' = (after ≡ before) × (h' ≡ procedure_in before.world h.node)
+GoesBy Next.Rest before h after h' = (after ≡ before) × (h' ≡ h)
+GoesBy (Next.Take kind) before h after h' = Steps kind before h after h'
 
 -- What a turn is, over any state S of what it is taken on. There `applies` is what an event does, `prepares` which
 -- procedure another one is prepared to, `serves` whether a node serves a call and what that does, and `proceeds` what a
@@ -84,10 +84,10 @@ Prepares before h ready = ready ≡ prepared before.world h
 
 -- the procedure goes on by the turn rule
 abbrev pub ProceedsIn : RecordingState → ProcedureState → RecordingState → ProcedureState → Type 0
-ProceedsIn before h after h' = Proceeds (turn before.world h) before h after h'
+ProceedsIn before h after h' = GoesBy (turn before.world h) before h after h'
 
 abbrev pub IsTurn : ℕ → ℕ → RecordingState → ProcedureState → RecordingState → ProcedureState → Type 0
-IsTurn period number before h after h' = IsTurnOn Applies Prepares Serves ProceedsIn period number before h after h'
+IsTurn period number before h after h' = IsTurnOn Applies Prepares RunsLowest ProceedsIn period number before h after h'
 
 abbrev pub Operates : ℕ → List Fault → RecordingState → RecordingState → Type 0
 Operates number faults before after = OperatesOn Applies number faults before after

@@ -78,7 +78,7 @@ impl Recording {
 
 impl Stage for Recording {
     ghost use Rattle.bully_play.specs.Recording.{Applies};
-    ghost use Rattle.bully_play.specs.Turns.{Prepares, Serves, ProceedsIn};
+    ghost use Rattle.bully_play.specs.Turns.{Prepares, RunsLowest, ProceedsIn};
 
     ghost setup = { λ r. r.world.setup };
 
@@ -86,7 +86,7 @@ impl Stage for Recording {
 
     ghost prepares = { Prepares };
 
-    ghost serves = { Serves };
+    ghost serves = { RunsLowest };
 
     ghost proceeds = { ProceedsIn };
 

@@ -2,7 +2,7 @@ use Rattle.std.proofs.Common.{◌≡◌, ℕ, List, arith, subst}
 use Rattle.bully_config.specs.declared.config.Fault.{Fault}
 use Rattle.bully_group.specs.Locked.{IsLocked}
 use Rattle.bully_nodes.proofs.RunLemmas.{actors_turns_keep}
-use Rattle.bully_nodes.specs.Run.{IsKept, procedure_of, first_of, ActorsTurns}
+use Rattle.bully_nodes.specs.Run.{IsGivenBack, procedure_of, first_of, ActorsTurns}
 use Rattle.bully_nodes.proofs.jobs.take_turns.Goals as goal
 
 pub returns-clause-turns : goal.returns-clause-turns
@@ -12,5 +12,5 @@ returns-clause-turns g c =
 
 pub returns-clause-kept : goal.returns-clause-kept
 returns-clause-kept g c =
-    λ actor. subst (λ (faults : List Fault). IsKept faults actor (record { seat = c.args.post.now.seat; counted = c.args.post.now.pass }) → IsKept faults actor (record { seat = c.loop-before.post.seat; counted = c.loop-before.post.pass })) c.requires.faults
+    λ actor. subst (λ (faults : List Fault). IsGivenBack faults actor (record { seat = c.args.post.now.seat; counted = c.args.post.now.pass }) → IsGivenBack faults actor (record { seat = c.loop-before.post.seat; counted = c.loop-before.post.pass })) c.requires.faults
     (actors_turns_keep (IsLocked g.L.Naming.setup g.L.Naming.publisher g.L.Ledger.parts) c.args.config.now actor c.loop-before.before 1 _ _ _ _ c.loop-before.invariant.turns)
