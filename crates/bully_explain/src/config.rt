@@ -5,6 +5,7 @@ ghost use Rattle.toml.specs.Errors.{IsMemory};
 ghost use Rattle.toml.specs.View.{table_view};
 
 use crate::config_text::push_fault;
+use crate::draft::Draft;
 use bully_base::OutOfMemory;
 use bully_config::{ConfigFault, first_refusal};
 use std::alloc::{AllocError, Global};
@@ -36,8 +37,9 @@ fn toml_sheet(alloc: Global, error: &toml::de::Error) -> Result<ConfigSheet, Out
     if error.is_memory() {
         return Err(AllocError);
     }
-    let mut text = String::new(alloc);
-    write!(text, "{error}")?;
+    let mut draft = Draft::new(alloc);
+    write!(draft, "{error}");
+    let text = draft.finish()?;
     Ok(ConfigSheet {
         told: Some(ConfigFault::Toml),
         text,
@@ -49,10 +51,11 @@ fn document_sheet(alloc: Global, document: &Table) -> Result<ConfigSheet, OutOfM
     ensures { IfOk result (λ sheet. sheet.told ≡ refusal_of (table_view document.now)) }
 {
     let told = first_refusal(document);
-    let mut text = String::new(alloc);
+    let mut draft = Draft::new(alloc);
     match told {
-        Some(fault) => push_fault(&mut text, document, fault)?,
-        None => text.push_str("the configuration has no fault\n")?,
+        Some(fault) => push_fault(&mut draft, document, fault),
+        None => draft.push_str("the configuration has no fault\n"),
     }
+    let text = draft.finish()?;
     Ok(ConfigSheet { told, text })
 }

@@ -1,9 +1,10 @@
 //! What a row says beside what the group shows, where the two differ.
 
+use crate::draft::Draft;
 use crate::sentences::push_no_node;
 use crate::sides::{push_heads, push_nodes, push_sets, push_tasks, push_words};
 use bully_account::{NodeSheet, Shown};
-use bully_base::{Node, OutOfMemory, Setup};
+use bully_base::{Node, Setup};
 use bully_calls::{Answer, Call};
 use bully_rows::{Claim, Detail, DetailedEvent, WholeClaim, answer_word, call_word, status_word};
 use bully_table::Table;
@@ -12,55 +13,49 @@ use bully_world::World;
 
 /// Appends why the claim is false: what it says of the node and what the group shows, side by side. The node has this sheet,
 /// where the group has it.
-pub fn push_claimed(
-    text: &mut String,
-    setup: &Setup,
-    claim: Claim,
-    sheet: Option<&NodeSheet>,
-) -> Result<(), OutOfMemory> {
-    text.push_str("differs: ")?;
+pub fn push_claimed(text: &mut Draft, setup: &Setup, claim: Claim, sheet: Option<&NodeSheet>) {
+    text.push_str("differs: ");
     match sheet {
         Some(sheet) => push_claim(text, claim, &sheet.shown),
         None => {
-            push_no_node(text, setup, claim.node)?;
-            text.push('\n')
+            push_no_node(text, setup, claim.node);
+            text.push('\n');
         }
     }
 }
 
 // Appends the status and the coordinator that are claimed of the node, and beside them what the group shows.
-fn push_claim(text: &mut String, claim: Claim, shown: &Shown) -> Result<(), OutOfMemory> {
+fn push_claim(text: &mut Draft, claim: Claim, shown: &Shown) {
     let number = claim.node.number();
-    writeln!(text, "node {number} isn't as it is claimed")?;
-    push_heads(text, "claimed")?;
+    writeln!(text, "node {number} isn't as it is claimed");
+    push_heads(text, "claimed");
     push_words(
         text,
         "status",
         status_word(claim.status),
         status_word(shown.status),
-    )?;
-    push_nodes(text, "coordinator", claim.coordinator, shown.coordinator)
+    );
+    push_nodes(text, "coordinator", claim.coordinator, shown.coordinator);
 }
 
 /// Appends why the claim that tells all of a vector is false, as [`push_claimed`] does, and then the rest of that vector.
 pub fn push_whole_claimed(
-    text: &mut String,
+    text: &mut Draft,
     world: &World,
     whole: &WholeClaim,
     sheet: Option<&NodeSheet>,
-) -> Result<(), OutOfMemory> {
-    push_claimed(text, world.setup(), whole.claim(), sheet)?;
-    let Some(sheet) = sheet else {
-        return Ok(());
-    };
-    push_rest(text, whole, &sheet.shown)?;
-    push_tasks(text, "owners", whole.task(), task_of(world, whole))
+) {
+    push_claimed(text, world.setup(), whole.claim(), sheet);
+    if let Some(sheet) = sheet {
+        push_rest(text, whole, &sheet.shown);
+        push_tasks(text, "owners", whole.task(), task_of(world, whole));
+    }
 }
 
 // Appends the halter and the up set that are claimed, and beside them what the group shows.
-fn push_rest(text: &mut String, whole: &WholeClaim, shown: &Shown) -> Result<(), OutOfMemory> {
-    push_nodes(text, "halter", whole.halter(), shown.halter)?;
-    push_sets(text, "up", whole.up(), &shown.up)
+fn push_rest(text: &mut Draft, whole: &WholeClaim, shown: &Shown) {
+    push_nodes(text, "halter", whole.halter(), shown.halter);
+    push_sets(text, "up", whole.up(), &shown.up);
 }
 
 // The owners that the group shows at the node of the claim; none where it doesn't have the node.
@@ -74,31 +69,23 @@ fn task_of<'a>(world: &'a World, whole: &WholeClaim) -> Option<&'a Table> {
 
 /// Appends why what is said beside the event isn't so: the call that it tells and the one that the group has, side by side; of
 /// a run what is answered, too, and of a return what it brings. Nothing of an event whose node the group doesn't have.
-pub fn push_detailed(
-    text: &mut String,
-    world: &World,
-    event: &DetailedEvent,
-) -> Result<(), OutOfMemory> {
+pub fn push_detailed(text: &mut Draft, world: &World, event: &DetailedEvent) {
     let number = event.node.number();
     if number > world.setup().nodes() {
-        return Ok(());
+        return;
     }
     let shown = said_of(world, &event.event());
     writeln!(
         text,
         "differs: the call of node {number} isn't as it is told"
-    )?;
-    push_heads(text, "told")?;
-    push_calls(text, event.detail.call(), &shown)?;
-    push_answers(text, &event.detail, &shown)
+    );
+    push_heads(text, "told");
+    push_calls(text, event.detail.call(), &shown);
+    push_answers(text, &event.detail, &shown);
 }
 
 // Appends the call that is told and the one that the group has, its kind and its callee each on a line.
-fn push_calls(
-    text: &mut String,
-    told: Call,
-    shown: &Option<DetailedEvent>,
-) -> Result<(), OutOfMemory> {
+fn push_calls(text: &mut Draft, told: Call, shown: &Option<DetailedEvent>) {
     let (kind, callee) = match shown {
         Some(event) => {
             let call = event.detail.call();
@@ -106,35 +93,26 @@ fn push_calls(
         }
         None => ("-", None),
     };
-    push_words(text, "call", call_word(told.kind), kind)?;
-    push_nodes(text, "callee", Some(told.callee), callee)
+    push_words(text, "call", call_word(told.kind), kind);
+    push_nodes(text, "callee", Some(told.callee), callee);
 }
 
 // Appends the answer or the outcome that is told and the one that the group has, where the event has one.
-fn push_answers(
-    text: &mut String,
-    told: &Detail,
-    shown: &Option<DetailedEvent>,
-) -> Result<(), OutOfMemory> {
+fn push_answers(text: &mut Draft, told: &Detail, shown: &Option<DetailedEvent>) {
     match told {
         Detail::Run(_, answer) => push_answer(text, "answer", *answer, shown),
         Detail::Return(_, answer) => push_answer(text, "outcome", *answer, shown),
-        Detail::Start(_) | Detail::Lose(_) | Detail::Drop(_) => Ok(()),
+        Detail::Start(_) | Detail::Lose(_) | Detail::Drop(_) => {}
     }
 }
 
 // Appends the line of an answer or an outcome, of this name; a dash for none.
-fn push_answer(
-    text: &mut String,
-    part: &str,
-    told: Answer,
-    shown: &Option<DetailedEvent>,
-) -> Result<(), OutOfMemory> {
+fn push_answer(text: &mut Draft, part: &str, told: Answer, shown: &Option<DetailedEvent>) {
     let shown = match shown {
         Some(event) => answer_text(&event.detail),
         None => "-",
     };
-    push_words(text, part, answer_word(told), shown)
+    push_words(text, part, answer_word(told), shown);
 }
 
 // What is answered or brought, or a dash.

@@ -1,4 +1,4 @@
-ghost use Rattle.std.specs.Prelude.{◌≡◌, ℕ, List, [], Option, true, IfErr, IfOk, IsSome};
+ghost use Rattle.std.specs.Prelude.{◌≡◌, ℕ, List, [], None, Option, true, IfErr, IfOk, IsSome};
 ghost use Rattle.bully_account.specs.Told.{IsToldOf, IsUntold};
 ghost use Rattle.bully_rows.specs.RecordsLeft.{EndsReading, IsUnread};
 ghost use Rattle.bully_rows.specs.Rows.{is_of_form};
@@ -48,8 +48,24 @@ fn read_sheet<R: Read + Drop>(
     ensures untold { IfErr result IsUntold }
 {
     let mut account: Option<Account> = None;
-    let told = tell(alloc, rows, &mut account)?;
-    let text = text_of(alloc, rows, &account, &told)?;
+    account_sheet(alloc, rows, &mut account)
+}
+
+// The same with the account that the rows are taken to.
+fn account_sheet<R: Read + Drop>(
+    alloc: Global,
+    rows: &mut RowReader<Lines<R>>,
+    account: &mut Option<Account>,
+) -> Result<Sheet, TraceFault>
+    requires { account.old ≡ None }
+    ensures told { (known : Option (List ℕ)) → IsUnread known rows.old → IfOk result (λ sheet. IsToldOf known sheet.nodes.items sheet.told) }
+    ensures form { IfOk result (λ sheet. IfErr sheet.told (λ fault. is_of_form fault.cause ≡ true)) }
+    ensures sheets { IfOk result (λ sheet. IfErr sheet.told (λ fault. sheet.nodes.items ≡ [])) }
+    ensures fault { (known : Option (List ℕ)) → IsUnread known rows.old → IfErr result (EndsReading known) }
+    ensures untold { IfErr result IsUntold }
+{
+    let told = tell(alloc, rows, account)?;
+    let text = text_of(alloc, rows, account, &told)?;
     Ok(Sheet {
         told: told.verdict,
         nodes: told.nodes,

@@ -1,3 +1,4 @@
+use crate::draft::Draft;
 use crate::form::{Expected, FieldCounts, Misfit, field_at, misfit_of_header, misfit_of_row};
 use bully_account::{Account, Lines, line_of};
 use bully_base::{OutOfMemory, Setup, WEIGHT_MAX};
@@ -9,6 +10,9 @@ use std::io::Read;
 /// How many bytes of a row's text are shown.
 const SHOWN_MAX: usize = 60;
 
+/// What is said where a dash may stand, too.
+const OR_NONE: &str = ", or - for none";
+
 /// The sheet of a fault of form, as text: the row at which it is, the field, and what may stand there.
 pub fn form_text<R: Read + Drop>(
     alloc: Global,
@@ -16,84 +20,84 @@ pub fn form_text<R: Read + Drop>(
     account: &Option<Account>,
     fault: TraceFault,
 ) -> Result<String, OutOfMemory> {
-    let mut text = String::new(alloc);
-    push_form(&mut text, rows, account, fault)?;
-    Ok(text)
+    if rows.number() == 0 {
+        return no_row_text(alloc, fault.row);
+    }
+    row_text(alloc, line_of(rows), rows.fields(), account, fault)
 }
 
-// Appends the sheet of a fault of form.
-fn push_form<R: Read + Drop>(
-    text: &mut String,
-    rows: &RowReader<Lines<R>>,
+// The sheet of a text without a row, at this row.
+fn no_row_text(alloc: Global, row: u32) -> Result<String, OutOfMemory> {
+    let mut text = Draft::new(alloc);
+    writeln!(
+        text,
+        "row {row}: there is none\nBadHeader: a trace begins with a header"
+    );
+    text.finish()
+}
+
+// The sheet of a fault of form at a row that starts at this line and has these fields.
+fn row_text(
+    alloc: Global,
+    line: u64,
+    fields: &ByteRecord,
     account: &Option<Account>,
     fault: TraceFault,
-) -> Result<(), OutOfMemory> {
+) -> Result<String, OutOfMemory> {
+    let mut text = Draft::new(alloc);
     let row = fault.row;
-    if rows.number() == 0 {
-        return writeln!(
-            text,
-            "row {row}: there is none\nBadHeader: a trace begins with a header"
-        );
-    }
-    let line = line_of(rows);
-    write!(text, "row {row} (line {line}): ")?;
-    push_cut(text, rows.fields())?;
-    let cause = fault.cause;
-    write!(text, "\n{cause}: ")?;
-    match cause {
-        TraceCause::BadHeader => push_header_misfit(text, rows.fields())?,
-        TraceCause::BadRow => push_row_misfit(text, rows.fields(), account)?,
-        _ => push_limit(text)?,
-    }
-    text.push('\n')
+    write!(text, "row {row} (line {line}): ");
+    push_cut(&mut text, fields);
+    push_cause(&mut text, fields, account, fault.cause);
+    text.finish()
 }
 
-// Appends where a first row isn't a header.
-fn push_header_misfit(text: &mut String, fields: &ByteRecord) -> Result<(), OutOfMemory> {
-    push_misfit(text, fields, misfit_of_header(fields), None)
+// Appends the line of the cause: where the row breaks its form.
+fn push_cause(text: &mut Draft, fields: &ByteRecord, account: &Option<Account>, cause: TraceCause) {
+    write!(text, "\n{cause}: ");
+    match cause {
+        TraceCause::BadHeader => push_misfit(text, fields, misfit_of_header(fields), None),
+        TraceCause::BadRow => push_row_misfit(text, fields, account),
+        _ => push_limit(text),
+    }
+    text.push('\n');
 }
 
 // Appends where a later row has no form in a trace of the account's version.
-fn push_row_misfit(
-    text: &mut String,
-    fields: &ByteRecord,
-    account: &Option<Account>,
-) -> Result<(), OutOfMemory> {
+fn push_row_misfit(text: &mut Draft, fields: &ByteRecord, account: &Option<Account>) {
     match account {
         Some(account) => {
             let misfit = misfit_of_row(account.version(), fields);
-            push_misfit(text, fields, misfit, Some(account.world().setup()))
+            push_misfit(text, fields, misfit, Some(account.world().setup()));
         }
         None => push_misfit(text, fields, misfit_of_row(Version::Two, fields), None),
     }
 }
 
 // Appends that a trace has no such row.
-fn push_limit(text: &mut String) -> Result<(), OutOfMemory> {
+fn push_limit(text: &mut Draft) {
     write!(
         text,
         "a trace has at most {ROWS_MAX} rows behind its header"
-    )
+    );
 }
 
 // Appends the text of a row: its fields, parted by commas, up to so many bytes, and two dots where that isn't all.
-fn push_cut(text: &mut String, fields: &ByteRecord) -> Result<(), OutOfMemory> {
+fn push_cut(text: &mut Draft, fields: &ByteRecord) {
     let mut room = SHOWN_MAX;
     for place in 0..fields.len() {
         if place > 0 && room > 0 {
-            text.push(',')?;
+            text.push(',');
             room -= 1;
         }
         let field = field_at(fields, place);
         let count = field.len().min(room);
-        push_bytes(text, &field[..count])?;
+        push_bytes(text, &field[..count]);
         room -= count;
     }
-    text.push_str(if row_len(fields) > SHOWN_MAX {
-        ".."
-    } else {
-        ""
-    })
+    if row_len(fields) > SHOWN_MAX {
+        text.push_str("..");
+    }
 }
 
 // How many bytes the fields have, with a comma between each two.
@@ -106,113 +110,97 @@ fn row_len(fields: &ByteRecord) -> usize {
 }
 
 // Appends the bytes; one that is no printed ASCII character as a question mark.
-fn push_bytes(text: &mut String, bytes: &[u8]) -> Result<(), OutOfMemory> {
+fn push_bytes(text: &mut Draft, bytes: &[u8]) {
     for byte in bytes {
         let shown = match *byte {
             b' '..=b'~' => char::from(*byte),
             _ => '?',
         };
-        text.push(shown)?;
+        text.push(shown);
     }
-    Ok(())
 }
 
 // Appends the field at which a row breaks its form, and what may stand there.
-fn push_misfit(
-    text: &mut String,
-    fields: &ByteRecord,
-    misfit: Misfit,
-    setup: Option<&Setup>,
-) -> Result<(), OutOfMemory> {
+fn push_misfit(text: &mut Draft, fields: &ByteRecord, misfit: Misfit, setup: Option<&Setup>) {
     let field = misfit.field;
     if field == 0 {
         let count = fields.len();
-        write!(text, "it has {count} fields, and ")?;
+        write!(text, "it has {count} fields, and ");
     } else {
-        write!(text, "at field {field} there may stand ")?;
+        write!(text, "at field {field} there may stand ");
     }
-    push_expected(text, misfit.expected, setup)
+    push_expected(text, misfit.expected, setup);
 }
 
 // Appends what may stand at a place of a row.
-fn push_expected(
-    text: &mut String,
-    expected: Expected,
-    setup: Option<&Setup>,
-) -> Result<(), OutOfMemory> {
+fn push_expected(text: &mut Draft, expected: Expected, setup: Option<&Setup>) {
     match expected {
-        Expected::Word => text.push_str(
-            "recover, crash, check, timeout, start, run, lose, return, drop, move, plan or saw",
-        ),
         Expected::Fields(counts) => push_counts(text, counts),
-        Expected::Node(highest) => write!(text, "the number of a node, from 1 to {highest}"),
+        Expected::Node(highest) => push_range(text, "the number of a node,", highest),
         Expected::Owners => push_owners_expected(text, setup),
-        Expected::Status => text.push_str("down, election, reorganization or normal"),
-        Expected::Coordinator(highest) => write!(
-            text,
-            "the number of a node, from 1 to {highest}, or - for none"
-        ),
-        Expected::Up(highest) => write!(
-            text,
-            "the numbers of nodes in rising order, parted by single spaces, each from 1 to {highest}, or - for none"
-        ),
-        Expected::Task => {
-            push_owners_expected(text, setup)?;
-            text.push_str(", or - for none")
+        Expected::Coordinator(highest) => {
+            push_range(text, "the number of a node,", highest);
+            text.push_str(OR_NONE);
         }
-        _ => push_word_expected(text, expected),
+        Expected::Up(highest) => {
+            push_range(
+                text,
+                "the numbers of nodes in rising order, parted by single spaces, each",
+                highest,
+            );
+            text.push_str(OR_NONE);
+        }
+        Expected::Task => {
+            push_owners_expected(text, setup);
+            text.push_str(OR_NONE);
+        }
+        Expected::Nodes(most) => push_range(text, "how many nodes there are,", most),
+        Expected::Partitions(most) => push_range(text, "how many partitions there are,", most),
+        Expected::Weights(nodes) => {
+            write!(text, "the weights of {nodes} nodes,");
+            push_range(text, " parted by single spaces, each", WEIGHT_MAX);
+        }
+        _ => text.push_str(words_expected(expected)),
     }
+}
+
+// Appends of what a number may stand there, and its range.
+fn push_range(text: &mut Draft, what: &str, most: u16) {
+    write!(text, "{what} from 1 to {most}");
 }
 
 // Appends how many fields a row of a kind has.
-fn push_counts(text: &mut String, counts: FieldCounts) -> Result<(), OutOfMemory> {
+fn push_counts(text: &mut Draft, counts: FieldCounts) {
     let few = counts.few;
-    write!(text, "one of its kind has {few}")?;
-    match counts.more {
-        Some(more) => write!(text, " or {more}"),
-        None => Ok(()),
+    write!(text, "one of its kind has {few}");
+    if let Some(more) = counts.more {
+        write!(text, " or {more}");
     }
 }
 
-// Appends which words may stand in a row beside an event, or else what may stand in a header.
-fn push_word_expected(text: &mut String, expected: Expected) -> Result<(), OutOfMemory> {
+// Which words may stand at a place; none where something else than a word may.
+fn words_expected(expected: Expected) -> &'static str {
     match expected {
-        Expected::Call => {
-            text.push_str("are-you-up, are-you-normal, halt, new-coordinator or ready")
+        Expected::Word => {
+            "recover, crash, check, timeout, start, run, lose, return, drop, move, plan or saw"
         }
-        Expected::Answer => text.push_str("done, yes or no"),
-        Expected::Outcome => text.push_str("done, yes, no, failed or discarded"),
-        _ => push_header_expected(text, expected),
-    }
-}
-
-// Appends what may stand at a place of a header.
-fn push_header_expected(text: &mut String, expected: Expected) -> Result<(), OutOfMemory> {
-    match expected {
-        Expected::Bully => text.push_str("the word bully"),
-        Expected::Version => text.push_str("the version, 1, 2 or 3"),
-        Expected::Nodes(most) => write!(text, "how many nodes there are, from 1 to {most}"),
-        Expected::Partitions(most) => {
-            write!(text, "how many partitions there are, from 1 to {most}")
-        }
-        Expected::Weights(nodes) => write!(
-            text,
-            "the weights of {nodes} nodes, parted by single spaces, each from 1 to {WEIGHT_MAX}"
-        ),
-        Expected::Keep => text.push_str("keep or clear"),
-        _ => Ok(()),
+        Expected::Status => "down, election, reorganization or normal",
+        Expected::Call => "are-you-up, are-you-normal, halt, new-coordinator or ready",
+        Expected::Answer => "done, yes or no",
+        Expected::Outcome => "done, yes, no, failed or discarded",
+        Expected::Bully => "the word bully",
+        Expected::Version => "the version, 1, 2 or 3",
+        Expected::Keep => "keep or clear",
+        _ => "",
     }
 }
 
 // Appends which owners may stand in a trace of this setup.
-fn push_owners_expected(text: &mut String, setup: Option<&Setup>) -> Result<(), OutOfMemory> {
+fn push_owners_expected(text: &mut Draft, setup: Option<&Setup>) {
     let Some(setup) = setup else {
         return text.push_str("the owners of the partitions");
     };
-    let nodes = setup.nodes();
     let partitions = setup.partitions();
-    write!(
-        text,
-        "the owners of {partitions} partitions, parted by single spaces, each from 1 to {nodes}"
-    )
+    write!(text, "the owners of {partitions} partitions,");
+    push_range(text, " parted by single spaces, each", setup.nodes());
 }

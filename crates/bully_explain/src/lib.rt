@@ -9,6 +9,7 @@
 mod config;
 mod config_text;
 mod differing;
+mod draft;
 mod explaining;
 mod form;
 mod form_text;

@@ -1,9 +1,10 @@
 //! Why an event is refused, in a sentence for each of the causes.
 ghost use Rattle.std.specs.Prelude.{◌<◌, length, IfSome};
 
+use crate::draft::Draft;
 use crate::words::{push_held, push_offer, push_point};
 use bully_account::{NodeSheet, Shown};
-use bully_base::{NODES_MAX, Node, NodeSet, OutOfMemory, Setup};
+use bully_base::{NODES_MAX, Node, NodeSet, Setup};
 use bully_rows::{cause_word, status_word};
 use bully_table::Table;
 use bully_trace::Verdict;
@@ -12,39 +13,33 @@ use bully_world::{Event, Refused};
 /// Appends why the event was refused, as the verdict says: the cause, and a sentence with what it speaks of. A line. Its node
 /// has this sheet, where the group has it.
 pub fn push_refused(
-    text: &mut String,
+    text: &mut Draft,
     setup: &Setup,
     event: &Event,
     verdict: Verdict,
     sheet: Option<&NodeSheet>,
-) -> Result<(), OutOfMemory> {
+) {
     let Verdict::Refused(_, cause) = verdict else {
-        return Ok(());
+        return;
     };
     let word = cause_word(cause);
-    write!(text, "refused, {word}: ")?;
+    write!(text, "refused, {word}: ");
     match sheet {
-        Some(sheet) => push_cause(text, setup, event, cause, &sheet.shown)?,
-        None => push_no_node(text, setup, event.node())?,
+        Some(sheet) => push_cause(text, setup, event, cause, &sheet.shown),
+        None => push_no_node(text, setup, event.node()),
     }
-    text.push('\n')
+    text.push('\n');
 }
 
 /// Appends that the group has no such node.
-pub fn push_no_node(text: &mut String, setup: &Setup, node: Node) -> Result<(), OutOfMemory> {
+pub fn push_no_node(text: &mut Draft, setup: &Setup, node: Node) {
     let nodes = setup.nodes();
     let number = node.number();
-    write!(text, "the group has {nodes} nodes, and no node {number}")
+    write!(text, "the group has {nodes} nodes, and no node {number}");
 }
 
 // Appends the sentence of a cause at a node of which this is shown.
-fn push_cause(
-    text: &mut String,
-    setup: &Setup,
-    event: &Event,
-    cause: Refused,
-    shown: &Shown,
-) -> Result<(), OutOfMemory> {
+fn push_cause(text: &mut Draft, setup: &Setup, event: &Event, cause: Refused, shown: &Shown) {
     let number = event.node().number();
     match cause {
         Refused::Full => push_full(text, setup),
@@ -63,40 +58,39 @@ fn push_cause(
 }
 
 // Appends that the bound on events is reached.
-fn push_full(text: &mut String, setup: &Setup) -> Result<(), OutOfMemory> {
+fn push_full(text: &mut Draft, setup: &Setup) {
     let most = setup.events_max();
-    write!(text, "{most} events were applied, and no more are allowed")
+    write!(text, "{most} events were applied, and no more are allowed");
 }
 
 // Appends that the node is up.
-fn push_up(text: &mut String, number: u16, shown: &Shown) -> Result<(), OutOfMemory> {
-    let status = status_word(shown.status);
-    write!(text, "node {number} is up, with the status {status}")
+fn push_up(text: &mut Draft, number: u16, shown: &Shown) {
+    write!(text, "node {number} is up, with the status ");
+    text.push_str(status_word(shown.status));
 }
 
 // Appends that a procedure runs at the node.
-fn push_busy(text: &mut String, number: u16, shown: &Shown) -> Result<(), OutOfMemory> {
-    write!(text, "node {number} isn't Idle: it stands at ")?;
-    push_point(text, &shown.point)
+fn push_busy(text: &mut Draft, number: u16, shown: &Shown) {
+    write!(text, "node {number} isn't Idle: it stands at ");
+    push_point(text, &shown.point);
 }
 
 // Appends what the point offers in place of what the event takes.
-fn push_no_step(text: &mut String, event: &Event, shown: &Shown) -> Result<(), OutOfMemory> {
+fn push_no_step(text: &mut Draft, event: &Event, shown: &Shown) {
     let number = event.node().number();
-    let wanted = match event {
-        Event::Start(_) => "no call",
-        Event::Move(_) => "no move",
-        _ => "no plan",
-    };
-    write!(text, "node {number} stands at ")?;
-    push_point(text, &shown.point)?;
-    text.push_str(", which offers ")?;
-    push_offer(text, shown.offer)?;
-    write!(text, ", and {wanted}")
+    write!(text, "node {number} stands at ");
+    push_point(text, &shown.point);
+    text.push_str(", which offers ");
+    push_offer(text, shown.offer);
+    text.push_str(match event {
+        Event::Start(_) => ", and no call",
+        Event::Move(_) => ", and no move",
+        _ => ", and no plan",
+    });
 }
 
 // Appends what the slot holds in place of the call that the event takes.
-fn push_no_call(text: &mut String, event: &Event, shown: &Shown) -> Result<(), OutOfMemory> {
+fn push_no_call(text: &mut Draft, event: &Event, shown: &Shown) {
     let number = event.node().number();
     let wanted = match event {
         Event::Run(_) => "no call that was sent and didn't run",
@@ -104,7 +98,7 @@ fn push_no_call(text: &mut String, event: &Event, shown: &Shown) -> Result<(), O
         Event::Return(_) => "no call that ran or failed",
         _ => "no call",
     };
-    write!(text, "the slot of node {number} holds {wanted}: ")?;
+    write!(text, "the slot of node {number} holds {wanted}: ");
     match shown.call {
         Some(held) => push_held(text, held),
         None => text.push_str("it is empty"),
@@ -112,31 +106,20 @@ fn push_no_call(text: &mut String, event: &Event, shown: &Shown) -> Result<(), O
 }
 
 // Appends whom the call goes to, and how that node is.
-fn push_callee(
-    text: &mut String,
-    number: u16,
-    shown: &Shown,
-    state: &str,
-) -> Result<(), OutOfMemory> {
-    let Some(held) = shown.call else {
-        return Ok(());
-    };
-    let callee = held.call.callee.number();
-    write!(
-        text,
-        "the call of node {number} goes to node {callee}, which is {state}"
-    )
+fn push_callee(text: &mut Draft, number: u16, shown: &Shown, state: &str) {
+    if let Some(held) = shown.call {
+        let callee = held.call.callee.number();
+        write!(
+            text,
+            "the call of node {number} goes to node {callee}, which is {state}"
+        );
+    }
 }
 
 // Appends what is wrong with the table of a plan.
-fn push_bad_table(
-    text: &mut String,
-    setup: &Setup,
-    event: &Event,
-    shown: &Shown,
-) -> Result<(), OutOfMemory> {
+fn push_bad_table(text: &mut Draft, setup: &Setup, event: &Event, shown: &Shown) {
     let Event::Plan(node, table) = event else {
-        return Ok(());
+        return;
     };
     let mut members = shown.up;
     members.insert(*node);
@@ -167,12 +150,7 @@ fn first_stranger(table: &Table, members: &NodeSet) -> Option<usize>
 }
 
 // Appends the partition whose owner is neither the node nor in its up set.
-fn push_stranger(
-    text: &mut String,
-    table: &Table,
-    place: usize,
-    node: Node,
-) -> Result<(), OutOfMemory>
+fn push_stranger(text: &mut Draft, table: &Table, place: usize, node: Node)
     requires { place < length table.now }
 {
     let owner = table.owner(place).number();
@@ -180,35 +158,29 @@ fn push_stranger(
     write!(
         text,
         "partition {place} is owned by node {owner}, which is neither node {number} nor in its up set"
-    )
+    );
 }
 
 // Appends how many partitions each member owns, which isn't its share.
-fn push_counts(text: &mut String, table: &Table, members: &NodeSet) -> Result<(), OutOfMemory> {
-    text.push_str("the partitions aren't shared out evenly by weight:")?;
+fn push_counts(text: &mut Draft, table: &Table, members: &NodeSet) {
+    text.push_str("the partitions aren't shared out evenly by weight:");
     let mut gap = "";
     for before in 0..NODES_MAX {
         match Node::new(before + 1) {
             Some(member) if members.has(member) => {
-                push_count(text, gap, table, member)?;
+                push_count(text, gap, table, member);
                 gap = ",";
             }
             _ => {}
         }
     }
-    Ok(())
 }
 
 // Appends how many partitions the member owns.
-fn push_count(
-    text: &mut String,
-    gap: &str,
-    table: &Table,
-    member: Node,
-) -> Result<(), OutOfMemory> {
+fn push_count(text: &mut Draft, gap: &str, table: &Table, member: Node) {
     let number = member.number();
     let count = owned_by(table, member);
-    write!(text, "{gap} node {number} owns {count}")
+    write!(text, "{gap} node {number} owns {count}");
 }
 
 // How many partitions the node owns.

@@ -1,9 +1,10 @@
 use crate::differing::{push_claimed, push_detailed, push_whole_claimed};
+use crate::draft::Draft;
 use crate::sentences::push_refused;
 use crate::words::{push_held, push_note, push_offer, push_point, push_vector};
 use bully_account::{Account, Deed, Memory, NodeSheet, Note, Shown, ShownCall, Stop, node_sheet};
 use bully_base::{NODES_MAX, Node, OutOfMemory, Status};
-use bully_rows::{Row, push_row};
+use bully_rows::Row;
 use bully_steps::Point;
 use bully_trace::Verdict;
 use bully_world::World;
@@ -15,12 +16,12 @@ pub fn sheet_text(
     account: &Account,
     nodes: &[NodeSheet],
 ) -> Result<String, OutOfMemory> {
-    let mut text = String::new(alloc);
+    let mut text = Draft::new(alloc);
     match account.stop() {
-        Some(stop) => push_stopped(&mut text, account, stop, nodes)?,
-        None => push_lawful(&mut text, account, nodes)?,
+        Some(stop) => push_stopped(&mut text, account, stop, nodes),
+        None => push_lawful(&mut text, account, nodes),
     }
-    Ok(text)
+    text.finish()
 }
 
 // The sheet of the node; none of a node that the group doesn't have.
@@ -29,26 +30,16 @@ fn sheet_of(nodes: &[NodeSheet], node: Node) -> Option<&NodeSheet> {
 }
 
 // Appends the sheet of the row that decided: what it says, why it decided, its node, and the others.
-fn push_stopped(
-    text: &mut String,
-    account: &Account,
-    stop: &Stop,
-    nodes: &[NodeSheet],
-) -> Result<(), OutOfMemory> {
-    push_start(text, stop)?;
+fn push_stopped(text: &mut Draft, account: &Account, stop: &Stop, nodes: &[NodeSheet]) {
     let node = node_of(&stop.row);
-    push_reason(
-        text,
-        account.world(),
-        account.verdict(),
-        &stop.row,
-        sheet_of(nodes, node),
-    )?;
-    if let Some(sheet) = sheet_of(nodes, node) {
-        text.push('\n')?;
-        push_node(text, node, sheet, account.memory(node))?;
+    let sheet = sheet_of(nodes, node);
+    push_start(text, stop);
+    push_reason(text, account.world(), account.verdict(), &stop.row, sheet);
+    if let Some(sheet) = sheet {
+        text.push('\n');
+        push_node(text, node, sheet, account.memory(node));
     }
-    push_others(text, nodes, node)
+    push_others(text, nodes, node);
 }
 
 // The node that the row names.
@@ -63,12 +54,12 @@ fn node_of(row: &Row) -> Node {
 
 // Appends why the row decided in this world, by this verdict. Its node has this sheet.
 fn push_reason(
-    text: &mut String,
+    text: &mut Draft,
     world: &World,
     verdict: Verdict,
     row: &Row,
     sheet: Option<&NodeSheet>,
-) -> Result<(), OutOfMemory> {
+) {
     let setup = world.setup();
     match row {
         Row::Event(event) => push_refused(text, setup, event, verdict, sheet),
@@ -89,41 +80,47 @@ pub fn reason(
     verdict: Verdict,
     row: &Row,
 ) -> Result<String, OutOfMemory> {
-    let mut text = String::new(alloc);
-    push_row(&mut text, row)?;
     let node = node_of(row);
     if node.number() > world.setup().nodes() {
-        push_reason(&mut text, world, verdict, row, None)?;
-        return Ok(text);
+        return reason_text(alloc, world, verdict, row, None);
     }
     let sheet = node_sheet(alloc, world, node)?;
-    push_reason(&mut text, world, verdict, row, Some(&sheet))?;
-    Ok(text)
+    reason_text(alloc, world, verdict, row, Some(&sheet))
+}
+
+// Why the row decided, where its node has this sheet.
+fn reason_text(
+    alloc: Global,
+    world: &World,
+    verdict: Verdict,
+    row: &Row,
+    sheet: Option<&NodeSheet>,
+) -> Result<String, OutOfMemory> {
+    let mut text = Draft::new(alloc);
+    text.push_row(row);
+    push_reason(&mut text, world, verdict, row, sheet);
+    text.finish()
 }
 
 // Appends the row: its number, the line at which it starts, and its text.
-fn push_start(text: &mut String, stop: &Stop) -> Result<(), OutOfMemory> {
+fn push_start(text: &mut Draft, stop: &Stop) {
     let number = stop.number;
     let line = stop.line;
-    write!(text, "row {number} (line {line}): ")?;
-    push_row(text, &stop.row)
+    write!(text, "row {number} (line {line}): ");
+    text.push_row(&stop.row);
 }
 
 // Appends the sheet of a lawful trace: each node as the group stands at the end, and which of them aren't at rest.
-fn push_lawful(
-    text: &mut String,
-    account: &Account,
-    nodes: &[NodeSheet],
-) -> Result<(), OutOfMemory> {
+fn push_lawful(text: &mut Draft, account: &Account, nodes: &[NodeSheet]) {
     let count = account.world().events();
-    writeln!(text, "lawful {count}")?;
+    writeln!(text, "lawful {count}");
     for (place, sheet) in nodes.iter().enumerate() {
         if let Some(node) = node_at(place) {
-            text.push('\n')?;
-            push_node(text, node, sheet, account.memory(node))?;
+            text.push('\n');
+            push_node(text, node, sheet, account.memory(node));
         }
     }
-    push_rest(text, nodes)
+    push_rest(text, nodes);
 }
 
 // The node at this place of a list of all nodes.
@@ -136,23 +133,23 @@ fn node_at(place: usize) -> Option<Node> {
 }
 
 // Appends which nodes aren't at rest: those that are up, and not Normal under the highest node that is up.
-fn push_rest(text: &mut String, nodes: &[NodeSheet]) -> Result<(), OutOfMemory> {
+fn push_rest(text: &mut Draft, nodes: &[NodeSheet]) {
     let highest = highest_up(nodes);
     let mut is_resting = true;
-    text.push('\n')?;
+    text.push('\n');
     for (place, sheet) in nodes.iter().enumerate() {
         if !rests(&sheet.shown, &highest) {
-            push_restless(text, place + 1, is_resting)?;
+            push_restless(text, place + 1, is_resting);
             is_resting = false;
         }
     }
-    text.push_str(if is_resting { "at rest\n" } else { "\n" })
+    text.push_str(if is_resting { "at rest\n" } else { "\n" });
 }
 
 // Appends the number of a node that isn't at rest, the first one or another.
-fn push_restless(text: &mut String, number: usize, is_first: bool) -> Result<(), OutOfMemory> {
-    let title = if is_first { "not at rest:" } else { "," };
-    write!(text, "{title} node {number}")
+fn push_restless(text: &mut Draft, number: usize, is_first: bool) {
+    text.push_str(if is_first { "not at rest:" } else { "," });
+    write!(text, " node {number}");
 }
 
 // The highest node that is up.
@@ -176,57 +173,43 @@ fn rests(shown: &Shown, highest: &Option<Node>) -> bool {
 }
 
 // Appends the lines of a node of the group.
-fn push_node(
-    text: &mut String,
-    node: Node,
-    sheet: &NodeSheet,
-    memory: Option<&Memory>,
-) -> Result<(), OutOfMemory> {
-    push_vector_line(text, node, &sheet.shown)?;
-    push_point_line(text, &sheet.shown, memory)?;
-    push_slot_line(text, sheet.shown.call, memory)?;
-    push_possible_line(text, node, sheet.possible.as_slice())?;
-    push_rows_line(text, memory)
+fn push_node(text: &mut Draft, node: Node, sheet: &NodeSheet, memory: Option<&Memory>) {
+    push_vector_line(text, node, &sheet.shown);
+    push_point_line(text, &sheet.shown, memory);
+    push_slot_line(text, sheet.shown.call, memory);
+    push_possible_line(text, node, sheet.possible.as_slice());
+    push_rows_line(text, memory);
 }
 
 // Appends the line of the node's vector.
-fn push_vector_line(text: &mut String, node: Node, shown: &Shown) -> Result<(), OutOfMemory> {
+fn push_vector_line(text: &mut Draft, node: Node, shown: &Shown) {
     let number = node.number();
     let generation = shown.generation;
-    write!(text, "  node {number:<9}")?;
-    push_vector(text, shown)?;
-    writeln!(text, ", generation {generation}")
+    write!(text, "  node {number:<9}");
+    push_vector(text, shown);
+    writeln!(text, ", generation {generation}");
 }
 
 // Appends the line of the node's point: since when it stands there, and what that offers.
-fn push_point_line(
-    text: &mut String,
-    shown: &Shown,
-    memory: Option<&Memory>,
-) -> Result<(), OutOfMemory> {
-    text.push_str("  point         ")?;
-    push_point(text, &shown.point)?;
+fn push_point_line(text: &mut Draft, shown: &Shown, memory: Option<&Memory>) {
+    text.push_str("  point         ");
+    push_point(text, &shown.point);
     if let Some(memory) = memory {
-        push_since(text, memory)?;
+        push_since(text, memory.notes());
     }
-    text.push_str("; it offers ")?;
-    push_offer(text, shown.offer)?;
-    text.push('\n')
+    text.push_str("; it offers ");
+    push_offer(text, shown.offer);
+    text.push('\n');
 }
 
 // Appends since which row the node stands at its point: the last one that it remembers to have moved it, or else one before
 // all that it remembers.
-fn push_since(text: &mut String, memory: &Memory) -> Result<(), OutOfMemory> {
-    let notes = memory.notes();
+fn push_since(text: &mut Draft, notes: &[Note]) {
     if let Some(row) = last_move(notes) {
-        return write!(text, " since row {row}");
-    }
-    match notes.first() {
-        Some(note) => {
-            let row = note.row;
-            write!(text, " since before row {row}")
-        }
-        None => Ok(()),
+        write!(text, " since row {row}");
+    } else if let Some(note) = notes.first() {
+        let row = note.row;
+        write!(text, " since before row {row}");
     }
 }
 
@@ -242,107 +225,100 @@ fn last_move(notes: &[Note]) -> Option<u32> {
 }
 
 // Appends the line of the node's slot.
-fn push_slot_line(
-    text: &mut String,
-    call: Option<ShownCall>,
-    memory: Option<&Memory>,
-) -> Result<(), OutOfMemory> {
-    text.push_str("  slot          ")?;
+fn push_slot_line(text: &mut Draft, call: Option<ShownCall>, memory: Option<&Memory>) {
+    text.push_str("  slot          ");
     match call {
         Some(held) => {
-            push_held(text, held)?;
-            push_started(text, memory)?;
+            push_held(text, held);
+            push_started(text, memory);
         }
-        None => text.push_str("empty")?,
+        None => text.push_str("empty"),
     }
-    text.push('\n')
+    text.push('\n');
 }
 
 // Appends in which row the call in the slot was started.
-fn push_started(text: &mut String, memory: Option<&Memory>) -> Result<(), OutOfMemory> {
+fn push_started(text: &mut Draft, memory: Option<&Memory>) {
     let Some(memory) = memory else {
-        return Ok(());
+        return;
     };
-    match memory.started() {
-        Some(row) => write!(text, ", started in row {row}"),
-        None => Ok(()),
+    if let Some(row) = memory.started() {
+        write!(text, ", started in row {row}");
     }
 }
 
 // Appends the line of the deeds that nothing refuses now, two spaces before each. A plan is its word alone.
-fn push_possible_line(text: &mut String, node: Node, deeds: &[Deed]) -> Result<(), OutOfMemory> {
+fn push_possible_line(text: &mut Draft, node: Node, deeds: &[Deed]) {
     let number = node.number();
-    text.push_str("  possible now")?;
+    text.push_str("  possible now");
     for deed in deeds {
-        let word = deed.word();
-        write!(text, "  {word}")?;
+        text.push_str("  ");
+        text.push_str(deed.word());
         if *deed != Deed::Plan {
-            write!(text, ",{number}")?;
+            write!(text, ",{number}");
         }
     }
-    text.push('\n')
+    text.push('\n');
 }
 
 // Appends the line of the rows that the node remembers.
-fn push_rows_line(text: &mut String, memory: Option<&Memory>) -> Result<(), OutOfMemory> {
-    text.push_str("  its last rows")?;
+fn push_rows_line(text: &mut Draft, memory: Option<&Memory>) {
+    text.push_str("  its last rows");
     if let Some(memory) = memory {
-        push_notes(text, memory)?;
+        push_notes(text, memory);
     }
-    text.push('\n')
+    text.push('\n');
 }
 
 // Appends the rows that the node remembers: a space before the first, and two before each other one.
-fn push_notes(text: &mut String, memory: &Memory) -> Result<(), OutOfMemory> {
+fn push_notes(text: &mut Draft, memory: &Memory) {
     let mut gap = " ";
     for note in memory.notes() {
-        text.push_str(gap)?;
-        push_note(text, memory, note)?;
+        text.push_str(gap);
+        push_note(text, memory, note);
         gap = "  ";
     }
-    Ok(())
 }
 
 // Appends a line for each node but this one, behind a title; nothing where there is no other one.
-fn push_others(text: &mut String, nodes: &[NodeSheet], node: Node) -> Result<(), OutOfMemory> {
+fn push_others(text: &mut Draft, nodes: &[NodeSheet], node: Node) {
     if nodes.len() > 1 || sheet_of(nodes, node).is_none() {
-        text.push_str("\nthe others\n")?;
+        text.push_str("\nthe others\n");
     }
     for (place, sheet) in nodes.iter().enumerate() {
         match node_at(place) {
-            Some(other) if other != node => push_other(text, other, &sheet.shown)?,
+            Some(other) if other != node => push_other(text, other, &sheet.shown),
             _ => {}
         }
     }
-    Ok(())
 }
 
 // Appends the line of a node beside the one at hand.
-fn push_other(text: &mut String, node: Node, shown: &Shown) -> Result<(), OutOfMemory> {
+fn push_other(text: &mut Draft, node: Node, shown: &Shown) {
     let number = node.number();
-    write!(text, "  node {number:<9}")?;
+    write!(text, "  node {number:<9}");
     if shown.status == Status::Down {
         return text.push_str("down\n");
     }
-    push_vector(text, shown)?;
-    push_place(text, &shown.point)?;
+    push_vector(text, shown);
+    push_place(text, &shown.point);
     match shown.call {
         Some(held) => {
-            text.push_str("; its slot holds ")?;
-            push_held(text, held)?;
+            text.push_str("; its slot holds ");
+            push_held(text, held);
         }
-        None => text.push_str("; its slot is empty")?,
+        None => text.push_str("; its slot is empty"),
     }
-    text.push('\n')
+    text.push('\n');
 }
 
 // Appends where a node stands.
-fn push_place(text: &mut String, point: &Point) -> Result<(), OutOfMemory> {
+fn push_place(text: &mut Draft, point: &Point) {
     match point {
         Point::Idle => text.push_str("; idle"),
         _ => {
-            text.push_str("; at ")?;
-            push_point(text, point)
+            text.push_str("; at ");
+            push_point(text, point);
         }
     }
 }

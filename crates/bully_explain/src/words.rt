@@ -1,61 +1,65 @@
 //! The pieces of a sheet: nodes, points, calls and slots, as text.
 
+use crate::draft::Draft;
 use bully_account::{Deed, Memory, Note, Shown, ShownCall, What};
-use bully_base::{NODES_MAX, Node, NodeSet, OutOfMemory};
+use bully_base::{NODES_MAX, Node, NodeSet};
 use bully_calls::{Answer, Call, CallKind, Phase};
 use bully_rows::status_word;
 use bully_steps::{Point, Want};
-use bully_table::push_owners;
 
 /// Appends the members in rising number, each behind a space; `of nobody` where there is none.
-pub fn push_members(text: &mut String, set: &NodeSet) -> Result<(), OutOfMemory> {
+pub fn push_members(text: &mut Draft, set: &NodeSet) {
     if set.is_empty() {
         return text.push_str(" of nobody");
     }
     for before in 0..NODES_MAX {
-        push_member(text, set, before + 1)?;
+        push_member(text, set, before + 1);
     }
-    Ok(())
 }
 
 // Appends the number behind a space, where it is that of a member.
-fn push_member(text: &mut String, set: &NodeSet, number: u16) -> Result<(), OutOfMemory> {
+fn push_member(text: &mut Draft, set: &NodeSet, number: u16) {
     match Node::new(number) {
         Some(node) if set.has(node) => write!(text, " {number}"),
-        _ => Ok(()),
+        _ => {}
     }
 }
 
 /// Appends the point, as `Asking 3`.
-pub fn push_point(text: &mut String, point: &Point) -> Result<(), OutOfMemory> {
+pub fn push_point(text: &mut Draft, point: &Point) {
+    text.push_str(point_word(point));
     match point {
-        Point::Idle => text.push_str("Idle"),
-        Point::Asking(number) => write!(text, "Asking {number}"),
-        Point::Halting(number) => write!(text, "Halting {number}"),
-        Point::Announcing(rest) => {
-            text.push_str("Announcing")?;
-            push_members(text, rest)
-        }
-        Point::Planning => text.push_str("Planning"),
-        Point::Readying(rest) => {
-            text.push_str("Readying")?;
-            push_members(text, rest)
-        }
+        Point::Asking(number) | Point::Halting(number) => write!(text, " {number}"),
+        Point::Announcing(rest) | Point::Readying(rest) => push_members(text, rest),
         Point::Checking(callee) => {
             let number = callee.number();
-            write!(text, "Checking {number}")
+            write!(text, " {number}");
         }
-        Point::Inquiring => text.push_str("Inquiring"),
+        Point::Idle | Point::Planning | Point::Inquiring => {}
+    }
+}
+
+// The point as the profile names it.
+fn point_word(point: &Point) -> &'static str {
+    match point {
+        Point::Idle => "Idle",
+        Point::Asking(_) => "Asking",
+        Point::Halting(_) => "Halting",
+        Point::Announcing(_) => "Announcing",
+        Point::Planning => "Planning",
+        Point::Readying(_) => "Readying",
+        Point::Checking(_) => "Checking",
+        Point::Inquiring => "Inquiring",
     }
 }
 
 /// Appends what a point offers.
-pub fn push_offer(text: &mut String, offer: Want) -> Result<(), OutOfMemory> {
+pub fn push_offer(text: &mut Draft, offer: Want) {
     match offer {
         Want::Nothing | Want::Await => text.push_str("nothing"),
         Want::Start(call) => {
-            text.push_str("the call ")?;
-            push_call(text, call)
+            text.push_str("the call ");
+            push_call(text, call);
         }
         Want::Move => text.push_str("a move"),
         Want::Plan => text.push_str("a plan"),
@@ -63,10 +67,10 @@ pub fn push_offer(text: &mut String, offer: Want) -> Result<(), OutOfMemory> {
 }
 
 /// Appends the call, as `Ready to 1`.
-pub fn push_call(text: &mut String, call: Call) -> Result<(), OutOfMemory> {
-    let kind = call_word(call.kind);
+pub fn push_call(text: &mut Draft, call: Call) {
     let callee = call.callee.number();
-    write!(text, "{kind} to {callee}")
+    text.push_str(call_word(call.kind));
+    write!(text, " to {callee}");
 }
 
 // The call as the profile names it.
@@ -92,73 +96,68 @@ fn phase_text(phase: Phase) -> &'static str {
 }
 
 /// Appends the call in a slot, as `Ready to 1, sent, an orphan`.
-pub fn push_held(text: &mut String, held: ShownCall) -> Result<(), OutOfMemory> {
-    push_call(text, held.call)?;
-    let phase = phase_text(held.phase);
-    let mark = if held.is_live { "live" } else { "an orphan" };
-    write!(text, ", {phase}, {mark}")
+pub fn push_held(text: &mut Draft, held: ShownCall) {
+    push_call(text, held.call);
+    text.push_str(", ");
+    text.push_str(phase_text(held.phase));
+    text.push_str(if held.is_live {
+        ", live"
+    } else {
+        ", an orphan"
+    });
 }
 
 /// Appends the vector but for the task, as `election, coordinator 2, halter 3, up 1`. What there is none of isn't named.
-pub fn push_vector(text: &mut String, shown: &Shown) -> Result<(), OutOfMemory> {
-    text.push_str(status_word(shown.status))?;
-    push_named(text, "coordinator", shown.coordinator)?;
-    push_named(text, "halter", shown.halter)?;
-    if shown.up.is_empty() {
-        return Ok(());
+pub fn push_vector(text: &mut Draft, shown: &Shown) {
+    text.push_str(status_word(shown.status));
+    push_named(text, "coordinator", shown.coordinator);
+    push_named(text, "halter", shown.halter);
+    if !shown.up.is_empty() {
+        text.push_str(", up");
+        push_members(text, &shown.up);
     }
-    text.push_str(", up")?;
-    push_members(text, &shown.up)
 }
 
 // Appends the node that has this part, where there is one.
-fn push_named(text: &mut String, part: &str, node: Option<Node>) -> Result<(), OutOfMemory> {
-    match node {
-        Some(node) => {
-            let number = node.number();
-            write!(text, ", {part} {number}")
-        }
-        None => Ok(()),
+fn push_named(text: &mut Draft, part: &str, node: Option<Node>) {
+    if let Some(node) = node {
+        let number = node.number();
+        write!(text, ", {part} {number}");
     }
 }
 
 /// Appends a row that a node has remembered, as `17 start (Ready to 1)`.
-pub fn push_note(text: &mut String, memory: &Memory, note: &Note) -> Result<(), OutOfMemory> {
+pub fn push_note(text: &mut Draft, memory: &Memory, note: &Note) {
     let row = note.row;
-    write!(text, "{row} ")?;
-    push_what(text, memory, &note.what)
+    write!(text, "{row} ");
+    push_what(text, memory, &note.what);
 }
 
 // Appends what a row did to its node.
-fn push_what(text: &mut String, memory: &Memory, what: &What) -> Result<(), OutOfMemory> {
+fn push_what(text: &mut Draft, memory: &Memory, what: &What) {
     match what {
         What::Did(deed) => {
-            text.push_str(deed.word())?;
-            push_planned(text, memory, *deed)
+            text.push_str(deed.word());
+            push_planned(text, memory, *deed);
         }
         What::Started(call) => {
-            text.push_str("start (")?;
-            push_call(text, *call)?;
-            text.push(')')
+            text.push_str("start (");
+            push_call(text, *call);
+            text.push(')');
         }
         What::HaltedBy(node) => {
             let number = node.number();
-            write!(text, "halted by {number}")
+            write!(text, "halted by {number}");
         }
     }
 }
 
 // Appends the owners behind a plan. Between two plans of a node there are as many rows as it remembers, or more, so the table
 // of its last plan is that of the plan among them.
-fn push_planned(text: &mut String, memory: &Memory, deed: Deed) -> Result<(), OutOfMemory> {
-    if deed != Deed::Plan {
-        return Ok(());
-    }
-    match memory.planned() {
-        Some(table) => {
-            text.push(' ')?;
-            push_owners(text, table, ' ')
-        }
-        None => Ok(()),
+fn push_planned(text: &mut Draft, memory: &Memory, deed: Deed) {
+    let planned = memory.planned();
+    if deed == Deed::Plan && planned.is_some() {
+        text.push(' ');
+        text.push_task(planned);
     }
 }
