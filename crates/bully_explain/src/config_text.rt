@@ -20,10 +20,10 @@ pub fn push_fault(text: &mut Draft, document: &Table, fault: ConfigFault) {
 
 // Appends what is wrong at a key: of the document, or of the first fault in which it is wrong.
 fn push_key_fault(text: &mut Draft, document: &Table, fault: ConfigFault, key: Key) {
-    write!(text, "the key {key} ");
+    text.push_between("the key ", key, " ");
     match number_of(document, fault, key) {
         Some(number) => {
-            write!(text, "of fault {number} ");
+            text.push_between("of fault ", number, " ");
             push_found(text, table_at(items_at(document, Key::Fault), number), key);
         }
         None => push_found(text, Some(document), key),
@@ -76,8 +76,7 @@ fn push_found(text: &mut Draft, table: Option<&Table>, key: Key) {
 fn push_first_misfit(text: &mut Draft, items: &[Value], key: Key) {
     for (place, item) in items.iter().enumerate() {
         if !fits(item, key) {
-            let number = place + 1;
-            write!(text, ", whose item {number} ");
+            text.push_between(", whose item ", place + 1, " ");
             return push_value(text, item);
         }
     }
@@ -104,17 +103,15 @@ fn is_weight(item: &Value) -> bool {
 // Appends a value: a number, a text and a truth value as they are, and of the others of which kind they are.
 fn push_value(text: &mut Draft, value: &Value) {
     if let Some(number) = value.as_integer() {
-        write!(text, "is {number}");
+        text.push_behind("is ", number);
     } else if let Some(word) = value.as_str() {
-        write!(text, "is \"{word}\"");
+        text.push_between("is \"", word, "\"");
     } else if let Some(flag) = value.as_bool() {
         text.push_str(if flag { "is true" } else { "is false" });
     } else if let Some(items) = value.as_array() {
-        let count = items.len();
-        write!(text, "is an array of {count}");
+        text.push_behind("is an array of ", items.len());
     } else {
-        text.push_str("is a ");
-        text.push_str(value.type_str());
+        text.push_behind("is a ", value.type_str());
     }
 }
 
@@ -122,37 +119,31 @@ fn push_value(text: &mut Draft, value: &Value) {
 fn push_expected(text: &mut Draft, document: &Table, key: Key) {
     text.push_str("; there may stand ");
     match key {
-        Key::Nodes => push_integer(text, 1, u32::from(NODES_MAX)),
-        Key::Partitions => push_integer(text, 1, u32::from(PARTITIONS_MAX)),
-        Key::Events => push_integer(text, 1, EVENTS_MAX),
-        Key::Turns => push_integer(text, 1, TURNS_MAX),
-        Key::Period => push_integer(text, PERIOD_MIN, PERIOD_MAX),
+        Key::Nodes => text.push_behind("an integer from 1 to ", NODES_MAX),
+        Key::Partitions => text.push_behind("an integer from 1 to ", PARTITIONS_MAX),
+        Key::Events => text.push_behind("an integer from 1 to ", EVENTS_MAX),
+        Key::Turns => text.push_behind("an integer from 1 to ", TURNS_MAX),
+        Key::Period => write!(text, "an integer from {PERIOD_MIN} to {PERIOD_MAX}"),
         Key::Names => text.push_str(
             "an array of as many strings as there are nodes, none of them empty",
         ),
-        Key::Weights => write!(
-            text,
-            "an array of as many integers as there are nodes, each from 1 to {WEIGHT_MAX}"
+        Key::Weights => text.push_behind(
+            "an array of as many integers as there are nodes, each from 1 to ",
+            WEIGHT_MAX,
         ),
         Key::Keep => text.push_str("true or false"),
-        Key::Fault => write!(text, "an array of at most {FAULTS_MAX} tables"),
+        Key::Fault => text.push_between("an array of at most ", FAULTS_MAX, " tables"),
         Key::At => text.push_str("an integer from 1 to the number of turns"),
         Key::Node => push_names(text, items_at(document, Key::Names)),
         Key::Kind => text.push_str("crash or recover"),
     }
 }
 
-// Appends that an integer from the least one to the most may stand there.
-fn push_integer(text: &mut Draft, least: u32, most: u32) {
-    write!(text, "an integer from {least} to {most}");
-}
-
 // Appends that one of these names may stand there.
 fn push_names(text: &mut Draft, names: &[Value]) {
     text.push_str("one of the names:");
     for name in names {
-        let word = text_of(name);
-        write!(text, " \"{word}\"");
+        text.push_between(" \"", text_of(name), "\"");
     }
 }
 
@@ -169,20 +160,20 @@ fn push_other_fault(text: &mut Draft, document: &Table, fault: ConfigFault) {
 fn push_double(text: &mut Draft, names: &[Value]) {
     for (place, name) in names.iter().enumerate() {
         let word = text_of(name);
-        if is_before(names, place, word) {
-            return write!(text, "two of the names are \"{word}\"");
+        if first_place(names, word) < place {
+            return text.push_between("two of the names are \"", word, "\"");
         }
     }
 }
 
-// Whether a name before this place is the word.
-fn is_before(names: &[Value], place: usize, word: &str) -> bool {
-    for name in names.iter().take(place) {
+// The place of the first name that is the word; that behind all names where none is.
+fn first_place(names: &[Value], word: &str) -> usize {
+    for (place, name) in names.iter().enumerate() {
         if text_of(name) == word {
-            return true;
+            return place;
         }
     }
-    false
+    names.len()
 }
 
 // Appends the first key that isn't listed: at the top, or else in a fault.
@@ -195,10 +186,11 @@ fn push_unlisted(text: &mut Draft, document: &Table) {
     }
     for (place, item) in items_at(document, Key::Fault).iter().enumerate() {
         if let Some(word) = unlisted_in(item) {
-            let number = place + 1;
-            return write!(
-                text,
-                "{word} is no key of fault {number}; there may stand at, node and kind"
+            text.push_str(word);
+            return text.push_between(
+                " is no key of fault ",
+                place + 1,
+                "; there may stand at, node and kind",
             );
         }
     }

@@ -26,8 +26,7 @@ pub fn push_claimed(text: &mut Draft, setup: &Setup, claim: Claim, sheet: Option
 
 // Appends the status and the coordinator that are claimed of the node, and beside them what the group shows.
 fn push_claim(text: &mut Draft, claim: Claim, shown: &Shown) {
-    let number = claim.node.number();
-    writeln!(text, "node {number} isn't as it is claimed");
+    text.push_between("node ", claim.node.number(), " isn't as it is claimed\n");
     push_heads(text, "claimed");
     push_words(
         text,
@@ -75,9 +74,10 @@ pub fn push_detailed(text: &mut Draft, world: &World, event: &DetailedEvent) {
         return;
     }
     let shown = said_of(world, &event.event());
-    writeln!(
-        text,
-        "differs: the call of node {number} isn't as it is told"
+    text.push_between(
+        "differs: the call of node ",
+        number,
+        " isn't as it is told\n",
     );
     push_heads(text, "told");
     push_calls(text, event.detail.call(), &shown);

@@ -57,6 +57,19 @@ impl Draft {
         }
     }
 
+    /// Appends the value behind this text.
+    pub fn push_behind<D: Display + Drop>(&mut self, before: &str, value: D) {
+        self.push_str(before);
+        self.write_fmt(value);
+    }
+
+    /// Appends the value between these texts.
+    pub fn push_between<D: Display + Drop>(&mut self, before: &str, value: D, behind: &str) {
+        self.push_str(before);
+        self.write_fmt(value);
+        self.push_str(behind);
+    }
+
     /// Appends the row, as a trace has it: a line.
     pub fn push_row(&mut self, row: &Row) {
         if self.outcome.is_ok() {

@@ -33,26 +33,12 @@ pub fn explain<R: Read + Drop>(alloc: Global, reader: R) -> Result<Sheet, TraceF
     ensures untold { IfErr result IsUntold }
 {
     let mut rows = RowReader::open(alloc, Lines::new(reader));
-    read_sheet(alloc, &mut rows)
-}
-
-// The sheet of the rows of a text of which none was read.
-fn read_sheet<R: Read + Drop>(
-    alloc: Global,
-    rows: &mut RowReader<Lines<R>>,
-) -> Result<Sheet, TraceFault>
-    ensures told { (known : Option (List ℕ)) → IsUnread known rows.old → IfOk result (λ sheet. IsToldOf known sheet.nodes.items sheet.told) }
-    ensures form { IfOk result (λ sheet. IfErr sheet.told (λ fault. is_of_form fault.cause ≡ true)) }
-    ensures sheets { IfOk result (λ sheet. IfErr sheet.told (λ fault. sheet.nodes.items ≡ [])) }
-    ensures fault { (known : Option (List ℕ)) → IsUnread known rows.old → IfErr result (EndsReading known) }
-    ensures untold { IfErr result IsUntold }
-{
     let mut account: Option<Account> = None;
-    account_sheet(alloc, rows, &mut account)
+    read_sheet(alloc, &mut rows, &mut account)
 }
 
-// The same with the account that the rows are taken to.
-fn account_sheet<R: Read + Drop>(
+// The sheet of the rows of a text of which none was read. They are taken to the account, which their header makes.
+fn read_sheet<R: Read + Drop>(
     alloc: Global,
     rows: &mut RowReader<Lines<R>>,
     account: &mut Option<Account>,

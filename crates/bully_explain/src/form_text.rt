@@ -13,6 +13,9 @@ const SHOWN_MAX: usize = 60;
 /// What is said where a dash may stand, too.
 const OR_NONE: &str = ", or - for none";
 
+/// What is said of several numbers, before their range.
+const EACH: &str = " parted by single spaces, each";
+
 /// The sheet of a fault of form, as text: the row at which it is, the field, and what may stand there.
 pub fn form_text<R: Read + Drop>(
     alloc: Global,
@@ -29,9 +32,10 @@ pub fn form_text<R: Read + Drop>(
 // The sheet of a text without a row, at this row.
 fn no_row_text(alloc: Global, row: u32) -> Result<String, OutOfMemory> {
     let mut text = Draft::new(alloc);
-    writeln!(
-        text,
-        "row {row}: there is none\nBadHeader: a trace begins with a header"
+    text.push_between(
+        "row ",
+        row,
+        ": there is none\nBadHeader: a trace begins with a header\n",
     );
     text.finish()
 }
@@ -54,7 +58,7 @@ fn row_text(
 
 // Appends the line of the cause: where the row breaks its form.
 fn push_cause(text: &mut Draft, fields: &ByteRecord, account: &Option<Account>, cause: TraceCause) {
-    write!(text, "\n{cause}: ");
+    text.push_between("\n", cause, ": ");
     match cause {
         TraceCause::BadHeader => push_misfit(text, fields, misfit_of_header(fields), None),
         TraceCause::BadRow => push_row_misfit(text, fields, account),
@@ -76,10 +80,7 @@ fn push_row_misfit(text: &mut Draft, fields: &ByteRecord, account: &Option<Accou
 
 // Appends that a trace has no such row.
 fn push_limit(text: &mut Draft) {
-    write!(
-        text,
-        "a trace has at most {ROWS_MAX} rows behind its header"
-    );
+    text.push_between("a trace has at most ", ROWS_MAX, " rows behind its header");
 }
 
 // Appends the text of a row: its fields, parted by commas, up to so many bytes, and two dots where that isn't all.
@@ -124,10 +125,9 @@ fn push_bytes(text: &mut Draft, bytes: &[u8]) {
 fn push_misfit(text: &mut Draft, fields: &ByteRecord, misfit: Misfit, setup: Option<&Setup>) {
     let field = misfit.field;
     if field == 0 {
-        let count = fields.len();
-        write!(text, "it has {count} fields, and ");
+        text.push_between("it has ", fields.len(), " fields, and ");
     } else {
-        write!(text, "at field {field} there may stand ");
+        text.push_between("at field ", field, " there may stand ");
     }
     push_expected(text, misfit.expected, setup);
 }
@@ -135,72 +135,44 @@ fn push_misfit(text: &mut Draft, fields: &ByteRecord, misfit: Misfit, setup: Opt
 // Appends what may stand at a place of a row.
 fn push_expected(text: &mut Draft, expected: Expected, setup: Option<&Setup>) {
     match expected {
+        Expected::Words(words) => text.push_str(words),
         Expected::Fields(counts) => push_counts(text, counts),
-        Expected::Node(highest) => push_range(text, "the number of a node,", highest),
-        Expected::Owners => push_owners_expected(text, setup),
-        Expected::Coordinator(highest) => {
-            push_range(text, "the number of a node,", highest);
+        Expected::Numbers(what, most) => push_range(text, what, most),
+        Expected::NumbersOrNone(what, most) => {
+            push_range(text, what, most);
             text.push_str(OR_NONE);
         }
-        Expected::Up(highest) => {
-            push_range(
-                text,
-                "the numbers of nodes in rising order, parted by single spaces, each",
-                highest,
-            );
-            text.push_str(OR_NONE);
-        }
+        Expected::Owners => push_owners(text, setup),
         Expected::Task => {
-            push_owners_expected(text, setup);
+            push_owners(text, setup);
             text.push_str(OR_NONE);
         }
-        Expected::Nodes(most) => push_range(text, "how many nodes there are,", most),
-        Expected::Partitions(most) => push_range(text, "how many partitions there are,", most),
         Expected::Weights(nodes) => {
-            write!(text, "the weights of {nodes} nodes,");
-            push_range(text, " parted by single spaces, each", WEIGHT_MAX);
+            text.push_between("the weights of ", nodes, " nodes,");
+            push_range(text, EACH, WEIGHT_MAX);
         }
-        _ => text.push_str(words_expected(expected)),
     }
-}
-
-// Appends of what a number may stand there, and its range.
-fn push_range(text: &mut Draft, what: &str, most: u16) {
-    write!(text, "{what} from 1 to {most}");
 }
 
 // Appends how many fields a row of a kind has.
 fn push_counts(text: &mut Draft, counts: FieldCounts) {
-    let few = counts.few;
-    write!(text, "one of its kind has {few}");
+    text.push_behind("one of its kind has ", counts.few);
     if let Some(more) = counts.more {
-        write!(text, " or {more}");
+        text.push_behind(" or ", more);
     }
 }
 
-// Which words may stand at a place; none where something else than a word may.
-fn words_expected(expected: Expected) -> &'static str {
-    match expected {
-        Expected::Word => {
-            "recover, crash, check, timeout, start, run, lose, return, drop, move, plan or saw"
-        }
-        Expected::Status => "down, election, reorganization or normal",
-        Expected::Call => "are-you-up, are-you-normal, halt, new-coordinator or ready",
-        Expected::Answer => "done, yes or no",
-        Expected::Outcome => "done, yes, no, failed or discarded",
-        Expected::Bully => "the word bully",
-        Expected::Version => "the version, 1, 2 or 3",
-        Expected::Keep => "keep or clear",
-        _ => "",
-    }
+// Appends of what a number may stand there, and up to which one.
+fn push_range(text: &mut Draft, what: &str, most: u16) {
+    text.push_str(what);
+    text.push_behind(" from 1 to ", most);
 }
 
 // Appends which owners may stand in a trace of this setup.
-fn push_owners_expected(text: &mut Draft, setup: Option<&Setup>) {
+fn push_owners(text: &mut Draft, setup: Option<&Setup>) {
     let Some(setup) = setup else {
         return text.push_str("the owners of the partitions");
     };
-    let partitions = setup.partitions();
-    write!(text, "the owners of {partitions} partitions,");
-    push_range(text, " parted by single spaces, each", setup.nodes());
+    text.push_between("the owners of ", setup.partitions(), " partitions,");
+    push_range(text, EACH, setup.nodes());
 }

@@ -22,8 +22,7 @@ pub fn push_refused(
     let Verdict::Refused(_, cause) = verdict else {
         return;
     };
-    let word = cause_word(cause);
-    write!(text, "refused, {word}: ");
+    text.push_between("refused, ", cause_word(cause), ": ");
     match sheet {
         Some(sheet) => push_cause(text, setup, event, cause, &sheet.shown),
         None => push_no_node(text, setup, event.node()),
@@ -33,9 +32,8 @@ pub fn push_refused(
 
 /// Appends that the group has no such node.
 pub fn push_no_node(text: &mut Draft, setup: &Setup, node: Node) {
-    let nodes = setup.nodes();
-    let number = node.number();
-    write!(text, "the group has {nodes} nodes, and no node {number}");
+    text.push_between("the group has ", setup.nodes(), " nodes");
+    text.push_behind(", and no node ", node.number());
 }
 
 // Appends the sentence of a cause at a node of which this is shown.
@@ -44,16 +42,20 @@ fn push_cause(text: &mut Draft, setup: &Setup, event: &Event, cause: Refused, sh
     match cause {
         Refused::Full => push_full(text, setup),
         Refused::BadNode => push_no_node(text, setup, event.node()),
-        Refused::IsDown => write!(text, "node {number} is down"),
+        Refused::IsDown => text.push_between("node ", number, " is down"),
         Refused::IsUp => push_up(text, number, shown),
         Refused::Busy => push_busy(text, number, shown),
         Refused::NoStep => push_no_step(text, event, shown),
-        Refused::SlotBusy => write!(text, "the slot of node {number} still holds a call"),
+        Refused::SlotBusy => {
+            text.push_between("the slot of node ", number, " still holds a call")
+        }
         Refused::NoCall => push_no_call(text, event, shown),
         Refused::CalleeDown => push_callee(text, number, shown, "down"),
         Refused::CalleeUp => push_callee(text, number, shown, "up"),
         Refused::BadTable => push_bad_table(text, setup, event, shown),
-        Refused::NotOrphan => write!(text, "the call of node {number} is live, and no orphan"),
+        Refused::NotOrphan => {
+            text.push_between("the call of node ", number, " is live, and no orphan")
+        }
     }
 }
 
@@ -65,20 +67,19 @@ fn push_full(text: &mut Draft, setup: &Setup) {
 
 // Appends that the node is up.
 fn push_up(text: &mut Draft, number: u16, shown: &Shown) {
-    write!(text, "node {number} is up, with the status ");
+    text.push_between("node ", number, " is up, with the status ");
     text.push_str(status_word(shown.status));
 }
 
 // Appends that a procedure runs at the node.
 fn push_busy(text: &mut Draft, number: u16, shown: &Shown) {
-    write!(text, "node {number} isn't Idle: it stands at ");
+    text.push_between("node ", number, " isn't Idle: it stands at ");
     push_point(text, &shown.point);
 }
 
 // Appends what the point offers in place of what the event takes.
 fn push_no_step(text: &mut Draft, event: &Event, shown: &Shown) {
-    let number = event.node().number();
-    write!(text, "node {number} stands at ");
+    text.push_between("node ", event.node().number(), " stands at ");
     push_point(text, &shown.point);
     text.push_str(", which offers ");
     push_offer(text, shown.offer);
@@ -91,14 +92,13 @@ fn push_no_step(text: &mut Draft, event: &Event, shown: &Shown) {
 
 // Appends what the slot holds in place of the call that the event takes.
 fn push_no_call(text: &mut Draft, event: &Event, shown: &Shown) {
-    let number = event.node().number();
-    let wanted = match event {
-        Event::Run(_) => "no call that was sent and didn't run",
-        Event::Lose(_) => "no call that was sent or ran",
-        Event::Return(_) => "no call that ran or failed",
-        _ => "no call",
-    };
-    write!(text, "the slot of node {number} holds {wanted}: ");
+    text.push_between("the slot of node ", event.node().number(), " holds ");
+    text.push_str(match event {
+        Event::Run(_) => "no call that was sent and didn't run: ",
+        Event::Lose(_) => "no call that was sent or ran: ",
+        Event::Return(_) => "no call that ran or failed: ",
+        _ => "no call: ",
+    });
     match shown.call {
         Some(held) => push_held(text, held),
         None => text.push_str("it is empty"),

@@ -1,7 +1,7 @@
 use crate::differing::{push_claimed, push_detailed, push_whole_claimed};
 use crate::draft::Draft;
 use crate::sentences::push_refused;
-use crate::words::{push_held, push_note, push_offer, push_point, push_vector};
+use crate::words::{push_held, push_offer, push_point, push_vector, push_what};
 use bully_account::{Account, Deed, Memory, NodeSheet, Note, Shown, ShownCall, Stop, node_sheet};
 use bully_base::{NODES_MAX, Node, OutOfMemory, Status};
 use bully_rows::Row;
@@ -112,8 +112,7 @@ fn push_start(text: &mut Draft, stop: &Stop) {
 
 // Appends the sheet of a lawful trace: each node as the group stands at the end, and which of them aren't at rest.
 fn push_lawful(text: &mut Draft, account: &Account, nodes: &[NodeSheet]) {
-    let count = account.world().events();
-    writeln!(text, "lawful {count}");
+    text.push_between("lawful ", account.world().events(), "\n");
     for (place, sheet) in nodes.iter().enumerate() {
         if let Some(node) = node_at(place) {
             text.push('\n');
@@ -148,8 +147,12 @@ fn push_rest(text: &mut Draft, nodes: &[NodeSheet]) {
 
 // Appends the number of a node that isn't at rest, the first one or another.
 fn push_restless(text: &mut Draft, number: usize, is_first: bool) {
-    text.push_str(if is_first { "not at rest:" } else { "," });
-    write!(text, " node {number}");
+    let title = if is_first {
+        "not at rest: node "
+    } else {
+        ", node "
+    };
+    text.push_behind(title, number);
 }
 
 // The highest node that is up.
@@ -184,10 +187,9 @@ fn push_node(text: &mut Draft, node: Node, sheet: &NodeSheet, memory: Option<&Me
 // Appends the line of the node's vector.
 fn push_vector_line(text: &mut Draft, node: Node, shown: &Shown) {
     let number = node.number();
-    let generation = shown.generation;
     write!(text, "  node {number:<9}");
     push_vector(text, shown);
-    writeln!(text, ", generation {generation}");
+    text.push_between(", generation ", shown.generation, "\n");
 }
 
 // Appends the line of the node's point: since when it stands there, and what that offers.
@@ -206,10 +208,9 @@ fn push_point_line(text: &mut Draft, shown: &Shown, memory: Option<&Memory>) {
 // all that it remembers.
 fn push_since(text: &mut Draft, notes: &[Note]) {
     if let Some(row) = last_move(notes) {
-        write!(text, " since row {row}");
+        text.push_behind(" since row ", row);
     } else if let Some(note) = notes.first() {
-        let row = note.row;
-        write!(text, " since before row {row}");
+        text.push_behind(" since before row ", note.row);
     }
 }
 
@@ -243,7 +244,7 @@ fn push_started(text: &mut Draft, memory: Option<&Memory>) {
         return;
     };
     if let Some(row) = memory.started() {
-        write!(text, ", started in row {row}");
+        text.push_behind(", started in row ", row);
     }
 }
 
@@ -252,10 +253,9 @@ fn push_possible_line(text: &mut Draft, node: Node, deeds: &[Deed]) {
     let number = node.number();
     text.push_str("  possible now");
     for deed in deeds {
-        text.push_str("  ");
-        text.push_str(deed.word());
+        text.push_behind("  ", deed.word());
         if *deed != Deed::Plan {
-            write!(text, ",{number}");
+            text.push_behind(",", number);
         }
     }
     text.push('\n');
@@ -274,28 +274,28 @@ fn push_rows_line(text: &mut Draft, memory: Option<&Memory>) {
 fn push_notes(text: &mut Draft, memory: &Memory) {
     let mut gap = " ";
     for note in memory.notes() {
-        text.push_str(gap);
-        push_note(text, memory, note);
+        text.push_between(gap, note.row, " ");
+        push_what(text, memory, &note.what);
         gap = "  ";
     }
 }
 
 // Appends a line for each node but this one, behind a title; nothing where there is no other one.
 fn push_others(text: &mut Draft, nodes: &[NodeSheet], node: Node) {
-    if nodes.len() > 1 || sheet_of(nodes, node).is_none() {
+    let own = usize::from(node.number());
+    if nodes.len() > 1 || own > nodes.len() {
         text.push_str("\nthe others\n");
     }
     for (place, sheet) in nodes.iter().enumerate() {
-        match node_at(place) {
-            Some(other) if other != node => push_other(text, other, &sheet.shown),
-            _ => {}
+        let number = place + 1;
+        if number != own {
+            push_other(text, number, &sheet.shown);
         }
     }
 }
 
-// Appends the line of a node beside the one at hand.
-fn push_other(text: &mut Draft, node: Node, shown: &Shown) {
-    let number = node.number();
+// Appends the line of the node of this number, which isn't the one at hand.
+fn push_other(text: &mut Draft, number: usize, shown: &Shown) {
     write!(text, "  node {number:<9}");
     if shown.status == Status::Down {
         return text.push_str("down\n");

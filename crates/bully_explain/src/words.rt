@@ -1,7 +1,7 @@
 //! The pieces of a sheet: nodes, points, calls and slots, as text.
 
 use crate::draft::Draft;
-use bully_account::{Deed, Memory, Note, Shown, ShownCall, What};
+use bully_account::{Deed, Memory, Shown, ShownCall, What};
 use bully_base::{NODES_MAX, Node, NodeSet};
 use bully_calls::{Answer, Call, CallKind, Phase};
 use bully_rows::status_word;
@@ -20,7 +20,7 @@ pub fn push_members(text: &mut Draft, set: &NodeSet) {
 // Appends the number behind a space, where it is that of a member.
 fn push_member(text: &mut Draft, set: &NodeSet, number: u16) {
     match Node::new(number) {
-        Some(node) if set.has(node) => write!(text, " {number}"),
+        Some(node) if set.has(node) => text.push_behind(" ", number),
         _ => {}
     }
 }
@@ -29,12 +29,9 @@ fn push_member(text: &mut Draft, set: &NodeSet, number: u16) {
 pub fn push_point(text: &mut Draft, point: &Point) {
     text.push_str(point_word(point));
     match point {
-        Point::Asking(number) | Point::Halting(number) => write!(text, " {number}"),
+        Point::Asking(number) | Point::Halting(number) => text.push_behind(" ", *number),
         Point::Announcing(rest) | Point::Readying(rest) => push_members(text, rest),
-        Point::Checking(callee) => {
-            let number = callee.number();
-            write!(text, " {number}");
-        }
+        Point::Checking(callee) => text.push_behind(" ", callee.number()),
         Point::Idle | Point::Planning | Point::Inquiring => {}
     }
 }
@@ -68,9 +65,8 @@ pub fn push_offer(text: &mut Draft, offer: Want) {
 
 /// Appends the call, as `Ready to 1`.
 pub fn push_call(text: &mut Draft, call: Call) {
-    let callee = call.callee.number();
     text.push_str(call_word(call.kind));
-    write!(text, " to {callee}");
+    text.push_behind(" to ", call.callee.number());
 }
 
 // The call as the profile names it.
@@ -110,31 +106,23 @@ pub fn push_held(text: &mut Draft, held: ShownCall) {
 /// Appends the vector but for the task, as `election, coordinator 2, halter 3, up 1`. What there is none of isn't named.
 pub fn push_vector(text: &mut Draft, shown: &Shown) {
     text.push_str(status_word(shown.status));
-    push_named(text, "coordinator", shown.coordinator);
-    push_named(text, "halter", shown.halter);
+    push_named(text, ", coordinator ", shown.coordinator);
+    push_named(text, ", halter ", shown.halter);
     if !shown.up.is_empty() {
         text.push_str(", up");
         push_members(text, &shown.up);
     }
 }
 
-// Appends the node that has this part, where there is one.
+// Appends the node behind the part that it has, where there is one.
 fn push_named(text: &mut Draft, part: &str, node: Option<Node>) {
     if let Some(node) = node {
-        let number = node.number();
-        write!(text, ", {part} {number}");
+        text.push_behind(part, node.number());
     }
 }
 
-/// Appends a row that a node has remembered, as `17 start (Ready to 1)`.
-pub fn push_note(text: &mut Draft, memory: &Memory, note: &Note) {
-    let row = note.row;
-    write!(text, "{row} ");
-    push_what(text, memory, &note.what);
-}
-
-// Appends what a row did to its node.
-fn push_what(text: &mut Draft, memory: &Memory, what: &What) {
+/// Appends what a row that a node has remembered did to it, as `start (Ready to 1)`.
+pub fn push_what(text: &mut Draft, memory: &Memory, what: &What) {
     match what {
         What::Did(deed) => {
             text.push_str(deed.word());
@@ -145,10 +133,7 @@ fn push_what(text: &mut Draft, memory: &Memory, what: &What) {
             push_call(text, *call);
             text.push(')');
         }
-        What::HaltedBy(node) => {
-            let number = node.number();
-            write!(text, "halted by {number}");
-        }
+        What::HaltedBy(node) => text.push_behind("halted by ", node.number()),
     }
 }
 
