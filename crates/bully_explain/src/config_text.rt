@@ -102,16 +102,12 @@ fn is_weight(item: &Value) -> bool {
 
 // Appends a value: a number, a text and a truth value as they are, and of the others of which kind they are.
 fn push_value(text: &mut Draft, value: &Value) {
-    if let Some(number) = value.as_integer() {
-        text.push_behind("is ", number);
-    } else if let Some(word) = value.as_str() {
-        text.push_between("is \"", word, "\"");
-    } else if let Some(flag) = value.as_bool() {
-        text.push_str(if flag { "is true" } else { "is false" });
-    } else if let Some(items) = value.as_array() {
-        text.push_behind("is an array of ", items.len());
-    } else {
-        text.push_behind("is a ", value.type_str());
+    match value {
+        Value::Integer(number) => text.push_behind("is ", *number),
+        Value::String(word) => text.push_between("is \"", word.as_str(), "\""),
+        Value::Boolean(flag) => text.push_behind("is ", *flag),
+        Value::Array(items) => text.push_behind("is an array of ", items.len()),
+        _ => text.push_behind("is a ", value.type_str()),
     }
 }
 

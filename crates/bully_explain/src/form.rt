@@ -7,36 +7,43 @@ use bully_rows::{
 };
 use csv::ByteRecord;
 
-/// The words of the events and of a claim.
-const EVENTS: &str =
-    "recover, crash, check, timeout, start, run, lose, return, drop, move, plan or saw";
-
-/// The words of the calls.
-const CALLS: &str = "are-you-up, are-you-normal, halt, new-coordinator or ready";
-
-/// What is said of the number of a node.
-const NODE: &str = "the number of a node,";
-
-/// What is said of the members of an up set.
-const UP: &str = "the numbers of nodes in rising order, parted by single spaces, each";
-
 /// What may stand at a place of a row.
 #[derive(Clone, Copy)]
 pub enum Expected {
-    /// One of these words.
-    Words(&'static str),
+    /// The word of an event or of a claim.
+    Word,
     /// So many fields, in the whole row.
     Fields(FieldCounts),
-    /// A number of which this is said, or several of them, each at most so much.
-    Numbers(&'static str, u16),
-    /// The same, or a dash.
-    NumbersOrNone(&'static str, u16),
+    /// The number of a node, at most this one.
+    Node(u16),
     /// The owners of the partitions.
     Owners,
+    /// A status.
+    Status,
+    /// The number of a node, at most this one, or a dash.
+    Coordinator(u16),
+    /// The members of an up set, none above this node, or a dash.
+    Up(u16),
     /// The owners of the partitions, or a dash.
     Task,
+    /// The word of a call.
+    Call,
+    /// What a call is answered.
+    Answer,
+    /// What a call brings.
+    Outcome,
+    /// The word of a header.
+    Bully,
+    /// The version of a header.
+    Version,
+    /// How many nodes there are, at most so many.
+    Nodes(u16),
+    /// How many partitions there are, at most so many.
+    Partitions(u16),
     /// A weight for each of so many nodes.
     Weights(u16),
+    /// Whether tasks are kept.
+    Keep,
 }
 
 /// How many fields the rows of a kind have: so many, and where they may say more, so many then.
@@ -57,17 +64,19 @@ pub struct Misfit {
 /// Where a row behind the header of a trace of this version, which has no form, breaks it.
 pub fn misfit_of_row(version: Version, fields: &ByteRecord) -> Misfit {
     let word = field_at(fields, 0);
-    match counts_wanted(version, word) {
-        None => breaks_at(1, Expected::Words(EVENTS)),
-        Some(counts) if !are_wanted(&counts, fields.len()) => {
-            breaks_at(0, Expected::Fields(counts))
-        }
-        Some(_) if read_node(version, field_at(fields, 1)).is_none() => {
-            breaks_at(2, Expected::Numbers(NODE, version.nodes_max()))
-        }
-        Some(_) if is_word(word, PLAN) => breaks_at(3, Expected::Owners),
-        Some(_) if is_word(word, SAW) => misfit_of_claim(version, fields),
-        Some(_) => misfit_of_detail(version, fields),
+    let Some(counts) = counts_wanted(version, word) else {
+        return breaks_at(1, Expected::Word);
+    };
+    if !are_wanted(&counts, fields.len()) {
+        breaks_at(0, Expected::Fields(counts))
+    } else if read_node(version, field_at(fields, 1)).is_none() {
+        breaks_at(2, Expected::Node(version.nodes_max()))
+    } else if is_word(word, PLAN) {
+        breaks_at(3, Expected::Owners)
+    } else if is_word(word, SAW) {
+        misfit_of_claim(version, fields)
+    } else {
+        misfit_of_detail(version, fields)
     }
 }
 
@@ -114,16 +123,13 @@ fn are_wanted(counts: &FieldCounts, count: usize) -> bool {
 fn misfit_of_claim(version: Version, fields: &ByteRecord) -> Misfit {
     let highest = version.nodes_max();
     if status_named(field_at(fields, 2)).is_none() {
-        breaks_at(
-            3,
-            Expected::Words("down, election, reorganization or normal"),
-        )
+        breaks_at(3, Expected::Status)
     } else if read_coordinator(version, field_at(fields, 3)).is_none() {
-        breaks_at(4, Expected::NumbersOrNone(NODE, highest))
+        breaks_at(4, Expected::Coordinator(highest))
     } else if read_coordinator(version, field_at(fields, 4)).is_none() {
-        breaks_at(5, Expected::NumbersOrNone(NODE, highest))
+        breaks_at(5, Expected::Coordinator(highest))
     } else if read_set(version, field_at(fields, 5)).is_none() {
-        breaks_at(6, Expected::NumbersOrNone(UP, highest))
+        breaks_at(6, Expected::Up(highest))
     } else {
         breaks_at(7, Expected::Task)
     }
@@ -132,20 +138,20 @@ fn misfit_of_claim(version: Version, fields: &ByteRecord) -> Misfit {
 // Where an event of a node, which says more and has a right number of fields, breaks its form behind that node.
 fn misfit_of_detail(version: Version, fields: &ByteRecord) -> Misfit {
     if call_named(field_at(fields, 2)).is_none() {
-        breaks_at(3, Expected::Words(CALLS))
+        breaks_at(3, Expected::Call)
     } else if read_node(version, field_at(fields, 3)).is_none() {
-        breaks_at(4, Expected::Numbers(NODE, version.nodes_max()))
+        breaks_at(4, Expected::Node(version.nodes_max()))
     } else if is_word(field_at(fields, 0), RUN) {
-        breaks_at(5, Expected::Words("done, yes or no"))
+        breaks_at(5, Expected::Answer)
     } else {
-        breaks_at(5, Expected::Words("done, yes, no, failed or discarded"))
+        breaks_at(5, Expected::Outcome)
     }
 }
 
 /// Where a first row, which is no header, breaks the form of one.
 pub fn misfit_of_header(fields: &ByteRecord) -> Misfit {
     if !is_word(field_at(fields, 0), "bully") {
-        return breaks_at(1, Expected::Words("the word bully"));
+        return breaks_at(1, Expected::Bully);
     }
     let version = field_at(fields, 1);
     if is_word(version, "1") {
@@ -155,7 +161,7 @@ pub fn misfit_of_header(fields: &ByteRecord) -> Misfit {
     } else if is_word(version, "3") {
         misfit_of_version(Version::Three, fields, 6)
     } else {
-        breaks_at(2, Expected::Words("the version, 1, 2 or 3"))
+        breaks_at(2, Expected::Version)
     }
 }
 
@@ -167,22 +173,16 @@ fn misfit_of_version(version: Version, fields: &ByteRecord, few: usize) -> Misfi
     }
     let most_nodes = version.nodes_max();
     let Some(nodes) = number_within(field_at(fields, 2), most_nodes) else {
-        return breaks_at(
-            3,
-            Expected::Numbers("how many nodes there are,", most_nodes),
-        );
+        return breaks_at(3, Expected::Nodes(most_nodes));
     };
     let most_partitions = version.partitions_max();
     if number_within(field_at(fields, 3), most_partitions).is_none() {
-        return breaks_at(
-            4,
-            Expected::Numbers("how many partitions there are,", most_partitions),
-        );
+        return breaks_at(4, Expected::Partitions(most_partitions));
     }
     if !are_weights(field_at(fields, 4), nodes) {
         return breaks_at(5, Expected::Weights(nodes));
     }
-    breaks_at(6, Expected::Words("keep or clear"))
+    breaks_at(6, Expected::Keep)
 }
 
 // Whether the text has a weight for each of so many nodes.

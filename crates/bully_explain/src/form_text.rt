@@ -10,6 +10,12 @@ use std::io::Read;
 /// How many bytes of a row's text are shown.
 const SHOWN_MAX: usize = 60;
 
+/// What is said of the number of a node, before its range.
+const NODE: &str = "the number of a node,";
+
+/// What is said of the members of an up set, before their range.
+const UP: &str = "the numbers of nodes in rising order, parted by single spaces, each";
+
 /// What is said where a dash may stand, too.
 const OR_NONE: &str = ", or - for none";
 
@@ -135,22 +141,45 @@ fn push_misfit(text: &mut Draft, fields: &ByteRecord, misfit: Misfit, setup: Opt
 // Appends what may stand at a place of a row.
 fn push_expected(text: &mut Draft, expected: Expected, setup: Option<&Setup>) {
     match expected {
-        Expected::Words(words) => text.push_str(words),
         Expected::Fields(counts) => push_counts(text, counts),
-        Expected::Numbers(what, most) => push_range(text, what, most),
-        Expected::NumbersOrNone(what, most) => {
-            push_range(text, what, most);
+        Expected::Node(highest) => push_range(text, NODE, highest),
+        Expected::Owners => push_owners(text, setup),
+        Expected::Coordinator(highest) => {
+            push_range(text, NODE, highest);
             text.push_str(OR_NONE);
         }
-        Expected::Owners => push_owners(text, setup),
+        Expected::Up(highest) => {
+            push_range(text, UP, highest);
+            text.push_str(OR_NONE);
+        }
         Expected::Task => {
             push_owners(text, setup);
             text.push_str(OR_NONE);
         }
+        Expected::Nodes(most) => push_range(text, "how many nodes there are,", most),
+        Expected::Partitions(most) => push_range(text, "how many partitions there are,", most),
         Expected::Weights(nodes) => {
             text.push_between("the weights of ", nodes, " nodes,");
             push_range(text, EACH, WEIGHT_MAX);
         }
+        _ => text.push_str(words_expected(expected)),
+    }
+}
+
+// Which words may stand at a place; none where it is no place for a word.
+fn words_expected(expected: Expected) -> &'static str {
+    match expected {
+        Expected::Word => {
+            "recover, crash, check, timeout, start, run, lose, return, drop, move, plan or saw"
+        }
+        Expected::Status => "down, election, reorganization or normal",
+        Expected::Call => "are-you-up, are-you-normal, halt, new-coordinator or ready",
+        Expected::Answer => "done, yes or no",
+        Expected::Outcome => "done, yes, no, failed or discarded",
+        Expected::Bully => "the word bully",
+        Expected::Version => "the version, 1, 2 or 3",
+        Expected::Keep => "keep or clear",
+        _ => "",
     }
 }
 
