@@ -1,10 +1,11 @@
 //! Calls as arrows, and their replies.
 
 use crate::boxes::{Anchor, width_of};
-use crate::canvas::{Canvas, Style};
+use crate::canvas::{Canvas, Style, push_line};
 use crate::layout::{HALF, ROW, WORDS_MIN};
-use crate::words::{kind_text, push_call};
-use bully_base::{Node, OutOfMemory};
+use crate::paper::Paper;
+use crate::words::kind_text;
+use bully_base::Node;
 use bully_calls::{Call, CallKind, Phase};
 use bully_film::{End, Held, Holding, end_at};
 
@@ -40,20 +41,14 @@ impl Line {
 
 /// Draws the calls of a node: each stretch in which one was sent as an arrow, and each in which it ran as the way back of its
 /// reply. Whether the slot held an orphan behind a row is told by its place behind the first one.
-pub fn draw_calls(
-    canvas: &mut Canvas,
-    node: Node,
-    holdings: &[Holding],
-    orphans: &[bool],
-) -> Result<(), OutOfMemory> {
+pub fn draw_calls(canvas: &mut Canvas, node: Node, holdings: &[Holding], orphans: &[bool]) {
     for (place, holding) in holdings.iter().enumerate() {
         if let Some(held) = holding.held {
             let end = end_at(holdings, place, &held.call);
             let is_orphan = is_orphan(canvas, orphans, holding.last);
-            draw_held(canvas, node, holding, held, end, is_orphan)?;
+            draw_held(canvas, node, holding, held, end, is_orphan);
         }
     }
-    Ok(())
 }
 
 // Whether the slot held an orphan behind this row.
@@ -73,11 +68,11 @@ fn draw_held(
     held: Held,
     end: End,
     is_orphan: bool,
-) -> Result<(), OutOfMemory> {
+) {
     match held.phase {
         Phase::Sent => draw_call(canvas, node, holding, &held.call, end, is_orphan),
         Phase::Ran(_) => draw_reply(canvas, node, holding, &held.call, end),
-        Phase::Failed => Ok(()),
+        Phase::Failed => {}
     }
 }
 
@@ -88,7 +83,7 @@ fn line_of(canvas: &Canvas, from: Node, to: Node, holding: &Holding, gets_there:
         x1,
         y1: canvas.layout.y(holding.first),
         x2,
-        y2: end_row(canvas, holding),
+        y2: canvas.layout.end(holding.last),
     };
     if gets_there {
         whole
@@ -108,14 +103,6 @@ fn halfway(line: Line, far: u32) -> Line {
     Line { x2, ..line }
 }
 
-// Where the row behind the stretch lies.
-fn end_row(canvas: &Canvas, holding: &Holding) -> u32 {
-    if holding.last >= canvas.layout.last() {
-        return canvas.layout.bottom().saturating_add(8);
-    }
-    canvas.layout.y(holding.last.saturating_add(1))
-}
-
 // The two, each at the side of its bar.
 fn apart(x1: u32, x2: u32) -> (u32, u32) {
     if x1 < x2 {
@@ -133,52 +120,47 @@ fn draw_call(
     call: &Call,
     end: End,
     is_orphan: bool,
-) -> Result<(), OutOfMemory> {
+) {
     let gets_there = matches!(end, End::Ran | End::Failed);
     let line = line_of(canvas, node, call.callee, holding, gets_there);
     let style = call_style(end, is_orphan);
-    push_arrow(&mut canvas.lines, &line, style, node, call, holding)?;
-    label_call(canvas, &line, call.kind, end, is_orphan)
+    push_arrow(&mut canvas.lines, &line, style, node, call, holding);
+    label_call(canvas, &line, call.kind, end, is_orphan);
 }
 
-// Appends a line of this style between two lanes, and what is shown where the pointer rests on it.
+// Writes a line of this style between two lanes, and what is shown where the pointer rests on it.
 fn push_arrow(
-    text: &mut String,
+    paper: &mut Paper,
     line: &Line,
     style: &str,
     node: Node,
     call: &Call,
     holding: &Holding,
-) -> Result<(), OutOfMemory> {
-    push_line(text, line)?;
-    text.push_str(style)?;
-    push_title(text, node, call, holding)?;
-    text.push_str("</line>\n")
+) {
+    push_line(paper, line.x1, line.y1, line.x2, line.y2);
+    paper.push(style);
+    push_title(paper, node, call, holding);
+    paper.push("</line>\n");
 }
 
 // Writes what call it is, where the lanes have room for it: with all words between two lanes, with its kind alone there, in small
 // letters where it has to be, or with that anywhere on the line; nowhere where nothing is free.
-fn label_call(
-    canvas: &mut Canvas,
-    line: &Line,
-    kind: CallKind,
-    end: End,
-    is_orphan: bool,
-) -> Result<(), OutOfMemory> {
+fn label_call(canvas: &mut Canvas, line: &Line, kind: CallKind, end: End, is_orphan: bool) {
     if canvas.layout.lane < WORDS_MIN {
-        return Ok(());
+        return;
     }
+    let mut paper = Paper::new(canvas.alloc);
+    push_words(&mut paper, kind, end, is_orphan);
+    let words = canvas.read(&paper);
     let style = words_style(end, is_orphan);
     let small = Style { size: 9, ..style };
-    let mut words = canvas.text();
-    push_words(&mut words, kind, end, is_orphan)?;
-    if put_between(canvas, line, style, words.as_str())?
-        || put_between(canvas, line, style, kind_text(kind))?
-        || put_between(canvas, line, small, kind_text(kind))?
+    let short = kind_text(kind);
+    if !(put_between(canvas, line, style, words)
+        || put_between(canvas, line, style, short)
+        || put_between(canvas, line, small, short))
     {
-        return Ok(());
+        put_anywhere(canvas, line, small, short);
     }
-    put_anywhere(canvas, line, small, kind_text(kind))
 }
 
 // How the line of a call looks.
@@ -214,34 +196,23 @@ fn call_colour(end: End, is_orphan: bool) -> &'static str {
     }
 }
 
-// Appends the words of a call. Of one that is given up its grey line tells whether it is an orphan.
-fn push_words(
-    text: &mut String,
-    kind: CallKind,
-    end: End,
-    is_orphan: bool,
-) -> Result<(), OutOfMemory> {
-    text.push_str(kind_text(kind))?;
-    match end {
-        End::Failed => text.push_str(" fails")?,
-        End::GivenUp => text.push_str(", given up")?,
-        End::UnderWay => text.push_str(", under way")?,
-        End::Ran => {}
-    }
+// Writes the words of a call. Of one that is given up its grey line tells whether it is an orphan.
+fn push_words(paper: &mut Paper, kind: CallKind, end: End, is_orphan: bool) {
+    paper.push(kind_text(kind));
+    paper.push(match end {
+        End::Ran => "",
+        End::Failed => " fails",
+        End::GivenUp => ", given up",
+        End::UnderWay => ", under way",
+    });
     if is_orphan && end != End::GivenUp {
-        text.push_str(", orphan")?;
+        paper.push(", orphan");
     }
-    Ok(())
 }
 
 // Writes the words at the first place on the line that is free, and tells whether there is one: between two lanes, beginning with
 // those where the line ends.
-fn put_between(
-    canvas: &mut Canvas,
-    line: &Line,
-    style: Style,
-    words: &str,
-) -> Result<bool, OutOfMemory> {
+fn put_between(canvas: &mut Canvas, line: &Line, style: Style, words: &str) -> bool {
     let layout = canvas.layout;
     for step in 0..layout.nodes {
         let lane = if line.x1 < line.x2 {
@@ -249,11 +220,11 @@ fn put_between(
         } else {
             step
         };
-        if put_in_gap(canvas, line, layout.gap(lane), style, words)? {
-            return Ok(true);
+        if put_in_gap(canvas, line, layout.gap(lane), style, words) {
+            return true;
         }
     }
-    Ok(false)
+    false
 }
 
 // The same between these two lanes alone, where the line goes between them and the words have room there.
@@ -263,24 +234,24 @@ fn put_in_gap(
     gap: (u32, u32),
     style: Style,
     words: &str,
-) -> Result<bool, OutOfMemory> {
+) -> bool {
     let (left, right) = gap;
     let half = (width_of(words, style.size) / 2).saturating_add(1);
     let (least, most) = (left.saturating_add(half), right.saturating_sub(half));
     let Some((from, to)) = stretch_in(line, left, right) else {
-        return Ok(false);
+        return false;
     };
     if least > most {
-        return Ok(false);
+        return false;
     }
     for part in [4u32, 3, 5, 2, 6, 1, 7] {
         let x = along(from, to, part);
         let y = line.words_at(x);
-        if canvas.put(x.max(least).min(most), y, style, words)? {
-            return Ok(true);
+        if canvas.put(x.max(least).min(most), y, style, words) {
+            return true;
         }
     }
-    Ok(false)
+    false
 }
 
 // From where to where the line goes between these two ends; none where it doesn't.
@@ -291,20 +262,14 @@ fn stretch_in(line: &Line, left: u32, right: u32) -> Option<(u32, u32)> {
 }
 
 // Writes the words at the first place along the line that is free.
-fn put_anywhere(
-    canvas: &mut Canvas,
-    line: &Line,
-    style: Style,
-    words: &str,
-) -> Result<(), OutOfMemory> {
+fn put_anywhere(canvas: &mut Canvas, line: &Line, style: Style, words: &str) {
     for part in [4u32, 3, 5, 2, 6] {
         let x = along(line.x1, line.x2, part);
         let y = along(line.y1, line.y2, part).saturating_add(ROW / 5);
-        if canvas.put(x, y, style, words)? {
-            return Ok(());
+        if canvas.put(x, y, style, words) {
+            return;
         }
     }
-    Ok(())
 }
 
 // So many eighths of the way from one to the other.
@@ -316,23 +281,11 @@ fn along(one: u32, other: u32, part: u32) -> u32 {
 }
 
 // Draws the way of a reply back to its caller.
-fn draw_reply(
-    canvas: &mut Canvas,
-    node: Node,
-    holding: &Holding,
-    call: &Call,
-    end: End,
-) -> Result<(), OutOfMemory> {
+fn draw_reply(canvas: &mut Canvas, node: Node, holding: &Holding, call: &Call, end: End) {
     let returns = canvas.returned_in(holding.last.saturating_add(1));
     let line = line_of(canvas, call.callee, node, holding, returns);
-    push_arrow(
-        &mut canvas.lines,
-        &line,
-        reply_style(end, returns),
-        node,
-        call,
-        holding,
-    )
+    let style = reply_style(end, returns);
+    push_arrow(&mut canvas.lines, &line, style, node, call, holding);
 }
 
 fn reply_style(end: End, returns: bool) -> &'static str {
@@ -349,26 +302,13 @@ fn reply_style(end: End, returns: bool) -> &'static str {
     }
 }
 
-// Appends the head of a line.
-fn push_line(text: &mut String, line: &Line) -> Result<(), OutOfMemory> {
-    let Line { x1, y1, x2, y2 } = *line;
-    write!(
-        text,
-        "<line x1=\"{x1}\" y1=\"{y1}\" x2=\"{x2}\" y2=\"{y2}\""
-    )
-}
-
 // What is shown where the pointer rests on an arrow.
-fn push_title(
-    text: &mut String,
-    node: Node,
-    call: &Call,
-    holding: &Holding,
-) -> Result<(), OutOfMemory> {
-    let number = node.number();
-    write!(text, "<title>node {number}: ")?;
-    push_call(text, *call)?;
-    let first = holding.first;
-    let last = holding.last;
-    write!(text, ", in its slot behind rows {first} to {last}</title>")
+fn push_title(paper: &mut Paper, node: Node, call: &Call, holding: &Holding) {
+    paper.push_number("<title>node ", u32::from(node.number()));
+    paper.push(": ");
+    paper.push(kind_text(call.kind));
+    paper.push_number(" to ", u32::from(call.callee.number()));
+    paper.push_number(", in its slot behind rows ", holding.first);
+    paper.push_number(" to ", holding.last);
+    paper.push("</title>");
 }

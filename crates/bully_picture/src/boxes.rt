@@ -1,10 +1,7 @@
 //! Where words stand in a picture, so that no two lie on one another.
 
-use bully_base::OutOfMemory;
-use std::alloc::Global;
-
 /// Which end of words lies at the point that they are placed by, or their middle.
-#[derive(Clone, Copy, PartialEq, Eq)]
+#[derive(Clone, Copy)]
 pub enum Anchor {
     Start,
     Middle,
@@ -69,30 +66,12 @@ pub fn letter_width(letter: char) -> u32 {
     }
 }
 
-/// The boxes of the words that were placed.
-#[derive(Drop)]
-pub struct Boxes {
-    taken: Vec<Area>,
-}
-
-impl Boxes {
-    /// None yet.
-    pub fn new(alloc: Global) -> Boxes {
-        Boxes {
-            taken: Vec::new(alloc),
+/// Whether the box has no point in common with one of these.
+pub fn is_free(area: &Area, taken: &[Area]) -> bool {
+    for other in taken {
+        if other.meets(area) {
+            return false;
         }
     }
-
-    /// Takes the box, where no other word is, and tells whether it did.
-    pub fn take(&mut self, area: Area) -> Result<bool, OutOfMemory> {
-        if self.is_taken(&area) {
-            return Ok(false);
-        }
-        self.taken.push(area)?;
-        Ok(true)
-    }
-
-    fn is_taken(&self, area: &Area) -> bool {
-        self.taken.iter().any(|other| other.meets(area))
-    }
+    true
 }

@@ -1,8 +1,8 @@
-//! What a picture is written on: lines below, and words above them.
+//! What a picture is drawn on: the head of its document, lines below, and words above them.
 
-use crate::boxes::{Anchor, Area, Boxes};
+use crate::boxes::{Anchor, Area, is_free};
 use crate::layout::{ASIDE, Layout};
-use bully_base::OutOfMemory;
+use crate::paper::Paper;
 use std::alloc::Global;
 
 /// How words look: where the point lies that they are placed by, their size, their colour, and whether they have a white ground.
@@ -14,16 +14,18 @@ pub struct Style {
     pub has_ground: bool,
 }
 
-/// A picture on which is drawn.
+/// A picture on which is drawn. Where memory is wanting, that is noted on one of its papers.
 #[derive(Drop)]
 pub struct Canvas {
     pub layout: Layout,
-    pub lines: String,
-    pub words: String,
-    boxes: Boxes,
+    pub head: Paper,
+    pub lines: Paper,
+    pub words: Paper,
+    pub alloc: Global,
+    // The boxes of the words that were placed.
+    boxes: Vec<Area>,
     // The rows in which a call returned.
     returns: Vec<u32>,
-    alloc: Global,
 }
 
 impl Canvas {
@@ -31,52 +33,54 @@ impl Canvas {
     pub fn new(alloc: Global, layout: Layout) -> Canvas {
         Canvas {
             layout,
-            lines: String::new(alloc),
-            words: String::new(alloc),
-            boxes: Boxes::new(alloc),
-            returns: Vec::new(alloc),
+            head: Paper::new(alloc),
+            lines: Paper::new(alloc),
+            words: Paper::new(alloc),
             alloc,
+            boxes: Vec::new(alloc),
+            returns: Vec::new(alloc),
         }
     }
 
-    /// An empty text.
-    pub fn text(&self) -> String {
-        String::new(self.alloc)
-    }
-
     /// Notes that a call returned in this row.
-    pub fn note_return(&mut self, row: u32) -> Result<(), OutOfMemory> {
-        self.returns.push(row)?;
-        Ok(())
+    pub fn note_return(&mut self, row: u32) {
+        if self.returns.push(row).is_err() {
+            self.words.fail();
+        }
     }
 
     /// Whether a call returned in this row.
     pub fn returned_in(&self, row: u32) -> bool {
-        self.returns.iter().any(|other| *other == row)
+        self.returns.as_slice().contains(&row)
     }
 
-    /// Writes words at this point, where their box is free, and tells whether they were written. They need no escaping.
-    pub fn put(&mut self, x: u32, y: u32, style: Style, words: &str) -> Result<bool, OutOfMemory> {
+    /// What was written on another paper.
+    pub fn read<'a>(&mut self, paper: &'a Paper) -> &'a str {
+        match paper.read() {
+            Ok(words) => words,
+            Err(_) => {
+                self.words.fail();
+                ""
+            }
+        }
+    }
+
+    /// Writes words at this point, where their box is free, and tells whether it was. They need no escaping.
+    pub fn put(&mut self, x: u32, y: u32, style: Style, words: &str) -> bool {
         let area = Area::of(x, y, style.anchor, style.size, words);
-        if !self.boxes.take(area)? {
-            return Ok(false);
+        if !self.take(area) {
+            return false;
         }
         if style.has_ground {
-            push_ground(&mut self.words, area)?;
+            push_area(&mut self.words, area, " fill=\"#fff\"/>\n");
         }
-        self.write(x, y, style, words)?;
-        Ok(true)
+        push_words(&mut self.words, x, y, style, words);
+        true
     }
 
     /// Writes words beside the lane whose middle x is: at its left, since what changes a node comes from a higher one, at its right; or
     /// at its right, where the left isn't free.
-    pub fn put_beside(
-        &mut self,
-        x: u32,
-        y: u32,
-        colour: &'static str,
-        words: &str,
-    ) -> Result<(), OutOfMemory> {
+    pub fn put_beside(&mut self, x: u32, y: u32, colour: &'static str, words: &str) {
         let line = y.saturating_add(4);
         let style = Style {
             anchor: Anchor::End,
@@ -84,79 +88,77 @@ impl Canvas {
             colour,
             has_ground: true,
         };
-        if self.put(x.saturating_sub(ASIDE), line, style, words)? {
-            return Ok(());
+        if self.put(x.saturating_sub(ASIDE), line, style, words) {
+            return;
         }
         let style = Style {
             anchor: Anchor::Start,
             ..style
         };
-        self.put(x.saturating_add(ASIDE), line, style, words)?;
-        Ok(())
+        self.put(x.saturating_add(ASIDE), line, style, words);
     }
 
-    /// Writes words at this point, whatever stands there.
-    pub fn write(&mut self, x: u32, y: u32, style: Style, words: &str) -> Result<(), OutOfMemory> {
-        push_words(&mut self.words, x, y, style, words)
-    }
-
-    /// Draws a frame that is as high as a word and so wide, where its box is free, and tells whether it was drawn.
-    pub fn put_frame(
-        &mut self,
-        x: u32,
-        y: u32,
-        width: u32,
-        colour: &str,
-    ) -> Result<bool, OutOfMemory> {
+    /// Draws a green frame that is as high as a word and so wide, where its box is free, and tells whether it was.
+    pub fn put_frame(&mut self, x: u32, y: u32, width: u32) -> bool {
         let area = Area {
             x,
             y,
             width,
             height: 13,
         };
-        if !self.boxes.take(area)? {
-            return Ok(false);
+        if !self.take(area) {
+            return false;
         }
-        writeln!(
-            self.words,
-            "<rect x=\"{x}\" y=\"{y}\" width=\"{width}\" height=\"13\" fill=\"#fff\" stroke=\"{colour}\"/>"
-        )?;
-        Ok(true)
+        push_area(
+            &mut self.words,
+            area,
+            " fill=\"#fff\" stroke=\"#009E73\"/>\n",
+        );
+        true
+    }
+
+    // Takes the box, where it is free, and tells whether it was.
+    fn take(&mut self, area: Area) -> bool {
+        if !is_free(&area, self.boxes.as_slice()) {
+            return false;
+        }
+        if self.boxes.push(area).is_err() {
+            self.words.fail();
+        }
+        true
     }
 }
 
-// A white ground for words.
-fn push_ground(text: &mut String, area: Area) -> Result<(), OutOfMemory> {
-    let Area {
-        x,
-        y,
-        width,
-        height,
-    } = area;
-    writeln!(
-        text,
-        "<rect x=\"{x}\" y=\"{y}\" width=\"{width}\" height=\"{height}\" fill=\"#fff\"/>"
-    )
+/// Writes the start of a line, and where it goes.
+pub fn push_line(paper: &mut Paper, x1: u32, y1: u32, x2: u32, y2: u32) {
+    paper.push("<line");
+    paper.push_attribute("x1", x1);
+    paper.push_attribute("y1", y1);
+    paper.push_attribute("x2", x2);
+    paper.push_attribute("y2", y2);
 }
 
-fn push_words(
-    text: &mut String,
-    x: u32,
-    y: u32,
-    style: Style,
-    words: &str,
-) -> Result<(), OutOfMemory> {
-    let Style {
-        anchor,
-        size,
-        colour,
-        has_ground: _,
-    } = style;
-    let placed = anchor_text(anchor);
-    writeln!(
-        text,
-        "<text x=\"{x}\" y=\"{y}\" font-size=\"{size}\"{placed} fill=\"{colour}\">{words}</text>"
-    )
+/// Writes a rectangle, and behind where it lies the rest of it.
+pub fn push_area(paper: &mut Paper, area: Area, rest: &str) {
+    paper.push("<rect");
+    paper.push_attribute("x", area.x);
+    paper.push_attribute("y", area.y);
+    paper.push_attribute("width", area.width);
+    paper.push_attribute("height", area.height);
+    paper.push(rest);
+}
+
+fn push_words(paper: &mut Paper, x: u32, y: u32, style: Style, words: &str) {
+    paper.push("<text");
+    paper.push_attribute("x", x);
+    paper.push_attribute("y", y);
+    paper.push_attribute("font-size", style.size);
+    paper.push(anchor_text(style.anchor));
+    paper.push(" fill=\"");
+    paper.push(style.colour);
+    paper.push("\">");
+    paper.push(words);
+    paper.push("</text>\n");
 }
 
 // What tells where the point lies; nothing at the start.

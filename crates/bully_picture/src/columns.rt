@@ -1,17 +1,18 @@
 //! The picture for a terminal: a line for each row that changes what a node is.
-ghost use Rattle.std.specs.Prelude.{IfOk, string_bytes};
+ghost use Rattle.std.specs.Prelude.{IfOk, OnOk, string_bytes};
 ghost use Rattle.bully_picture.specs.Title.{Has};
 ghost use Rattle.bully_trace.specs.VerdictText.{verdict_head};
 
-use crate::words::{meaning, push_row_text};
+use crate::paper::Paper;
+use crate::words::{decides, push_followed, push_meaning, push_row_text};
 use bully_base::{Node, OutOfMemory, Status};
 use bully_film::{Reel, Scene, Sight, lane_of};
-use bully_trace::{Verdict, push_verdict_head};
+use bully_trace::push_verdict_head;
 use std::alloc::Global;
 
 /// How the columns of the nodes look: a word of the status with the coordinator, where there are few; a letter with the coordinator; a
 /// letter alone, with what the row changes behind all of them; or that alone, where they are too many for a line.
-#[derive(Clone, Copy, PartialEq, Eq)]
+#[derive(Clone, Copy)]
 enum Form {
     Words,
     Short,
@@ -40,6 +41,24 @@ impl Form {
         }
     }
 
+    // What stands before the heads of the columns: what the letters mean, where there are any, and the head of the row's number.
+    fn front(self) -> &'static str {
+        match self {
+            Form::Words | Form::Changes => "    row  ",
+            Form::Short | Form::Letters => {
+                "- down, E election, R reorganization, N normal\n    row  "
+            }
+        }
+    }
+
+    // What stands behind the heads of the columns: the head of what the row changes, where that stands behind them, and of its text.
+    fn back(self) -> &'static str {
+        match self {
+            Form::Words | Form::Short => "what it says\n",
+            Form::Letters | Form::Changes => "  changes       what it says\n",
+        }
+    }
+
     // Whether what the row changes stands behind the columns.
     fn tells_change(self) -> bool {
         matches!(self, Form::Letters | Form::Changes)
@@ -56,48 +75,37 @@ pub fn text_picture(alloc: Global, reel: &Reel, below: &str) -> Result<String, O
     ensures verdict { IfOk result (λ text. Has (string_bytes text) (verdict_head reel.now.verdict)) }
 {
     let mut text = String::new(alloc);
-    push_verdict_head(&mut text, reel.verdict)?;
-    let lines = lines_of(alloc, reel)?;
-    text.push_str(lines.as_str())?;
-    text.push_str(below)?;
+    let mut lines = Paper::new(alloc);
+    push_picture(alloc, &mut text, &mut lines, reel, below)?;
     Ok(text)
 }
 
-// The lines of the rows.
-fn lines_of(alloc: Global, reel: &Reel) -> Result<String, OutOfMemory> {
-    let mut text = String::new(alloc);
-    let form = Form::of(reel.setup.nodes());
-    push_names(&mut text, reel.setup.nodes(), form)?;
-    let mut now = starts(alloc, reel)?;
-    let mut quiet = 0u32;
-    for scene in reel.scenes.as_slice() {
-        if !speaks(reel, scene) {
-            quiet = quiet.saturating_add(1);
-            continue;
-        }
-        push_quiet(&mut text, quiet)?;
-        quiet = 0;
-        put(&mut now, scene);
-        push_line(&mut text, scene, now.as_slice(), form)?;
-    }
-    push_quiet(&mut text, quiet)?;
-    Ok(text)
+// Writes the lines of the rows, and appends the picture that has them.
+fn push_picture(
+    alloc: Global,
+    text: &mut String,
+    lines: &mut Paper,
+    reel: &Reel,
+    below: &str,
+) -> Result<(), OutOfMemory>
+    ensures { OnOk result (Has (string_bytes text.new) (verdict_head reel.now.verdict)) }
+{
+    push_lines(alloc, lines, reel)?;
+    push_verdict_head(text, reel.verdict)?;
+    text.push_str(lines.read()?)?;
+    text.push_str(below)
 }
 
-// Whether the row has a line: it changes what a node is, or it decided.
-fn speaks(reel: &Reel, scene: &Scene) -> bool {
-    let decided = match reel.verdict {
-        Verdict::Lawful(_) => 0,
-        Verdict::Refused(row, _) | Verdict::Differs(row) => row,
-    };
-    scene.number == decided
-        || scene.other.before.status != scene.other.after.status
-        || scene.other.before.coordinator != scene.other.after.coordinator
-}
-
-// How each node stands before the first row, from node 1 on.
-fn starts(alloc: Global, reel: &Reel) -> Result<Vec<Sight>, OutOfMemory> {
+// Writes the lines of the rows.
+fn push_lines(alloc: Global, lines: &mut Paper, reel: &Reel) -> Result<(), OutOfMemory> {
     let mut now = Vec::with_capacity(alloc, usize::from(reel.setup.nodes()))?;
+    push_starts(alloc, &mut now, reel)?;
+    push_rows(lines, reel, now.as_mut_slice());
+    Ok(())
+}
+
+// Appends how each node stands before the first row, from node 1 on.
+fn push_starts(alloc: Global, now: &mut Vec<Sight>, reel: &Reel) -> Result<(), OutOfMemory> {
     for before in 0..reel.setup.nodes() {
         let node = Node::new(before + 1).unwrap();
         let lane = lane_of(alloc, reel, node)?;
@@ -105,120 +113,119 @@ fn starts(alloc: Global, reel: &Reel) -> Result<Vec<Sight>, OutOfMemory> {
             now.push(*first)?;
         }
     }
-    Ok(now)
+    Ok(())
+}
+
+// Writes the lines of the rows, before which the nodes stand so.
+fn push_rows(lines: &mut Paper, reel: &Reel, now: &mut [Sight]) {
+    let form = Form::of(reel.setup.nodes());
+    push_names(lines, reel.setup.nodes(), form);
+    let mut quiet = 0u32;
+    for scene in reel.scenes.as_slice() {
+        if speaks(reel, scene) {
+            push_quiet(lines, quiet);
+            quiet = 0;
+            put(now, scene);
+            push_line(lines, scene, now, form);
+        } else {
+            quiet = quiet.saturating_add(1);
+        }
+    }
+    push_quiet(lines, quiet);
+}
+
+// Whether the row has a line: it changes what a node is, or it decided.
+fn speaks(reel: &Reel, scene: &Scene) -> bool {
+    decides(reel.verdict, scene.number)
+        || scene.other.before.status != scene.other.after.status
+        || scene.other.before.coordinator != scene.other.after.coordinator
 }
 
 // The node whose vector the row changes stands as it does behind it.
-fn put(now: &mut Vec<Sight>, scene: &Scene) {
+fn put(now: &mut [Sight], scene: &Scene) {
     let place = usize::from(scene.other.node.number() - 1);
     if place < now.len() {
         now[place] = scene.other.after;
     }
 }
 
-// Appends what the letters mean, and the heads of the columns.
-fn push_names(text: &mut String, nodes: u16, form: Form) -> Result<(), OutOfMemory> {
-    if matches!(form, Form::Short | Form::Letters) {
-        text.push_str("- down, E election, R reorganization, N normal\n")?;
-    }
-    write!(text, "{:>7}  ", "row")?;
+// Writes what the letters mean, and the heads of the columns.
+fn push_names(lines: &mut Paper, nodes: u16, form: Form) {
+    lines.push(form.front());
     for before in 0..nodes {
-        push_name(text, before.saturating_add(1), form)?;
+        push_name(lines, before.saturating_add(1), form);
     }
-    if form.tells_change() {
-        let start = text.len();
-        text.push_str("  changes")?;
-        fill(text, start, CHANGE)?;
-    }
-    text.push_str("what it says\n")
+    lines.push(form.back());
 }
 
-// Appends the head of a node's column: its number; of a column of one letter a mark, with the tens at each tenth.
-fn push_name(text: &mut String, number: u16, form: Form) -> Result<(), OutOfMemory> {
-    let start = text.len();
+// Writes the head of a node's column: its number; of a column of one letter a mark, with the tens at each tenth.
+fn push_name(lines: &mut Paper, number: u16, form: Form) {
+    let start = lines.len();
     match form {
-        Form::Words | Form::Short => write!(text, "{number}")?,
-        Form::Letters if number.is_multiple_of(10) => {
-            let tens = number / 10 % 10;
-            return write!(text, "{tens}");
+        Form::Words | Form::Short => {
+            lines.push_number("", u32::from(number));
+            fill(lines, start, form.column());
         }
-        Form::Letters => return text.push('.'),
-        Form::Changes => return Ok(()),
+        Form::Letters if number.is_multiple_of(10) => {
+            lines.push_number("", u32::from(number / 10 % 10));
+        }
+        Form::Letters => lines.push("."),
+        Form::Changes => {}
     }
-    fill(text, start, form.column())
 }
 
-// Appends how many rows lie between; nothing where there are none.
-fn push_quiet(text: &mut String, quiet: u32) -> Result<(), OutOfMemory> {
+// Writes how many rows lie between; nothing where there are none.
+fn push_quiet(lines: &mut Paper, quiet: u32) {
     match quiet {
-        0 => Ok(()),
-        1 => text.push_str("    ... 1 row\n"),
-        _ => writeln!(text, "    ... {quiet} rows"),
+        0 => {}
+        1 => lines.push("    ... 1 row\n"),
+        _ => {
+            lines.push_number("    ... ", quiet);
+            lines.push(" rows\n");
+        }
     }
 }
 
-// Appends the line of a row, behind which the nodes stand so.
-fn push_line(
-    text: &mut String,
-    scene: &Scene,
-    now: &[Sight],
-    form: Form,
-) -> Result<(), OutOfMemory> {
-    let number = scene.number;
-    write!(text, "{number:>7}  ")?;
+// Writes the line of a row, behind which the nodes stand so.
+fn push_line(lines: &mut Paper, scene: &Scene, now: &[Sight], form: Form) {
+    lines.push_right(scene.number);
+    lines.push("  ");
     for sight in now {
-        push_cell(text, sight, form)?;
+        push_cell(lines, sight, form);
     }
     if form.tells_change() {
-        push_change(text, scene)?;
+        push_change(lines, scene);
     }
-    push_row_text(text, scene)?;
-    let meaning = meaning(scene);
-    if !meaning.is_empty() {
-        write!(text, ": {meaning}")?;
-    }
-    text.push('\n')
+    push_row_text(lines, scene);
+    push_meaning(lines, scene);
+    lines.push("\n");
 }
 
-// Appends how a node stands: its status, and its coordinator where the column has room for it.
-fn push_cell(text: &mut String, sight: &Sight, form: Form) -> Result<(), OutOfMemory> {
-    let start = text.len();
+// Writes how a node stands: its status, and its coordinator where the column has room for it.
+fn push_cell(lines: &mut Paper, sight: &Sight, form: Form) {
     match form {
-        Form::Words => push_stand(text, sight)?,
-        Form::Short => push_short(text, sight)?,
-        Form::Letters => return text.push(letter(sight.status)),
-        Form::Changes => return Ok(()),
+        Form::Words => push_stand(lines, word(sight.status), " ", sight, form.column()),
+        Form::Short => push_stand(lines, letter(sight.status), "", sight, form.column()),
+        Form::Letters => lines.push(letter(sight.status)),
+        Form::Changes => {}
     }
-    fill(text, start, form.column())
 }
 
-// Appends how the node stands now whose vector the row may change.
-fn push_change(text: &mut String, scene: &Scene) -> Result<(), OutOfMemory> {
-    let start = text.len();
-    let number = scene.other.node.number();
-    write!(text, "  {number}: ")?;
-    push_stand(text, &scene.other.after)?;
-    fill(text, start, CHANGE)
+// Writes how a node stands in a column: this word of its status, and behind this its coordinator.
+fn push_stand(lines: &mut Paper, word: &str, between: &str, sight: &Sight, column: usize) {
+    let start = lines.len();
+    push_followed(lines, word, between, sight.coordinator);
+    fill(lines, start, column);
 }
 
-// Appends a word of the status, and the coordinator, as `norm 3`.
-fn push_stand(text: &mut String, sight: &Sight) -> Result<(), OutOfMemory> {
-    text.push_str(word(sight.status))?;
-    if let Some(node) = sight.coordinator {
-        let number = node.number();
-        write!(text, " {number}")?;
-    }
-    Ok(())
-}
-
-// Appends the letter of the status, and the coordinator, as `N3`.
-fn push_short(text: &mut String, sight: &Sight) -> Result<(), OutOfMemory> {
-    text.push(letter(sight.status))?;
-    if let Some(node) = sight.coordinator {
-        let number = node.number();
-        write!(text, "{number}")?;
-    }
-    Ok(())
+// Writes how the node stands now whose vector the row may change.
+fn push_change(lines: &mut Paper, scene: &Scene) {
+    let start = lines.len();
+    let after = &scene.other.after;
+    lines.push_number("  ", u32::from(scene.other.node.number()));
+    lines.push(": ");
+    push_followed(lines, word(after.status), " ", after.coordinator);
+    fill(lines, start, CHANGE);
 }
 
 // The status as a word.
@@ -232,21 +239,20 @@ fn word(status: Status) -> &'static str {
 }
 
 // The status as a letter.
-fn letter(status: Status) -> char {
+fn letter(status: Status) -> &'static str {
     match status {
-        Status::Down => '-',
-        Status::Election => 'E',
-        Status::Reorganization => 'R',
-        Status::Normal => 'N',
+        Status::Down => "-",
+        Status::Election => "E",
+        Status::Reorganization => "R",
+        Status::Normal => "N",
     }
 }
 
 // Fills up a column that began at this length of the text.
-fn fill(text: &mut String, start: usize, width: usize) -> Result<(), OutOfMemory> {
-    let taken = text.len().saturating_sub(start);
+fn fill(lines: &mut Paper, start: usize, width: usize) {
+    let taken = lines.len().saturating_sub(start);
     let rest = width.saturating_sub(taken).max(1);
     for _ in 0..rest {
-        text.push(' ')?;
+        lines.push(" ");
     }
-    Ok(())
 }

@@ -1,131 +1,129 @@
 //! The bars of a node, and its name over them.
 
-use crate::boxes::letter_width;
-use crate::canvas::Canvas;
-use crate::escaping::{push_escaped, push_start};
+use crate::boxes::{Area, letter_width};
+use crate::canvas::{Canvas, push_area, push_line};
 use crate::layout::{HALF, Layout, WORDS_ALL, WORDS_MIN};
-use crate::words::{colour, push_stand};
-use bully_base::{Node, OutOfMemory, Status};
+use crate::paper::Paper;
+use crate::words::{push_followed, push_stand};
+use bully_base::{Node, Status};
 use bully_film::{Bar, Stand};
 
 /// Draws the bars of a node, and says beside the first one how the node stood before the rows. What a row changes was said there.
-pub fn draw_bars(canvas: &mut Canvas, node: Node, bars: &[Bar]) -> Result<(), OutOfMemory> {
+pub fn draw_bars(canvas: &mut Canvas, node: Node, bars: &[Bar]) {
     for bar in bars {
-        draw_bar(canvas, node, bar)?;
+        draw_bar(canvas, node, bar);
     }
-    match bars.first() {
-        Some(bar) => draw_stand(canvas, node, bar.first, bar.stand),
-        None => Ok(()),
+    if let Some(bar) = bars.first() {
+        draw_stand(canvas, node, bar.first, bar.stand);
     }
 }
 
 // Draws a bar: a rectangle in the colour of its status, dotted where the node is down.
-fn draw_bar(canvas: &mut Canvas, node: Node, bar: &Bar) -> Result<(), OutOfMemory> {
-    let x = canvas.layout.x(node);
-    let top = canvas.layout.y(bar.first);
-    let end = end_of(canvas, bar);
-    let shade = colour(bar.stand.status);
+fn draw_bar(canvas: &mut Canvas, node: Node, bar: &Bar) {
+    push_bar(canvas, node, bar);
     let shows_rows = canvas.layout.rows > 0;
-    if bar.stand.status == Status::Down {
-        write!(
-            canvas.lines,
-            "<line x1=\"{x}\" y1=\"{top}\" x2=\"{x}\" y2=\"{end}\" stroke=\"{shade}\" stroke-width=\"2\" stroke-dasharray=\"2 4\">"
-        )?;
-        push_title(&mut canvas.lines, node, bar, shows_rows)?;
-        return canvas.lines.push_str("</line>\n");
-    }
-    let left = x.saturating_sub(HALF);
-    let width = HALF * 2;
-    let height = end.saturating_sub(top);
-    write!(
-        canvas.lines,
-        "<rect x=\"{left}\" y=\"{top}\" width=\"{width}\" height=\"{height}\" fill=\"{shade}\">"
-    )?;
-    push_title(&mut canvas.lines, node, bar, shows_rows)?;
-    canvas.lines.push_str("</rect>\n")
+    push_title(&mut canvas.lines, node, bar, shows_rows);
+    canvas.lines.push(match bar.stand.status {
+        Status::Down => "</line>\n",
+        _ => "</rect>\n",
+    });
 }
 
-// Where a bar ends: where the row behind its last one lies, and a little below the last row of all.
-fn end_of(canvas: &Canvas, bar: &Bar) -> u32 {
-    if bar.last >= canvas.layout.last() {
-        return canvas.layout.bottom().saturating_add(8);
+// Writes the element of a bar, but for its title and its end.
+fn push_bar(canvas: &mut Canvas, node: Node, bar: &Bar) {
+    let x = canvas.layout.x(node);
+    let top = canvas.layout.y(bar.first);
+    let end = canvas.layout.end(bar.last);
+    let look = bar_look(bar.stand.status);
+    if let Status::Down = bar.stand.status {
+        push_line(&mut canvas.lines, x, top, x, end);
+        canvas.lines.push(look);
+        return;
     }
-    canvas.layout.y(bar.last.saturating_add(1))
+    let area = Area {
+        x: x.saturating_sub(HALF),
+        y: top,
+        width: HALF * 2,
+        height: end.saturating_sub(top),
+    };
+    push_area(&mut canvas.lines, area, look);
+}
+
+// How a bar looks.
+fn bar_look(status: Status) -> &'static str {
+    match status {
+        Status::Down => " stroke=\"#aaa\" stroke-width=\"2\" stroke-dasharray=\"2 4\">",
+        Status::Election => " fill=\"#E69F00\">",
+        Status::Reorganization => " fill=\"#56B4E9\">",
+        Status::Normal => " fill=\"#009E73\">",
+    }
 }
 
 // What is shown where the pointer rests on a bar: how the node stands, and behind which rows, where any are shown.
-fn push_title(
-    text: &mut String,
-    node: Node,
-    bar: &Bar,
-    shows_rows: bool,
-) -> Result<(), OutOfMemory> {
-    let number = node.number();
-    write!(text, "<title>node {number}: ")?;
-    push_stand(text, bar.stand)?;
-    if !shows_rows {
-        return text.push_str("</title>");
+fn push_title(paper: &mut Paper, node: Node, bar: &Bar, shows_rows: bool) {
+    paper.push_number("<title>node ", u32::from(node.number()));
+    paper.push(": ");
+    push_stand(paper, bar.stand);
+    if shows_rows {
+        paper.push_number(", behind rows ", bar.first);
+        paper.push_number(" to ", bar.last);
     }
-    let first = bar.first;
-    let last = bar.last;
-    write!(text, ", behind rows {first} to {last}</title>")
+    paper.push("</title>");
 }
 
 /// Says beside a bar how the node stands behind this row, where the lane has room for it.
-pub fn draw_stand(
-    canvas: &mut Canvas,
-    node: Node,
-    row: u32,
-    stand: Stand,
-) -> Result<(), OutOfMemory> {
-    if stand.status == Status::Down || canvas.layout.lane < WORDS_MIN {
-        return Ok(());
+pub fn draw_stand(canvas: &mut Canvas, node: Node, row: u32, stand: Stand) {
+    let mut paper = Paper::new(canvas.alloc);
+    push_label(&mut paper, stand, canvas.layout.lane);
+    let words = canvas.read(&paper);
+    if !words.is_empty() {
+        let x = canvas.layout.x(node);
+        let y = canvas.layout.y(row);
+        canvas.put_beside(x, y, "#333", words);
     }
-    let mut words = canvas.text();
-    push_label(&mut words, stand, canvas.layout.lane)?;
-    if words.is_empty() {
-        return Ok(());
-    }
-    let x = canvas.layout.x(node);
-    let y = canvas.layout.y(row);
-    canvas.put_beside(x, y, "#333", words.as_str())
 }
 
-// Appends how the node stands, in short where the lane is narrow.
-fn push_label(text: &mut String, stand: Stand, lane: u32) -> Result<(), OutOfMemory> {
-    if lane >= WORDS_ALL {
-        return push_stand(text, stand);
+// Writes how the node stands, in short where the lane is narrow; nothing where it is very narrow, or the node is down.
+fn push_label(paper: &mut Paper, stand: Stand, lane: u32) {
+    if stand.status == Status::Down || lane < WORDS_MIN {
+        return;
     }
-    match stand.coordinator {
-        Some(node) => {
-            let number = node.number();
-            write!(text, "under {number}")
-        }
-        None => Ok(()),
+    if lane >= WORDS_ALL {
+        push_stand(paper, stand);
+    } else {
+        push_followed(paper, "", "under ", stand.coordinator);
     }
 }
 
 /// Writes the name of a node over its lane; its number, where there is no name.
-pub fn draw_name(canvas: &mut Canvas, node: Node, name: Option<&str>) -> Result<(), OutOfMemory> {
+pub fn draw_name(canvas: &mut Canvas, node: Node, name: Option<&str>) {
     let x = canvas.layout.x(node);
-    let number = node.number();
     let size = name_size(&canvas.layout);
+    let lane = canvas.layout.lane;
     let words = &mut canvas.words;
-    write!(
-        words,
-        "<text x=\"{x}\" y=\"80\" font-size=\"{size}\" font-weight=\"bold\" text-anchor=\"middle\" unicode-bidi=\"isolate\">"
-    )?;
+    words.push_number("<text x=\"", x);
+    words.push_number("\" y=\"80\" font-size=\"", size);
+    words.push("\" font-weight=\"bold\" text-anchor=\"middle\" unicode-bidi=\"isolate\">");
     match name {
-        Some(name) => {
-            push_start(words, name, letters_in(name, canvas.layout.lane))?;
-            write!(words, "<title>node {number}: ")?;
-            push_escaped(words, name)?;
-            words.push_str("</title>")?;
-        }
-        None if canvas.layout.lane >= WORDS_MIN => write!(words, "node {number}")?,
-        None => write!(words, "{number}")?,
+        Some(name) => push_name(words, node, name, lane),
+        None => push_number(words, node, lane),
     }
-    words.push_str("</text>\n")
+    words.push("</text>\n");
+}
+
+// Writes as much of a name as the lane has room for, and all of it where the pointer rests.
+fn push_name(paper: &mut Paper, node: Node, name: &str, lane: u32) {
+    paper.push_start(name, letters_in(name, lane));
+    paper.push_number("<title>node ", u32::from(node.number()));
+    paper.push(": ");
+    paper.push_escaped(name);
+    paper.push("</title>");
+}
+
+// Writes the number of a node.
+fn push_number(paper: &mut Paper, node: Node, lane: u32) {
+    let before = if lane >= WORDS_MIN { "node " } else { "" };
+    paper.push_number(before, u32::from(node.number()));
 }
 
 // How large names are: four digits have room in the narrowest lane.

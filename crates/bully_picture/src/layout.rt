@@ -71,6 +71,14 @@ impl Layout {
         TOP.saturating_add(ROW.saturating_mul(line))
     }
 
+    /// Where what lasts up to this row ends: where the row behind it lies, and a little below the last row of all.
+    pub fn end(&self, row: u32) -> u32 {
+        if row >= self.last() {
+            return self.bottom().saturating_add(8);
+        }
+        self.y(row.saturating_add(1))
+    }
+
     /// The number of the last row.
     pub fn last(&self) -> u32 {
         self.first.saturating_add(self.rows)

@@ -14,6 +14,7 @@ mod lanes;
 mod layout;
 mod marks;
 mod page;
+mod paper;
 mod words;
 
 pub use columns::text_picture;

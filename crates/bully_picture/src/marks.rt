@@ -4,8 +4,9 @@ use crate::boxes::{Anchor, width_of};
 use crate::canvas::{Canvas, Style};
 use crate::lanes::draw_stand;
 use crate::layout::{ASIDE, HALF, Layout, WORDS_MIN};
-use crate::words::{colour, meaning, push_row_text};
-use bully_base::{Node, OutOfMemory, Status};
+use crate::paper::Paper;
+use crate::words::{push_meaning, push_row_text};
+use bully_base::Node;
 use bully_film::{Scene, Sight, Stand};
 use bully_rows::Deed;
 use bully_table::Table;
@@ -17,39 +18,32 @@ const LONG_TABLE: &str = "gets a table";
 const DECIDED: &str = "#D55E00";
 
 /// Draws what stands at a row; whether it decided is told.
-pub fn draw_row(canvas: &mut Canvas, scene: &Scene, decides: bool) -> Result<(), OutOfMemory> {
+pub fn draw_row(canvas: &mut Canvas, scene: &Scene, decides: bool) {
     let y = canvas.layout.y(scene.number);
-    if decides {
-        shade_row(canvas, y)?;
-    } else if scene.number.is_multiple_of(5) {
-        guide_row(canvas, y)?;
+    draw_ground(canvas, scene.number, y, decides);
+    draw_number(canvas, scene.number, y, decides);
+    let end = draw_text(canvas, scene, y, decides);
+    if !decides {
+        draw_change(canvas, scene);
+        draw_marks(canvas, scene, y);
+        draw_table(canvas, scene, y, end);
     }
-    draw_number(canvas, scene, y, decides)?;
-    let end = draw_text(canvas, scene, y, decides)?;
-    if decides {
-        return Ok(());
-    }
-    draw_change(canvas, scene)?;
-    draw_marks(canvas, scene, y)?;
-    draw_table(canvas, scene, y, end)
 }
 
-// Shades the line of the row that decided.
-fn shade_row(canvas: &mut Canvas, y: u32) -> Result<(), OutOfMemory> {
-    let top = y.saturating_sub(9);
-    writeln!(
-        canvas.lines,
-        "<rect x=\"0\" y=\"{top}\" width=\"100%\" height=\"18\" fill=\"#D55E00\" fill-opacity=\".14\"/>"
-    )
-}
-
-// A faint line from the number of a row to its text.
-fn guide_row(canvas: &mut Canvas, y: u32) -> Result<(), OutOfMemory> {
-    let right = canvas.layout.texts().saturating_sub(8);
-    writeln!(
-        canvas.lines,
-        "<path d=\"M56 {y}H{right}\" stroke=\"#eee\"/>"
-    )
+// Shades the line of the row that decided; of each fifth of the others, a faint line goes from its number to its text.
+fn draw_ground(canvas: &mut Canvas, number: u32, y: u32, decides: bool) {
+    if decides {
+        let top = y.saturating_sub(9);
+        canvas.lines.push_number("<rect x=\"0\" y=\"", top);
+        canvas.lines.push(
+            "\" width=\"100%\" height=\"18\" fill=\"#D55E00\" fill-opacity=\".14\"/>\n",
+        );
+    } else if number.is_multiple_of(5) {
+        let right = canvas.layout.texts().saturating_sub(8);
+        canvas.lines.push_number("<path d=\"M56 ", y);
+        canvas.lines.push_number("H", right);
+        canvas.lines.push("\" stroke=\"#eee\"/>\n");
+    }
 }
 
 fn colour_of(decides: bool, plain: &'static str) -> &'static str {
@@ -67,59 +61,51 @@ fn plain_style(anchor: Anchor, colour: &'static str) -> Style {
 }
 
 // Writes the number of the row at the left.
-fn draw_number(
-    canvas: &mut Canvas,
-    scene: &Scene,
-    y: u32,
-    decides: bool,
-) -> Result<(), OutOfMemory> {
-    let mut words = canvas.text();
-    let number = scene.number;
-    write!(words, "{number}")?;
+fn draw_number(canvas: &mut Canvas, number: u32, y: u32, decides: bool) {
+    let mut paper = Paper::new(canvas.alloc);
+    paper.push_number("", number);
+    let words = canvas.read(&paper);
     let style = plain_style(Anchor::End, colour_of(decides, "#777"));
-    canvas.put(48, y.saturating_add(4), style, words.as_str())?;
-    Ok(())
+    canvas.put(48, y.saturating_add(4), style, words);
 }
 
 // Writes the text of the row at the right, and what it does, where that doesn't say it. Tells where it ends.
-fn draw_text(
-    canvas: &mut Canvas,
-    scene: &Scene,
-    y: u32,
-    decides: bool,
-) -> Result<u32, OutOfMemory> {
-    let mut words = canvas.text();
-    push_row_text(&mut words, scene)?;
-    if !decides {
-        push_meaning(&mut words, scene, has_room(&canvas.layout, scene))?;
-    }
+fn draw_text(canvas: &mut Canvas, scene: &Scene, y: u32, decides: bool) -> u32 {
+    let mut paper = Paper::new(canvas.alloc);
+    push_text(&mut paper, &canvas.layout, scene, decides);
+    let words = canvas.read(&paper);
     let x = canvas.layout.texts();
     let style = plain_style(Anchor::Start, colour_of(decides, "#555"));
-    canvas.put(x, y.saturating_add(4), style, words.as_str())?;
-    Ok(x.saturating_add(width_of(words.as_str(), style.size)))
+    canvas.put(x, y.saturating_add(4), style, words);
+    x.saturating_add(width_of(words, style.size))
 }
 
-// Appends what the row does; and of a table that has no room at its lane, who gets it.
-fn push_meaning(text: &mut String, scene: &Scene, has_room: bool) -> Result<(), OutOfMemory> {
-    if scene.gets_table && !has_room {
-        return push_getting(text, scene);
+// Writes the text of the row, and what it does; and of a table that has no room at its lane, who gets it.
+fn push_text(paper: &mut Paper, layout: &Layout, scene: &Scene, decides: bool) {
+    push_row_text(paper, scene);
+    if decides {
+        return;
     }
-    let meaning = meaning(scene);
-    if meaning.is_empty() {
-        return Ok(());
+    if scene.gets_table && !has_room(layout, scene) {
+        push_getting(paper, scene);
+    } else {
+        push_meaning(paper, scene);
     }
-    write!(text, ": {meaning}")
 }
 
-// Appends who gets a table, which stands behind the text where it is shown.
-fn push_getting(text: &mut String, scene: &Scene) -> Result<(), OutOfMemory> {
-    let node = scene.other.node.number();
-    let long = LONG_TABLE;
-    match (&scene.table, scene.deed) {
-        (Some(_), Some(Deed::Plan)) => text.push(':'),
-        (Some(_), _) => write!(text, ": {node} gets"),
-        (None, _) => write!(text, ": {node} {long}"),
-    }
+// Writes who gets a table, which stands behind the text where it is shown.
+fn push_getting(paper: &mut Paper, scene: &Scene) {
+    let what = match (&scene.table, scene.deed) {
+        (Some(_), Some(Deed::Plan)) => {
+            paper.push(":");
+            return;
+        }
+        (Some(_), _) => "gets",
+        (None, _) => LONG_TABLE,
+    };
+    paper.push_number(": ", u32::from(scene.other.node.number()));
+    paper.push(" ");
+    paper.push(what);
 }
 
 // Whether what is said of the table has room at the lane of the node that gets it.
@@ -150,13 +136,12 @@ fn owner_size(layout: &Layout) -> u32 {
 }
 
 // Says how a node stands behind the row, where that changes it: before the words of calls, which have more places to stand at.
-fn draw_change(canvas: &mut Canvas, scene: &Scene) -> Result<(), OutOfMemory> {
+fn draw_change(canvas: &mut Canvas, scene: &Scene) {
     let before = stand_of(&scene.other.before);
     let after = stand_of(&scene.other.after);
-    if before == after {
-        return Ok(());
+    if before != after {
+        draw_stand(canvas, scene.other.node, scene.number, after);
     }
-    draw_stand(canvas, scene.other.node, scene.number, after)
 }
 
 fn stand_of(sight: &Sight) -> Stand {
@@ -167,85 +152,88 @@ fn stand_of(sight: &Sight) -> Stand {
 }
 
 // Draws the marks of a row that was taken.
-fn draw_marks(canvas: &mut Canvas, scene: &Scene, y: u32) -> Result<(), OutOfMemory> {
+fn draw_marks(canvas: &mut Canvas, scene: &Scene, y: u32) {
     if scene.cuts {
-        draw_cut(canvas, scene.other.node, y)?;
+        draw_cut(canvas, scene.other.node, y);
     }
     let x = canvas.layout.x(scene.own.node);
     match scene.deed {
-        Some(Deed::Recover) => draw_ring(canvas, x, y, 6, colour(Status::Election)),
+        Some(Deed::Recover) => draw_ring(canvas, x, y, 6, "#E69F00"),
         Some(Deed::Move) => draw_ring(canvas, x, y, 3, "#333"),
         Some(Deed::Crash) => draw_crash(canvas, x, y),
-        Some(Deed::Check) => draw_word(canvas, x, y, "check"),
-        Some(Deed::Timeout) => draw_word(canvas, x, y, "timeout"),
         Some(Deed::Return) => canvas.note_return(scene.number),
-        None => draw_word(canvas, x, y, "saw"),
-        _ => Ok(()),
+        deed => draw_word(canvas, x, y, "#777", word_of(deed)),
+    }
+}
+
+// The word beside the lane for a row that has no other mark.
+fn word_of(deed: Option<Deed>) -> &'static str {
+    match deed {
+        Some(Deed::Check) => "check",
+        Some(Deed::Timeout) => "timeout",
+        None => "saw",
+        _ => "",
     }
 }
 
 // A black bar across the lane, where a Halt cuts a procedure off.
-fn draw_cut(canvas: &mut Canvas, node: Node, y: u32) -> Result<(), OutOfMemory> {
+fn draw_cut(canvas: &mut Canvas, node: Node, y: u32) {
     let x = canvas.layout.x(node);
     let left = x.saturating_sub(HALF + 4);
     let right = x.saturating_add(HALF + 4);
-    writeln!(
-        canvas.words,
-        "<path d=\"M{left} {y}H{right}\" stroke=\"#222\" stroke-width=\"3\"/>"
-    )
+    let words = &mut canvas.words;
+    words.push_number("<path d=\"M", left);
+    words.push_number(" ", y);
+    words.push_number("H", right);
+    words.push("\" stroke=\"#222\" stroke-width=\"3\"/>\n");
 }
 
 // A ring on the lane.
-fn draw_ring(
-    canvas: &mut Canvas,
-    x: u32,
-    y: u32,
-    radius: u32,
-    shade: &str,
-) -> Result<(), OutOfMemory> {
-    writeln!(
-        canvas.words,
-        "<circle cx=\"{x}\" cy=\"{y}\" r=\"{radius}\" fill=\"#fff\" stroke=\"{shade}\" stroke-width=\"2\"/>"
-    )
+fn draw_ring(canvas: &mut Canvas, x: u32, y: u32, radius: u32, shade: &str) {
+    let words = &mut canvas.words;
+    words.push("<circle");
+    words.push_attribute("cx", x);
+    words.push_attribute("cy", y);
+    words.push_attribute("r", radius);
+    words.push(" fill=\"#fff\" stroke=\"");
+    words.push(shade);
+    words.push("\" stroke-width=\"2\"/>\n");
 }
 
 // A cross where a node crashes.
-fn draw_crash(canvas: &mut Canvas, x: u32, y: u32) -> Result<(), OutOfMemory> {
+fn draw_crash(canvas: &mut Canvas, x: u32, y: u32) {
     let left = x.saturating_sub(6);
     let right = x.saturating_add(6);
     let top = y.saturating_sub(6);
     let bottom = y.saturating_add(6);
-    writeln!(
-        canvas.words,
-        "<path d=\"M{left} {top}L{right} {bottom}M{right} {top}L{left} {bottom}\" stroke=\"#D55E00\" stroke-width=\"2.5\"/>"
-    )?;
-    draw_word_in(canvas, x, y, DECIDED, "crash")
+    let words = &mut canvas.words;
+    words.push("<path d=\"");
+    push_stroke(words, left, top, right, bottom);
+    push_stroke(words, right, top, left, bottom);
+    words.push("\" stroke=\"#D55E00\" stroke-width=\"2.5\"/>\n");
+    draw_word(canvas, x, y, DECIDED, "crash");
 }
 
-// A word beside the lane.
-fn draw_word(canvas: &mut Canvas, x: u32, y: u32, word: &str) -> Result<(), OutOfMemory> {
-    draw_word_in(canvas, x, y, "#777", word)
+// Writes the part of a path that goes from one point to another.
+fn push_stroke(paper: &mut Paper, x1: u32, y1: u32, x2: u32, y2: u32) {
+    paper.push_number("M", x1);
+    paper.push_number(" ", y1);
+    paper.push_number("L", x2);
+    paper.push_number(" ", y2);
 }
 
-// The same in this colour.
-fn draw_word_in(
-    canvas: &mut Canvas,
-    x: u32,
-    y: u32,
-    colour: &'static str,
-    word: &str,
-) -> Result<(), OutOfMemory> {
-    if canvas.layout.lane < WORDS_MIN {
-        return Ok(());
+// A word beside the lane, in this colour, where the lane has room for it.
+fn draw_word(canvas: &mut Canvas, x: u32, y: u32, colour: &'static str, word: &str) {
+    if !word.is_empty() && canvas.layout.lane >= WORDS_MIN {
+        canvas.put_beside(x, y, colour, word);
     }
-    canvas.put_beside(x, y, colour, word)
 }
 
 // The table that a node gets by the row: its owners in small boxes, or that it gets one. Where that has no room at the lane, it stands
 // behind the text of the row, which ends there.
-fn draw_table(canvas: &mut Canvas, scene: &Scene, y: u32, end: u32) -> Result<(), OutOfMemory> {
+fn draw_table(canvas: &mut Canvas, scene: &Scene, y: u32, end: u32) {
     if !scene.gets_table {
-        return Ok(());
+        return;
     }
     let has_room = has_room(&canvas.layout, scene);
     let x = canvas.layout.x(scene.other.node).saturating_add(ASIDE);
@@ -253,54 +241,48 @@ fn draw_table(canvas: &mut Canvas, scene: &Scene, y: u32, end: u32) -> Result<()
         Some(table) if has_room => draw_owners(canvas, table, x, y.saturating_add(7)),
         Some(table) => draw_owners(canvas, table, end.saturating_add(6), y.saturating_sub(6)),
         None if has_room => draw_long_table(canvas, x, y),
-        None => Ok(()),
+        None => {}
     }
 }
 
 // That the node gets a table.
-fn draw_long_table(canvas: &mut Canvas, x: u32, y: u32) -> Result<(), OutOfMemory> {
+fn draw_long_table(canvas: &mut Canvas, x: u32, y: u32) {
     let style = Style {
         has_ground: true,
         ..plain_style(Anchor::Start, "#333")
     };
-    canvas.put(x, y.saturating_add(17), style, LONG_TABLE)?;
-    Ok(())
+    canvas.put(x, y.saturating_add(17), style, LONG_TABLE);
 }
 
 // Small boxes, an owner a partition, where they are free.
-fn draw_owners(canvas: &mut Canvas, table: &Table, x: u32, top: u32) -> Result<(), OutOfMemory> {
+fn draw_owners(canvas: &mut Canvas, table: &Table, x: u32, top: u32) {
     let width = owner_width(&canvas.layout);
     let whole = width.saturating_mul(table.len().min(1000) as u32);
-    if !canvas.put_frame(x, top, whole, "#009E73")? {
-        return Ok(());
+    if !canvas.put_frame(x, top, whole) {
+        return;
     }
     let mut left = x;
     for place in 0..table.len() {
-        draw_owner(canvas, table.owner(place), left, top, width)?;
+        draw_owner(canvas, table.owner(place), left, top, width);
         left = left.saturating_add(width);
     }
-    Ok(())
 }
 
 // The number of an owner, and a line at its left end.
-fn draw_owner(
-    canvas: &mut Canvas,
-    owner: Node,
-    x: u32,
-    top: u32,
-    width: u32,
-) -> Result<(), OutOfMemory> {
-    writeln!(
-        canvas.words,
-        "<path d=\"M{x} {top}v13\" stroke=\"#009E73\"/>"
-    )?;
-    let mut words = canvas.text();
-    let number = owner.number();
-    write!(words, "{number}")?;
-    let style = Style {
-        size: owner_size(&canvas.layout),
-        ..plain_style(Anchor::Middle, "#222")
-    };
+fn draw_owner(canvas: &mut Canvas, owner: Node, x: u32, top: u32, width: u32) {
+    let size = owner_size(&canvas.layout);
     let middle = x.saturating_add(width / 2);
-    canvas.write(middle, top.saturating_add(10), style, words.as_str())
+    let line = top.saturating_add(10);
+    let words = &mut canvas.words;
+    words.push_number("<path d=\"M", x);
+    words.push_number(" ", top);
+    words.push("v13\" stroke=\"#009E73\"/>\n<text");
+    words.push_attribute("x", middle);
+    words.push_attribute("y", line);
+    words.push_attribute("font-size", size);
+    words.push_number(
+        " text-anchor=\"middle\" fill=\"#222\">",
+        u32::from(owner.number()),
+    );
+    words.push("</text>\n");
 }

@@ -6,10 +6,11 @@ ghost use Rattle.bully_trace.specs.VerdictText.{verdict_head};
 
 use crate::arrows::draw_calls;
 use crate::canvas::Canvas;
-use crate::escaping::{push_escaped, push_start};
 use crate::lanes::{draw_bars, draw_name};
 use crate::layout::{Layout, ROW};
 use crate::marks::draw_row;
+use crate::paper::Paper;
+use crate::words::decides;
 use bully_base::{OutOfMemory, Setup};
 use bully_film::{Lane, Reel, lanes, row_before};
 use bully_trace::{Verdict, push_verdict_head};
@@ -27,8 +28,9 @@ const MARKERS: &str = "\
 </defs>\n\
 <rect width=\"100%\" height=\"100%\" fill=\"white\"/>\n";
 
-// What the colours and signs mean.
+// What stands behind the title: what the colours and signs mean.
 const LEGEND: &str = "\
+</text>\n\
 <line x1=\"70\" y1=\"36\" x2=\"70\" y2=\"52\" stroke=\"#aaa\" stroke-width=\"2\" stroke-dasharray=\"2 4\"/>\
 <text x=\"81\" y=\"48\" font-size=\"11\">down</text>\
 <rect x=\"122\" y=\"38\" width=\"12\" height=\"12\" fill=\"#E69F00\"/><text x=\"139\" y=\"48\" font-size=\"11\">election</text>\
@@ -48,53 +50,59 @@ pub fn svg_picture(
     ensures title { IfOk result (λ text. Has (string_bytes text)
         (title_text reel.now.verdict reel.now.setup.nodes reel.now.setup.partitions (row_before reel.now.scenes.items) (length reel.now.scenes.items))) }
 {
-    let canvas = drawn(alloc, reel, names)?;
     let mut text = String::new(alloc);
-    let head = head(alloc, reel.verdict, &canvas.layout, below)?;
-    text.push_str(head.as_str())?;
-    push_title(&mut text, reel)?;
-    let rest = rest(alloc, &canvas, below)?;
-    text.push_str(rest.as_str())?;
+    let mut canvas = Canvas::new(alloc, Layout::of(reel));
+    push_picture(&mut text, &mut canvas, reel, names, below)?;
     Ok(text)
 }
 
-// The canvas on which all rows and lanes were drawn.
-fn drawn(alloc: Global, reel: &Reel, names: &[&str]) -> Result<Canvas, OutOfMemory> {
-    let mut canvas = Canvas::new(alloc, Layout::of(reel));
-    draw_rows(&mut canvas, reel)?;
-    let lanes = lanes(alloc, reel)?;
-    for (place, lane) in lanes.as_slice().iter().enumerate() {
-        draw_lane(&mut canvas, lane)?;
-        draw_name(&mut canvas, lane.node, names.get(place).copied())?;
-    }
-    Ok(canvas)
+// Draws on this canvas, and appends the document that it makes.
+fn push_picture(
+    text: &mut String,
+    canvas: &mut Canvas,
+    reel: &Reel,
+    names: &[&str],
+    below: &str,
+) -> Result<(), OutOfMemory>
+    ensures { OnOk result (Has (string_bytes text.new)
+        (title_text reel.now.verdict reel.now.setup.nodes reel.now.setup.partitions (row_before reel.now.scenes.items) (length reel.now.scenes.items))) }
+{
+    draw_lanes(canvas, reel, names)?;
+    push_head(&mut canvas.head, reel.verdict, &canvas.layout, below);
+    push_below(&mut canvas.words, &canvas.layout, below);
+    text.push_str(canvas.head.read()?)?;
+    push_title(text, reel)?;
+    text.push_str(canvas.lines.read()?)?;
+    text.push_str(canvas.words.read()?)
 }
 
-// Draws the lane of a node.
-fn draw_lane(canvas: &mut Canvas, lane: &Lane) -> Result<(), OutOfMemory> {
-    draw_bars(canvas, lane.node, lane.bars.as_slice())?;
-    draw_calls(
-        canvas,
-        lane.node,
-        lane.holdings.as_slice(),
-        lane.orphans.as_slice(),
-    )
-}
-
-// Draws what stands at each row.
-fn draw_rows(canvas: &mut Canvas, reel: &Reel) -> Result<(), OutOfMemory> {
-    let decided = decided(reel.verdict);
-    for scene in reel.scenes.as_slice() {
-        draw_row(canvas, scene, Some(scene.number) == decided)?;
-    }
+// Draws all rows and lanes.
+fn draw_lanes(canvas: &mut Canvas, reel: &Reel, names: &[&str]) -> Result<(), OutOfMemory> {
+    let lanes = lanes(canvas.alloc, reel)?;
+    canvas.lines.push(LEGEND);
+    draw_rows(canvas, reel);
+    draw_each(canvas, lanes.as_slice(), names);
     Ok(())
 }
 
-// The row that decided.
-fn decided(verdict: Verdict) -> Option<u32> {
-    match verdict {
-        Verdict::Lawful(_) => None,
-        Verdict::Refused(row, _) | Verdict::Differs(row) => Some(row),
+// Draws what stands at each row.
+fn draw_rows(canvas: &mut Canvas, reel: &Reel) {
+    for scene in reel.scenes.as_slice() {
+        draw_row(canvas, scene, decides(reel.verdict, scene.number));
+    }
+}
+
+// Draws these lanes, with these names over them.
+fn draw_each(canvas: &mut Canvas, lanes: &[Lane], names: &[&str]) {
+    for (place, lane) in lanes.iter().enumerate() {
+        draw_bars(canvas, lane.node, lane.bars.as_slice());
+        draw_calls(
+            canvas,
+            lane.node,
+            lane.holdings.as_slice(),
+            lane.orphans.as_slice(),
+        );
+        draw_name(canvas, lane.node, names.get(place).copied());
     }
 }
 
@@ -103,34 +111,37 @@ fn width_of(layout: &Layout) -> u32 {
     layout.right().saturating_add(74 + TEXTS).max(900)
 }
 
-// The head of the document, up to the words of the title.
-fn head(
-    alloc: Global,
-    verdict: Verdict,
-    layout: &Layout,
-    below: &str,
-) -> Result<String, OutOfMemory> {
-    let mut text = String::new(alloc);
-    let width = width_of(layout);
+// How high the picture is with these lines below it.
+fn height_of(layout: &Layout, below: &str) -> u32 {
     let lines = below.lines().count().min(10_000) as u32;
-    let height = layout
+    layout
         .bottom()
         .saturating_add(ROW.saturating_mul(lines))
-        .saturating_add(40);
-    writeln!(
-        text,
-        "<svg xmlns=\"http://www.w3.org/2000/svg\" width=\"{width}\" height=\"{height}\" viewBox=\"0 0 {width} {height}\" font-family=\"DejaVu Sans, sans-serif\">"
-    )?;
-    text.push_str(MARKERS)?;
-    let shade = match verdict {
-        Verdict::Lawful(_) => "#222",
-        _ => "#D55E00",
-    };
-    write!(
-        text,
-        "<text x=\"64\" y=\"24\" font-size=\"15\" font-weight=\"bold\" fill=\"{shade}\">"
-    )?;
-    Ok(text)
+        .saturating_add(40)
+}
+
+// Writes the head of the document, up to the words of the title.
+fn push_head(head: &mut Paper, verdict: Verdict, layout: &Layout, below: &str) {
+    let width = width_of(layout);
+    let height = height_of(layout, below);
+    head.push("<svg xmlns=\"http://www.w3.org/2000/svg\"");
+    head.push_attribute("width", width);
+    head.push_attribute("height", height);
+    head.push_number(" viewBox=\"0 0 ", width);
+    head.push_number(" ", height);
+    head.push("\" font-family=\"DejaVu Sans, sans-serif\">\n");
+    head.push(MARKERS);
+    head.push(title_start(verdict));
+}
+
+// What stands before the words of the title.
+fn title_start(verdict: Verdict) -> &'static str {
+    match verdict {
+        Verdict::Lawful(_) => {
+            "<text x=\"64\" y=\"24\" font-size=\"15\" font-weight=\"bold\" fill=\"#222\">"
+        }
+        _ => { "<text x=\"64\" y=\"24\" font-size=\"15\" font-weight=\"bold\" fill=\"#D55E00\">" }
+    }
 }
 
 // Appends the words of the title: the verdict, how large the group is, and which rows are shown.
@@ -148,18 +159,16 @@ fn push_title(text: &mut String, reel: &Reel) -> Result<(), OutOfMemory>
 fn push_size(text: &mut String, setup: &Setup) -> Result<(), OutOfMemory>
     ensures { OnOk result (string_bytes text.new ≡ string_bytes text.old ++ size_text setup.now.nodes setup.now.partitions) }
 {
-    text.push_str(" (")?;
-    push_counted(text, setup.nodes(), "node")?;
-    text.push_str(", ")?;
-    push_counted(text, setup.partitions(), "partition")?;
+    push_counted(text, " (", setup.nodes(), "node")?;
+    push_counted(text, ", ", setup.partitions(), "partition")?;
     text.push_str(", ")
 }
 
-// Appends a count and the word for what is counted.
-fn push_counted(text: &mut String, count: u16, word: &str) -> Result<(), OutOfMemory>
-    ensures { OnOk result (string_bytes text.new ≡ string_bytes text.old ++ counted_text count word.now) }
+// Appends, behind these words, a count and the word for what is counted.
+fn push_counted(text: &mut String, before: &str, count: u16, word: &str) -> Result<(), OutOfMemory>
+    ensures { OnOk result (string_bytes text.new ≡ string_bytes text.old ++ before.now ++ counted_text count word.now) }
 {
-    write!(text, "{count} {word}")?;
+    write!(text, "{before}{count} {word}")?;
     if count == 1 {
         return Ok(());
     }
@@ -179,26 +188,15 @@ fn push_shown(text: &mut String, before: u32, count: usize) -> Result<(), OutOfM
     write!(text, "rows {first} to {last}")
 }
 
-// What comes behind the words of the title.
-fn rest(alloc: Global, canvas: &Canvas, below: &str) -> Result<String, OutOfMemory> {
-    let mut text = String::new(alloc);
-    text.push_str("</text>\n")?;
-    text.push_str(LEGEND)?;
-    text.push_str(canvas.lines.as_str())?;
-    text.push_str(canvas.words.as_str())?;
-    push_below(&mut text, &canvas.layout, below)?;
-    text.push_str("</svg>\n")?;
-    Ok(text)
-}
-
-// Appends the lines below the picture.
-fn push_below(text: &mut String, layout: &Layout, below: &str) -> Result<(), OutOfMemory> {
+// Writes the lines below the picture, and the end of the document.
+fn push_below(words: &mut Paper, layout: &Layout, below: &str) {
+    let letters = letters_below(layout);
     let mut y = layout.bottom().saturating_add(ROW + 8);
     for line in below.lines() {
-        push_line_below(text, line, y, letters_below(layout))?;
+        push_line_below(words, line, y, letters);
         y = y.saturating_add(ROW);
     }
-    Ok(())
+    words.push("</svg>\n");
 }
 
 // How many letters a line below the picture has room for.
@@ -206,22 +204,17 @@ fn letters_below(layout: &Layout) -> usize {
     (width_of(layout).saturating_sub(80) / 8) as usize
 }
 
-// Appends a line below the picture; where it is longer than this, its start, and all of it where the pointer rests.
-fn push_line_below(
-    text: &mut String,
-    line: &str,
-    y: u32,
-    letters: usize,
-) -> Result<(), OutOfMemory> {
-    write!(
-        text,
-        "<text x=\"64\" y=\"{y}\" font-size=\"12\" font-family=\"DejaVu Sans Mono, monospace\" fill=\"#D55E00\" xml:space=\"preserve\">"
-    )?;
-    push_start(text, line, letters)?;
+// Writes a line below the picture; where it is longer than this, its start, and all of it where the pointer rests.
+fn push_line_below(words: &mut Paper, line: &str, y: u32, letters: usize) {
+    words.push_number("<text x=\"64\" y=\"", y);
+    words.push(
+        "\" font-size=\"12\" font-family=\"DejaVu Sans Mono, monospace\" fill=\"#D55E00\" xml:space=\"preserve\">",
+    );
+    words.push_start(line, letters);
     if line.len() > letters {
-        text.push_str("<title>")?;
-        push_escaped(text, line)?;
-        text.push_str("</title>")?;
+        words.push("<title>");
+        words.push_escaped(line);
+        words.push("</title>");
     }
-    text.push_str("</text>\n")
+    words.push("</text>\n");
 }

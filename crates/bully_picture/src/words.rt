@@ -1,19 +1,11 @@
 //! The words of a picture.
 
-use bully_base::{Node, OutOfMemory, Status};
-use bully_calls::{Call, CallKind};
+use crate::paper::Paper;
+use bully_base::{Node, Status};
+use bully_calls::CallKind;
 use bully_film::{Scene, Sight, Stand};
 use bully_rows::{Deed, SAW, status_word};
-
-/// The colour of a status.
-pub fn colour(status: Status) -> &'static str {
-    match status {
-        Status::Down => "#aaa",
-        Status::Election => "#E69F00",
-        Status::Reorganization => "#56B4E9",
-        Status::Normal => "#009E73",
-    }
-}
+use bully_trace::Verdict;
 
 /// The call as the profile names it.
 pub fn kind_text(kind: CallKind) -> &'static str {
@@ -26,42 +18,53 @@ pub fn kind_text(kind: CallKind) -> &'static str {
     }
 }
 
-/// Appends the call, as `Ready to 1`.
-pub fn push_call(text: &mut String, call: Call) -> Result<(), OutOfMemory> {
-    let kind = kind_text(call.kind);
-    let callee = call.callee.number();
-    write!(text, "{kind} to {callee}")
-}
-
-/// Appends how a node stands, as `normal under 3`.
-pub fn push_stand(text: &mut String, stand: Stand) -> Result<(), OutOfMemory> {
-    text.push_str(status_word(stand.status))?;
-    push_under(text, stand.coordinator)
-}
-
-// Appends whom a node follows.
-fn push_under(text: &mut String, coordinator: Option<Node>) -> Result<(), OutOfMemory> {
-    match coordinator {
-        Some(node) => {
-            let number = node.number();
-            write!(text, " under {number}")
-        }
-        None => Ok(()),
+/// Whether the row of this number decided.
+pub fn decides(verdict: Verdict, row: u32) -> bool {
+    match verdict {
+        Verdict::Lawful(_) => false,
+        Verdict::Refused(decided, _) | Verdict::Differs(decided) => row == decided,
     }
 }
 
-/// Appends the row as it stands in a trace of version 1, but for a claim's status and a plan's table.
-pub fn push_row_text(text: &mut String, scene: &Scene) -> Result<(), OutOfMemory> {
-    let node = scene.own.node.number();
+/// Writes how a node stands, as `normal under 3`.
+pub fn push_stand(paper: &mut Paper, stand: Stand) {
+    push_followed(
+        paper,
+        status_word(stand.status),
+        " under ",
+        stand.coordinator,
+    );
+}
+
+/// Writes a word of how a node stands, and behind these words whom the node follows; the word alone, where that is nobody.
+pub fn push_followed(paper: &mut Paper, word: &str, between: &str, coordinator: Option<Node>) {
+    paper.push(word);
+    if let Some(node) = coordinator {
+        paper.push_number(between, u32::from(node.number()));
+    }
+}
+
+/// Writes the row as it stands in a trace of version 1, but for a claim's status and a plan's table.
+pub fn push_row_text(paper: &mut Paper, scene: &Scene) {
     let word = match scene.deed {
         Some(deed) => deed.word(),
         None => SAW,
     };
-    write!(text, "{word},{node}")
+    paper.push(word);
+    paper.push_number(",", u32::from(scene.own.node.number()));
 }
 
-/// What the row does, where its text alone doesn't say it.
-pub fn meaning(scene: &Scene) -> &'static str {
+/// Writes what the row does behind its text, where that alone doesn't say it.
+pub fn push_meaning(paper: &mut Paper, scene: &Scene) {
+    let meaning = meaning(scene);
+    if !meaning.is_empty() {
+        paper.push(": ");
+        paper.push(meaning);
+    }
+}
+
+// What the row does; nothing where its text alone says it.
+fn meaning(scene: &Scene) -> &'static str {
     match scene.deed {
         Some(Deed::Move) => move_meaning(&scene.own.before, &scene.own.after),
         Some(Deed::Plan) => "shares the task out",

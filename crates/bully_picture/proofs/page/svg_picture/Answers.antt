@@ -8,5 +8,5 @@ use Rattle.bully_picture.proofs.page.svg_picture.Goals as goal
 pub returns-clause-verdict : goal.returns-clause-verdict
 returns-clause-verdict c =
     let reel = c.args.reel.now in
-    let titled : Has (string_bytes c.push_str-2.new.self) (title_text reel.verdict reel.setup.nodes reel.setup.partitions (row_before reel.scenes.items) (length reel.scenes.items)) = search rules in
-    has-verdict (string_bytes c.push_str-2.new.self) reel.verdict reel.setup.nodes reel.setup.partitions (row_before reel.scenes.items) (length reel.scenes.items) titled
+    let titled : Has (string_bytes c.push_picture.new.text) (title_text reel.verdict reel.setup.nodes reel.setup.partitions (row_before reel.scenes.items) (length reel.scenes.items)) = search rules in
+    has-verdict (string_bytes c.push_picture.new.text) reel.verdict reel.setup.nodes reel.setup.partitions (row_before reel.scenes.items) (length reel.scenes.items) titled
