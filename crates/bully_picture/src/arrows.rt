@@ -6,8 +6,19 @@ use crate::layout::{HALF, ROW, WORDS_MIN};
 use crate::paper::Paper;
 use crate::words::kind_text;
 use bully_base::Node;
-use bully_calls::{Call, CallKind, Phase};
+use bully_calls::{Call, Phase};
 use bully_film::{End, Held, Holding, end_at};
+
+// The lines of calls.
+const PLAIN: &str = " stroke=\"#222\" stroke-width=\"1.5\" marker-end=\"url(#call)\">";
+
+const LOST: &str =
+    " stroke=\"#D55E00\" stroke-width=\"1.5\" stroke-dasharray=\"2 3\" marker-end=\"url(#lost)\">";
+
+const GIVEN_UP: &str = " stroke=\"#999\" stroke-width=\"1.5\" marker-end=\"url(#lost)\">";
+
+const ORPHAN: &str =
+    " stroke=\"#999\" stroke-width=\"1.5\" stroke-dasharray=\"4 3\" marker-end=\"url(#reply)\">";
 
 /// A line between two lanes.
 #[derive(Clone, Copy)]
@@ -123,9 +134,9 @@ fn draw_call(
 ) {
     let gets_there = matches!(end, End::Ran | End::Failed);
     let line = line_of(canvas, node, call.callee, holding, gets_there);
-    let style = call_style(end, is_orphan);
-    push_arrow(&mut canvas.lines, &line, style, node, call, holding);
-    label_call(canvas, &line, call.kind, end, is_orphan);
+    let look = look_of(end, is_orphan);
+    push_arrow(&mut canvas.lines, &line, look.style, node, call, holding);
+    label_call(canvas, &line, kind_text(call.kind), look);
 }
 
 // Writes a line of this style between two lanes, and what is shown where the pointer rests on it.
@@ -145,68 +156,62 @@ fn push_arrow(
 
 // Writes what call it is, where the lanes have room for it: with all words between two lanes, with its kind alone there, in small
 // letters where it has to be, or with that anywhere on the line; nowhere where nothing is free.
-fn label_call(canvas: &mut Canvas, line: &Line, kind: CallKind, end: End, is_orphan: bool) {
+fn label_call(canvas: &mut Canvas, line: &Line, kind: &str, look: Look) {
     if canvas.layout.lane < WORDS_MIN {
         return;
     }
     let mut paper = Paper::new(canvas.alloc);
-    push_words(&mut paper, kind, end, is_orphan);
+    paper.push(kind);
+    paper.push(look.ending);
     let words = canvas.read(&paper);
-    let style = words_style(end, is_orphan);
+    let style = words_style(look.colour);
     let small = Style { size: 9, ..style };
-    let short = kind_text(kind);
     if !(put_between(canvas, line, style, words)
-        || put_between(canvas, line, style, short)
-        || put_between(canvas, line, small, short))
+        || put_between(canvas, line, style, kind)
+        || put_between(canvas, line, small, kind))
     {
-        put_anywhere(canvas, line, small, short);
+        put_anywhere(canvas, line, small, kind);
     }
 }
 
-// How the line of a call looks.
-fn call_style(end: End, is_orphan: bool) -> &'static str {
-    match (end, is_orphan) {
-        (End::Failed, _) => {
-            " stroke=\"#D55E00\" stroke-width=\"1.5\" stroke-dasharray=\"2 3\" marker-end=\"url(#lost)\">"
-        }
-        (_, true) => {
-            " stroke=\"#999\" stroke-width=\"1.5\" stroke-dasharray=\"4 3\" marker-end=\"url(#reply)\">"
-        }
-        (End::GivenUp, false) => {
-            " stroke=\"#999\" stroke-width=\"1.5\" marker-end=\"url(#lost)\">"
-        }
-        _ => " stroke=\"#222\" stroke-width=\"1.5\" marker-end=\"url(#call)\">",
+// How a call looks: the style of its line, the colour of its words, and what these say behind its kind.
+#[derive(Clone, Copy)]
+struct Look {
+    style: &'static str,
+    colour: &'static str,
+    ending: &'static str,
+}
+
+// How a call looks that ends so. Of one that is given up its grey line tells whether it is an orphan.
+fn look_of(end: End, is_orphan: bool) -> Look {
+    let (style, colour) = match (end, is_orphan) {
+        (End::Failed, _) => (LOST, "#D55E00"),
+        (_, true) => (ORPHAN, "#777"),
+        (End::GivenUp, false) => (GIVEN_UP, "#777"),
+        _ => (PLAIN, "#222"),
+    };
+    let ending = match (end, is_orphan) {
+        (End::Ran, false) => "",
+        (End::Ran, true) => ", orphan",
+        (End::Failed, false) => " fails",
+        (End::Failed, true) => " fails, orphan",
+        (End::GivenUp, _) => ", given up",
+        (End::UnderWay, false) => ", under way",
+        (End::UnderWay, true) => ", under way, orphan",
+    };
+    Look {
+        style,
+        colour,
+        ending,
     }
 }
 
-fn words_style(end: End, is_orphan: bool) -> Style {
+fn words_style(colour: &'static str) -> Style {
     Style {
         anchor: Anchor::Middle,
         size: 11,
-        colour: call_colour(end, is_orphan),
+        colour,
         has_ground: true,
-    }
-}
-
-fn call_colour(end: End, is_orphan: bool) -> &'static str {
-    match (end, is_orphan) {
-        (End::Failed, _) => "#D55E00",
-        (_, true) | (End::GivenUp, false) => "#777",
-        _ => "#222",
-    }
-}
-
-// Writes the words of a call. Of one that is given up its grey line tells whether it is an orphan.
-fn push_words(paper: &mut Paper, kind: CallKind, end: End, is_orphan: bool) {
-    paper.push(kind_text(kind));
-    paper.push(match end {
-        End::Ran => "",
-        End::Failed => " fails",
-        End::GivenUp => ", given up",
-        End::UnderWay => ", under way",
-    });
-    if is_orphan && end != End::GivenUp {
-        paper.push(", orphan");
     }
 }
 
@@ -304,11 +309,9 @@ fn reply_style(end: End, returns: bool) -> &'static str {
 
 // What is shown where the pointer rests on an arrow.
 fn push_title(paper: &mut Paper, node: Node, call: &Call, holding: &Holding) {
-    paper.push_number("<title>node ", u32::from(node.number()));
-    paper.push(": ");
+    paper.push_node("<title>node ", node, ": ");
     paper.push(kind_text(call.kind));
-    paper.push_number(" to ", u32::from(call.callee.number()));
-    paper.push_number(", in its slot behind rows ", holding.first);
-    paper.push_number(" to ", holding.last);
-    paper.push("</title>");
+    paper.push_node(" to ", call.callee, ", in its slot behind rows ");
+    paper.push_number("", holding.first, " to ");
+    paper.push_number("", holding.last, "</title>");
 }

@@ -3,7 +3,8 @@
 use crate::boxes::{Anchor, Area, is_free};
 use crate::layout::{ASIDE, Layout};
 use crate::paper::Paper;
-use std::alloc::Global;
+use bully_base::OutOfMemory;
+use std::alloc::{AllocError, Global};
 
 /// How words look: where the point lies that they are placed by, their size, their colour, and whether they have a white ground.
 #[derive(Clone, Copy)]
@@ -45,7 +46,7 @@ impl Canvas {
     /// Notes that a call returned in this row.
     pub fn note_return(&mut self, row: u32) {
         if self.returns.push(row).is_err() {
-            self.words.fail();
+            self.words.has_failed = true;
         }
     }
 
@@ -54,15 +55,20 @@ impl Canvas {
         self.returns.as_slice().contains(&row)
     }
 
-    /// What was written on another paper.
-    pub fn read<'a>(&mut self, paper: &'a Paper) -> &'a str {
-        match paper.read() {
-            Ok(words) => words,
-            Err(_) => {
-                self.words.fail();
-                ""
-            }
+    /// Refused where memory was wanting for anything that was drawn.
+    pub fn told(&self) -> Result<(), OutOfMemory> {
+        if self.head.has_failed || self.lines.has_failed || self.words.has_failed {
+            return Err(AllocError);
         }
+        Ok(())
+    }
+
+    /// What was written on another paper. Where memory was wanting there, it is wanting here.
+    pub fn read<'a>(&mut self, paper: &'a Paper) -> &'a str {
+        if paper.has_failed {
+            self.words.has_failed = true;
+        }
+        paper.as_str()
     }
 
     /// Writes words at this point, where their box is free, and tells whether it was. They need no escaping.
@@ -123,7 +129,7 @@ impl Canvas {
             return false;
         }
         if self.boxes.push(area).is_err() {
-            self.words.fail();
+            self.words.has_failed = true;
         }
         true
     }

@@ -92,7 +92,7 @@ fn push_picture(
 {
     push_lines(alloc, lines, reel)?;
     push_verdict_head(text, reel.verdict)?;
-    text.push_str(lines.read()?)?;
+    text.push_str(lines.as_str())?;
     text.push_str(below)
 }
 
@@ -101,7 +101,7 @@ fn push_lines(alloc: Global, lines: &mut Paper, reel: &Reel) -> Result<(), OutOf
     let mut now = Vec::with_capacity(alloc, usize::from(reel.setup.nodes()))?;
     push_starts(alloc, &mut now, reel)?;
     push_rows(lines, reel, now.as_mut_slice());
-    Ok(())
+    lines.told()
 }
 
 // Appends how each node stands before the first row, from node 1 on.
@@ -163,11 +163,11 @@ fn push_name(lines: &mut Paper, number: u16, form: Form) {
     let start = lines.len();
     match form {
         Form::Words | Form::Short => {
-            lines.push_number("", u32::from(number));
+            lines.push_number("", u32::from(number), "");
             fill(lines, start, form.column());
         }
         Form::Letters if number.is_multiple_of(10) => {
-            lines.push_number("", u32::from(number / 10 % 10));
+            lines.push_number("", u32::from(number / 10 % 10), "");
         }
         Form::Letters => lines.push("."),
         Form::Changes => {}
@@ -179,10 +179,7 @@ fn push_quiet(lines: &mut Paper, quiet: u32) {
     match quiet {
         0 => {}
         1 => lines.push("    ... 1 row\n"),
-        _ => {
-            lines.push_number("    ... ", quiet);
-            lines.push(" rows\n");
-        }
+        _ => lines.push_number("    ... ", quiet, " rows\n"),
     }
 }
 
@@ -222,8 +219,7 @@ fn push_stand(lines: &mut Paper, word: &str, between: &str, sight: &Sight, colum
 fn push_change(lines: &mut Paper, scene: &Scene) {
     let start = lines.len();
     let after = &scene.other.after;
-    lines.push_number("  ", u32::from(scene.other.node.number()));
-    lines.push(": ");
+    lines.push_node("  ", scene.other.node, ": ");
     push_followed(lines, word(after.status), " ", after.coordinator);
     fill(lines, start, CHANGE);
 }

@@ -61,12 +61,11 @@ fn bar_look(status: Status) -> &'static str {
 
 // What is shown where the pointer rests on a bar: how the node stands, and behind which rows, where any are shown.
 fn push_title(paper: &mut Paper, node: Node, bar: &Bar, shows_rows: bool) {
-    paper.push_number("<title>node ", u32::from(node.number()));
-    paper.push(": ");
+    paper.push_node("<title>node ", node, ": ");
     push_stand(paper, bar.stand);
     if shows_rows {
-        paper.push_number(", behind rows ", bar.first);
-        paper.push_number(" to ", bar.last);
+        paper.push_number(", behind rows ", bar.first, " to ");
+        paper.push_number("", bar.last, "");
     }
     paper.push("</title>");
 }
@@ -85,7 +84,7 @@ pub fn draw_stand(canvas: &mut Canvas, node: Node, row: u32, stand: Stand) {
 
 // Writes how the node stands, in short where the lane is narrow; nothing where it is very narrow, or the node is down.
 fn push_label(paper: &mut Paper, stand: Stand, lane: u32) {
-    if stand.status == Status::Down || lane < WORDS_MIN {
+    if matches!(stand.status, Status::Down) || lane < WORDS_MIN {
         return;
     }
     if lane >= WORDS_ALL {
@@ -101,12 +100,13 @@ pub fn draw_name(canvas: &mut Canvas, node: Node, name: Option<&str>) {
     let size = name_size(&canvas.layout);
     let lane = canvas.layout.lane;
     let words = &mut canvas.words;
-    words.push_number("<text x=\"", x);
-    words.push_number("\" y=\"80\" font-size=\"", size);
-    words.push("\" font-weight=\"bold\" text-anchor=\"middle\" unicode-bidi=\"isolate\">");
+    words.push_number("<text x=\"", x, "\" y=\"80\"");
+    words.push_attribute("font-size", size);
+    words.push(" font-weight=\"bold\" text-anchor=\"middle\" unicode-bidi=\"isolate\">");
     match name {
         Some(name) => push_name(words, node, name, lane),
-        None => push_number(words, node, lane),
+        None if lane >= WORDS_MIN => words.push_node("node ", node, ""),
+        None => words.push_node("", node, ""),
     }
     words.push("</text>\n");
 }
@@ -114,16 +114,9 @@ pub fn draw_name(canvas: &mut Canvas, node: Node, name: Option<&str>) {
 // Writes as much of a name as the lane has room for, and all of it where the pointer rests.
 fn push_name(paper: &mut Paper, node: Node, name: &str, lane: u32) {
     paper.push_start(name, letters_in(name, lane));
-    paper.push_number("<title>node ", u32::from(node.number()));
-    paper.push(": ");
+    paper.push_node("<title>node ", node, ": ");
     paper.push_escaped(name);
     paper.push("</title>");
-}
-
-// Writes the number of a node.
-fn push_number(paper: &mut Paper, node: Node, lane: u32) {
-    let before = if lane >= WORDS_MIN { "node " } else { "" };
-    paper.push_number(before, u32::from(node.number()));
 }
 
 // How large names are: four digits have room in the narrowest lane.

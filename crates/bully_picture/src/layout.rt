@@ -1,7 +1,7 @@
 //! Where the lanes and the rows of a picture lie, in pixels.
 
 use bully_base::Node;
-use bully_film::Reel;
+use bully_film::{Reel, row_before};
 
 /// Where the lanes begin.
 pub const LEFT: u32 = 124;
@@ -46,14 +46,10 @@ impl Layout {
     /// The layout of what a film shows.
     pub fn of(reel: &Reel) -> Layout {
         let nodes = u32::from(reel.setup.nodes());
-        let first = match reel.scenes.first() {
-            Some(scene) => scene.number.saturating_sub(1),
-            None => 1,
-        };
         Layout {
             nodes,
             lane: lane_width(nodes),
-            first,
+            first: row_before(reel.scenes.as_slice()),
             rows: row_count(reel.scenes.len()),
         }
     }

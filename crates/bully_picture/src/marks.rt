@@ -34,15 +34,17 @@ pub fn draw_row(canvas: &mut Canvas, scene: &Scene, decides: bool) {
 fn draw_ground(canvas: &mut Canvas, number: u32, y: u32, decides: bool) {
     if decides {
         let top = y.saturating_sub(9);
-        canvas.lines.push_number("<rect x=\"0\" y=\"", top);
-        canvas.lines.push(
+        canvas.lines.push_number(
+            "<rect x=\"0\" y=\"",
+            top,
             "\" width=\"100%\" height=\"18\" fill=\"#D55E00\" fill-opacity=\".14\"/>\n",
         );
     } else if number.is_multiple_of(5) {
         let right = canvas.layout.texts().saturating_sub(8);
-        canvas.lines.push_number("<path d=\"M56 ", y);
-        canvas.lines.push_number("H", right);
-        canvas.lines.push("\" stroke=\"#eee\"/>\n");
+        canvas.lines.push_number("<path d=\"M56 ", y, "H");
+        canvas
+            .lines
+            .push_number("", right, "\" stroke=\"#eee\"/>\n");
     }
 }
 
@@ -63,7 +65,7 @@ fn plain_style(anchor: Anchor, colour: &'static str) -> Style {
 // Writes the number of the row at the left.
 fn draw_number(canvas: &mut Canvas, number: u32, y: u32, decides: bool) {
     let mut paper = Paper::new(canvas.alloc);
-    paper.push_number("", number);
+    paper.push_number("", number, "");
     let words = canvas.read(&paper);
     let style = plain_style(Anchor::End, colour_of(decides, "#777"));
     canvas.put(48, y.saturating_add(4), style, words);
@@ -95,16 +97,13 @@ fn push_text(paper: &mut Paper, layout: &Layout, scene: &Scene, decides: bool) {
 
 // Writes who gets a table, which stands behind the text where it is shown.
 fn push_getting(paper: &mut Paper, scene: &Scene) {
-    let what = match (&scene.table, scene.deed) {
-        (Some(_), Some(Deed::Plan)) => {
-            paper.push(":");
-            return;
-        }
-        (Some(_), _) => "gets",
-        (None, _) => LONG_TABLE,
-    };
-    paper.push_number(": ", u32::from(scene.other.node.number()));
-    paper.push(" ");
+    let shows_table = scene.table.is_some();
+    if shows_table && matches!(scene.deed, Some(Deed::Plan)) {
+        paper.push(":");
+        return;
+    }
+    let what = if shows_table { "gets" } else { LONG_TABLE };
+    paper.push_node(": ", scene.other.node, " ");
     paper.push(what);
 }
 
@@ -182,10 +181,8 @@ fn draw_cut(canvas: &mut Canvas, node: Node, y: u32) {
     let left = x.saturating_sub(HALF + 4);
     let right = x.saturating_add(HALF + 4);
     let words = &mut canvas.words;
-    words.push_number("<path d=\"M", left);
-    words.push_number(" ", y);
-    words.push_number("H", right);
-    words.push("\" stroke=\"#222\" stroke-width=\"3\"/>\n");
+    words.push_point("<path d=\"M", left, y);
+    words.push_number("H", right, "\" stroke=\"#222\" stroke-width=\"3\"/>\n");
 }
 
 // A ring on the lane.
@@ -207,19 +204,12 @@ fn draw_crash(canvas: &mut Canvas, x: u32, y: u32) {
     let top = y.saturating_sub(6);
     let bottom = y.saturating_add(6);
     let words = &mut canvas.words;
-    words.push("<path d=\"");
-    push_stroke(words, left, top, right, bottom);
-    push_stroke(words, right, top, left, bottom);
+    words.push_point("<path d=\"M", left, top);
+    words.push_point("L", right, bottom);
+    words.push_point("M", right, top);
+    words.push_point("L", left, bottom);
     words.push("\" stroke=\"#D55E00\" stroke-width=\"2.5\"/>\n");
     draw_word(canvas, x, y, DECIDED, "crash");
-}
-
-// Writes the part of a path that goes from one point to another.
-fn push_stroke(paper: &mut Paper, x1: u32, y1: u32, x2: u32, y2: u32) {
-    paper.push_number("M", x1);
-    paper.push_number(" ", y1);
-    paper.push_number("L", x2);
-    paper.push_number(" ", y2);
 }
 
 // A word beside the lane, in this colour, where the lane has room for it.
@@ -274,15 +264,10 @@ fn draw_owner(canvas: &mut Canvas, owner: Node, x: u32, top: u32, width: u32) {
     let middle = x.saturating_add(width / 2);
     let line = top.saturating_add(10);
     let words = &mut canvas.words;
-    words.push_number("<path d=\"M", x);
-    words.push_number(" ", top);
+    words.push_point("<path d=\"M", x, top);
     words.push("v13\" stroke=\"#009E73\"/>\n<text");
     words.push_attribute("x", middle);
     words.push_attribute("y", line);
     words.push_attribute("font-size", size);
-    words.push_number(
-        " text-anchor=\"middle\" fill=\"#222\">",
-        u32::from(owner.number()),
-    );
-    words.push("</text>\n");
+    words.push_node(" text-anchor=\"middle\" fill=\"#222\">", owner, "</text>\n");
 }

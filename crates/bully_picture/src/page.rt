@@ -1,7 +1,7 @@
 //! The picture as a whole.
-ghost use Rattle.std.specs.Prelude.{◌≡◌, ◌+◌, ◌++◌, length, IfOk, OnOk, string_bytes};
+ghost use Rattle.std.specs.Prelude.{◌≡◌, ◌+◌, ◌==◌, ◌++◌, [], codes, if◌then◌else◌, length, IfOk, OnOk, string_bytes};
 ghost use Rattle.bully_film.specs.Lane.{row_before};
-ghost use Rattle.bully_picture.specs.Title.{Has, counted_text, shown_text, size_text, title_text};
+ghost use Rattle.bully_picture.specs.Title.{Has, shown_text, size_text, title_text};
 ghost use Rattle.bully_trace.specs.VerdictText.{verdict_head};
 
 use crate::arrows::draw_calls;
@@ -67,22 +67,22 @@ fn push_picture(
     ensures { OnOk result (Has (string_bytes text.new)
         (title_text reel.now.verdict reel.now.setup.nodes reel.now.setup.partitions (row_before reel.now.scenes.items) (length reel.now.scenes.items))) }
 {
-    draw_lanes(canvas, reel, names)?;
-    push_head(&mut canvas.head, reel.verdict, &canvas.layout, below);
-    push_below(&mut canvas.words, &canvas.layout, below);
-    text.push_str(canvas.head.read()?)?;
+    draw(canvas, reel, names, below)?;
+    text.push_str(canvas.head.as_str())?;
     push_title(text, reel)?;
-    text.push_str(canvas.lines.read()?)?;
-    text.push_str(canvas.words.read()?)
+    text.push_str(canvas.lines.as_str())?;
+    text.push_str(canvas.words.as_str())
 }
 
-// Draws all rows and lanes.
-fn draw_lanes(canvas: &mut Canvas, reel: &Reel, names: &[&str]) -> Result<(), OutOfMemory> {
+// Draws all but the words of the title.
+fn draw(canvas: &mut Canvas, reel: &Reel, names: &[&str], below: &str) -> Result<(), OutOfMemory> {
     let lanes = lanes(canvas.alloc, reel)?;
+    push_head(&mut canvas.head, reel.verdict, &canvas.layout, below);
     canvas.lines.push(LEGEND);
     draw_rows(canvas, reel);
-    draw_each(canvas, lanes.as_slice(), names);
-    Ok(())
+    draw_lanes(canvas, lanes.as_slice(), names);
+    push_below(&mut canvas.words, &canvas.layout, below);
+    canvas.told()
 }
 
 // Draws what stands at each row.
@@ -93,7 +93,7 @@ fn draw_rows(canvas: &mut Canvas, reel: &Reel) {
 }
 
 // Draws these lanes, with these names over them.
-fn draw_each(canvas: &mut Canvas, lanes: &[Lane], names: &[&str]) {
+fn draw_lanes(canvas: &mut Canvas, lanes: &[Lane], names: &[&str]) {
     for (place, lane) in lanes.iter().enumerate() {
         draw_bars(canvas, lane.node, lane.bars.as_slice());
         draw_calls(
@@ -127,8 +127,7 @@ fn push_head(head: &mut Paper, verdict: Verdict, layout: &Layout, below: &str) {
     head.push("<svg xmlns=\"http://www.w3.org/2000/svg\"");
     head.push_attribute("width", width);
     head.push_attribute("height", height);
-    head.push_number(" viewBox=\"0 0 ", width);
-    head.push_number(" ", height);
+    head.push_point(" viewBox=\"0 0 ", width, height);
     head.push("\" font-family=\"DejaVu Sans, sans-serif\">\n");
     head.push(MARKERS);
     head.push(title_start(verdict));
@@ -159,20 +158,21 @@ fn push_title(text: &mut String, reel: &Reel) -> Result<(), OutOfMemory>
 fn push_size(text: &mut String, setup: &Setup) -> Result<(), OutOfMemory>
     ensures { OnOk result (string_bytes text.new ≡ string_bytes text.old ++ size_text setup.now.nodes setup.now.partitions) }
 {
-    push_counted(text, " (", setup.nodes(), "node")?;
-    push_counted(text, ", ", setup.partitions(), "partition")?;
-    text.push_str(", ")
+    let nodes = setup.nodes();
+    let partitions = setup.partitions();
+    let more_nodes = plural(nodes);
+    let more_partitions = plural(partitions);
+    write!(
+        text,
+        " ({nodes} node{more_nodes}, {partitions} partition{more_partitions}, "
+    )
 }
 
-// Appends, behind these words, a count and the word for what is counted.
-fn push_counted(text: &mut String, before: &str, count: u16, word: &str) -> Result<(), OutOfMemory>
-    ensures { OnOk result (string_bytes text.new ≡ string_bytes text.old ++ before.now ++ counted_text count word.now) }
+// What stands behind the word for what is counted.
+fn plural(count: u16) -> &'static str
+    ensures { result.now ≡ (if count == 1 then [] else codes "s") }
 {
-    write!(text, "{before}{count} {word}")?;
-    if count == 1 {
-        return Ok(());
-    }
-    text.push('s')
+    if count == 1 { "" } else { "s" }
 }
 
 // Appends which rows are shown: so many behind this one.
@@ -206,8 +206,9 @@ fn letters_below(layout: &Layout) -> usize {
 
 // Writes a line below the picture; where it is longer than this, its start, and all of it where the pointer rests.
 fn push_line_below(words: &mut Paper, line: &str, y: u32, letters: usize) {
-    words.push_number("<text x=\"64\" y=\"", y);
-    words.push(
+    words.push_number(
+        "<text x=\"64\" y=\"",
+        y,
         "\" font-size=\"12\" font-family=\"DejaVu Sans Mono, monospace\" fill=\"#D55E00\" xml:space=\"preserve\">",
     );
     words.push_start(line, letters);

@@ -1,14 +1,14 @@
 //! What pictures are written on.
 
 use crate::escaping::{push_escaped, push_start};
-use bully_base::OutOfMemory;
+use bully_base::{Node, OutOfMemory};
 use std::alloc::{AllocError, Global};
 
-/// A text that is written. Where memory is wanting, that is noted, and told where the text is read: so what writes never fails.
+/// A text that is written. Where memory is wanting, that is noted, and told at the end: so what writes never fails.
 #[derive(Drop)]
 pub struct Paper {
     text: String,
-    has_failed: bool,
+    pub has_failed: bool,
 }
 
 impl Paper {
@@ -20,12 +20,9 @@ impl Paper {
         }
     }
 
-    /// What was written. Refused where memory was wanting.
-    pub fn read(&self) -> Result<&str, OutOfMemory> {
-        if self.has_failed {
-            return Err(AllocError);
-        }
-        Ok(self.text.as_str())
+    /// What was written, as far as there was memory for it.
+    pub fn as_str(&self) -> &str {
+        self.text.as_str()
     }
 
     /// How many bytes were written.
@@ -33,9 +30,12 @@ impl Paper {
         self.text.len()
     }
 
-    /// Notes that memory was wanting.
-    pub fn fail(&mut self) {
-        self.has_failed = true;
+    /// Refused where memory was wanting.
+    pub fn told(&self) -> Result<(), OutOfMemory> {
+        if self.has_failed {
+            return Err(AllocError);
+        }
+        Ok(())
     }
 
     /// Writes words.
@@ -56,15 +56,26 @@ impl Paper {
         self.note(written);
     }
 
-    /// Writes words, and a number behind them.
-    pub fn push_number(&mut self, before: &str, number: u32) {
-        let written = write!(self.text, "{before}{number}");
+    /// Writes a number between these words.
+    pub fn push_number(&mut self, before: &str, number: u32, behind: &str) {
+        let written = write!(self.text, "{before}{number}{behind}");
         self.note(written);
+    }
+
+    /// Writes the number of a node between these words.
+    pub fn push_node(&mut self, before: &str, node: Node, behind: &str) {
+        self.push_number(before, u32::from(node.number()), behind);
     }
 
     /// Writes a number with spaces before it, so that it ends seven columns further.
     pub fn push_right(&mut self, number: u32) {
         let written = write!(self.text, "{number:>7}");
+        self.note(written);
+    }
+
+    /// Writes a point behind these words, as `12 34`.
+    pub fn push_point(&mut self, before: &str, x: u32, y: u32) {
+        let written = write!(self.text, "{before}{x} {y}");
         self.note(written);
     }
 

@@ -40,7 +40,7 @@ pub fn push_stand(paper: &mut Paper, stand: Stand) {
 pub fn push_followed(paper: &mut Paper, word: &str, between: &str, coordinator: Option<Node>) {
     paper.push(word);
     if let Some(node) = coordinator {
-        paper.push_number(between, u32::from(node.number()));
+        paper.push_node(between, node, "");
     }
 }
 
@@ -51,7 +51,7 @@ pub fn push_row_text(paper: &mut Paper, scene: &Scene) {
         None => SAW,
     };
     paper.push(word);
-    paper.push_number(",", u32::from(scene.own.node.number()));
+    paper.push_node(",", scene.own.node, "");
 }
 
 /// Writes what the row does behind its text, where that alone doesn't say it.
