@@ -12,6 +12,35 @@ faults() {
     yes "$(tail -n 4 one_node.toml)" | head -n $((4 * $1))
 }
 
+# Prints a configuration of three nodes, of which one recovers at the first turn and one crashes at the last.
+good() {
+    printf 'nodes = 3\npartitions = 4\nevents = 100\nturns = 9\nnames = ["a", "b", "c"]\n'
+    printf '[[fault]]\nat = %s\nnode = "%s"\nkind = "%s"\n' 1 a recover 9 c crash
+}
+
+# Plays that configuration as each line of the input edits it by `sed`, and prints `Ok` where it is played.
+edited() {
+    local edit
+    while IFS= read -r edit; do
+        good | sed "$edit" >edited.toml
+        bully play edited.toml >played && echo Ok
+    done
+}
+
+# Judges the trace of the input, and prints the verdict or the fault. Then it judges the upgraded trace, or takes the fault
+# for which it isn't upgraded, and tells where that is something else.
+judge() {
+    cat >trace.csv
+    bully check <trace.csv >verdict 2>&1
+    cat verdict
+    if bully upgrade <trace.csv >upgraded.csv 2>told; then
+        bully check <upgraded.csv >told
+    else
+        cat upgraded.csv >>told
+    fi
+    cmp verdict told
+}
+
 # Prints the configuration of so many nodes with 256 partitions, which recover at the first turn, and so many turns.
 group() {
     printf 'nodes = %s\npartitions = 256\nevents = 1000000\nturns = %s\nnames = [%s]\n' \

@@ -12,7 +12,6 @@ mod traces;
 mod worlds;
 
 use bully_base::{EVENTS_MAX, Node, NodeSet, Setup, SetupFault};
-use bully_table::{Table, TableFault};
 use std::process::Abort;
 
 fn setup(rt: &impl Abort, nodes: u16, partitions: u16, events_max: u32) -> Setup {
@@ -184,27 +183,5 @@ fn weights_of_one_are_no_weights(rt: HostRuntime) {
             evenness(*weights, *keeps) == Some((*even, *even)),
             "{weights:?}, {keeps}"
         );
-    }
-}
-
-/// Why a text is no table of three nodes and three partitions.
-const TABLES: [(&str, Option<TableFault>); 9] = [
-    ("1 2 3", None),
-    ("1 2", Some(TableFault::Length)),
-    ("1 2 4", Some(TableFault::Owner)),
-    ("1 2 03", Some(TableFault::Syntax)),
-    ("1  2", Some(TableFault::Syntax)),
-    ("4 2 03", Some(TableFault::Owner)),
-    ("1 2 99999999999999999999", Some(TableFault::Owner)),
-    ("1 2 3 ", Some(TableFault::Length)),
-    ("", Some(TableFault::Length)),
-];
-
-#[test]
-fn table_texts(rt: HostRuntime) {
-    let three = setup(&rt, 3, 3, 1);
-    for (text, fault) in TABLES.iter() {
-        let table = Table::read(rt.alloc(), three, *text);
-        assert!(rt; table.err() == *fault, "{text}");
     }
 }

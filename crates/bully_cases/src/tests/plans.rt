@@ -1,10 +1,11 @@
-//! Plans that were worked out by hand, and each small plan beside a slow search.
+//! Plans over nobody, and each small plan beside a slow search. Plans that were worked out by hand stand in
+//! `examples/cases/table.txt`.
 
 ghost use Rattle.std.specs.Prelude.{◌≡◌, ◌≤◌, All, IfSome, length};
 ghost use Rattle.std.specs.Option.{option_copied};
 
 use bully_base::{Node, NodeSet, Setup};
-use bully_table::{PlanFault, Table, TablePlan, plan, push_owners};
+use bully_table::{PlanFault, Table, plan};
 use std::alloc::Global;
 
 // A group of 1 to 3 nodes and 1 to 7 partitions, what its nodes weigh, and which of them are members.
@@ -163,148 +164,40 @@ impl Case {
     }
 }
 
-// Adds the plan's table, its moves and its bound, or why there is none.
-// (where it isn't written, the text is another one)
-fn add_plan(text: &mut String, found: &Result<TablePlan, PlanFault>) {
-    match found {
-        Ok(found) => {
-            let (moves, bound) = (found.moves, found.bound);
-            let _ = push_owners(text, &found.table, ' ');
-            let _ = write!(text, ", {moves} {bound}");
-        }
-        Err(fault) => {
-            let _ = write!(text, "{fault:?}");
-        }
+/// The number of partitions, the weights and the old table, for a plan over nobody.
+const FOR_NOBODY: [(u16, [u16; 3], &str); 3] = [
+    (2, [1; 3], ""),
+    (3, [1; 3], "3 3 3"),
+    (7, [1, 2, 1], ""),
+];
+
+// Whether nothing is planned over nobody.
+fn plans_nothing(alloc: Global, setup: Setup, old: Option<&Table>) -> bool
+    requires { IfSome (option_copied old) (λ t. length t ≡ setup.partitions) }
+{
+    plan(alloc, setup, &NodeSet::new(), old).err() == Some(PlanFault::NoMember)
+}
+
+// The same from the table of a text, or from none where it is empty.
+fn plans_nothing_from(alloc: Global, setup: Setup, old: &str) -> bool {
+    if old.is_empty() {
+        return plans_nothing(alloc, setup, None);
     }
-}
-
-// Whether this is planned over the members.
-fn plans(
-    alloc: Global,
-    setup: Setup,
-    members: &NodeSet,
-    old: Option<&Table>,
-    expected: &str,
-) -> bool
-    requires covers { IfSome (option_copied old) (λ t. length t ≡ setup.partitions) }
-    requires members { All (λ m. m ≤ setup.nodes) members.now }
-{
-    let found = plan(alloc, setup, members, old);
-    let mut text = String::new(alloc);
-    add_plan(&mut text, &found);
-    text.as_str() == expected
-}
-
-// The same from the table of a text.
-fn plans_from(alloc: Global, setup: Setup, members: &NodeSet, old: &str, expected: &str) -> bool
-    requires { All (λ m. m ≤ setup.nodes) members.now }
-{
     match Table::read(alloc, setup, old) {
-        Ok(old) => plans(alloc, setup, members, Some(&old), expected),
+        Ok(old) => plans_nothing(alloc, setup, Some(&old)),
         Err(_) => false,
     }
 }
 
-// The same of a case, from an old table, if there is one.
-fn is_planned(alloc: Global, case: Case, old: &str, expected: &str) -> bool {
-    let Some(setup) = case.setup() else {
-        return false;
-    };
-    let members = case.member_set();
-    if !setup.has_all(&members) {
-        return false;
-    }
-    if old.is_empty() {
-        plans(alloc, setup, &members, None, expected)
-    } else {
-        plans_from(alloc, setup, &members, old, expected)
-    }
-}
-
-/// The number of partitions of a group of three, the weights, the members, the old table, and the plan.
-const BY_HAND: [(u16, [u16; 3], [bool; 3], &str, &str); 17] = [
-    (
-        5,
-        [1; 3],
-        [true, true, false],
-        "1 2 2 2 3",
-        "1 2 2 2 1, 1 4",
-    ),
-    (3, [1; 3], [true; 3], "3 3 3", "3 1 2, 2 1"),
-    (2, [1; 3], [true; 3], "", "1 2, 2 0"),
-    (2, [1; 3], [false; 3], "", "NoMember"),
-    (3, [1; 3], [false; 3], "3 3 3", "NoMember"),
-    // bases 1, 3, 1, and two left over
-    (7, [1, 2, 1], [true; 3], "", "1 1 2 2 2 2 3, 7 0"),
-    (
-        7,
-        [1, 2, 1],
-        [true; 3],
-        "3 3 3 2 2 2 2",
-        "3 3 1 2 2 2 2, 1 6",
-    ),
-    (
-        7,
-        [1, 2, 1],
-        [true; 3],
-        "1 1 2 2 3 3 3",
-        "1 1 2 2 3 3 2, 1 6",
-    ),
-    (7, [1, 2, 1], [false; 3], "", "NoMember"),
-    // equal weights are as weights of 1
-    (
-        5,
-        [9; 3],
-        [true, true, false],
-        "1 2 2 2 3",
-        "1 2 2 2 1, 1 4",
-    ),
-    // who is no member has no part: bases 2 and 4, and one left over
-    (
-        7,
-        [1, 2, 1000],
-        [true, true, false],
-        "",
-        "1 1 1 2 2 2 2, 7 0",
-    ),
-    (
-        7,
-        [1, 2, 1000],
-        [true, true, false],
-        "3 2 2 2 2 2 3",
-        "1 2 2 2 2 2 1, 2 5",
-    ),
-    // bases 0, 6, 0, and one left over
-    (7, [1, 1000, 1], [true; 3], "", "1 2 2 2 2 2 2, 7 0"),
-    (
-        7,
-        [1, 1000, 1],
-        [true; 3],
-        "3 3 2 2 2 2 2",
-        "3 2 2 2 2 2 2, 1 6",
-    ),
-    (
-        4,
-        [1, 2, 1000],
-        [false, false, true],
-        "1 2 3 3",
-        "3 3 3 3, 2 2",
-    ),
-    // bases 0, 0, 1, and two left over
-    (3, [1, 1, 2], [true; 3], "", "1 2 3, 3 0"),
-    (3, [1, 1, 2], [true; 3], "3 3 1", "3 3 1, 0 3"),
-];
-
 #[test]
-fn plans_worked_by_hand(rt: HostRuntime) {
-    for (partitions, weights, members, old, expected) in BY_HAND.iter() {
-        let case = Case {
-            nodes: 3,
-            partitions: *partitions,
-            weights: *weights,
-            members: *members,
-        };
-        assert!(rt; is_planned(rt.alloc(), case, *old, *expected), "{expected}");
+fn plans_over_nobody(rt: HostRuntime) {
+    for (partitions, weights, old) in FOR_NOBODY.iter() {
+        let setup = Setup::weighted(3, *partitions, 1, weights.as_slice(), false);
+        let setup = setup.expect(&rt, "a setup");
+        assert!(rt;
+            plans_nothing_from(rt.alloc(), setup, *old),
+            "{partitions}, {old}"
+        );
     }
 }
 

@@ -36,11 +36,6 @@ bully,2,3,7,1 2 1,clear\nrecover,1\nrecover,2\nrecover,3\nmove,3\nstart,3\nrun,3
 run,3\nreturn,3\nmove,3\nstart,3\nrun,3\nreturn,3\nstart,3\nrun,3\nreturn,3\nmove,3\n\
 plan,3,1 1 2 2 2 2 3\nstart,3\nrun,3\nreturn,3\nstart,3\nrun,3\nreturn,3\nmove,3\n";
 
-/// A callee crashes after the Halt ran there.
-pub const REPLY_LOST: &str = "\
-bully,1,3,3\nrecover,2\nrecover,3\nmove,3\nstart,3\nrun,3\ncrash,2\nlose,3\nreturn,3\n\
-start,3\nlose,3\nreturn,3\nmove,3\nmove,3\nplan,3,3 3 3\nmove,3\n";
-
 /// A halted node's own Halt runs late.
 pub const ORPHAN_HALT: &str = "\
 bully,1,3,3\nrecover,1\nrecover,2\nstart,2\nlose,2\nreturn,2\nmove,2\nstart,2\nrecover,3\n\
@@ -54,11 +49,6 @@ pub const ORPHAN_READY: &str = "\
 bully,1,3,2\nrecover,1\nrecover,2\nstart,2\nlose,2\nreturn,2\nmove,2\nstart,2\nrun,2\n\
 return,2\nmove,2\nstart,2\nrun,2\nreturn,2\nmove,2\nplan,2,1 2\nstart,2\nrecover,3\nmove,3\n\
 start,3\nrun,3\ncrash,3\ntimeout,2\nstart,2\n";
-
-/// An orphan's failure comes back late.
-pub const LATE_FAILURE: &str = "\
-bully,1,3,1\nrecover,2\nstart,2\nlose,2\nrecover,3\nmove,3\nstart,3\nrun,3\nreturn,3\n\
-timeout,2\nreturn,2\nmove,2\n";
 
 /// A NewCoordinator runs after a newer Halt.
 pub const ANNOUNCED_TOO_LATE: &str = "\
