@@ -6,6 +6,7 @@ use bully_lines::{push_reply, push_request, read_request};
 use bully_messages::{Reply, Request};
 use bully_node::Agent;
 use bully_steps::Want;
+use bully_world::{Refused, TakenStep};
 use std::alloc::Global;
 
 /// A request of the group.
@@ -14,124 +15,113 @@ const READY: &str = "ask,3,5,1,ready,1 2 2 3";
 /// How many steps a node takes at most until it plans.
 const STEPS: u16 = 20;
 
-/// A call of a node on its own, or one that reads or writes a line of such nodes.
-pub fn agent_call<R: Print>(trial: &Trial<R>, name: &str) -> Option<Outcome> {
-    match name {
-        "Agent::new" => new_call(trial),
-        "Agent::request" => request_call(trial),
-        "Agent::prepare" => prepare_call(trial),
-        "read_request" => read_call(trial, &setup()?),
-        "push_request" => push_call(trial, &setup()?),
-        "push_reply" => reply_call(trial),
-        _ => None,
-    }
+/// A call of a node on its own.
+#[derive(Clone, Copy)]
+pub enum AgentCall {
+    New,
+    Request,
+    Prepare,
 }
 
-// Two nodes with four partitions.
-fn pair() -> Option<Setup> {
-    Setup::new(2, 4, EVENTS_MAX).ok()
+/// A call that reads or writes a line of such nodes.
+#[derive(Clone, Copy)]
+pub enum LineCall {
+    Read,
+    PushRequest,
+    PushReply,
 }
 
-fn new_call<R: Print>(trial: &Trial<R>) -> Option<Outcome> {
-    let setup = pair()?;
-    if setup.nodes() < 2 {
+/// The last of two nodes with four partitions, on its own.
+pub fn agent_call<R: Print>(trial: &Trial<R>, call: AgentCall) -> Option<Outcome> {
+    let setup = Setup::new(2, 4, EVENTS_MAX).ok()?;
+    let node = Node::new(2)?;
+    if setup.nodes() < node.number() {
         return None;
     }
-    let node = Node::new(2)?;
-    trial.begin();
-    let answer = Agent::new(trial.alloc, &setup, node, 0, None);
-    trial.outcome(&answer, "AllocError")
+    match call {
+        AgentCall::New => {
+            trial.begin();
+            trial.outcome(Agent::new(trial.alloc, &setup, node, 0, None), "AllocError")
+        }
+        _ => {
+            let mut agent = Agent::new(trial.alloc, &setup, node, 0, None).ok()?;
+            call_of(trial, call, &mut agent)
+        }
+    }
 }
 
-// The last of two nodes, where it plans.
-fn planning(alloc: Global) -> Option<Agent> {
-    let mut agent = last_of_two(alloc)?;
-    take_to_plan(&mut agent)?;
-    Some(agent)
-}
-
-fn last_of_two(alloc: Global) -> Option<Agent> {
-    let setup = pair()?;
-    let node = Node::new(setup.nodes())?;
-    Agent::new(alloc, &setup, node, 0, None).ok()
+// A call of the node where it plans, or where it calls with its table.
+fn call_of<R: Print>(trial: &Trial<R>, call: AgentCall, agent: &mut Agent) -> Option<Outcome> {
+    take_to_plan(agent)?;
+    match call {
+        AgentCall::Request => {
+            start_ready(trial.alloc, agent)?;
+            trial.begin();
+            trial.outcome(agent.request(), "AllocError")
+        }
+        _ => {
+            trial.begin();
+            trial.outcome(agent.prepare(trial.alloc, None), "AllocError")
+        }
+    }
 }
 
 // Takes the node on from its recovery until it plans.
 fn take_to_plan(agent: &mut Agent) -> Option<()> {
-    agent.recover().ok()?;
+    taken(agent.recover())?;
     for _ in 0..STEPS {
         match agent.wants() {
             Want::Start(_) => call(agent)?,
-            Want::Move => advance(agent)?,
+            Want::Move => taken(agent.advance())?,
             _ => return Some(()),
         }
     }
     None
 }
 
-fn advance(agent: &mut Agent) -> Option<()> {
-    agent.advance().ok()?;
-    Some(())
-}
-
 // The node's call is started, and is answered Yes.
 fn call(agent: &mut Agent) -> Option<()> {
-    agent.start().ok()?;
+    taken(agent.start())?;
     let reply = Reply {
         caller: agent.node(),
         number: agent.number(),
         answer: Answer::Yes,
     };
-    agent.replied(reply).ok()?;
-    Some(())
-}
-
-fn prepare_call<R: Print>(trial: &Trial<R>) -> Option<Outcome> {
-    let agent = planning(trial.alloc)?;
-    trial.begin();
-    let answer = agent.prepare(trial.alloc, None);
-    trial.outcome(&answer, "AllocError")
-}
-
-// The request of a Ready.
-fn request_call<R: Print>(trial: &Trial<R>) -> Option<Outcome> {
-    let mut agent = planning(trial.alloc)?;
-    start_ready(trial.alloc, &mut agent)?;
-    trial.begin();
-    let answer = agent.request();
-    trial.outcome(&answer, "AllocError")
+    taken(agent.replied(reply))
 }
 
 // Plans the table, and starts the first Ready.
 fn start_ready(alloc: Global, agent: &mut Agent) -> Option<()> {
     let table = agent.prepare(alloc, None).ok()?;
-    agent.plan(table).ok()?;
-    start(agent)
+    taken(agent.plan(table))?;
+    taken(agent.start())
 }
 
-fn start(agent: &mut Agent) -> Option<()> {
-    agent.start().ok()?;
-    Some(())
+// Whether the step was taken.
+fn taken(step: Result<TakenStep, Refused>) -> Option<()> {
+    match step {
+        Ok(_) => Some(()),
+        Err(_) => None,
+    }
 }
 
-fn read_call<R: Print>(trial: &Trial<R>, setup: &Setup) -> Option<Outcome> {
-    trial.begin();
-    let answer = read_request(trial.alloc, setup, READY);
-    trial.outcome(&answer, "Table(OutOfMemory)")
-}
-
-fn push_call<R: Print>(trial: &Trial<R>, setup: &Setup) -> Option<Outcome> {
-    let request = read_request(trial.alloc, setup, READY).ok()?;
-    trial.begin();
-    let answer = request_line(trial.alloc, &request);
-    trial.outcome(&answer, "AllocError")
-}
-
-// The line is given up where it is refused memory.
-fn request_line(alloc: Global, request: &Request) -> Result<String, OutOfMemory> {
-    let mut text = String::new(alloc);
-    push_request(&mut text, request)?;
-    Ok(text)
+pub fn line_call<R: Print>(trial: &Trial<R>, call: LineCall) -> Option<Outcome> {
+    let setup = setup()?;
+    match call {
+        LineCall::Read => {
+            trial.begin();
+            trial.outcome(
+                read_request(trial.alloc, &setup, READY),
+                "Table(OutOfMemory)",
+            )
+        }
+        LineCall::PushRequest => {
+            let request = read_request(trial.alloc, &setup, READY).ok()?;
+            trial.begin();
+            trial.outcome(request_line(trial.alloc, &request), "AllocError")
+        }
+        LineCall::PushReply => reply_call(trial),
+    }
 }
 
 fn reply_call<R: Print>(trial: &Trial<R>) -> Option<Outcome> {
@@ -141,8 +131,14 @@ fn reply_call<R: Print>(trial: &Trial<R>) -> Option<Outcome> {
         answer: Answer::No,
     };
     trial.begin();
-    let answer = reply_line(trial.alloc, reply);
-    trial.outcome(&answer, "AllocError")
+    trial.outcome(reply_line(trial.alloc, reply), "AllocError")
+}
+
+// The line is given up where it is refused memory.
+fn request_line(alloc: Global, request: &Request) -> Result<String, OutOfMemory> {
+    let mut text = String::new(alloc);
+    push_request(&mut text, request)?;
+    Ok(text)
 }
 
 fn reply_line(alloc: Global, reply: Reply) -> Result<String, OutOfMemory> {

@@ -1,30 +1,36 @@
 use crate::opened::Opened;
-use crate::trying::{Outcome, Trial, ended, is_same, text_of, with};
-use crate::watched::publish_history;
+use crate::trying::{Outcome, Trial};
 use bully_group::{Closed, FinishFault, Naming};
-use std::alloc::Global;
+use bully_world::Event;
 use std::sync::Wait;
 
-/// A group that is finished behind its election. All of it comes back where that is refused.
+/// A group that is finished behind these events. All of it comes back where that is refused.
 pub fn finish_call<L: Naming, R: Print + Wait>(
     trial: &Trial<R>,
     opened: Opened<L>,
+    events: &[Event],
 ) -> Option<Outcome> {
-    let before = opened.text(trial.alloc);
-    let Opened {
-        locked,
-        seats,
-        passes,
-    } = opened;
+    let mut opened = opened;
+    let mut before = String::new(trial.alloc);
+    if opened.play(events).is_none() || opened.read(&mut before).is_none() {
+        opened.end(trial.rt);
+        return None;
+    }
+    finish(trial, opened, before.as_str())
+}
+
+// A group that reads so before it is finished.
+fn finish<L: Naming, R: Print + Wait>(
+    trial: &Trial<R>,
+    opened: Opened<L>,
+    before: &str,
+) -> Option<Outcome> {
     trial.begin();
-    let answer = locked.finish(seats, passes);
+    let answer = opened.finish();
     trial.end();
     match answer {
-        Ok(closed) => closed_outcome(trial, false, closed),
-        Err((locked, seats, passes, fault)) => {
-            let back = Opened::of(locked, seats, passes);
-            finish_again(trial, back, fault, &before)
-        }
+        Ok(closed) => tell_closed(trial, false, closed),
+        Err((opened, fault)) => finish_again(trial, opened, fault, before),
     }
 }
 
@@ -33,55 +39,28 @@ fn finish_again<L: Naming, R: Print + Wait>(
     trial: &Trial<R>,
     opened: Opened<L>,
     fault: FinishFault,
-    before: &Option<String>,
+    before: &str,
 ) -> Option<Outcome> {
-    let after = opened.text(trial.alloc);
-    if fault != FinishFault::OutOfMemory || !is_same(before, &after) {
+    if fault != FinishFault::OutOfMemory || !opened.reads_as(trial.alloc, before) {
         opened.end(trial.rt);
         return None;
     }
-    let closed = closed_of(trial, opened)?;
-    closed_outcome(trial, true, closed)
-}
-
-fn closed_of<L: Naming, R: Print + Wait>(trial: &Trial<R>, opened: Opened<L>) -> Option<Closed> {
-    let Opened {
-        locked,
-        seats,
-        passes,
-    } = opened;
-    match locked.finish(seats, passes) {
-        Ok(closed) => Some(closed),
-        Err((locked, _seats, _passes, _fault)) => {
-            locked.end(trial.rt);
+    match opened.finish() {
+        Ok(closed) => tell_closed(trial, true, closed),
+        Err((opened, _)) => {
+            opened.end(trial.rt);
             None
         }
     }
 }
 
-// The outcome of a finish, whose group is ended.
-fn closed_outcome<R: Print + Wait>(
+// Tells all that can be read of a finished group, which is ended.
+fn tell_closed<R: Print + Wait>(
     trial: &Trial<R>,
     was_refused: bool,
     closed: Closed,
 ) -> Option<Outcome> {
-    let text = closed_text(trial.alloc, &closed);
-    closed.end(trial.rt);
-    ended(was_refused, text)
-}
-
-// All that can be read of a finished group.
-fn closed_text(alloc: Global, closed: &Closed) -> Option<String> {
-    with(text_of(alloc, closed.view())?, &closed.history())
-}
-
-/// A publish of the history of a finished group, which is ended then.
-pub fn publish_call<L: Naming, R: Print + Wait>(
-    trial: &Trial<R>,
-    opened: Opened<L>,
-) -> Option<Outcome> {
-    let closed = closed_of(trial, opened)?;
-    let outcome = publish_history(trial, &closed);
+    let outcome = trial.tell_both(was_refused, closed.view(), &closed.history());
     closed.end(trial.rt);
     outcome
 }

@@ -1,12 +1,13 @@
 ghost use Rattle.std.specs.Prelude.{◌≡◌, ◌+◌, IfErr, None};
 
-use crate::finished::{finish_call, publish_call};
-use crate::opened::{OPERATOR, Opened, SECOND, THIRD};
+use crate::finished::finish_call;
+use crate::opened::{Deed, OPERATOR, Opened, SECOND, THIRD, is_refused};
 use crate::tables::setup;
-use crate::trying::{Outcome, Trial, ended, is_same, with};
+use crate::trying::{Outcome, Trial, add};
+use crate::watched::history_call;
 use crate::worlds::{BEFORE_PLAN, BEFORE_RUN, election, planning_in};
 use bully_base::Setup;
-use bully_group::{Group, Locked, Naming, StepFault};
+use bully_group::{Group, Locked, Naming};
 use bully_steps::Procedure;
 use bully_world::Event;
 use std::alloc::Global;
@@ -14,84 +15,58 @@ use std::marker::Brand;
 use std::sync::Wait;
 use std::sync::ledger::Blank;
 
-/// A call on a group that nobody watches, or on its finished history.
+/// A call on a group of three nodes that nobody watches, or on its history.
 #[derive(Clone, Copy)]
 pub enum Asked {
     Open,
     OpenShared,
     Step,
-    Serve,
-    Turn,
-    TurnInPlace,
-    NodeTurn,
+    Act(Deed),
     View,
     Finish,
     PublishHistory,
 }
 
-/// A call on a group of three nodes.
-pub fn group_call<R: Print + Wait>(trial: &Trial<R>, name: &str) -> Option<Outcome> {
-    let asked = match name {
-        "Locked::open" => Asked::Open,
-        "Group::open" => Asked::OpenShared,
-        "Locked::step" => Asked::Step,
-        "Locked::serve" => Asked::Serve,
-        "Locked::turn" => Asked::Turn,
-        "Locked::turn_in_place" => Asked::TurnInPlace,
-        "Locked::serve_or_turn" => Asked::NodeTurn,
-        "Locked::view" => Asked::View,
-        "Locked::finish" => Asked::Finish,
-        "Publisher::publish" => Asked::PublishHistory,
-        _ => return None,
-    };
-    asked_call(trial, asked)
+pub fn group_call<R: Print + Wait>(trial: &Trial<R>, asked: Asked) -> Option<Outcome> {
+    let events = election(trial.alloc)?;
+    asked_call(trial, asked, events.as_slice())
 }
 
-fn asked_call<R: Print + Wait>(trial: &Trial<R>, asked: Asked) -> Option<Outcome> {
+fn asked_call<R: Print + Wait>(
+    trial: &Trial<R>,
+    asked: Asked,
+    events: &[Event],
+) -> Option<Outcome> {
     let setup = setup()?;
     let blank = Blank::new(u64::from(setup.nodes()) + 1);
-    tried_by::<Brand, R>(trial, asked, setup, blank)
+    tried_by::<Brand, R>(trial, asked, setup, blank, events)
 }
 
+// Opens the group, which is the call or comes before it. It is opened again where that is refused: the blank comes back then.
 fn tried_by<L: Naming, R: Print + Wait>(
     trial: &Trial<R>,
     asked: Asked,
     setup: Setup,
     blank: Blank,
+    events: &[Event],
 ) -> Option<Outcome>
     requires setup { setup ≡ L.setup }
     requires unwatched { L.publisher ≡ None }
     requires name { blank.name ≡ L.name }
     requires parts { (blank.parts ≡ L.parts) × (L.parts ≡ L.setup.nodes + 1) }
 {
-    match asked {
-        Asked::Open | Asked::OpenShared => open_call::<L, R>(trial, asked, setup, blank),
-        _ => match open_by::<L>(trial.alloc, asked, setup, blank) {
-            Ok(opened) => opened_call(trial, asked, opened),
-            Err(_) => None,
-        },
+    let is_call = matches!(asked, Asked::Open | Asked::OpenShared);
+    if is_call {
+        trial.begin();
     }
-}
-
-// A group that is opened. The blank comes back where that is refused.
-fn open_call<L: Naming, R: Print + Wait>(
-    trial: &Trial<R>,
-    asked: Asked,
-    setup: Setup,
-    blank: Blank,
-) -> Option<Outcome>
-    requires setup { setup ≡ L.setup }
-    requires unwatched { L.publisher ≡ None }
-    requires name { blank.name ≡ L.name }
-    requires parts { (blank.parts ≡ L.parts) × (L.parts ≡ L.setup.nodes + 1) }
-{
-    trial.begin();
     let answer = open_by::<L>(trial.alloc, asked, setup, blank);
-    trial.end();
+    if is_call {
+        trial.end();
+    }
     match answer {
-        Ok(opened) => new_outcome(trial, false, opened),
+        Ok(opened) => opened_call(trial, asked, false, opened, events),
         Err(blank) => match open_by::<L>(trial.alloc, asked, setup, blank) {
-            Ok(opened) => new_outcome(trial, true, opened),
+            Ok(opened) => opened_call(trial, asked, true, opened, events),
             Err(_) => None,
         },
     }
@@ -122,129 +97,150 @@ fn open_by<L: Naming>(
     }
 }
 
-/// The outcome of a call that opened this group, which is ended.
-pub fn new_outcome<L: Naming, R: Print + Wait>(
-    trial: &Trial<R>,
-    was_refused: bool,
-    opened: Opened<L>,
-) -> Option<Outcome> {
-    let text = opened.text(trial.alloc);
-    opened.end(trial.rt);
-    ended(was_refused, text)
-}
-
-// A call on a group, which is ended then.
+// A call on a group, which is ended then; that of opening it was refused at first, or not.
 fn opened_call<L: Naming, R: Print + Wait>(
     trial: &Trial<R>,
     asked: Asked,
+    was_refused: bool,
     opened: Opened<L>,
+    events: &[Event],
 ) -> Option<Outcome> {
     let mut opened = opened;
-    if played(trial.alloc, asked, &mut opened).is_none() {
-        opened.end(trial.rt);
-        return None;
-    }
-    match asked {
-        Asked::Finish => finish_call(trial, opened),
-        Asked::PublishHistory => publish_call(trial, opened),
-        _ => {
-            let outcome = held_call(trial, asked, &mut opened);
-            opened.end(trial.rt);
-            outcome
-        }
-    }
-}
-
-// Takes those events of the election that come before the call.
-fn played<L: Naming>(alloc: Global, asked: Asked, opened: &mut Opened<L>) -> Option<()> {
-    let events = election(alloc)?;
-    let before = match asked {
-        Asked::Serve => BEFORE_RUN,
-        Asked::Step | Asked::Turn | Asked::TurnInPlace | Asked::NodeTurn | Asked::View => {
-            BEFORE_PLAN
-        }
-        _ => events.len(),
+    let outcome = match asked {
+        Asked::Finish => return finish_call(trial, opened, events),
+        Asked::Open | Asked::OpenShared => opened.tell(trial, was_refused),
+        Asked::PublishHistory => published_call(trial, &mut opened, events),
+        Asked::View => view_call(trial, &mut opened, events),
+        Asked::Step => change_call(trial, None, &mut opened, events),
+        Asked::Act(deed) => change_call(trial, Some(deed), &mut opened, events),
     };
-    opened.play(events.get(..before)?)
+    opened.end(trial.rt);
+    outcome
 }
 
-fn held_call<L: Naming, R: Print>(
+// A publish of the history behind all events.
+fn published_call<L: Naming, R: Print + Wait>(
     trial: &Trial<R>,
-    asked: Asked,
     opened: &mut Opened<L>,
+    events: &[Event],
 ) -> Option<Outcome> {
-    match asked {
-        Asked::View => view_call(trial, opened),
-        _ => {
-            let events = election(trial.alloc)?;
-            let mut held = planned(trial.alloc, opened);
-            change_call(trial, asked, opened, events.get(BEFORE_PLAN)?, &mut held)
-        }
-    }
+    opened.play(events)?;
+    history_call(trial, &opened.locked)
 }
 
-fn view_call<L: Naming, R: Print>(trial: &Trial<R>, opened: &Opened<L>) -> Option<Outcome> {
+fn view_call<L: Naming, R: Print>(
+    trial: &Trial<R>,
+    opened: &mut Opened<L>,
+    events: &[Event],
+) -> Option<Outcome> {
+    opened.play(events.get(..BEFORE_PLAN)?)?;
     let seat = opened.seats.get(OPERATOR)?;
     trial.begin();
-    let answer = opened.locked.view(seat);
-    trial.outcome(&answer, "OutOfMemory")
+    trial.outcome(opened.locked.view(seat), "OutOfMemory")
 }
 
-// A call that changes the group, and is made again on what a refusal left.
+// A call that changes the group, behind those events that come before it: the deed, or a step where there is none.
 fn change_call<L: Naming, R: Print>(
     trial: &Trial<R>,
-    asked: Asked,
+    deed: Option<Deed>,
     opened: &mut Opened<L>,
-    event: &Event,
+    events: &[Event],
+) -> Option<Outcome> {
+    let before = match deed {
+        Some(Deed::Serve) => BEFORE_RUN,
+        _ => BEFORE_PLAN,
+    };
+    opened.play(events.get(..before)?)?;
+    let plan = events.get(BEFORE_PLAN)?;
+    let mut held = planned(trial.alloc, opened);
+    change_with(trial, deed, opened, plan, &mut held)
+}
+
+// The same with the procedure. It is made again on what a refusal left, which has to read as before.
+fn change_with<L: Naming, R: Print>(
+    trial: &Trial<R>,
+    deed: Option<Deed>,
+    opened: &mut Opened<L>,
+    plan: &Event,
     held: &mut Option<Procedure>,
 ) -> Option<Outcome> {
-    let before = text_with(trial.alloc, opened, held);
+    let mut before = String::new(trial.alloc);
+    let _ = read_with(&mut before, opened, held);
     trial.begin();
-    let answer = change(asked, opened, event, held);
+    let was_refused = change(deed, opened, plan, held);
     trial.end();
-    let was_refused = is_refused(answer)?;
-    if was_refused {
-        let after = text_with(trial.alloc, opened, held);
-        if !is_same(&before, &after) {
-            return None;
+    match was_refused {
+        Some(false) => tell_with(trial, false, opened, held),
+        Some(true) if reads_with(trial.alloc, opened, held, before.as_str()) => {
+            change_again(trial, deed, opened, plan, held)
         }
-        change(asked, opened, event, held).ok()?;
+        _ => None,
     }
-    ended(was_refused, text_with(trial.alloc, opened, held))
 }
 
-// The call: node 3 takes the event, which plans, so that its entry has the table; node 2 runs node 3's halt; or node 3
-// takes its turn, alone or as the whole turn, with the planned procedure.
-fn change<L: Naming>(
-    asked: Asked,
+fn change_again<L: Naming, R: Print>(
+    trial: &Trial<R>,
+    deed: Option<Deed>,
     opened: &mut Opened<L>,
-    event: &Event,
+    plan: &Event,
     held: &mut Option<Procedure>,
-) -> Result<(), Option<StepFault>> {
-    match asked {
-        Asked::Serve => opened.serve(SECOND),
-        Asked::Turn => opened.turn(THIRD, held),
-        Asked::TurnInPlace => opened.turn_in_place(THIRD, held, false),
-        Asked::NodeTurn => opened.turn_in_place(THIRD, held, true),
-        _ => opened.step(THIRD, event),
+) -> Option<Outcome> {
+    match change(deed, opened, plan, held) {
+        Some(false) => tell_with(trial, true, opened, held),
+        _ => None,
     }
 }
 
-// All that can be read of the group and the procedure.
-fn text_with<L: Naming>(
+// The call, and whether it was refused memory; None where it was for another cause. Node 3 takes the event, which plans, so
+// that its entry has the table; node 2 runs node 3's halt; or node 3 takes its turn with the planned procedure.
+fn change<L: Naming>(
+    deed: Option<Deed>,
+    opened: &mut Opened<L>,
+    plan: &Event,
+    held: &mut Option<Procedure>,
+) -> Option<bool> {
+    match deed {
+        Some(Deed::Serve) => opened.act(Deed::Serve, SECOND, held),
+        Some(deed) => opened.act(deed, THIRD, held),
+        None => match opened.step(THIRD, plan) {
+            Ok(()) => Some(false),
+            Err(fault) => is_refused(fault?),
+        },
+    }
+}
+
+// Adds all that can be read of the group and the procedure to the text.
+fn read_with<L: Naming>(
+    text: &mut String,
+    opened: &Opened<L>,
+    held: &Option<Procedure>,
+) -> Option<()> {
+    opened.read(text)?;
+    add(text, held)
+}
+
+// Whether they read so.
+fn reads_with<L: Naming>(
     alloc: Global,
     opened: &Opened<L>,
     held: &Option<Procedure>,
-) -> Option<String> {
-    with(opened.text(alloc)?, held)
+    before: &str,
+) -> bool {
+    let mut text = String::new(alloc);
+    read_with(&mut text, opened, held).is_some() && text.as_str() == before
 }
 
-// Whether a step, serve or turn was refused memory. None where it wasn't taken for another cause.
-fn is_refused(answer: Result<(), Option<StepFault>>) -> Option<bool> {
-    match answer {
-        Ok(()) => Some(false),
-        Err(Some(StepFault::OutOfMemory)) => Some(true),
-        Err(_) => None,
+// Tells how they read, and whether the call was refused memory at first.
+fn tell_with<L: Naming, R: Print>(
+    trial: &Trial<R>,
+    was_refused: bool,
+    opened: &Opened<L>,
+    held: &Option<Procedure>,
+) -> Option<Outcome> {
+    let mut text = String::new(trial.alloc);
+    match read_with(&mut text, opened, held) {
+        Some(()) => trial.tell_text(was_refused, text.as_str()),
+        None => None,
     }
 }
 

@@ -5,6 +5,7 @@
 #![tactic(auto)]
 
 mod agents;
+mod calls;
 mod finished;
 mod groups;
 mod opened;
@@ -14,12 +15,13 @@ mod trying;
 mod watched;
 mod worlds;
 
-use crate::agents::agent_call;
+use crate::agents::{agent_call, line_call};
+use crate::calls::{Call, call_of};
 use crate::groups::group_call;
-use crate::tables::{new_call, table_call};
-use crate::texts::text_call;
+use crate::tables::{full_call, new_call, table_call};
+use crate::texts::{claim_call, trace_call};
 use crate::trying::{Outcome, Trial};
-use crate::watched::watched_call;
+use crate::watched::{publisher_call, watching_call};
 use crate::worlds::event_call;
 use std::alloc::Global;
 use std::env;
@@ -106,106 +108,41 @@ fn word(rt: &HostRuntime) -> Option<String> {
     env::args(rt).ok()?.nth(1)
 }
 
-// Makes the call, and again where it was refused memory and is still to be made. Prints whether it was refused, and then
-// what it answered in the end and what it left.
+// Makes the call, and again where it was refused memory and is still to be made.
 fn try_call<R: Print + Wait>(rt: &R, alloc: Global, name: &str) -> Option<()> {
-    let trial = Trial { rt, alloc };
-    match outcome_of(&trial, name)? {
-        Outcome::Answered(text) => tell(rt, "ample", &text),
-        Outcome::AnsweredAgain(text) => tell(rt, "OutOfMemory", &text),
-        Outcome::Refused => match outcome_of(&trial, name)? {
-            Outcome::Answered(text) => tell(rt, "OutOfMemory", &text),
-            _ => None,
+    let call = call_of(name)?;
+    match outcome_of(rt, alloc, false, call)? {
+        Outcome::Told => Some(()),
+        Outcome::Refused => match outcome_of(rt, alloc, true, call)? {
+            Outcome::Told => Some(()),
+            Outcome::Refused => None,
         },
     }
 }
 
-fn tell<R: Print>(rt: &R, answer: &str, text: &String) -> Option<()> {
-    println!(rt; "{answer}\n{text}").ok()
-}
-
-// What the calls are tried on.
-#[derive(Clone, Copy)]
-enum Kind {
-    Table,
-    New,
-    Event,
-    Agent,
-    Watched,
-    Text,
-}
-
-// Each call that isn't one on a group that nobody watches.
-const KINDS: [(&str, Kind); 49] = [
-    ("Setup::weighted", Kind::Table),
-    ("Table::read", Kind::Table),
-    ("Table::read_in", Kind::Table),
-    ("Table::copy", Kind::Table),
-    ("TableRoom::new", Kind::Table),
-    ("push_owners", Kind::Table),
-    ("plan", Kind::Table),
-    ("plan_in", Kind::Table),
-    ("Slot::new", Kind::New),
-    ("Waiting::new", Kind::New),
-    ("Vector::new", Kind::New),
-    ("World::new", Kind::New),
-    ("World::new/full", Kind::New),
-    ("view/full", Kind::New),
-    ("Walk::new", Kind::New),
-    ("Planning::prepare", Kind::Event),
-    ("Procedure::prepare", Kind::Event),
-    ("Event::copy", Kind::Event),
-    ("Entry::copy", Kind::Event),
-    ("run", Kind::Event),
-    ("run_whole", Kind::Event),
-    ("view", Kind::Event),
-    ("Walk::view", Kind::Event),
-    ("Walk::apply", Kind::Event),
-    ("Agent::new", Kind::Agent),
-    ("Agent::request", Kind::Agent),
-    ("Agent::prepare", Kind::Agent),
-    ("read_request", Kind::Agent),
-    ("push_request", Kind::Agent),
-    ("push_reply", Kind::Agent),
-    ("Publisher::open", Kind::Watched),
-    ("Observer::look", Kind::Watched),
-    ("Locked::publish", Kind::Watched),
-    ("Group::open_watched", Kind::Watched),
-    ("WholeClaim::new", Kind::Text),
-    ("read_trace", Kind::Text),
-    ("read_trace/2", Kind::Text),
-    ("read_trace/3", Kind::Text),
-    ("write_trace", Kind::Text),
-    ("write_trace/2", Kind::Text),
-    ("write_trace/3", Kind::Text),
-    ("check", Kind::Text),
-    ("check/2", Kind::Text),
-    ("check/3", Kind::Text),
-    ("upgrade", Kind::Text),
-    ("upgrade/2", Kind::Text),
-    ("upgrade/3", Kind::Text),
-    ("annotate", Kind::Text),
-    ("annotate/3", Kind::Text),
-];
-
-fn kind_of(name: &str) -> Option<Kind> {
-    for (call, kind) in KINDS.iter() {
-        if *call == name {
-            return Some(*kind);
-        }
-    }
-    None
-}
-
-// What becomes of the call of this name.
-fn outcome_of<R: Print + Wait>(trial: &Trial<R>, name: &str) -> Option<Outcome> {
-    match kind_of(name) {
-        Some(Kind::Table) => table_call(trial, name),
-        Some(Kind::New) => new_call(trial, name),
-        Some(Kind::Event) => event_call(trial, name),
-        Some(Kind::Agent) => agent_call(trial, name),
-        Some(Kind::Watched) => watched_call(trial, name),
-        Some(Kind::Text) => text_call(trial, name),
-        None => group_call(trial, name),
+// What becomes of the call; it was refused memory before, or not.
+fn outcome_of<R: Print + Wait>(
+    rt: &R,
+    alloc: Global,
+    is_again: bool,
+    call: Call,
+) -> Option<Outcome> {
+    let trial = Trial {
+        rt,
+        alloc,
+        is_again,
+    };
+    match call {
+        Call::New(call) => new_call(&trial, call),
+        Call::Full(call) => full_call(&trial, call),
+        Call::Table(call) => table_call(&trial, call),
+        Call::Event(call) => event_call(&trial, call),
+        Call::Agent(call) => agent_call(&trial, call),
+        Call::Line(call) => line_call(&trial, call),
+        Call::Group(call) => group_call(&trial, call),
+        Call::Publisher => publisher_call(&trial),
+        Call::Watched(call) => watching_call(&trial, call),
+        Call::Claim => claim_call(&trial),
+        Call::Trace(call, version) => trace_call(&trial, call, version),
     }
 }

@@ -1,9 +1,6 @@
-ghost use Rattle.std.specs.Prelude.{◌≡◌, IfOk, Some};
-
-use crate::trying::add;
-use bully_group::{Locked, Naming, NodeTurn, Pass, PublishFault, Seat, StepFault, Turn};
+use crate::trying::{Outcome, Trial, add};
+use bully_group::{Closed, FinishFault, Locked, Naming, NodeTurn, Pass, Seat, StepFault, Turn};
 use bully_steps::Procedure;
-use bully_watch::Told;
 use bully_world::Event;
 use std::alloc::Global;
 use std::sync::Wait;
@@ -40,16 +37,21 @@ impl<L: Naming> Opened<L> {
         locked.end(rt);
     }
 
-    /// All that can be read of it.
-    pub fn text(&self, alloc: Global) -> Option<String> {
-        let mut text = String::new(alloc);
-        match self.add_to(&mut text) {
-            Some(()) => Some(text),
-            None => None,
+    /// Finishes it. All of it comes back where that is refused.
+    pub fn finish(self) -> Result<Closed, (Opened<L>, FinishFault)> {
+        let Opened {
+            locked,
+            seats,
+            passes,
+        } = self;
+        match locked.finish(seats, passes) {
+            Ok(closed) => Ok(closed),
+            Err((locked, seats, passes, fault)) => Err((Opened::of(locked, seats, passes), fault)),
         }
     }
 
-    fn add_to(&self, text: &mut String) -> Option<()> {
+    /// Adds all that can be read of it to the text.
+    pub fn read(&self, text: &mut String) -> Option<()> {
         add(text, self.locked.world())?;
         add(text, &self.locked.history())?;
         add(text, &self.seats.as_slice())?;
@@ -57,6 +59,21 @@ impl<L: Naming> Opened<L> {
             add(text, &pass.amount())?;
         }
         Some(())
+    }
+
+    /// Whether it reads so.
+    pub fn reads_as(&self, alloc: Global, before: &str) -> bool {
+        let mut text = String::new(alloc);
+        self.read(&mut text).is_some() && text.as_str() == before
+    }
+
+    /// Tells how it reads, and whether it was refused memory at first.
+    pub fn tell<R: Print>(&self, trial: &Trial<R>, was_refused: bool) -> Option<Outcome> {
+        let mut text = String::new(trial.alloc);
+        match self.read(&mut text) {
+            Some(()) => trial.tell_text(was_refused, text.as_str()),
+            None => None,
+        }
     }
 
     /// Takes the events, each by its actor's seat.
@@ -87,85 +104,76 @@ impl<L: Naming> Opened<L> {
         };
         self.locked.step(seat, event, pass).map_err(Some)
     }
+}
 
-    /// Serves by the seat at this place; no fault where nothing is to be served.
-    pub fn serve(&mut self, place: usize) -> Result<(), Option<StepFault>> {
-        let (Some(seat), Some(pass)) = (self.seats.get_mut(place), self.passes.get_mut(place))
-        else {
-            return Err(None);
-        };
-        match self.locked.serve(seat, pass) {
-            Ok(true) => Ok(()),
-            Ok(false) => Err(None),
-            Err(fault) => Err(Some(fault)),
-        }
-    }
+/// What the seat of a node does.
+#[derive(Clone, Copy)]
+pub enum Deed {
+    Serve,
+    /// A turn with the procedure, which comes back in any case.
+    Turn,
+    /// A turn with the procedure, where it lies.
+    TurnInPlace,
+    /// The whole turn with the procedure, where it lies.
+    NodeTurn,
+}
 
-    /// A turn of the seat at this place with the procedure, which comes back in any case. No fault where no step is
-    /// taken.
-    pub fn turn(
-        &mut self,
-        place: usize,
-        held: &mut Option<Procedure>,
-    ) -> Result<(), Option<StepFault>> {
-        let (Some(seat), Some(pass)) = (self.seats.get_mut(place), self.passes.get_mut(place))
-        else {
-            return Err(None);
-        };
-        let Some(procedure) = held.take() else {
-            return Err(None);
-        };
-        let (back, told) = turned(&mut self.locked, seat, pass, procedure);
-        *held = Some(back);
-        told
-    }
-
-    /// The turn of the seat at this place with the procedure, where it lies, alone or as the whole turn. No fault where
-    /// no entry is added.
-    pub fn turn_in_place(
-        &mut self,
-        place: usize,
-        held: &mut Option<Procedure>,
-        is_whole: bool,
-    ) -> Result<(), Option<StepFault>> {
-        let (Some(seat), Some(pass)) = (self.seats.get_mut(place), self.passes.get_mut(place))
-        else {
-            return Err(None);
-        };
-        match held {
-            Some(procedure) => turned_in_place(&mut self.locked, seat, pass, procedure, is_whole),
-            None => Err(None),
-        }
-    }
-
-    /// The operator publishes.
-    pub fn publish<R: Wait>(&mut self, rt: &R) -> Result<Told, Option<PublishFault>>
-        ensures { IfOk result (λ told. L.publisher ≡ Some told.publisher) }
-    {
-        let Some(seat) = self.seats.get(OPERATOR) else {
-            return Err(None);
-        };
-        match self.locked.publish(rt, seat) {
-            Ok(told) => Ok(told),
-            Err(fault) => Err(Some(fault)),
+impl<L: Naming> Opened<L> {
+    /// The seat at this place does this: whether it was refused memory. None where it isn't done for another cause.
+    pub fn act(&mut self, deed: Deed, place: usize, held: &mut Option<Procedure>) -> Option<bool> {
+        let (seat, pass) = (self.seats.get_mut(place)?, self.passes.get_mut(place)?);
+        let locked = &mut self.locked;
+        match deed {
+            Deed::Serve => served(locked, seat, pass),
+            Deed::Turn => turned(locked, seat, pass, held),
+            Deed::TurnInPlace => turned_in_place(locked, seat, pass, held.as_mut()?, false),
+            Deed::NodeTurn => turned_in_place(locked, seat, pass, held.as_mut()?, true),
         }
     }
 }
 
-// A turn with the procedure, which comes back. No fault where no step is taken, and where it is no procedure of the group.
+/// Whether a step that wasn't taken was refused memory. None where it wasn't for another cause.
+pub fn is_refused(fault: StepFault) -> Option<bool> {
+    match fault {
+        StepFault::OutOfMemory => Some(true),
+        _ => None,
+    }
+}
+
+fn served<L: Naming>(locked: &mut Locked<L>, seat: &mut Seat, pass: &mut Pass<L>) -> Option<bool> {
+    match locked.serve(seat, pass) {
+        Ok(true) => Some(false),
+        Ok(false) => None,
+        Err(fault) => is_refused(fault),
+    }
+}
+
 fn turned<L: Naming>(
     locked: &mut Locked<L>,
     seat: &mut Seat,
     pass: &mut Pass<L>,
+    held: &mut Option<Procedure>,
+) -> Option<bool> {
+    let procedure = held.take()?;
+    let (back, was_refused) = turned_by(locked, seat, pass, procedure);
+    *held = Some(back);
+    was_refused
+}
+
+// A turn with the procedure, which comes back. None, too, where no step is taken, or it is no procedure of the group.
+fn turned_by<L: Naming>(
+    locked: &mut Locked<L>,
+    seat: &mut Seat,
+    pass: &mut Pass<L>,
     procedure: Procedure,
-) -> (Procedure, Result<(), Option<StepFault>>) {
+) -> (Procedure, Option<bool>) {
     if *procedure.setup() != *locked.setup() {
-        return (procedure, Err(None));
+        return (procedure, None);
     }
     match locked.turn(seat, procedure, pass) {
-        Turn::Went(back) => (back, Ok(())),
-        Turn::Waiting(back) | Turn::Resynced(back) => (back, Err(None)),
-        Turn::Fault(back, fault) => (back, Err(Some(fault))),
+        Turn::Went(back) => (back, Some(false)),
+        Turn::Waiting(back) | Turn::Resynced(back) => (back, None),
+        Turn::Fault(back, fault) => (back, is_refused(fault)),
     }
 }
 
@@ -176,9 +184,9 @@ fn turned_in_place<L: Naming>(
     pass: &mut Pass<L>,
     procedure: &mut Procedure,
     is_whole: bool,
-) -> Result<(), Option<StepFault>> {
+) -> Option<bool> {
     if *procedure.setup() != *locked.setup() {
-        return Err(None);
+        return None;
     }
     let turn = if is_whole {
         locked.serve_or_turn(seat, procedure, pass)
@@ -186,8 +194,8 @@ fn turned_in_place<L: Naming>(
         locked.turn_in_place(seat, procedure, pass)
     };
     match turn {
-        Ok(NodeTurn::Served | NodeTurn::Went) => Ok(()),
-        Ok(NodeTurn::Waiting | NodeTurn::Resynced) => Err(None),
-        Err(fault) => Err(Some(fault)),
+        Ok(NodeTurn::Served | NodeTurn::Went) => Some(false),
+        Ok(NodeTurn::Waiting | NodeTurn::Resynced) => None,
+        Err(fault) => is_refused(fault),
     }
 }

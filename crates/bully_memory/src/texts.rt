@@ -2,10 +2,9 @@ use crate::trying::{Outcome, Trial};
 use crate::worlds::ELECTION;
 use bully_annotate::annotate;
 use bully_base::{Node, NodeSet, Setup, Status};
-use bully_rows::{Claim, WholeClaim, read_trace, write_trace};
+use bully_rows::{Claim, Trace, WholeClaim, read_trace, write_trace};
 use bully_table::Table;
 use bully_trace::{check, upgrade};
-use std::alloc::Global;
 
 // A trace of version 2: node 2 leads itself alone, and its task is kept over a crash.
 const KEPT: &str = "bully,2,2,3,2 1,keep
@@ -44,90 +43,94 @@ const ROOM: usize = 4096;
 // How the want of memory reads of a trace.
 const OF_TRACE: &str = "TraceFault { row: 0, cause: OutOfMemory }";
 
-// A writer that needs no memory.
-fn output(alloc: Global) -> Option<Vec<u8>> {
-    Vec::with_capacity(alloc, ROOM).ok()
+/// A call that reads or writes a trace.
+#[derive(Clone, Copy)]
+pub enum TraceCall {
+    Read,
+    Write,
+    Check,
+    Upgrade,
+    Annotate,
 }
 
-/// A call that reads or writes a trace.
-pub fn text_call<R: Print>(trial: &Trial<R>, name: &str) -> Option<Outcome> {
-    match name {
-        "WholeClaim::new" => claim_call(trial),
+/// The version of the trace that it is tried with.
+#[derive(Clone, Copy)]
+pub enum Version {
+    First,
+    Second,
+    Third,
+}
+
+// The trace of this version.
+fn trace_of(version: Version) -> &'static str {
+    match version {
+        Version::First => ELECTION,
+        Version::Second => KEPT,
+        Version::Third => TOLD,
+    }
+}
+
+pub fn trace_call<R: Print>(
+    trial: &Trial<R>,
+    call: TraceCall,
+    version: Version,
+) -> Option<Outcome> {
+    let text = trace_of(version).as_bytes();
+    match call {
+        TraceCall::Read => {
+            trial.begin();
+            trial.outcome(read_trace(trial.alloc, text), OF_TRACE)
+        }
+        TraceCall::Write => write_call(trial, &read_trace(trial.alloc, text).ok()?),
         _ => {
-            let (call, text) = text_in(name)?;
-            call_on(trial, call, text)
+            let mut output = Vec::with_capacity(trial.alloc, ROOM).ok()?;
+            output_call(trial, call, text, &mut output)
         }
     }
 }
 
-// The call of this name, and the trace that it is tried with.
-fn text_in(name: &str) -> Option<(&str, &'static str)> {
-    match name.split_once('/') {
-        None => Some((name, ELECTION)),
-        Some((call, "2")) => Some((call, KEPT)),
-        Some((call, "3")) => Some((call, TOLD)),
-        Some(_) => None,
-    }
-}
-
-// A call that is tried with this trace.
-fn call_on<R: Print>(trial: &Trial<R>, call: &str, text: &str) -> Option<Outcome> {
+// A call that reads this trace, and writes to the output, which needs no memory.
+fn output_call<R: Print>(
+    trial: &Trial<R>,
+    call: TraceCall,
+    text: &[u8],
+    output: &mut Vec<u8>,
+) -> Option<Outcome> {
+    trial.begin();
     match call {
-        "read_trace" => read_call(trial, text),
-        "write_trace" => write_call(trial, text),
-        "check" => check_call(trial, text),
-        "upgrade" => upgrade_call(trial, text),
-        "annotate" => annotate_call(trial, text),
-        _ => None,
+        TraceCall::Check => {
+            let answer = check(trial.alloc, text, output);
+            trial.written(answer, OF_TRACE, output)
+        }
+        TraceCall::Upgrade => {
+            let answer = upgrade(trial.alloc, text, output);
+            trial.written(answer, OF_TRACE, output)
+        }
+        _ => {
+            let answer = annotate(trial.alloc, text, output);
+            trial.written(answer, OF_TRACE, output)
+        }
     }
 }
 
-// Node 2 is Normal under itself, with a task.
-fn claim_call<R: Print>(trial: &Trial<R>) -> Option<Outcome> {
+fn write_call<R: Print>(trial: &Trial<R>, trace: &Trace) -> Option<Outcome> {
+    let mut output = Vec::with_capacity(trial.alloc, ROOM).ok()?;
+    trial.begin();
+    let answer = write_trace(trial.alloc, &mut output, trace);
+    trial.written(answer, OF_TRACE, output.as_slice())
+}
+
+/// A call that makes a claim: node 2 is Normal under itself, with a task.
+pub fn claim_call<R: Print>(trial: &Trial<R>) -> Option<Outcome> {
     let node = Node::new(2)?;
     let setup = Setup::new(2, 3, 1).ok()?;
-    let task = Table::read(trial.alloc, setup, "2 2 2").ok()?;
     let claim = Claim {
         node,
         status: Status::Normal,
         coordinator: Some(node),
     };
+    let task = Table::read(trial.alloc, setup, "2 2 2").ok()?;
     trial.begin();
     let answer = WholeClaim::new(trial.alloc, claim, Some(node), NodeSet::new(), Some(task));
-    trial.outcome(&answer, "AllocError")
-}
-
-fn read_call<R: Print>(trial: &Trial<R>, text: &str) -> Option<Outcome> {
-    trial.begin();
-    let answer = read_trace(trial.alloc, text.as_bytes());
-    trial.outcome(&answer, OF_TRACE)
-}
-
-fn write_call<R: Print>(trial: &Trial<R>, text: &str) -> Option<Outcome> {
-    let trace = read_trace(trial.alloc, text.as_bytes()).ok()?;
-    let mut output = output(trial.alloc)?;
-    trial.begin();
-    let answer = write_trace(trial.alloc, &mut output, &trace);
-    trial.written(&answer, OF_TRACE, output.as_slice())
-}
-
-fn check_call<R: Print>(trial: &Trial<R>, text: &str) -> Option<Outcome> {
-    let mut output = output(trial.alloc)?;
-    trial.begin();
-    let answer = check(trial.alloc, text.as_bytes(), &mut output);
-    trial.written(&answer, OF_TRACE, output.as_slice())
-}
-
-fn upgrade_call<R: Print>(trial: &Trial<R>, text: &str) -> Option<Outcome> {
-    let mut output = output(trial.alloc)?;
-    trial.begin();
-    let answer = upgrade(trial.alloc, text.as_bytes(), &mut output);
-    trial.written(&answer, OF_TRACE, output.as_slice())
-}
-
-fn annotate_call<R: Print>(trial: &Trial<R>, text: &str) -> Option<Outcome> {
-    let mut output = output(trial.alloc)?;
-    trial.begin();
-    let answer = annotate(trial.alloc, text.as_bytes(), &mut output);
-    trial.written(&answer, OF_TRACE, output.as_slice())
+    trial.outcome(answer, "AllocError")
 }

@@ -1,12 +1,13 @@
 ghost use Rattle.std.specs.Prelude.{◌≡◌, ◌+◌, [], IfSome, Some};
+ghost use mathlib.Core.List.{IsPrefix};
 ghost use Rattle.bully_watch.specs.History.{IsHistory};
 ghost use Rattle.bully_world.specs.World.{World as WorldOf};
 
-use crate::groups::new_outcome;
 use crate::opened::{OPERATOR, Opened};
-use crate::trying::{Outcome, Trial, ended, is_same, text_of, with};
-use bully_base::{Node, Setup};
-use bully_group::{Closed, Group, Naming, PublishFault};
+use crate::trying::{Outcome, Trial, add};
+use crate::worlds::events_in;
+use bully_base::Setup;
+use bully_group::{Group, Locked, Naming, PublishFault};
 use bully_watch::{Entry, Observer, OpenFault, Publisher};
 use bully_world::Event;
 use std::alloc::Global;
@@ -17,26 +18,27 @@ use std::sync::ledger::Blank;
 // So many observers look, in the call that opens a publisher.
 const OBSERVERS: u16 = 2;
 
-// A call on a watched group.
+// What a group of one node is watched at: it recovers, crashes, and comes back twice, so that there is no room for all
+// entries yet.
+const CRASHES: &str = "bully,1,1,2
+recover,1
+crash,1
+recover,1
+crash,1
+recover,1
+crash,1
+";
+
+/// A call on a watched group of one node.
 #[derive(Clone, Copy)]
-enum Watching {
+pub enum Watching {
     Open,
     Publish,
     Look,
 }
 
-/// A call on a watched group of one node.
-pub fn watched_call<R: Print + Wait>(trial: &Trial<R>, name: &str) -> Option<Outcome> {
-    match name {
-        "Publisher::open" => publisher_call(trial),
-        "Group::open_watched" => watching_call(trial, Watching::Open),
-        "Locked::publish" => watching_call(trial, Watching::Publish),
-        "Observer::look" => watching_call(trial, Watching::Look),
-        _ => None,
-    }
-}
-
-fn publisher_call<R: Print + Wait>(trial: &Trial<R>) -> Option<Outcome> {
+/// A call that opens a publisher.
+pub fn publisher_call<R: Print + Wait>(trial: &Trial<R>) -> Option<Outcome> {
     let setup = Setup::new(1, 2, 10).ok()?;
     trial.begin();
     let answer = Publisher::open(trial.rt, trial.alloc, setup, OBSERVERS);
@@ -44,30 +46,57 @@ fn publisher_call<R: Print + Wait>(trial: &Trial<R>) -> Option<Outcome> {
     match answer {
         Ok((publisher, observers)) => {
             let mut observers = observers;
-            let text = looks_of(trial.alloc, observers.as_mut_slice());
+            let outcome = tell_looks(trial, observers.as_mut_slice());
             publisher.end(trial.rt);
-            ended(false, text)
+            outcome
         }
         Err(OpenFault::OutOfMemory) => Some(Outcome::Refused),
         Err(_) => None,
     }
 }
 
-// What all of them see.
-fn looks_of(alloc: Global, observers: &mut [Observer]) -> Option<String> {
-    let mut text = String::new(alloc);
-    for observer in observers.iter_mut() {
-        text = with(text, &look_of(alloc, observer)?)?;
+// Tells what all of them see.
+fn tell_looks<R: Print>(trial: &Trial<R>, observers: &mut [Observer]) -> Option<Outcome> {
+    let mut text = String::new(trial.alloc);
+    match read_looks(&mut text, observers) {
+        Some(()) => trial.tell_text(false, text.as_str()),
+        None => None,
     }
-    Some(text)
 }
 
-// What the observer sees.
-fn look_of(alloc: Global, observer: &mut Observer) -> Option<String>
+fn read_looks(text: &mut String, observers: &mut [Observer]) -> Option<()> {
+    for observer in observers.iter_mut() {
+        read_look(text, observer)?;
+    }
+    Some(())
+}
+
+// Adds what the observer sees to the text.
+fn read_look(text: &mut String, observer: &mut Observer) -> Option<()>
     ensures { observer.new.publisher ≡ observer.old.publisher }
 {
     match observer.look() {
-        Ok(view) => text_of(alloc, &view),
+        Ok(view) => add(text, &view),
+        Err(_) => None,
+    }
+}
+
+// Whether it sees what reads so.
+fn looks_as(alloc: Global, observer: &mut Observer, before: &str) -> bool
+    ensures { observer.new.publisher ≡ observer.old.publisher }
+{
+    let mut text = String::new(alloc);
+    read_look(&mut text, observer).is_some() && text.as_str() == before
+}
+
+// Tells what it sees, and whether the call was refused memory at first.
+fn tell_look<R: Print>(
+    trial: &Trial<R>,
+    was_refused: bool,
+    observer: &mut Observer,
+) -> Option<Outcome> {
+    match observer.look() {
+        Ok(view) => trial.tell(was_refused, &view),
         Err(_) => None,
     }
 }
@@ -89,13 +118,15 @@ fn publisher_for<R: Wait>(rt: &R, alloc: Global, setup: Setup) -> Option<(Publis
     }
 }
 
-fn watching_call<R: Print + Wait>(trial: &Trial<R>, watching: Watching) -> Option<Outcome> {
+pub fn watching_call<R: Print + Wait>(trial: &Trial<R>, watching: Watching) -> Option<Outcome> {
     let setup = Setup::new(1, 2, 10).ok()?;
     let (publisher, observer) = publisher_for(trial.rt, trial.alloc, setup)?;
     let blank = Blank::new(2);
     watched_by::<Brand, R>(trial, watching, setup, publisher, observer, blank)
 }
 
+// Opens the watched group, which is the call or comes before it. It is opened again where that is refused: publisher and blank
+// come back then.
 fn watched_by<L: Naming, R: Print + Wait>(
     trial: &Trial<R>,
     watching: Watching,
@@ -111,44 +142,27 @@ fn watched_by<L: Naming, R: Print + Wait>(
     requires name { blank.name ≡ L.name }
     requires parts { (blank.parts ≡ L.parts) × (L.parts ≡ L.setup.nodes + 1) }
 {
-    match watching {
-        Watching::Open => open_call::<L, R>(trial, setup, publisher, blank),
-        _ => {
-            let opened = open_watched::<L, R>(trial, setup, publisher, blank)?;
-            opened_call(trial, watching, opened, observer)
-        }
+    let is_call = matches!(watching, Watching::Open);
+    if is_call {
+        trial.begin();
     }
-}
-
-// A watched group that is opened. Publisher and blank come back where that is refused.
-fn open_call<L: Naming, R: Print + Wait>(
-    trial: &Trial<R>,
-    setup: Setup,
-    publisher: Publisher,
-    blank: Blank,
-) -> Option<Outcome>
-    requires setup { (setup ≡ L.setup) × (publisher.publisher.setup ≡ setup) }
-    requires publisher { L.publisher ≡ Some publisher.publisher }
-    requires new { (publisher.shown ≡ []) × (publisher.taken ≡ []) }
-    requires name { blank.name ≡ L.name }
-    requires parts { (blank.parts ≡ L.parts) × (L.parts ≡ L.setup.nodes + 1) }
-{
-    trial.begin();
     let answer = Group::<L>::open_watched(trial.alloc, setup, publisher, blank);
-    trial.end();
+    if is_call {
+        trial.end();
+    }
     match answer {
         Ok((group, seats, passes)) => {
             let opened = Opened::of(group.close(), seats, passes);
-            new_outcome(trial, false, opened)
+            opened_call(trial, watching, false, opened, observer)
         }
         Err((publisher, _, blank)) => {
-            let opened = open_watched::<L, R>(trial, setup, publisher, blank)?;
-            new_outcome(trial, true, opened)
+            let opened = open_again::<L, R>(trial, setup, publisher, blank)?;
+            opened_call(trial, watching, true, opened, observer)
         }
     }
 }
 
-fn open_watched<L: Naming, R: Print + Wait>(
+fn open_again<L: Naming, R: Print + Wait>(
     trial: &Trial<R>,
     setup: Setup,
     publisher: Publisher,
@@ -169,10 +183,11 @@ fn open_watched<L: Naming, R: Print + Wait>(
     }
 }
 
-// A call on a watched group, which is ended then.
+// A call on a watched group, which is ended then; that of opening it was refused at first, or not.
 fn opened_call<L: Naming, R: Print + Wait>(
     trial: &Trial<R>,
     watching: Watching,
+    was_refused: bool,
     opened: Opened<L>,
     observer: Observer,
 ) -> Option<Outcome>
@@ -180,75 +195,79 @@ fn opened_call<L: Naming, R: Print + Wait>(
 {
     let (mut opened, mut observer) = (opened, observer);
     let outcome = match watching {
-        Watching::Look => shown_look_call(trial, &mut opened, &mut observer),
-        _ => publish_call(trial, &mut opened, &mut observer),
+        Watching::Open => opened.tell(trial, was_refused),
+        _ => watched_call(trial, watching, &mut opened, &mut observer),
     };
     opened.end(trial.rt);
     outcome
 }
 
-// The operator's step, and a publish, of which the observer learns.
-fn published<L: Naming, R: Print + Wait>(
+fn watched_call<L: Naming, R: Print + Wait>(
     trial: &Trial<R>,
-    opened: &mut Opened<L>,
-    observer: &mut Observer,
-    event: &Event,
-) -> Option<()>
-    requires { L.publisher ≡ Some observer.old.publisher }
-    ensures { observer.new.publisher ≡ observer.old.publisher }
-{
-    if opened.step(OPERATOR, event).is_err() {
-        return None;
-    }
-    learned(trial, opened, observer)
-}
-
-// A publish, of which the observer learns.
-fn learned<L: Naming, R: Print + Wait>(
-    trial: &Trial<R>,
-    opened: &mut Opened<L>,
-    observer: &mut Observer,
-) -> Option<()>
-    requires { L.publisher ≡ Some observer.old.publisher }
-    ensures { observer.new.publisher ≡ observer.old.publisher }
-{
-    match opened.publish(trial.rt) {
-        Ok(told) => {
-            observer.learn(told);
-            Some(())
-        }
-        Err(_) => None,
-    }
-}
-
-// A look at a node that recovered.
-fn shown_look_call<L: Naming, R: Print + Wait>(
-    trial: &Trial<R>,
+    watching: Watching,
     opened: &mut Opened<L>,
     observer: &mut Observer,
 ) -> Option<Outcome>
     requires { L.publisher ≡ Some observer.old.publisher }
 {
-    published(trial, opened, observer, &Event::Recover(Node::new(1)?))?;
-    look_call(trial, observer)
+    let events = events_in(trial.alloc, CRASHES)?;
+    shown_call(trial, watching, opened, observer, events.as_slice())
 }
 
-fn look_call<R: Print>(trial: &Trial<R>, observer: &mut Observer) -> Option<Outcome> {
-    trial.begin();
-    let answer = observer.look();
-    match trial.outcome(&answer, "OutOfMemory")? {
-        Outcome::Answered(text) => Some(Outcome::Answered(text)),
-        Outcome::Refused | Outcome::AnsweredAgain(_) => look_again(trial, observer),
+// A look at the node that recovered; or a publish of a crash, behind that of a recovery.
+fn shown_call<L: Naming, R: Print + Wait>(
+    trial: &Trial<R>,
+    watching: Watching,
+    opened: &mut Opened<L>,
+    observer: &mut Observer,
+    events: &[Event],
+) -> Option<Outcome>
+    requires { L.publisher ≡ Some observer.old.publisher }
+{
+    opened.play(events.get(..1)?)?;
+    if !matches!(publish(trial.rt, opened, observer), Some(false)) {
+        return None;
+    }
+    match watching {
+        Watching::Look => look_call(trial, observer),
+        _ => {
+            opened.play(events.get(1..)?)?;
+            publish_call(trial, opened, observer)
+        }
     }
 }
 
-fn look_again<R: Print>(trial: &Trial<R>, observer: &mut Observer) -> Option<Outcome> {
-    let view = observer.look().ok()?;
-    ended(true, text_of(trial.alloc, &view))
+// A publish, of which the observer learns: whether it was refused memory. None where it was for another cause.
+fn publish<L: Naming, R: Wait>(
+    rt: &R,
+    opened: &mut Opened<L>,
+    observer: &mut Observer,
+) -> Option<bool>
+    requires { L.publisher ≡ Some observer.old.publisher }
+    ensures { observer.new.publisher ≡ observer.old.publisher }
+{
+    let seat = opened.seats.get(OPERATOR)?;
+    match opened.locked.publish(rt, seat) {
+        Ok(told) => {
+            observer.learn(told);
+            Some(false)
+        }
+        Err(PublishFault::OutOfMemory) => Some(true),
+        Err(_) => None,
+    }
 }
 
-// A publish of a crash, behind that of a recovery. Where it is refused memory, observers see what they saw; and what is
-// seen in the end is the crash. In between the node comes back twice, so that there is no room for all entries yet.
+// It looks again where that was refused memory.
+fn look_call<R: Print>(trial: &Trial<R>, observer: &mut Observer) -> Option<Outcome> {
+    trial.begin();
+    match trial.outcome(observer.look(), "OutOfMemory")? {
+        Outcome::Told => Some(Outcome::Told),
+        Outcome::Refused => tell_look(trial, true, observer),
+    }
+}
+
+// Where it is refused memory, the group is as it was, and the observer sees what it saw; and what is seen in the end is the
+// crash.
 fn publish_call<L: Naming, R: Print + Wait>(
     trial: &Trial<R>,
     opened: &mut Opened<L>,
@@ -256,81 +275,65 @@ fn publish_call<L: Naming, R: Print + Wait>(
 ) -> Option<Outcome>
     requires { L.publisher ≡ Some observer.old.publisher }
 {
-    published(trial, opened, observer, &Event::Recover(Node::new(1)?))?;
-    let before = look_of(trial.alloc, observer);
-    let was_refused = crashes_call(trial, opened, observer, &before);
-    let after = look_of(trial.alloc, observer);
-    ended(was_refused?, after)
-}
-
-// The steps before the publish, which is made again where it was refused memory: whether it was.
-fn crashes_call<L: Naming, R: Print + Wait>(
-    trial: &Trial<R>,
-    opened: &mut Opened<L>,
-    observer: &mut Observer,
-    before: &Option<String>,
-) -> Option<bool>
-    requires { L.publisher ≡ Some observer.old.publisher }
-    ensures { observer.new.publisher ≡ observer.old.publisher }
-{
-    crash_three_times(opened)?;
-    let was_refused = crash_call(trial, opened, observer)?;
-    if was_refused {
-        let after = look_of(trial.alloc, observer);
-        if !is_same(before, &after) {
-            return None;
-        }
-        learned(trial, opened, observer)?;
-    }
-    Some(was_refused)
-}
-
-// Node 1 crashes, and comes back twice.
-fn crash_three_times<L: Naming>(opened: &mut Opened<L>) -> Option<()> {
-    let one = Node::new(1)?;
-    opened.play(&[
-        Event::Crash(one),
-        Event::Recover(one),
-        Event::Crash(one),
-        Event::Recover(one),
-        Event::Crash(one),
-    ])
-}
-
-// The publish itself, of which the observer learns: whether it was refused memory, and then left the group as it was.
-fn crash_call<L: Naming, R: Print + Wait>(
-    trial: &Trial<R>,
-    opened: &mut Opened<L>,
-    observer: &mut Observer,
-) -> Option<bool>
-    requires { L.publisher ≡ Some observer.old.publisher }
-    ensures { observer.new.publisher ≡ observer.old.publisher }
-{
-    let before = opened.text(trial.alloc);
+    let mut before = String::new(trial.alloc);
+    let _ = read_shown(&mut before, opened, observer);
     trial.begin();
-    let answer = opened.publish(trial.rt);
+    let was_refused = publish(trial.rt, opened, observer);
     trial.end();
-    match answer {
-        Ok(told) => {
-            observer.learn(told);
-            Some(false)
+    match was_refused {
+        Some(false) => tell_look(trial, false, observer),
+        Some(true) if reads_shown(trial.alloc, opened, observer, before.as_str()) => {
+            publish_again(trial, opened, observer)
         }
-        Err(Some(PublishFault::OutOfMemory)) => {
-            let after = opened.text(trial.alloc);
-            if is_same(&before, &after) {
-                Some(true)
-            } else {
-                None
-            }
-        }
-        Err(_) => None,
+        _ => None,
     }
 }
 
-/// A publish of this history by a publisher alone.
-pub fn publish_history<R: Print + Wait>(trial: &Trial<R>, closed: &Closed) -> Option<Outcome> {
-    let (mut publisher, mut observer) = publisher_for(trial.rt, trial.alloc, closed.setup())?;
-    let outcome = shown_by(trial, &mut publisher, &mut observer, closed.history());
+fn publish_again<L: Naming, R: Print + Wait>(
+    trial: &Trial<R>,
+    opened: &mut Opened<L>,
+    observer: &mut Observer,
+) -> Option<Outcome>
+    requires { L.publisher ≡ Some observer.old.publisher }
+{
+    match publish(trial.rt, opened, observer) {
+        Some(false) => tell_look(trial, true, observer),
+        _ => None,
+    }
+}
+
+// Adds all that can be read of the group, and what the observer sees, to the text.
+fn read_shown<L: Naming>(
+    text: &mut String,
+    opened: &Opened<L>,
+    observer: &mut Observer,
+) -> Option<()>
+    ensures { observer.new.publisher ≡ observer.old.publisher }
+{
+    opened.read(text)?;
+    read_look(text, observer)
+}
+
+// Whether that reads so.
+fn reads_shown<L: Naming>(
+    alloc: Global,
+    opened: &Opened<L>,
+    observer: &mut Observer,
+    before: &str,
+) -> bool
+    ensures { observer.new.publisher ≡ observer.old.publisher }
+{
+    let mut text = String::new(alloc);
+    read_shown(&mut text, opened, observer).is_some() && text.as_str() == before
+}
+
+/// A publish of the group's history by a publisher alone.
+pub fn history_call<L: Naming, R: Print + Wait>(
+    trial: &Trial<R>,
+    locked: &Locked<L>,
+) -> Option<Outcome> {
+    let (mut publisher, mut observer) = publisher_for(trial.rt, trial.alloc, *locked.setup())?;
+    let outcome = shown_by(trial, &mut publisher, &mut observer, locked.history());
     publisher.end(trial.rt);
     outcome
 }
@@ -346,23 +349,38 @@ fn shown_by<R: Print + Wait>(
     requires new { publisher.old.taken ≡ [] }
     requires observer { observer.old.publisher ≡ publisher.old.publisher }
 {
-    let before = look_of(trial.alloc, observer);
+    let mut before = String::new(trial.alloc);
+    let _ = read_look(&mut before, observer);
     trial.begin();
     let answer = publisher.publish(trial.rt, entries);
     trial.end();
     match answer {
         Ok(told) => {
             observer.learn(told);
-            ended(false, look_of(trial.alloc, observer))
+            tell_look(trial, false, observer)
         }
-        Err(_) => {
-            let after = look_of(trial.alloc, observer);
-            if !is_same(&before, &after) {
-                return None;
-            }
-            let told = publisher.publish(trial.rt, entries).ok()?;
+        Err(_) if looks_as(trial.alloc, observer, before.as_str()) => {
+            shown_again(trial, publisher, observer, entries)
+        }
+        Err(_) => None,
+    }
+}
+
+fn shown_again<R: Print + Wait>(
+    trial: &Trial<R>,
+    publisher: &mut Publisher,
+    observer: &mut Observer,
+    entries: &[Entry],
+) -> Option<Outcome>
+    requires history { (w : WorldOf) × IsHistory publisher.old.publisher.setup entries.now w }
+    requires taken { IsPrefix publisher.old.taken entries.now }
+    requires observer { observer.old.publisher ≡ publisher.old.publisher }
+{
+    match publisher.publish(trial.rt, entries) {
+        Ok(told) => {
             observer.learn(told);
-            ended(true, look_of(trial.alloc, observer))
+            tell_look(trial, true, observer)
         }
+        Err(_) => None,
     }
 }

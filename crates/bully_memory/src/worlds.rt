@@ -1,13 +1,13 @@
 use crate::tables::setup;
-use crate::trying::{Outcome, Trial, ended, is_same, text_of};
+use crate::trying::{Outcome, Trial, read, reads_as};
 use bully_agree::{Walk, run, run_whole, view};
-use bully_base::Node;
+use bully_base::{Node, Setup};
 use bully_calls::Answer;
 use bully_rows::{Row, read_trace};
 use bully_steps::{Planning, Procedure};
 use bully_table::PlanFault;
 use bully_watch::Entry;
-use bully_world::{Event, Refused, World};
+use bully_world::{Event, World};
 use std::alloc::Global;
 
 /// An election of three nodes: node 3 halts the others, announces itself, plans and sends its table.
@@ -45,37 +45,59 @@ pub const BEFORE_PLAN: usize = 18;
 
 pub const BEFORE_RUN: usize = 5;
 
-/// A call that goes over a list of events, or looks at a world.
-pub fn event_call<R: Print>(trial: &Trial<R>, name: &str) -> Option<Outcome> {
+/// A call that goes over the events of the election, or copies its plan.
+#[derive(Clone, Copy)]
+pub enum EventCall {
+    Run,
+    RunWhole,
+    CopyEvent,
+    CopyEntry,
+    View,
+    WalkView,
+    /// It takes no memory: it is tried with all of the events.
+    Apply,
+    Prepare,
+    PrepareInPlace,
+}
+
+pub fn event_call<R: Print>(trial: &Trial<R>, call: EventCall) -> Option<Outcome> {
     let events = election(trial.alloc)?;
-    call_on(trial, name, events.as_slice())
+    call_on(trial, call, events.as_slice())
 }
 
-fn call_on<R: Print>(trial: &Trial<R>, name: &str, events: &[Event]) -> Option<Outcome> {
-    match name {
-        "run" => run_call(trial, events),
-        "run_whole" => run_whole_call(trial, events),
-        "view" => view_call(trial, events),
-        "Walk::view" => walk_view_call(trial, events),
-        "Walk::apply" => apply_call(trial, events),
-        _ => planning_call(trial, name, events),
-    }
-}
-
-// A call on the plan of the election, or one that comes to it.
-fn planning_call<R: Print>(trial: &Trial<R>, name: &str, events: &[Event]) -> Option<Outcome> {
-    match name {
-        "Event::copy" => event_copy_call(trial, events.get(BEFORE_PLAN)?),
-        "Entry::copy" => entry_copy_call(trial, events.get(BEFORE_PLAN)?),
-        "Planning::prepare" => prepare_call(trial, events.get(..BEFORE_PLAN)?),
-        "Procedure::prepare" => prepare_in_place_call(trial, events.get(..BEFORE_PLAN)?),
-        _ => None,
+fn call_on<R: Print>(trial: &Trial<R>, call: EventCall, events: &[Event]) -> Option<Outcome> {
+    let (setup, alloc) = (setup()?, trial.alloc);
+    match call {
+        EventCall::Run => {
+            trial.begin();
+            trial.outcome(run(alloc, setup, events), "OutOfMemory")
+        }
+        EventCall::RunWhole => {
+            trial.begin();
+            trial.outcome(run_whole(alloc, setup, events), "OutOfMemory")
+        }
+        EventCall::CopyEvent => event_copy_call(trial, events.get(BEFORE_PLAN)?),
+        EventCall::CopyEntry => entry_copy_call(trial, events.get(BEFORE_PLAN)?),
+        EventCall::View => view_call(trial, &run(alloc, setup, events).ok()?.0),
+        EventCall::WalkView | EventCall::Apply => walk_call(trial, call, setup, events),
+        EventCall::Prepare | EventCall::PrepareInPlace => {
+            prepare_call(
+                trial,
+                call,
+                planning(alloc, setup, events.get(..BEFORE_PLAN)?)?,
+            )
+        }
     }
 }
 
 /// The events of the election.
 pub fn election(alloc: Global) -> Option<Vec<Event>> {
-    let trace = read_trace(alloc, ELECTION.as_bytes()).ok()?;
+    events_in(alloc, ELECTION)
+}
+
+/// The events of this trace.
+pub fn events_in(alloc: Global, text: &str) -> Option<Vec<Event>> {
+    let trace = read_trace(alloc, text.as_bytes()).ok()?;
     let mut events = Vec::new(alloc);
     for row in trace.rows.into_vec() {
         if let Row::Event(event) = row {
@@ -85,60 +107,9 @@ pub fn election(alloc: Global) -> Option<Vec<Event>> {
     Some(events)
 }
 
-fn run_call<R: Print>(trial: &Trial<R>, events: &[Event]) -> Option<Outcome> {
-    let setup = setup()?;
-    trial.begin();
-    let answer = run(trial.alloc, setup, events);
-    trial.outcome(&answer, "OutOfMemory")
-}
-
-fn run_whole_call<R: Print>(trial: &Trial<R>, events: &[Event]) -> Option<Outcome> {
-    let setup = setup()?;
-    trial.begin();
-    let answer = run_whole(trial.alloc, setup, events);
-    trial.outcome(&answer, "OutOfMemory")
-}
-
-// The world that the events lead to.
-fn world(alloc: Global, events: &[Event]) -> Option<World> {
-    let (world, _) = run(alloc, setup()?, events).ok()?;
-    Some(world)
-}
-
-fn view_call<R: Print>(trial: &Trial<R>, events: &[Event]) -> Option<Outcome> {
-    let world = world(trial.alloc, events)?;
-    trial.begin();
-    let answer = view(trial.alloc, &world);
-    trial.outcome(&answer, "AllocError")
-}
-
-fn walk_view_call<R: Print>(trial: &Trial<R>, events: &[Event]) -> Option<Outcome> {
-    let walk = applied(Walk::new(trial.alloc, setup()?).ok()?, events).ok()?;
-    trial.begin();
-    let answer = walk.view();
-    trial.outcome(&answer, "AllocError")
-}
-
-fn apply_call<R: Print>(trial: &Trial<R>, events: &[Event]) -> Option<Outcome> {
-    let walk = Walk::new(trial.alloc, setup()?).ok()?;
-    trial.begin();
-    let answer = applied(walk, events);
-    trial.outcome(&answer, "")
-}
-
-// The walk, behind all of the events.
-fn applied(walk: Walk, events: &[Event]) -> Result<Walk, Refused> {
-    let mut walk = walk;
-    for event in events {
-        walk.apply(event)?;
-    }
-    Ok(walk)
-}
-
 fn event_copy_call<R: Print>(trial: &Trial<R>, event: &Event) -> Option<Outcome> {
     trial.begin();
-    let answer = event.copy();
-    trial.outcome(&answer, "AllocError")
+    trial.outcome(event.copy(), "AllocError")
 }
 
 fn entry_copy_call<R: Print>(trial: &Trial<R>, event: &Event) -> Option<Outcome> {
@@ -148,8 +119,58 @@ fn entry_copy_call<R: Print>(trial: &Trial<R>, event: &Event) -> Option<Outcome>
         answer: Answer::Done,
     };
     trial.begin();
-    let answer = entry.copy();
-    trial.outcome(&answer, "AllocError")
+    trial.outcome(entry.copy(), "AllocError")
+}
+
+/// A view of this world.
+pub fn view_call<R: Print>(trial: &Trial<R>, world: &World) -> Option<Outcome> {
+    trial.begin();
+    trial.outcome(view(trial.alloc, world), "AllocError")
+}
+
+fn walk_call<R: Print>(
+    trial: &Trial<R>,
+    call: EventCall,
+    setup: Setup,
+    events: &[Event],
+) -> Option<Outcome> {
+    let mut walk = Walk::new(trial.alloc, setup).ok()?;
+    match call {
+        EventCall::Apply => apply_call(trial, &mut walk, events),
+        _ => walk_view_call(trial, &mut walk, events),
+    }
+}
+
+fn apply_call<R: Print>(trial: &Trial<R>, walk: &mut Walk, events: &[Event]) -> Option<Outcome> {
+    trial.begin();
+    let applied = apply(walk, events);
+    trial.end();
+    applied?;
+    trial.tell(false, walk)
+}
+
+fn walk_view_call<R: Print>(
+    trial: &Trial<R>,
+    walk: &mut Walk,
+    events: &[Event],
+) -> Option<Outcome> {
+    apply(walk, events)?;
+    trial.begin();
+    trial.outcome(walk.view(), "AllocError")
+}
+
+// Takes the walk behind all of the events.
+fn apply(walk: &mut Walk, events: &[Event]) -> Option<()> {
+    for event in events {
+        walk.apply(event).ok()?;
+    }
+    Some(())
+}
+
+// The planning of node 3, which these events come to.
+fn planning(alloc: Global, setup: Setup, events: &[Event]) -> Option<Planning> {
+    let (world, _) = run(alloc, setup, events).ok()?;
+    planning_in(&world)
 }
 
 /// The planning of node 3 in a world in which it comes to that.
@@ -161,27 +182,6 @@ pub fn planning_in(world: &World) -> Option<Planning> {
     planning_of(world.procedure(node))
 }
 
-// A preparation where the procedure lies, which stays as it was where it is refused.
-fn prepare_in_place_call<R: Print>(trial: &Trial<R>, events: &[Event]) -> Option<Outcome> {
-    let world = world(trial.alloc, events)?;
-    prepare_in_place(trial, Procedure::Planning(planning_in(&world)?))
-}
-
-fn prepare_in_place<R: Print>(trial: &Trial<R>, planning: Procedure) -> Option<Outcome> {
-    let mut procedure = planning;
-    let before = text_of(trial.alloc, &procedure);
-    trial.begin();
-    let was_refused = procedure.prepare(trial.alloc, None).is_err();
-    trial.end();
-    if was_refused {
-        if !is_same(&before, &text_of(trial.alloc, &procedure)) {
-            return None;
-        }
-        procedure.prepare(trial.alloc, None).ok()?;
-    }
-    ended(was_refused, text_of(trial.alloc, &procedure))
-}
-
 fn planning_of(procedure: Procedure) -> Option<Planning> {
     let Procedure::Planning(planning) = procedure else {
         return None;
@@ -189,32 +189,62 @@ fn planning_of(procedure: Procedure) -> Option<Planning> {
     Some(planning)
 }
 
-// A preparation, which hands the planning back where it is refused.
-fn prepare_call<R: Print>(trial: &Trial<R>, events: &[Event]) -> Option<Outcome> {
-    let world = world(trial.alloc, events)?;
-    prepare(trial, planning_in(&world)?)
+// A preparation, which hands the planning back where it is refused; or where the procedure lies, which stays as it was then.
+fn prepare_call<R: Print>(
+    trial: &Trial<R>,
+    call: EventCall,
+    planning: Planning,
+) -> Option<Outcome> {
+    match call {
+        EventCall::Prepare => prepare_from(trial, planning),
+        _ => prepare_in_place(trial, &mut Procedure::Planning(planning)),
+    }
 }
 
-fn prepare<R: Print>(trial: &Trial<R>, planning: Planning) -> Option<Outcome> {
-    let before = text_of(trial.alloc, &planning)?;
+fn prepare_in_place<R: Print>(trial: &Trial<R>, procedure: &mut Procedure) -> Option<Outcome> {
+    let mut before = String::new(trial.alloc);
+    read(&mut before, procedure)?;
+    prepare_behind(trial, procedure, before.as_str())
+}
+
+// The same, where the procedure reads so before.
+fn prepare_behind<R: Print>(
+    trial: &Trial<R>,
+    procedure: &mut Procedure,
+    before: &str,
+) -> Option<Outcome> {
+    trial.begin();
+    let was_refused = procedure.prepare(trial.alloc, None).is_err();
+    trial.end();
+    if was_refused {
+        if !reads_as(trial.alloc, procedure, before) {
+            return None;
+        }
+        procedure.prepare(trial.alloc, None).ok()?;
+    }
+    trial.tell(was_refused, procedure)
+}
+
+fn prepare_from<R: Print>(trial: &Trial<R>, planning: Planning) -> Option<Outcome> {
+    let mut before = String::new(trial.alloc);
+    read(&mut before, &planning)?;
     trial.begin();
     let answer = planning.prepare(trial.alloc, None);
     trial.end();
     match answer {
-        Ok(planned) => ended(false, text_of(trial.alloc, &planned)),
-        Err((planning, PlanFault::OutOfMemory)) => prepare_again(trial.alloc, planning, &before),
+        Ok(planned) => trial.tell(false, &planned),
+        Err((planning, PlanFault::OutOfMemory)) => prepare_again(trial, planning, before.as_str()),
         Err(_) => None,
     }
 }
 
 // The planning that came back has to read as before, and is prepared.
-fn prepare_again(alloc: Global, planning: Planning, before: &String) -> Option<Outcome> {
-    let after = text_of(alloc, &planning)?;
-    if after.as_str() != before.as_str() {
+fn prepare_again<R: Print>(trial: &Trial<R>, planning: Planning, before: &str) -> Option<Outcome> {
+    if !reads_as(trial.alloc, &planning, before) {
         return None;
     }
-    match planning.prepare(alloc, None) {
-        Ok(planned) => ended(true, text_of(alloc, &planned)),
+    match planning.prepare(trial.alloc, None) {
+        Ok(planned) => trial.tell(true, &planned),
         Err(_) => None,
     }
 }
