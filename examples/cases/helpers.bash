@@ -48,6 +48,12 @@ group() {
     seq -f $'[[fault]]\nat = 1\nnode = "%g"\nkind = "recover"' 1 "$1"
 }
 
+# Prints the configuration of 1,024 nodes with 4,096 partitions, of which the last one recovers.
+largest() {
+    group 1024 3075 | sed '/^\[\[/,$d; s/^partitions.*/partitions = 4096/; s/^events.*/events = 10000/'
+    tail -n 4 one_node.toml | sed 's/"a"/"1024"/'
+}
+
 # Plays a group of so many nodes with a period of four turns for each: all recover; after 10 turns for each of them the
 # highest crashes, and after 24 it comes back, where the play is so long. Its length is the second word, in turns for
 # each node. Prints how many nodes are Normal under the highest one that is up.
@@ -64,6 +70,93 @@ resting() {
     } >resting.toml
     (($2 <= 24)) || up=$nodes
     bully play resting.toml | bully check | grep -c "^[0-9]* normal $up $up "
+}
+
+# Prints a fault of the node at the turn `at`, and notes what the node is behind it.
+node_fault() {
+    printf '[[fault]]\nat = %s\nnode = "%s"\nkind = "%s"\n' "$at" "$1" "$2"
+    last[$1]=$2
+}
+
+# Draws a number below the word from `seed`: `drawn`.
+draw_below() {
+    seed=$((seed * 6364136223846793005 + 1442695040888963407))
+    drawn=$(((seed >> 33 & 0x7fffffff) % $1))
+}
+
+# Goes on by as many turns as the first word says, and by fewer than the second one more.
+later() {
+    draw_below "$2"
+    at=$((at + $1 + drawn))
+}
+
+# The highest node that lives crashes, which is the coordinator or is about to be.
+crash_highest() {
+    local node
+    for node in 5 4 3 2 1; do
+        if [[ ${last[node]} == recover ]]; then
+            node_fault "$node" crash
+            return
+        fi
+    done
+}
+
+# All nodes of `order` have the fault, with fewer turns between two of them than the second word says.
+fault_each() {
+    local node
+    for node in "${order[@]}"; do
+        node_fault "$node" "$1"
+        later 0 "$2"
+    done
+}
+
+# All recover, with fewer turns between than the word says; then the highest one crashes in mid-election.
+begin_election() {
+    fault_each recover "$1"
+    later 2 40
+    crash_highest
+    later 2 30
+}
+
+# Prints a configuration of five nodes in an order: its five digits tell it from the last to the first, 0 for node 1.
+# Twice the nodes recover in this order, the first time all crash thereafter; and each time the highest one crashes in
+# mid-election, the next one too, and some come back. `last` has then the last fault of each node.
+shaken() {
+    local place order=() at=1 seed=$((5#$1)) drawn
+    last=(- crash crash crash crash crash)
+    for place in 4 3 2 1 0; do
+        order+=($((${1:place:1} + 1)))
+    done
+    printf 'nodes = 5\npartitions = 7\nevents = 100000\nturns = 2000\nperiod = 16\nnames = ["1", "2", "3", "4", "5"]\n'
+    begin_election 6
+    crash_highest
+    later 0 60
+    fault_each crash 4
+    later 0 20
+    begin_election 30
+    draw_below 2
+    if [[ $drawn == 0 ]]; then crash_highest; else fault_each recover 10; fi
+}
+
+# Whether what is played of the configuration is lawful and comes to rest: each node that lives by `last` is Normal under
+# the highest one of them, with the owners that this one has, and the others are Down.
+comes_to_rest() {
+    local node highest owners
+    bully play "$1" >played.csv && bully check <played.csv >verdict || return
+    for node in 1 2 3 4 5; do
+        [[ ${last[node]} != recover ]] || highest=$node
+    done
+    owners=$(sed -n "s/^$highest normal $highest $highest //p" verdict)
+    {
+        echo "lawful $(($(wc -l <played.csv) - 1))"
+        for node in 1 2 3 4 5; do
+            if [[ ${last[node]} == recover ]]; then
+                echo "$node normal $highest $highest $owners"
+            else
+                echo "$node down - - -"
+            fi
+        done
+    } | cmp -s - verdict
 }
 
 # Prints the configuration of one node with a comment of so many bytes.

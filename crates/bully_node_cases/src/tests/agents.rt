@@ -3,13 +3,13 @@
 mod cluster;
 
 use bully_base::{Node, Setup, Status};
-use bully_calls::{Call, CallKind};
+use bully_calls::{Answer, Call, CallKind};
 use bully_lines::{ReplyFault, RequestFault, push_reply, push_request, read_reply, read_request};
-use bully_messages::Request;
+use bully_messages::{Reply, Request};
 use bully_node::Agent;
 use bully_table::TableFault;
 use bully_world::Refused;
-use cluster::Cluster;
+use cluster::{Cluster, Deed, Shown, new_agent};
 use std::alloc::Global;
 
 /// Lines of requests in a group of three nodes with three partitions and 1,000 events, which are written as they are read.
@@ -159,28 +159,32 @@ fn group() -> Option<Setup> {
     Setup::new(3, 3, 1000).ok()
 }
 
-// The request's line, read and written again.
-fn request_again(alloc: Global, line: &str) -> Option<String> {
-    let request = read_request(alloc, &group()?, line).ok()?;
-    let mut text = String::new(alloc);
-    push_request(&mut text, &request).ok()?;
-    Some(text)
-}
-
-// The reply's line, read and written again.
-fn reply_again(alloc: Global, line: &str) -> Option<String> {
-    let reply = read_reply(&group()?, line).ok()?;
-    let mut text = String::new(alloc);
-    push_reply(&mut text, reply).ok()?;
-    Some(text)
-}
-
-// Whether this is the line.
-fn is_line(again: Option<String>, line: &str) -> bool {
-    match again {
-        Some(text) => text.as_str() == line,
-        None => false,
+// Writes the request of the line.
+fn write_request(alloc: Global, line: &str, text: &mut String) -> Option<()> {
+    match read_request(alloc, &group()?, line) {
+        Ok(request) => push_request(text, &request).ok(),
+        Err(_) => None,
     }
+}
+
+// Writes the reply of the line.
+fn write_reply(line: &str, text: &mut String) -> Option<()> {
+    let reply = read_reply(&group()?, line).ok()?;
+    push_reply(text, reply).ok()
+}
+
+// Whether the line is that of a request, and is written as it is read.
+fn is_request(alloc: Global, line: &str) -> bool {
+    let mut text = String::new(alloc);
+    let written = write_request(alloc, line, &mut text);
+    written.is_some() && text.as_str() == line
+}
+
+// The same of a reply.
+fn is_reply(alloc: Global, line: &str) -> bool {
+    let mut text = String::new(alloc);
+    let written = write_reply(line, &mut text);
+    written.is_some() && text.as_str() == line
 }
 
 fn request_fault(alloc: Global, line: &str) -> Option<RequestFault> {
@@ -191,62 +195,122 @@ fn reply_fault(line: &str) -> Option<ReplyFault> {
     read_reply(&group()?, line).err()
 }
 
-#[test]
-fn lines_of_requests(rt: HostRuntime) {
+// The first line of a request that isn't taken as it should be.
+fn wrong_request(alloc: Global) -> Option<&'static str> {
     for line in REQUESTS.iter() {
-        assert!(rt; is_line(request_again(rt.alloc(), *line), *line), "{line}");
+        if !is_request(alloc, *line) {
+            return Some(*line);
+        }
     }
     for (line, fault) in NO_REQUESTS.iter() {
-        assert_eq!(rt; request_fault(rt.alloc(), *line), Some(*fault), "{line}");
+        if request_fault(alloc, *line) != Some(*fault) {
+            return Some(*line);
+        }
     }
+    None
+}
+
+// The same of a reply.
+fn wrong_reply(alloc: Global) -> Option<&'static str> {
+    for line in REPLIES.iter() {
+        if !is_reply(alloc, *line) {
+            return Some(*line);
+        }
+    }
+    for (line, fault) in NO_REPLIES.iter() {
+        if reply_fault(*line) != Some(*fault) {
+            return Some(*line);
+        }
+    }
+    None
+}
+
+#[test]
+fn lines_of_requests(rt: HostRuntime) {
+    assert_eq!(rt; wrong_request(rt.alloc()), None);
 }
 
 #[test]
 fn lines_of_replies(rt: HostRuntime) {
-    for line in REPLIES.iter() {
-        assert!(rt; is_line(reply_again(rt.alloc(), *line), *line), "{line}");
-    }
-    for (line, fault) in NO_REPLIES.iter() {
-        assert_eq!(rt; reply_fault(*line), Some(*fault), "{line}");
-    }
+    assert_eq!(rt; wrong_reply(rt.alloc()), None);
 }
 
-/// A node's status, and its coordinator's number.
-type Shown = (Status, Option<u16>);
+/// A node that follows the second one.
+const FOLLOWS: Shown = (Status::Normal, Some(2));
 
-// What the nodes are: all recover and come to rest, then the last one crashes, and the second one hears nothing of it for
-// too long.
-fn rested(alloc: Global) -> Option<[Shown; 3]> {
-    let mut cluster = Cluster::new(alloc, &Setup::new(3, 3, 1000).ok()?)?;
+/// A node that is Down.
+const DOWN: Shown = (Status::Down, None);
+
+// All nodes recover and come to rest, then the last one crashes, and the second one hears nothing of it for too long.
+fn go_on(cluster: &mut Cluster) -> Option<()> {
     for place in 0..3 {
-        cluster.recover(place)?;
+        cluster.happen(place, Deed::Recover)?;
     }
     cluster.rest()?;
-    cluster.crash(2)?;
-    cluster.timeout(1)?;
-    cluster.rest()?;
-    Some([cluster.shown(0)?, cluster.shown(1)?, cluster.shown(2)?])
+    cluster.happen(2, Deed::Crash)?;
+    cluster.happen(1, Deed::Timeout)?;
+    cluster.rest()
+}
+
+// Whether the three nodes are those of a world all along, and the lower ones then follow the second one.
+fn are_of_a_world(cluster: &mut Cluster) -> bool {
+    go_on(cluster).is_some()
+        && cluster.shown(0) == Some(FOLLOWS)
+        && cluster.shown(1) == Some(FOLLOWS)
+        && cluster.shown(2) == Some(DOWN)
+}
+
+// The same of the nodes of that group.
+fn three_are_of_a_world(alloc: Global) -> Option<bool> {
+    match Cluster::new(alloc, &group()?) {
+        Some(mut cluster) => Some(are_of_a_world(&mut cluster)),
+        None => None,
+    }
 }
 
 #[test]
 fn three_nodes_are_those_of_a_world(rt: HostRuntime) {
-    let follows = (Status::Normal, Some(2));
-    assert_eq!(rt;
-        rested(rt.alloc()),
-        Some([follows, follows, (Status::Down, None)])
-    );
+    assert!(rt; three_are_of_a_world(rt.alloc()) == Some(true));
 }
 
-// A reply to another call is refused.
-fn stale(alloc: Global) -> Option<bool> {
-    let mut cluster = Cluster::new(alloc, &Setup::new(2, 1, 100).ok()?)?;
-    cluster.recover(0)?;
-    cluster.stale_reply(0)
+// The reply that answers the node's call.
+fn awaited_reply(agent: &Agent) -> Option<Reply> {
+    match agent.request() {
+        Ok(Some(request)) => Some(Reply {
+            caller: request.caller,
+            number: request.number,
+            answer: Answer::Yes,
+        }),
+        _ => None,
+    }
+}
+
+// Whether a reply to another call is refused, and one to this call is taken, once.
+fn takes_its_reply(agent: &mut Agent) -> Option<bool> {
+    agent.recover().ok()?;
+    agent.start().ok()?;
+    let reply = awaited_reply(agent)?;
+    let stale = Reply {
+        number: reply.number.wrapping_sub(1),
+        ..reply
+    };
+    let refused = matches!(agent.replied(stale), Err(Refused::NoCall));
+    let taken = agent.replied(reply).is_ok();
+    let again = matches!(agent.replied(reply), Err(Refused::NoCall));
+    Some(refused && taken && again)
+}
+
+// The same of the first of two nodes.
+fn first_takes_its_reply(alloc: Global) -> Option<bool> {
+    match new_agent(alloc, &Setup::new(2, 1, 100).ok()?, 1, 0) {
+        Some(mut agent) => takes_its_reply(&mut agent),
+        None => None,
+    }
 }
 
 #[test]
 fn a_reply_to_another_call(rt: HostRuntime) {
-    assert_eq!(rt; stale(rt.alloc()), Some(true));
+    assert!(rt; first_takes_its_reply(rt.alloc()) == Some(true));
 }
 
 /// A request without a table: its caller, its call and the callee.
@@ -266,24 +330,9 @@ const REFUSED: [(u32, bool, Asked, Refused); 9] = [
     (0, false, (3, CallKind::Halt, 2), Refused::CalleeDown),
 ];
 
-// The second node of the group, as it comes to the request.
-fn second(alloc: Global, told: u32, recovers: bool) -> Option<Agent> {
-    let setup = group()?;
-    let node = Node::new(2)?;
-    if node.number() > setup.nodes() {
-        return None;
-    }
-    let mut agent = Agent::new(alloc, &setup, node, told, None).ok()?;
-    if recovers {
-        agent.recover().ok()?;
-    }
-    Some(agent)
-}
-
-// Why the request is refused; none where it isn't, or where it changes the node.
-fn refusal(agent: &mut Agent, asked: Asked) -> Option<Refused> {
+fn request_of(asked: Asked) -> Option<Request> {
     let (caller, kind, callee) = asked;
-    let request = Request {
+    Some(Request {
         caller: Node::new(caller)?,
         number: 0,
         call: Call {
@@ -291,14 +340,7 @@ fn refusal(agent: &mut Agent, asked: Asked) -> Option<Refused> {
             kind,
         },
         table: None,
-    };
-    let before = kept(agent);
-    let why = agent.serve(&request).err()?;
-    if kept(agent) == before {
-        Some(why)
-    } else {
-        None
-    }
+    })
 }
 
 // What a request that ran would change of a node.
@@ -306,14 +348,43 @@ fn kept(agent: &Agent) -> (u32, u32, Status) {
     (agent.events(), agent.generation(), agent.vector().status())
 }
 
+// Why the node refuses the request; none where it doesn't, or where it is changed.
+fn refusal(agent: &mut Agent, request: &Request) -> Option<Refused> {
+    let before = kept(agent);
+    let why = agent.serve(request).err()?;
+    if kept(agent) == before {
+        Some(why)
+    } else {
+        None
+    }
+}
+
+// The same, where the node may recover before.
+fn refusal_behind(agent: &mut Agent, recovers: bool, asked: Asked) -> Option<Refused> {
+    if recovers {
+        agent.recover().ok()?;
+    }
+    refusal(agent, &request_of(asked)?)
+}
+
 // Why the second node refuses the request.
 fn refused(alloc: Global, told: u32, recovers: bool, asked: Asked) -> Option<Refused> {
-    refusal(&mut second(alloc, told, recovers)?, asked)
+    match new_agent(alloc, &group()?, 2, told) {
+        Some(mut agent) => refusal_behind(&mut agent, recovers, asked),
+        None => None,
+    }
+}
+
+// Whether each request is refused as it should be.
+fn all_are_refused(alloc: Global) -> bool {
+    let mut are_refused = true;
+    for (told, recovers, asked, why) in REFUSED.iter() {
+        are_refused = are_refused && refused(alloc, *told, *recovers, *asked) == Some(*why);
+    }
+    are_refused
 }
 
 #[test]
 fn requests_that_are_refused(rt: HostRuntime) {
-    for (told, recovers, asked, why) in REFUSED.iter() {
-        assert_eq!(rt; refused(rt.alloc(), *told, *recovers, *asked), Some(*why));
-    }
+    assert!(rt; all_are_refused(rt.alloc()));
 }

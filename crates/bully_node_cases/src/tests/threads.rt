@@ -1,12 +1,10 @@
 //! Node threads: that they run at once, that each takes its turns, what a gate can order, and that threads which take
 //! their turns in rounds do what `play` does.
 
-use super::configurations::{Group, ONE_NODE};
 use super::gates::{Keeper, Rule};
-use super::paper::{is_as_played, is_written};
 use bully_config::Config;
 use bully_group::Closed;
-use bully_nodes::run_nodes;
+use bully_nodes::{play, run_nodes, write_history};
 use bully_world::Event;
 use std::alloc::Global;
 use std::sync::Wait;
@@ -14,105 +12,131 @@ use std::thread::Threads;
 
 /// What the finished group has to be.
 #[derive(Clone, Copy)]
-pub enum Wanted {
+enum Wanted {
     /// Whatever it is.
     Finished,
-    /// One node's election: the operator recovers it, and then it takes five steps.
+    /// One node's election as it is played: the operator recovers the node, and then that takes five steps.
     Election,
     /// The operator recovers each of three nodes.
     Recoveries,
-    /// One recovery, and this is written of it.
-    Recovery(&'static str),
+    /// One recovery, and nothing else.
+    Recovery,
     /// What is written of it is what is played.
     Played,
 }
 
 /// What each run of node threads keeps and comes to.
-pub const RUNS: [(Group, Rule, Wanted); 6] = [
+const RUNS: [(&str, Rule, Wanted); 6] = [
     (BOTH_DOWN, Rule::Meeting, Wanted::Finished),
     // The operator's turn comes before what is called behind it: else nothing would come of node 1's turns.
     (ONE_NODE, Rule::OperatorFirst, Wanted::Election),
     (ALL_RECOVER, Rule::Open, Wanted::Recoveries),
     // The bound on events is reached by the recovery.
-    (
-        FULL,
-        Rule::Open,
-        Wanted::Recovery("bully,1,1,1\nrecover,1\n"),
-    ),
+    (FULL, Rule::Open, Wanted::Recovery),
     (THREE_NODES, Rule::InRounds, Wanted::Played),
     (THREE_WEIGHED, Rule::InRounds, Wanted::Played),
 ];
 
 /// Two nodes, which stay down.
-const BOTH_DOWN: Group = Group {
-    nodes: 2,
-    partitions: 1,
-    events: 100,
-    turns: 2,
-    period: 16,
-    more: "",
-    faults: &[],
-};
+const BOTH_DOWN: &str = "
+nodes = 2
+partitions = 1
+events = 100
+turns = 2
+names = ['1', '2']
+";
+
+/// One node, which recovers.
+const ONE_NODE: &str = "
+nodes = 1
+partitions = 2
+events = 100
+turns = 6
+names = ['1']
+fault = [{ at = 1, node = '1', kind = 'recover' }]
+";
 
 /// Three nodes, which all recover.
-const ALL_RECOVER: Group = Group {
-    nodes: 3,
-    partitions: 3,
-    events: 100_000,
-    turns: 2_000,
-    period: 16,
-    more: "",
-    faults: &[(1, 1, "recover"), (1, 2, "recover"), (1, 3, "recover")],
-};
+const ALL_RECOVER: &str = "
+nodes = 3
+partitions = 3
+events = 100_000
+turns = 2_000
+names = ['1', '2', '3']
+fault = [
+    { at = 1, node = '1', kind = 'recover' },
+    { at = 1, node = '2', kind = 'recover' },
+    { at = 1, node = '3', kind = 'recover' },
+]
+";
 
 /// One node that recovers, in a group of at most one event.
-const FULL: Group = Group {
-    nodes: 1,
-    partitions: 1,
-    events: 1,
-    turns: 50,
-    period: 16,
-    more: "",
-    faults: &[(1, 1, "recover")],
-};
+const FULL: &str = "
+nodes = 1
+partitions = 1
+events = 1
+turns = 50
+names = ['1']
+fault = [{ at = 1, node = '1', kind = 'recover' }]
+";
 
 /// Three nodes, which all recover. The coordinator crashes, and comes back.
-const THREE_NODES: Group = Group {
-    nodes: 3,
-    partitions: 4,
-    events: 1_000,
-    turns: 96,
-    period: 12,
-    more: "",
-    faults: &[
-        (1, 3, "recover"),
-        (14, 2, "recover"),
-        (14, 1, "recover"),
-        (50, 3, "crash"),
-        (71, 3, "recover"),
-    ],
-};
+const THREE_NODES: &str = "
+nodes = 3
+partitions = 4
+events = 1_000
+turns = 96
+period = 12
+names = ['1', '2', '3']
+fault = [
+    { at = 1, node = '3', kind = 'recover' },
+    { at = 14, node = '2', kind = 'recover' },
+    { at = 14, node = '1', kind = 'recover' },
+    { at = 50, node = '3', kind = 'crash' },
+    { at = 71, node = '3', kind = 'recover' },
+]
+";
 
 /// The same with weights, and with tasks that are kept.
-const THREE_WEIGHED: Group = Group {
-    more: "weights = [1, 3, 2]\nkeep = true\n",
-    ..THREE_NODES
-};
+const THREE_WEIGHED: &str = "
+nodes = 3
+partitions = 4
+events = 1_000
+turns = 96
+period = 12
+names = ['1', '2', '3']
+weights = [1, 3, 2]
+keep = true
+fault = [
+    { at = 1, node = '3', kind = 'recover' },
+    { at = 14, node = '2', kind = 'recover' },
+    { at = 14, node = '1', kind = 'recover' },
+    { at = 50, node = '3', kind = 'crash' },
+    { at = 71, node = '3', kind = 'recover' },
+]
+";
 
-/// Whether a run of the group keeps the rule, and comes to what is wanted.
-pub fn goes_as_wanted<R: Threads + Wait + Sync>(
+/// The configuration of the first run that doesn't go as it should.
+pub fn wrong_run<R: Threads + Wait + Sync>(rt: &R, alloc: Global) -> Option<&'static str> {
+    for (config, rule, wanted) in RUNS.iter() {
+        if !goes_as_wanted(rt, alloc, *config, *rule, *wanted) {
+            return Some(*config);
+        }
+    }
+    None
+}
+
+// Whether a run of the configuration keeps the rule, and comes to what is wanted.
+fn goes_as_wanted<R: Threads + Wait + Sync>(
     rt: &R,
     alloc: Global,
-    group: Group,
+    config: &str,
     rule: Rule,
     wanted: Wanted,
 ) -> bool {
-    match group.config(alloc) {
-        Some(config) => {
-            let keeper = Keeper::new(rule);
-            goes_by(rt, alloc, &config, &keeper, wanted)
-        }
-        None => false,
+    match Config::read(alloc, config) {
+        Ok(config) => goes_by(rt, alloc, &config, &Keeper::new(rule), wanted),
+        Err(_) => false,
     }
 }
 
@@ -136,34 +160,24 @@ fn goes_by<R: Threads + Wait + Sync>(
 fn comes_to(alloc: Global, config: &Config, closed: &Closed, wanted: Wanted) -> bool {
     match wanted {
         Wanted::Finished => true,
-        Wanted::Election => is_election(closed),
+        Wanted::Election => {
+            is_by(closed, &[0, 1, 1, 1, 1, 1]) && is_as_played(alloc, config, closed)
+        }
         Wanted::Recoveries => {
             has_recovery(closed, 1) && has_recovery(closed, 2) && has_recovery(closed, 3)
         }
-        Wanted::Recovery(text) => {
-            closed.history().len() == 1
-                && has_recovery(closed, 1)
-                && is_written(alloc, closed, text)
-        }
+        Wanted::Recovery => is_by(closed, &[0]) && has_recovery(closed, 1),
         Wanted::Played => is_as_played(alloc, config, closed),
     }
 }
 
-// Whether the history is one node's election.
-fn is_election(closed: &Closed) -> bool {
-    match closed.history() {
-        [recover, one, two, three, plan, last] => {
-            matches!(recover.event, Event::Recover(_))
-                && matches!(one.event, Event::Move(_))
-                && matches!(two.event, Event::Move(_))
-                && matches!(three.event, Event::Move(_))
-                && matches!(plan.event, Event::Plan(_, _))
-                && matches!(last.event, Event::Move(_))
-                && recover.actor == 0
-                && [one.actor, two.actor, three.actor, plan.actor, last.actor] == [1; 5]
-        }
-        _ => false,
+// Whether these are the actors of the history, in its order.
+fn is_by(closed: &Closed, actors: &[u16]) -> bool {
+    let mut is_so = closed.history().len() == actors.len();
+    for (entry, actor) in closed.history().iter().zip(actors) {
+        is_so = is_so && entry.actor == *actor;
     }
+    is_so
 }
 
 // Whether the operator recovers the node.
@@ -180,4 +194,13 @@ fn recovers(event: &Event, number: u16) -> bool {
         Event::Recover(node) => node.number() == number,
         _ => false,
     }
+}
+
+// Whether what is written of the finished group is what is played of the configuration.
+fn is_as_played(alloc: Global, config: &Config, closed: &Closed) -> bool {
+    let mut played = Vec::new(alloc);
+    let mut written = Vec::new(alloc);
+    let both = play(alloc, config, &mut played).is_ok()
+        && write_history(alloc, &mut written, closed).is_ok();
+    both && played.as_slice() == written.as_slice()
 }

@@ -4,13 +4,24 @@ use bully_base::{Node, Setup, Status};
 use bully_calls::Answer;
 use bully_lines::{push_reply, push_request, read_reply, read_request};
 use bully_messages::{Reply, Request};
-use bully_node::Agent;
+use bully_node::{Agent, FailedCall};
 use bully_steps::Want;
-use bully_world::{Event, Refused, TakenStep, World};
+use bully_world::{Event, TakenStep, World};
 use std::alloc::Global;
 
 /// The most rounds of turns until nobody has anything to do.
 const ROUNDS: u16 = 200;
+
+/// A node's status, and its coordinator's number.
+pub type Shown = (Status, Option<u16>);
+
+/// What a node doesn't do by itself.
+#[derive(Clone, Copy)]
+pub enum Deed {
+    Recover,
+    Crash,
+    Timeout,
+}
 
 #[derive(Drop)]
 pub struct Cluster {
@@ -23,37 +34,35 @@ impl Cluster {
     /// Nodes that are all Down.
     pub fn new(alloc: Global, setup: &Setup) -> Option<Cluster> {
         let mut agents = Vec::new(alloc);
-        for number in 1..=setup.nodes() {
-            let node = Node::new(number)?;
-            let agent = Agent::new(alloc, setup, node, 0, None).ok()?;
-            agents.push(agent).ok()?;
+        let added = add_agents(alloc, setup, &mut agents);
+        match (added, World::new(alloc, *setup)) {
+            (Some(()), Ok(world)) => Some(Cluster {
+                alloc,
+                agents,
+                world,
+            }),
+            _ => None,
         }
-        Some(Cluster {
-            alloc,
-            agents,
-            world: World::new(alloc, *setup).ok()?,
-        })
     }
 
-    pub fn recover(&mut self, place: usize) -> Option<()> {
-        let taken = self.agents.get_mut(place)?.recover().ok()?;
-        self.log_step(&taken)
+    /// The node at this place does so.
+    pub fn happen(&mut self, place: usize, deed: Deed) -> Option<()> {
+        let agent = self.agents.get_mut(place)?;
+        let taken = match deed {
+            Deed::Recover => agent.recover(),
+            Deed::Crash => agent.crash(),
+            Deed::Timeout => agent.timeout(),
+        };
+        self.log_taken(place, taken.ok())
     }
 
-    pub fn crash(&mut self, place: usize) -> Option<()> {
-        let taken = self.agents.get_mut(place)?.crash().ok()?;
-        self.log_step(&taken)
-    }
-
-    pub fn timeout(&mut self, place: usize) -> Option<()> {
-        let taken = self.agents.get_mut(place)?.timeout().ok()?;
-        self.log_step(&taken)
-    }
-
-    /// The node's status, and its coordinator's number.
-    pub fn shown(&self, place: usize) -> Option<(Status, Option<u16>)> {
+    /// What the node at this place is.
+    pub fn shown(&self, place: usize) -> Option<Shown> {
         let vector = self.agents.get(place)?.vector();
-        let coordinator = vector.coordinator().map(|node| node.number());
+        let coordinator = match vector.coordinator() {
+            Some(node) => Some(node.number()),
+            None => None,
+        };
         Some((vector.status(), coordinator))
     }
 
@@ -73,95 +82,102 @@ impl Cluster {
         None
     }
 
-    /// Whether a reply to another call is refused, and one to this call is taken.
-    pub fn stale_reply(&mut self, place: usize) -> Option<bool> {
-        let agent = self.agents.get_mut(place)?;
-        agent.start().ok()?;
-        let request = agent.request().ok()??;
-        let reply = Reply {
-            caller: request.caller,
-            number: request.number,
-            answer: Answer::Yes,
-        };
-        let stale = Reply {
-            number: request.number.wrapping_sub(1),
-            ..reply
-        };
-        let refused = matches!(agent.replied(stale), Err(Refused::NoCall));
-        let taken = agent.replied(reply).is_ok();
-        let again = matches!(agent.replied(reply), Err(Refused::NoCall));
-        Some(refused && taken && again)
-    }
-
-    // One turn of the node at this place. Whether it did something.
+    // One turn of the node at this place. Whether it did something. A call that it starts comes back before anything else
+    // happens.
     fn turn(&mut self, place: usize) -> Option<bool> {
-        let alloc = self.alloc;
         let agent = self.agents.get_mut(place)?;
-        let taken = match agent.wants() {
-            Want::Nothing | Want::Await => return Some(false),
-            Want::Start(_) => return self.call(place),
-            Want::Move => agent.advance().ok()?,
-            Want::Plan => {
-                let table = agent.prepare(alloc, agent.vector().task()).ok()?;
-                agent.plan(table).ok()?
-            }
-        };
-        self.log_step(&taken)?;
-        self.is_same(place)
+        if matches!(agent.wants(), Want::Nothing | Want::Await) {
+            return Some(false);
+        }
+        let taken = step(self.alloc, agent);
+        self.log_taken(place, taken)?;
+        self.call(place)?;
+        Some(true)
     }
 
-    // The node starts its call, which comes back before anything else happens.
-    fn call(&mut self, place: usize) -> Option<bool> {
-        let started = self.agents.get_mut(place)?.start().ok()?;
-        self.log_step(&started)?;
-        let request = self.agents.get(place)?.request().ok()??;
-        self.send(place, &request)
+    // The node's call, if it has one, is sent and comes back.
+    fn call(&mut self, place: usize) -> Option<()> {
+        match self.agents.get(place)?.request() {
+            Ok(Some(request)) => self.send(place, &request),
+            Ok(None) => Some(()),
+            Err(_) => None,
+        }
     }
 
     // The request of the node runs at its callee and is answered, or fails where that is Down.
-    fn send(&mut self, place: usize, request: &Request) -> Option<bool> {
+    fn send(&mut self, place: usize, request: &Request) -> Option<()> {
         let callee = usize::from(request.call.callee.number() - 1);
-        if self.agents.get(callee)?.vector().status() == Status::Down {
+        let agent = self.agents.get(callee)?;
+        if agent.vector().status() == Status::Down {
             return self.fail(place, request.number);
         }
-        let carried = self.carried(request)?;
-        let reply = self.serve(callee, &carried)?;
-        let returned = self.agents.get_mut(place)?.replied(reply).ok()?;
-        self.log_step(&returned)?;
-        self.is_same(place)
+        let reply = self.carry(callee, request)?;
+        self.reply(place, reply)
     }
 
-    fn fail(&mut self, place: usize, number: u32) -> Option<bool> {
-        let failed = self.agents.get_mut(place)?.failed(number).ok()?;
-        self.log(&failed.lost, Answer::Done)?;
-        self.log_step(&failed.returned)?;
-        self.is_same(place)
+    fn fail(&mut self, place: usize, number: u32) -> Option<()> {
+        match self.agents.get_mut(place)?.failed(number) {
+            Ok(failed) => self.log_failed(place, &failed),
+            Err(_) => None,
+        }
     }
 
-    // The request runs at this node: its reply, carried back.
+    // The request, carried as a line, runs at this node: its reply.
+    fn carry(&mut self, callee: usize, request: &Request) -> Option<Reply> {
+        let mut line = String::new(self.alloc);
+        let written = push_request(&mut line, request);
+        match (
+            written,
+            read_request(self.alloc, self.world.setup(), line.as_str()),
+        ) {
+            (Ok(()), Ok(carried)) => self.serve(callee, &carried),
+            _ => None,
+        }
+    }
+
+    // The request runs at this node: its reply.
     fn serve(&mut self, callee: usize, request: &Request) -> Option<Reply> {
-        let served = self.agents.get_mut(callee)?.serve(request).ok()?;
-        self.log(&served.event, served.reply.answer)?;
-        self.is_same(callee)?;
-        self.carried_back(served.reply)
+        match self.agents.get_mut(callee)?.serve(request) {
+            Ok(served) => {
+                self.log(&served.event, served.reply.answer)?;
+                self.is_same(callee)?;
+                Some(served.reply)
+            }
+            Err(_) => None,
+        }
     }
 
-    // The request, carried as a line.
-    fn carried(&self, request: &Request) -> Option<Request> {
+    // The reply, carried back as a line, is taken by the node.
+    fn reply(&mut self, place: usize, reply: Reply) -> Option<()> {
         let mut line = String::new(self.alloc);
-        push_request(&mut line, request).ok()?;
-        read_request(self.alloc, self.world.setup(), line.as_str()).ok()
+        let written = push_reply(&mut line, reply);
+        match (written, read_reply(self.world.setup(), line.as_str())) {
+            (Ok(()), Ok(carried)) => self.take_reply(place, carried),
+            _ => None,
+        }
     }
 
-    // The reply, carried as a line.
-    fn carried_back(&self, reply: Reply) -> Option<Reply> {
-        let mut line = String::new(self.alloc);
-        push_reply(&mut line, reply).ok()?;
-        read_reply(self.world.setup(), line.as_str()).ok()
+    fn take_reply(&mut self, place: usize, reply: Reply) -> Option<()> {
+        let taken = self.agents.get_mut(place)?.replied(reply);
+        self.log_taken(place, taken.ok())
     }
 
-    fn log_step(&mut self, taken: &TakenStep) -> Option<()> {
-        self.log(&taken.event, taken.answer)
+    // The world takes what the node did, and the node is then that of the world.
+    fn log_taken(&mut self, place: usize, taken: Option<TakenStep>) -> Option<()> {
+        match taken {
+            Some(taken) => self.log_step(place, &taken),
+            None => None,
+        }
+    }
+
+    fn log_step(&mut self, place: usize, taken: &TakenStep) -> Option<()> {
+        self.log(&taken.event, taken.answer)?;
+        self.is_same(place)
+    }
+
+    fn log_failed(&mut self, place: usize, failed: &FailedCall) -> Option<()> {
+        self.log(&failed.lost, Answer::Done)?;
+        self.log_step(place, &failed.returned)
     }
 
     // The world takes the event with this answer.
@@ -173,20 +189,62 @@ impl Cluster {
         }
     }
 
-    // Whether the node is that of the world; none where it isn't.
-    fn is_same(&self, place: usize) -> Option<bool> {
-        let agent = self.agents.get(place)?;
-        let node = agent.node();
-        if node.number() > self.world.setup().nodes() {
-            return None;
+    // None where the node isn't that of the world.
+    fn is_same(&self, place: usize) -> Option<()> {
+        if is_in(&self.world, self.agents.get(place)?) {
+            Some(())
+        } else {
+            None
         }
-        let (own, shown) = (agent.vector(), self.world.vector(node));
-        let same = own.status() == shown.status()
-            && own.coordinator() == shown.coordinator()
-            && own.halter() == shown.halter()
-            && own.up() == shown.up()
-            && own.task() == shown.task()
-            && agent.point() == self.world.point(node);
-        if same { Some(true) } else { None }
     }
+}
+
+/// The node of this number, Down, with so many events told before.
+pub fn new_agent(alloc: Global, setup: &Setup, number: u16, told: u32) -> Option<Agent> {
+    let node = Node::new(number)?;
+    if node.number() > setup.nodes() {
+        return None;
+    }
+    Agent::new(alloc, setup, node, told, None).ok()
+}
+
+// Adds the nodes of the setup.
+fn add_agents(alloc: Global, setup: &Setup, agents: &mut Vec<Agent>) -> Option<()> {
+    for number in 1..=setup.nodes() {
+        let agent = new_agent(alloc, setup, number, 0)?;
+        agents.push(agent).ok()?;
+    }
+    Some(())
+}
+
+// What the node does, which wants to do something.
+fn step(alloc: Global, agent: &mut Agent) -> Option<TakenStep> {
+    match agent.wants() {
+        Want::Nothing | Want::Await => None,
+        Want::Start(_) => agent.start().ok(),
+        Want::Move => agent.advance().ok(),
+        Want::Plan => plan(alloc, agent),
+    }
+}
+
+fn plan(alloc: Global, agent: &mut Agent) -> Option<TakenStep> {
+    match agent.prepare(alloc, agent.vector().task()) {
+        Ok(table) => agent.plan(table).ok(),
+        Err(_) => None,
+    }
+}
+
+// Whether the node is that of the world.
+fn is_in(world: &World, agent: &Agent) -> bool {
+    let node = agent.node();
+    if node.number() > world.setup().nodes() {
+        return false;
+    }
+    let (own, shown) = (agent.vector(), world.vector(node));
+    own.status() == shown.status()
+        && own.coordinator() == shown.coordinator()
+        && own.halter() == shown.halter()
+        && own.up() == shown.up()
+        && own.task() == shown.task()
+        && agent.point() == world.point(node)
 }
