@@ -9,7 +9,7 @@ use bully_messages::{Reply, Request};
 use bully_node::Agent;
 use bully_table::TableFault;
 use bully_world::Refused;
-use cluster::{Cluster, Deed, Shown, new_agent};
+use cluster::{Cluster, Deed, new_agent};
 use std::alloc::Global;
 
 /// Lines of requests in a group of three nodes with three partitions and 1,000 events, which are written as they are read.
@@ -159,51 +159,48 @@ fn group() -> Option<Setup> {
     Setup::new(3, 3, 1000).ok()
 }
 
-// Writes the request of the line.
-fn write_request(alloc: Global, line: &str, text: &mut String) -> Option<()> {
-    match read_request(alloc, &group()?, line) {
-        Ok(request) => push_request(text, &request).ok(),
-        Err(_) => None,
+// Whether the line is refused for this fault; for none, whether it is a request, which is written as it is read.
+fn is_request(alloc: Global, line: &str, fault: Option<RequestFault>) -> bool {
+    let Some(group) = group() else {
+        return false;
+    };
+    match read_request(alloc, &group, line) {
+        Ok(request) => fault.is_none() && tells_request(alloc, &request, line),
+        Err(why) => fault == Some(why),
     }
 }
 
-// Writes the reply of the line.
-fn write_reply(line: &str, text: &mut String) -> Option<()> {
-    let reply = read_reply(&group()?, line).ok()?;
-    push_reply(text, reply).ok()
-}
-
-// Whether the line is that of a request, and is written as it is read.
-fn is_request(alloc: Global, line: &str) -> bool {
+// Whether this is the request's line.
+fn tells_request(alloc: Global, request: &Request, line: &str) -> bool {
     let mut text = String::new(alloc);
-    let written = write_request(alloc, line, &mut text);
-    written.is_some() && text.as_str() == line
+    push_request(&mut text, request).is_ok() && text.as_str() == line
 }
 
 // The same of a reply.
-fn is_reply(alloc: Global, line: &str) -> bool {
+fn is_reply(alloc: Global, line: &str, fault: Option<ReplyFault>) -> bool {
+    let Some(group) = group() else {
+        return false;
+    };
+    match read_reply(&group, line) {
+        Ok(reply) => fault.is_none() && tells_reply(alloc, reply, line),
+        Err(why) => fault == Some(why),
+    }
+}
+
+fn tells_reply(alloc: Global, reply: Reply, line: &str) -> bool {
     let mut text = String::new(alloc);
-    let written = write_reply(line, &mut text);
-    written.is_some() && text.as_str() == line
-}
-
-fn request_fault(alloc: Global, line: &str) -> Option<RequestFault> {
-    read_request(alloc, &group()?, line).err()
-}
-
-fn reply_fault(line: &str) -> Option<ReplyFault> {
-    read_reply(&group()?, line).err()
+    push_reply(&mut text, reply).is_ok() && text.as_str() == line
 }
 
 // The first line of a request that isn't taken as it should be.
 fn wrong_request(alloc: Global) -> Option<&'static str> {
     for line in REQUESTS.iter() {
-        if !is_request(alloc, *line) {
+        if !is_request(alloc, *line, None) {
             return Some(*line);
         }
     }
     for (line, fault) in NO_REQUESTS.iter() {
-        if request_fault(alloc, *line) != Some(*fault) {
+        if !is_request(alloc, *line, Some(*fault)) {
             return Some(*line);
         }
     }
@@ -213,12 +210,12 @@ fn wrong_request(alloc: Global) -> Option<&'static str> {
 // The same of a reply.
 fn wrong_reply(alloc: Global) -> Option<&'static str> {
     for line in REPLIES.iter() {
-        if !is_reply(alloc, *line) {
+        if !is_reply(alloc, *line, None) {
             return Some(*line);
         }
     }
     for (line, fault) in NO_REPLIES.iter() {
-        if reply_fault(*line) != Some(*fault) {
+        if !is_reply(alloc, *line, Some(*fault)) {
             return Some(*line);
         }
     }
@@ -235,12 +232,6 @@ fn lines_of_replies(rt: HostRuntime) {
     assert_eq!(rt; wrong_reply(rt.alloc()), None);
 }
 
-/// A node that follows the second one.
-const FOLLOWS: Shown = (Status::Normal, Some(2));
-
-/// A node that is Down.
-const DOWN: Shown = (Status::Down, None);
-
 // All nodes recover and come to rest, then the last one crashes, and the second one hears nothing of it for too long.
 fn go_on(cluster: &mut Cluster) -> Option<()> {
     for place in 0..3 {
@@ -254,10 +245,11 @@ fn go_on(cluster: &mut Cluster) -> Option<()> {
 
 // Whether the three nodes are those of a world all along, and the lower ones then follow the second one.
 fn are_of_a_world(cluster: &mut Cluster) -> bool {
+    let follows = Some((Status::Normal, Node::new(2)));
     go_on(cluster).is_some()
-        && cluster.shown(0) == Some(FOLLOWS)
-        && cluster.shown(1) == Some(FOLLOWS)
-        && cluster.shown(2) == Some(DOWN)
+        && cluster.shown(0) == follows
+        && cluster.shown(1) == follows
+        && cluster.shown(2) == Some((Status::Down, None))
 }
 
 // The same of the nodes of that group.
@@ -285,19 +277,28 @@ fn awaited_reply(agent: &Agent) -> Option<Reply> {
     }
 }
 
-// Whether a reply to another call is refused, and one to this call is taken, once.
+// Why the node refuses the reply; none where it takes it.
+fn refused_reply(agent: &mut Agent, reply: Reply) -> Option<Refused> {
+    agent.replied(reply).err()
+}
+
+// Whether the node, which recovers and begins a call, refuses a reply to another one, and takes one to this call, once.
 fn takes_its_reply(agent: &mut Agent) -> Option<bool> {
-    agent.recover().ok()?;
-    agent.start().ok()?;
+    let recovered = agent.recover().err();
+    let started = agent.start().err();
+    if recovered.is_some() || started.is_some() {
+        return None;
+    }
     let reply = awaited_reply(agent)?;
     let stale = Reply {
         number: reply.number.wrapping_sub(1),
         ..reply
     };
-    let refused = matches!(agent.replied(stale), Err(Refused::NoCall));
-    let taken = agent.replied(reply).is_ok();
-    let again = matches!(agent.replied(reply), Err(Refused::NoCall));
-    Some(refused && taken && again)
+    let no_call = Some(Refused::NoCall);
+    let before = refused_reply(agent, stale);
+    let first = refused_reply(agent, reply);
+    let again = refused_reply(agent, reply);
+    Some(before == no_call && first == None && again == no_call)
 }
 
 // The same of the first of two nodes.
@@ -348,29 +349,23 @@ fn kept(agent: &Agent) -> (u32, u32, Status) {
     (agent.events(), agent.generation(), agent.vector().status())
 }
 
-// Why the node refuses the request; none where it doesn't, or where it is changed.
-fn refusal(agent: &mut Agent, request: &Request) -> Option<Refused> {
+// Why the node, which may recover before, refuses the request; none where it doesn't, or where that changes it.
+fn refusal(agent: &mut Agent, recovers: bool, asked: Asked) -> Option<Refused> {
+    if recovers && agent.recover().is_err() {
+        return None;
+    }
     let before = kept(agent);
-    let why = agent.serve(request).err()?;
-    if kept(agent) == before {
-        Some(why)
-    } else {
-        None
-    }
-}
-
-// The same, where the node may recover before.
-fn refusal_behind(agent: &mut Agent, recovers: bool, asked: Asked) -> Option<Refused> {
-    if recovers {
-        agent.recover().ok()?;
-    }
-    refusal(agent, &request_of(asked)?)
+    let why = match request_of(asked) {
+        Some(request) => agent.serve(&request).err(),
+        None => None,
+    };
+    if kept(agent) == before { why } else { None }
 }
 
 // Why the second node refuses the request.
 fn refused(alloc: Global, told: u32, recovers: bool, asked: Asked) -> Option<Refused> {
     match new_agent(alloc, &group()?, 2, told) {
-        Some(mut agent) => refusal_behind(&mut agent, recovers, asked),
+        Some(mut agent) => refusal(&mut agent, recovers, asked),
         None => None,
     }
 }

@@ -161,23 +161,27 @@ fn comes_to(alloc: Global, config: &Config, closed: &Closed, wanted: Wanted) -> 
     match wanted {
         Wanted::Finished => true,
         Wanted::Election => {
-            is_by(closed, &[0, 1, 1, 1, 1, 1]) && is_as_played(alloc, config, closed)
+            has_recovery(closed, 1)
+                && count_of(closed, 1) == 5
+                && is_as_played(alloc, config, closed)
         }
         Wanted::Recoveries => {
             has_recovery(closed, 1) && has_recovery(closed, 2) && has_recovery(closed, 3)
         }
-        Wanted::Recovery => is_by(closed, &[0]) && has_recovery(closed, 1),
+        Wanted::Recovery => closed.history().len() == 1 && has_recovery(closed, 1),
         Wanted::Played => is_as_played(alloc, config, closed),
     }
 }
 
-// Whether these are the actors of the history, in its order.
-fn is_by(closed: &Closed, actors: &[u16]) -> bool {
-    let mut is_so = closed.history().len() == actors.len();
-    for (entry, actor) in closed.history().iter().zip(actors) {
-        is_so = is_so && entry.actor == *actor;
+// How many entries of the history are the node's.
+fn count_of(closed: &Closed, number: u16) -> u32 {
+    let mut count: u32 = 0;
+    for entry in closed.history() {
+        if entry.actor == number {
+            count = count.saturating_add(1);
+        }
     }
-    is_so
+    count
 }
 
 // Whether the operator recovers the node.
@@ -200,7 +204,7 @@ fn recovers(event: &Event, number: u16) -> bool {
 fn is_as_played(alloc: Global, config: &Config, closed: &Closed) -> bool {
     let mut played = Vec::new(alloc);
     let mut written = Vec::new(alloc);
-    let both = play(alloc, config, &mut played).is_ok()
-        && write_history(alloc, &mut written, closed).is_ok();
-    both && played.as_slice() == written.as_slice()
+    let is_played = play(alloc, config, &mut played).is_ok();
+    let is_written = write_history(alloc, &mut written, closed).is_ok();
+    is_played && is_written && played.as_slice() == written.as_slice()
 }

@@ -12,9 +12,6 @@ use std::alloc::Global;
 /// The most rounds of turns until nobody has anything to do.
 const ROUNDS: u16 = 200;
 
-/// A node's status, and its coordinator's number.
-pub type Shown = (Status, Option<u16>);
-
 /// What a node doesn't do by itself.
 #[derive(Clone, Copy)]
 pub enum Deed {
@@ -45,7 +42,7 @@ impl Cluster {
         }
     }
 
-    /// The node at this place does so.
+    /// The node at this place does so. None where the world takes another course.
     pub fn happen(&mut self, place: usize, deed: Deed) -> Option<()> {
         let agent = self.agents.get_mut(place)?;
         let taken = match deed {
@@ -53,17 +50,13 @@ impl Cluster {
             Deed::Crash => agent.crash(),
             Deed::Timeout => agent.timeout(),
         };
-        self.log_taken(place, taken.ok())
+        log_step(&mut self.world, agent, taken.ok())
     }
 
-    /// What the node at this place is.
-    pub fn shown(&self, place: usize) -> Option<Shown> {
+    /// The node's status and its coordinator.
+    pub fn shown(&self, place: usize) -> Option<(Status, Option<Node>)> {
         let vector = self.agents.get(place)?.vector();
-        let coordinator = match vector.coordinator() {
-            Some(node) => Some(node.number()),
-            None => None,
-        };
-        Some((vector.status(), coordinator))
+        Some((vector.status(), vector.coordinator()))
     }
 
     /// Turns of all nodes, the last first, until nobody has anything to do. None where the world takes another course.
@@ -82,20 +75,20 @@ impl Cluster {
         None
     }
 
-    // One turn of the node at this place. Whether it did something. A call that it starts comes back before anything else
-    // happens.
+    // One turn of the node at this place, and its call, where it begins one, comes back before anything else happens.
+    // Whether it did something.
     fn turn(&mut self, place: usize) -> Option<bool> {
         let agent = self.agents.get_mut(place)?;
         if matches!(agent.wants(), Want::Nothing | Want::Await) {
             return Some(false);
         }
         let taken = step(self.alloc, agent);
-        self.log_taken(place, taken)?;
+        log_step(&mut self.world, agent, taken)?;
         self.call(place)?;
         Some(true)
     }
 
-    // The node's call, if it has one, is sent and comes back.
+    // The call of the node, if it has one.
     fn call(&mut self, place: usize) -> Option<()> {
         match self.agents.get(place)?.request() {
             Ok(Some(request)) => self.send(place, &request),
@@ -107,95 +100,14 @@ impl Cluster {
     // The request of the node runs at its callee and is answered, or fails where that is Down.
     fn send(&mut self, place: usize, request: &Request) -> Option<()> {
         let callee = usize::from(request.call.callee.number() - 1);
-        let agent = self.agents.get(callee)?;
-        if agent.vector().status() == Status::Down {
-            return self.fail(place, request.number);
+        let callee = self.agents.get_mut(callee)?;
+        if callee.vector().status() == Status::Down {
+            let caller = self.agents.get_mut(place)?;
+            return fail(&mut self.world, caller, request.number);
         }
-        let reply = self.carry(callee, request)?;
-        self.reply(place, reply)
-    }
-
-    fn fail(&mut self, place: usize, number: u32) -> Option<()> {
-        match self.agents.get_mut(place)?.failed(number) {
-            Ok(failed) => self.log_failed(place, &failed),
-            Err(_) => None,
-        }
-    }
-
-    // The request, carried as a line, runs at this node: its reply.
-    fn carry(&mut self, callee: usize, request: &Request) -> Option<Reply> {
-        let mut line = String::new(self.alloc);
-        let written = push_request(&mut line, request);
-        match (
-            written,
-            read_request(self.alloc, self.world.setup(), line.as_str()),
-        ) {
-            (Ok(()), Ok(carried)) => self.serve(callee, &carried),
-            _ => None,
-        }
-    }
-
-    // The request runs at this node: its reply.
-    fn serve(&mut self, callee: usize, request: &Request) -> Option<Reply> {
-        match self.agents.get_mut(callee)?.serve(request) {
-            Ok(served) => {
-                self.log(&served.event, served.reply.answer)?;
-                self.is_same(callee)?;
-                Some(served.reply)
-            }
-            Err(_) => None,
-        }
-    }
-
-    // The reply, carried back as a line, is taken by the node.
-    fn reply(&mut self, place: usize, reply: Reply) -> Option<()> {
-        let mut line = String::new(self.alloc);
-        let written = push_reply(&mut line, reply);
-        match (written, read_reply(self.world.setup(), line.as_str())) {
-            (Ok(()), Ok(carried)) => self.take_reply(place, carried),
-            _ => None,
-        }
-    }
-
-    fn take_reply(&mut self, place: usize, reply: Reply) -> Option<()> {
-        let taken = self.agents.get_mut(place)?.replied(reply);
-        self.log_taken(place, taken.ok())
-    }
-
-    // The world takes what the node did, and the node is then that of the world.
-    fn log_taken(&mut self, place: usize, taken: Option<TakenStep>) -> Option<()> {
-        match taken {
-            Some(taken) => self.log_step(place, &taken),
-            None => None,
-        }
-    }
-
-    fn log_step(&mut self, place: usize, taken: &TakenStep) -> Option<()> {
-        self.log(&taken.event, taken.answer)?;
-        self.is_same(place)
-    }
-
-    fn log_failed(&mut self, place: usize, failed: &FailedCall) -> Option<()> {
-        self.log(&failed.lost, Answer::Done)?;
-        self.log_step(place, &failed.returned)
-    }
-
-    // The world takes the event with this answer.
-    fn log(&mut self, event: &Event, answer: Answer) -> Option<()> {
-        if self.world.apply(event).ok()? == answer {
-            Some(())
-        } else {
-            None
-        }
-    }
-
-    // None where the node isn't that of the world.
-    fn is_same(&self, place: usize) -> Option<()> {
-        if is_in(&self.world, self.agents.get(place)?) {
-            Some(())
-        } else {
-            None
-        }
+        let reply = ask(self.alloc, &mut self.world, callee, request)?;
+        let caller = self.agents.get_mut(place)?;
+        tell(self.alloc, &mut self.world, caller, reply)
     }
 }
 
@@ -211,8 +123,7 @@ pub fn new_agent(alloc: Global, setup: &Setup, number: u16, told: u32) -> Option
 // Adds the nodes of the setup.
 fn add_agents(alloc: Global, setup: &Setup, agents: &mut Vec<Agent>) -> Option<()> {
     for number in 1..=setup.nodes() {
-        let agent = new_agent(alloc, setup, number, 0)?;
-        agents.push(agent).ok()?;
+        agents.push(new_agent(alloc, setup, number, 0)?).ok()?;
     }
     Some(())
 }
@@ -231,6 +142,77 @@ fn plan(alloc: Global, agent: &mut Agent) -> Option<TakenStep> {
     match agent.prepare(alloc, agent.vector().task()) {
         Ok(table) => agent.plan(table).ok(),
         Err(_) => None,
+    }
+}
+
+// The request, carried as a line, runs at this node: its reply.
+fn ask(alloc: Global, world: &mut World, agent: &mut Agent, request: &Request) -> Option<Reply> {
+    let mut line = String::new(alloc);
+    // (a line that isn't written is no request)
+    let _ = push_request(&mut line, request);
+    match read_request(alloc, world.setup(), line.as_str()) {
+        Ok(carried) => serve(world, agent, &carried),
+        Err(_) => None,
+    }
+}
+
+fn serve(world: &mut World, agent: &mut Agent, request: &Request) -> Option<Reply> {
+    match agent.serve(request) {
+        Ok(served) => {
+            let reply = served.reply;
+            match log(world, agent, &served.event, reply.answer) {
+                Some(()) => Some(reply),
+                None => None,
+            }
+        }
+        Err(_) => None,
+    }
+}
+
+// The reply, carried back as a line, is taken by this node.
+fn tell(alloc: Global, world: &mut World, agent: &mut Agent, reply: Reply) -> Option<()> {
+    let mut line = String::new(alloc);
+    // (a line that isn't written is no reply)
+    let _ = push_reply(&mut line, reply);
+    match read_reply(world.setup(), line.as_str()) {
+        Ok(carried) => {
+            let taken = agent.replied(carried).ok();
+            log_step(world, agent, taken)
+        }
+        Err(_) => None,
+    }
+}
+
+// The call of the node fails.
+fn fail(world: &mut World, agent: &mut Agent, number: u32) -> Option<()> {
+    match agent.failed(number) {
+        Ok(failed) => log_failed(world, agent, &failed),
+        Err(_) => None,
+    }
+}
+
+fn log_failed(world: &mut World, agent: &Agent, failed: &FailedCall) -> Option<()> {
+    if world.apply(&failed.lost) == Ok(Answer::Done) {
+        let taken = &failed.returned;
+        log(world, agent, &taken.event, taken.answer)
+    } else {
+        None
+    }
+}
+
+fn log_step(world: &mut World, agent: &Agent, taken: Option<TakenStep>) -> Option<()> {
+    match taken {
+        Some(taken) => log(world, agent, &taken.event, taken.answer),
+        None => None,
+    }
+}
+
+// The world takes the event of the node with this answer, and then the node is that of the world.
+fn log(world: &mut World, agent: &Agent, event: &Event, answer: Answer) -> Option<()> {
+    if world.apply(event) == Ok(answer) && is_in(world, agent) {
+        Some(())
+    } else {
+        None
     }
 }
 
