@@ -35,22 +35,30 @@ const MEMBERS: [(u16, u16, bool); 7] = [
 
 // Whether the group has both nodes, if there are such.
 fn has_both(group: &Setup, first: u16, second: u16) -> Option<bool> {
-    let mut nodes = NodeSet::new();
-    nodes.insert(Node::new(first)?);
-    nodes.insert(Node::new(second)?);
-    Some(group.has_all(&nodes))
+    if let Some(first) = Node::new(first) {
+        if let Some(second) = Node::new(second) {
+            let mut nodes = NodeSet::new();
+            nodes.insert(first);
+            nodes.insert(second);
+            return Some(group.has_all(&nodes));
+        }
+    }
+    None
+}
+
+// Whether the group of three nodes tells of each two whether it has both, and has each of none.
+fn tells_members(group: &Setup) -> bool {
+    for (first, second, has) in MEMBERS.iter() {
+        if has_both(group, *first, *second) != Some(*has) {
+            return false;
+        }
+    }
+    group.has_all(&NodeSet::new())
 }
 
 #[test]
 fn nodes_that_a_group_has(rt: HostRuntime) {
-    let group = setup(&rt, 3, 1, 1);
-    assert!(rt; group.has_all(&NodeSet::new()));
-    for (first, second, has) in MEMBERS.iter() {
-        assert!(rt;
-            has_both(&group, *first, *second) == Some(*has),
-            "{first}, {second}"
-        );
-    }
+    assert!(rt; tells_members(&setup(&rt, 3, 1, 1)));
 }
 
 // The node's number, where there is a node.
@@ -83,15 +91,14 @@ const SETUPS: [(u16, u16, u32, Option<SetupFault>); 9] = [
     (1, 1, 1_000_001, Some(SetupFault::BadLimit)),
 ];
 
-#[test]
-fn setup_ranges(rt: HostRuntime) {
+// Whether each of these setups is refused so, or isn't.
+fn refuses_numbers() -> bool {
     for (nodes, partitions, events_max, fault) in SETUPS.iter() {
-        let setup = Setup::new(*nodes, *partitions, *events_max);
-        assert!(rt;
-            setup.err() == *fault,
-            "{nodes}, {partitions}, {events_max}"
-        );
+        if Setup::new(*nodes, *partitions, *events_max).err() != *fault {
+            return false;
+        }
     }
+    true
 }
 
 /// The numbers and the weights of a setup, and why it is refused.
@@ -114,16 +121,16 @@ const WEIGHTED: [(u16, u16, u32, &[u16], Option<SetupFault>); 16] = [
     (1, 1, 0, &[0], Some(SetupFault::BadLimit)),
 ];
 
-#[test]
-fn weighted_setup_ranges(rt: HostRuntime) {
+// The same, whether tasks are kept or not.
+fn refuses_weights() -> bool {
     for (nodes, partitions, events_max, weights, fault) in WEIGHTED.iter() {
         let cleared = Setup::weighted(*nodes, *partitions, *events_max, *weights, false);
         let kept = Setup::weighted(*nodes, *partitions, *events_max, *weights, true);
-        assert!(rt;
-            cleared.err() == *fault && kept.err() == *fault,
-            "{weights:?}"
-        );
+        if cleared.err() != *fault || kept.err() != *fault {
+            return false;
+        }
     }
+    true
 }
 
 // What the node of this number weighs, if the group has it.
@@ -151,14 +158,20 @@ fn tells(setup: &Setup, weights: [Option<u16>; 4], keeps: bool) -> bool {
         && setup.keeps() == keeps
 }
 
-#[test]
-fn setups_tell_what_they_were_given(rt: HostRuntime) {
-    let weighted = Setup::weighted(3, 7, 9, &[1, 1000, 2], true).expect(&rt, "a setup");
+// The same of a setup that isn't refused.
+fn is_told(setup: Result<Setup, SetupFault>, weights: [Option<u16>; 4], keeps: bool) -> bool {
+    match setup {
+        Ok(setup) => tells(&setup, weights, keeps),
+        Err(_) => false,
+    }
+}
+
+// What is told of a setup by weights, and of one by numbers.
+fn tells_given() -> bool {
     let weights = [Some(1), Some(1000), Some(2), None];
-    assert!(rt; tells(&weighted, weights, true));
-    let even = setup(&rt, 3, 7, 9);
     let ones = [Some(1), Some(1), Some(1), None];
-    assert!(rt; tells(&even, ones, false));
+    is_told(Setup::weighted(3, 7, 9, &[1, 1000, 2], true), weights, true)
+        && is_told(Setup::new(3, 7, 9), ones, false)
 }
 
 /// The weights of two nodes, whether tasks are kept, and whether this is what a setup of three numbers is.
@@ -169,19 +182,28 @@ const EVEN: [(&[u16], bool, bool); 4] = [
     (&[2, 2], false, false),
 ];
 
-// Whether the setup of these weights is that of three numbers, and whether it says so.
-fn evenness(weights: &[u16], keeps: bool) -> Option<(bool, bool)> {
-    let numbers = Setup::new(2, 5, 9).ok()?;
-    let setup = Setup::weighted(2, 5, 9, weights, keeps).ok()?;
-    Some((setup == numbers, setup.is_even()))
+// Whether the setup of these weights is that of three numbers, and says so, or neither.
+fn is_even(weights: &[u16], keeps: bool, even: bool) -> bool {
+    match Setup::weighted(2, 5, 9, weights, keeps) {
+        Ok(setup) => (Setup::new(2, 5, 9) == Ok(setup)) == even && setup.is_even() == even,
+        Err(_) => false,
+    }
+}
+
+// The same of each of these setups.
+fn tells_evenness() -> bool {
+    for (weights, keeps, even) in EVEN.iter() {
+        if !is_even(*weights, *keeps, *even) {
+            return false;
+        }
+    }
+    true
 }
 
 #[test]
-fn weights_of_one_are_no_weights(rt: HostRuntime) {
-    for (weights, keeps, even) in EVEN.iter() {
-        assert!(rt;
-            evenness(*weights, *keeps) == Some((*even, *even)),
-            "{weights:?}, {keeps}"
-        );
-    }
+fn setups(rt: HostRuntime) {
+    assert!(rt; refuses_numbers());
+    assert!(rt; refuses_weights());
+    assert!(rt; tells_given());
+    assert!(rt; tells_evenness());
 }

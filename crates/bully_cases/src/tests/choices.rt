@@ -1,6 +1,9 @@
 //! A driver's choices.
 
+ghost use Rattle.std.specs.Prelude.{◌≤◌};
+
 use super::{node, setup};
+use bully_base::{Node, Setup};
 use bully_steps::{Choice, Driver, Procedure, Want};
 
 /// A period, or none for the profile's, a turn, and the choice in it.
@@ -31,16 +34,26 @@ fn chooses(period: Option<u32>, turn: u32, procedure: &Procedure, choice: Choice
     }
 }
 
+// Whether each choice is made at the procedure.
+fn all_chosen(procedure: &Procedure) -> bool {
+    for (period, turn, choice) in CHOICES.iter() {
+        if !chooses(*period, *turn, procedure, *choice) {
+            return false;
+        }
+    }
+    true
+}
+
+// The same at that of an idle node, which wants nothing.
+fn idle_chooses(group: Setup, node: Node) -> bool
+    requires { node ≤ group.nodes }
+{
+    let idle = Procedure::idle(group, node, 0);
+    idle.want() == Want::Nothing && all_chosen(&idle)
+}
+
 #[test]
 fn choices_of_an_idle_node(rt: HostRuntime) {
     let (group, one) = (setup(&rt, 1, 1, 1), node(&rt, 1));
-    assert!(rt; one.number() <= group.nodes());
-    let idle = Procedure::idle(group, one, 0);
-    assert!(rt; idle.want() == Want::Nothing);
-    for (period, turn, choice) in CHOICES.iter() {
-        assert!(rt;
-            chooses(*period, *turn, &idle, *choice),
-            "{period:?}, {turn}"
-        );
-    }
+    assert!(rt; one.number() <= group.nodes() && idle_chooses(group, one));
 }

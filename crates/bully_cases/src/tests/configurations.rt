@@ -1,7 +1,6 @@
 //! What is read of configurations. Why one is refused, the cases of `examples/cases/config.txt` show.
 
-use bully_base::Node;
-use bully_config::{Config, ConfigFault, Fault, Key};
+use bully_config::{Config, ConfigFault, Fault, FaultKind, Key};
 use std::alloc::Global;
 
 /// A configuration of one node, which recovers in the first turn.
@@ -67,97 +66,152 @@ node = \"c\"
 kind = \"crash\"
 ";
 
-/// A configuration, and what is read of it: its numbers and what is kept, each node's name and weight, and each fault's turn,
-/// node and kind.
-const READ: [(&str, &str); 4] = [
-    (ALONE, "1 2 100 6 16 false\n1 a 1\n1 1 Recover\n"),
-    (
-        THREE,
-        "3 4 100 9 16 false\n1 a 1\n2 b 1\n3 c 1\n1 1 Recover\n9 3 Crash\n",
-    ),
-    (
-        PERIOD,
-        "3 4 100 9 5 false\n1 a 1\n2 b 1\n3 c 1\n1 1 Recover\n9 3 Crash\n",
-    ),
-    (
-        WEIGHTS,
-        "3 4 100 9 16 true\n1 a 1\n2 b 1000\n3 c 2\n1 1 Recover\n9 3 Crash\n",
-    ),
+/// The number of each node, its name, and its weight without weights.
+const EVEN: [(u16, &str, u16); 3] = [(1, "a", 1), (2, "b", 1), (3, "c", 1)];
+
+/// The same with weights.
+const HEAVY: [(u16, &str, u16); 3] = [(1, "a", 1), (2, "b", 1000), (3, "c", 2)];
+
+/// A configuration, and what is read of it: its numbers, and whether tasks are kept; the nodes, of which the first configuration
+/// has one alone; and how many faults there are.
+struct Expected {
+    text: &'static str,
+    nodes: u16,
+    partitions: u16,
+    events: u32,
+    turns: u32,
+    period: u32,
+    keeps: bool,
+    named: &'static [(u16, &'static str, u16)],
+    faults: usize,
+}
+
+const READ: [Expected; 4] = [
+    Expected {
+        text: ALONE,
+        nodes: 1,
+        partitions: 2,
+        events: 100,
+        turns: 6,
+        period: 16,
+        keeps: false,
+        named: &EVEN,
+        faults: 1,
+    },
+    Expected {
+        text: THREE,
+        nodes: 3,
+        partitions: 4,
+        events: 100,
+        turns: 9,
+        period: 16,
+        keeps: false,
+        named: &EVEN,
+        faults: 2,
+    },
+    Expected {
+        text: PERIOD,
+        nodes: 3,
+        partitions: 4,
+        events: 100,
+        turns: 9,
+        period: 5,
+        keeps: false,
+        named: &EVEN,
+        faults: 2,
+    },
+    Expected {
+        text: WEIGHTS,
+        nodes: 3,
+        partitions: 4,
+        events: 100,
+        turns: 9,
+        period: 16,
+        keeps: true,
+        named: &HEAVY,
+        faults: 2,
+    },
 ];
 
-// Adds what is read of a configuration: its numbers and what is kept, each node's name and weight, and each fault's turn,
-// node and kind.
-fn add_config(text: &mut String, config: &Config) {
-    add_numbers(text, config);
-    for number in 1..=config.setup().nodes() {
-        if let Some(node) = Node::new(number) {
-            add_name(text, config, node);
+/// The turn of each fault, its node and its kind.
+const HAPPENS: [(u32, u16, FaultKind); 2] = [(1, 1, FaultKind::Recover), (9, 3, FaultKind::Crash)];
+
+// Whether these are the numbers of the configuration.
+fn has_numbers(config: &Config, expected: &Expected) -> bool {
+    let setup = config.setup();
+    setup.nodes() == expected.nodes
+        && setup.partitions() == expected.partitions
+        && setup.events_max() == expected.events
+        && config.turns() == expected.turns
+        && config.period() == expected.period
+}
+
+// Whether the node has this name and weighs so much, or the group hasn't that many nodes and no such name.
+fn is_named(config: &Config, number: u16, name: &str, weight: u16) -> bool {
+    match config.node(name) {
+        Some(node) => {
+            node.number() == number
+                && node.number() <= config.setup().nodes()
+                && config.name(node) == name
+                && config.setup().weight(node) == weight
+        }
+        None => config.setup().nodes() < number,
+    }
+}
+
+fn are_named(config: &Config, nodes: &[(u16, &str, u16)]) -> bool {
+    for (number, name, weight) in nodes {
+        if !is_named(config, *number, *name, *weight) {
+            return false;
         }
     }
-    for fault in config.faults() {
-        add_fault(text, fault);
+    true
+}
+
+// Whether this happens at this place.
+fn is_fault(fault: &Fault, index: usize) -> bool {
+    match HAPPENS.get(index) {
+        Some((at, number, kind)) => {
+            fault.at == *at && fault.node.number() == *number && fault.kind == *kind
+        }
+        None => false,
     }
 }
 
-fn add_numbers(text: &mut String, config: &Config) {
-    let (nodes, partitions) = (config.setup().nodes(), config.setup().partitions());
-    let (events, keeps) = (config.setup().events_max(), config.setup().keeps());
-    let (turns, period) = (config.turns(), config.period());
-    let _ = writeln!(
-        text,
-        "{nodes} {partitions} {events} {turns} {period} {keeps}"
-    );
-}
-
-// The node's name, the number of the node that has it, and what the node weighs.
-fn add_name(text: &mut String, config: &Config, node: Node) {
-    if node.number() <= config.setup().nodes() {
-        let (name, weight) = (config.name(node), config.setup().weight(node));
-        if let Some(named) = config.node(name) {
-            let number = named.number();
-            let _ = writeln!(text, "{number} {name} {weight}");
+fn are_faults(faults: &[Fault]) -> bool {
+    for (index, fault) in faults.iter().enumerate() {
+        if !is_fault(fault, index) {
+            return false;
         }
     }
+    true
 }
 
-fn add_fault(text: &mut String, fault: &Fault) {
-    let (at, number, kind) = (fault.at, fault.node.number(), fault.kind);
-    let _ = writeln!(text, "{at} {number} {kind:?}");
+// Whether this is read of the configuration, in which no name has a capital letter.
+fn is_read(config: &Config, expected: &Expected) -> bool {
+    has_numbers(config, expected)
+        && config.setup().keeps() == expected.keeps
+        && are_named(config, expected.named)
+        && config.node("A").is_none()
+        && config.faults().len() == expected.faults
+        && are_faults(config.faults())
 }
 
-// Whether this is read of the configuration.
-fn is_read(alloc: Global, config: &Config, expected: &str) -> bool {
-    let mut text = String::new(alloc);
-    add_config(&mut text, config);
-    text.as_str() == expected
-}
-
-// The same of a text.
-fn reads(alloc: Global, text: &str, expected: &str) -> bool {
-    match Config::read(alloc, text) {
-        Ok(config) => is_read(alloc, &config, expected),
+// The same of its text.
+fn reads(alloc: Global, expected: &Expected) -> bool {
+    match Config::read(alloc, expected.text) {
+        Ok(config) => is_read(&config, expected),
         Err(_) => false,
     }
 }
 
-#[test]
-fn reads_configurations(rt: HostRuntime) {
-    for (text, expected) in READ.iter() {
-        assert!(rt; reads(rt.alloc(), *text, *expected), "{expected}");
+fn reads_all(alloc: Global) -> bool {
+    for expected in READ.iter() {
+        if !reads(alloc, expected) {
+            return false;
+        }
     }
-}
-
-// Whether the configuration has no such name.
-fn lacks(alloc: Global, text: &str, name: &str) -> bool {
-    match Config::read(alloc, text) {
-        Ok(config) => config.node(name).is_none(),
-        Err(_) => false,
-    }
-}
-
-#[test]
-fn knows_no_other_names(rt: HostRuntime) {
-    assert!(rt; lacks(rt.alloc(), ALONE, "b") && lacks(rt.alloc(), ALONE, "A"));
+    true
 }
 
 /// A fault, its name, and its key's word, which is empty where it tells no key.
@@ -177,9 +231,17 @@ fn tells(fault: ConfigFault, name: &str, word: &str) -> bool {
     fault.name() == name && told == word
 }
 
-#[test]
-fn tells_faults(rt: HostRuntime) {
+fn tells_all() -> bool {
     for (fault, name, word) in FAULTS.iter() {
-        assert!(rt; tells(*fault, *name, *word), "{name} {word}");
+        if !tells(*fault, *name, *word) {
+            return false;
+        }
     }
+    true
+}
+
+#[test]
+fn configurations_and_faults(rt: HostRuntime) {
+    assert!(rt; reads_all(rt.alloc()));
+    assert!(rt; tells_all());
 }

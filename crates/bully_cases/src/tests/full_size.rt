@@ -1,13 +1,13 @@
 //! Each value that reserves memory is made for the largest group, 1,024 nodes with 4,096 partitions, and used once:
 //! where there is memory, none of them is refused.
 
-ghost use Rattle.std.specs.Prelude.{◌≡◌, ◌≤◌, All, IfSome, length};
-ghost use Rattle.std.specs.Option.{option_copied};
+ghost use Rattle.std.specs.Prelude.{◌≡◌, ◌≤◌, IfSome, None, Some, length};
+ghost use Rattle.bully_calls.specs.Slot.{CarriesFor};
 
 use super::preparing::{owner_in, prepares, prepares_in_place};
 use super::{node, setup};
 use bully_agree::{View, run, view};
-use bully_base::{Node, NodeSet, OutOfMemory, Setup, Status};
+use bully_base::{Node, NodeSet, Setup, Status};
 use bully_calls::{Answer, Call, CallKind, Outcome, Slot, Tag};
 use bully_handlers::Vector;
 use bully_steps::{Point, Procedure};
@@ -24,19 +24,14 @@ fn largest(rt: &impl Abort) -> Setup {
     setup(rt, NODES, PARTITIONS, 1_000)
 }
 
-// The same, with the largest weights.
-fn heaviest(rt: &impl Abort) -> Setup {
-    Setup::weighted(NODES, PARTITIONS, 1_000, &[1_000; 1024], true).expect(rt, "a setup")
-}
-
 // Adds the text of the table in which each node in turn owns four partitions: 1 1 1 1 2 2 2 2, and so on to the last node.
-fn add_fours(text: &mut String) -> Result<(), OutOfMemory> {
-    text.push_str("1")?;
+// (where a number isn't written, the text is no table)
+fn add_fours(text: &mut String) {
+    let _ = text.push_str("1");
     for place in 1..PARTITIONS {
         let owner = place / 4 + 1;
-        write!(text, " {owner}")?;
+        let _ = write!(text, " {owner}");
     }
-    Ok(())
 }
 
 // The largest table, in which each node owns four partitions.
@@ -44,8 +39,7 @@ fn table_of_fours(alloc: Global, group: Setup) -> Option<Table>
     ensures { IfSome result (λ t. length t ≡ group.partitions) }
 {
     let mut text = String::new(alloc);
-    // (a text that is cut short is no table)
-    let _ = add_fours(&mut text);
+    add_fours(&mut text);
     match Table::read(alloc, group, text.as_str()) {
         Ok(table) => Some(table),
         Err(_) => None,
@@ -69,6 +63,14 @@ fn is_copied(table: &Table) -> bool {
     }
 }
 
+// Whether this is the table, where one is kept.
+fn is_kept(kept: Option<&Table>, table: &Table) -> bool {
+    match kept {
+        Some(kept) => *kept == *table,
+        None => false,
+    }
+}
+
 // Whether a room keeps the table.
 fn is_kept_in_room(alloc: Global, group: Setup, table: &Table) -> bool
     requires { length table.now ≡ group.partitions }
@@ -76,32 +78,41 @@ fn is_kept_in_room(alloc: Global, group: Setup, table: &Table) -> bool
     match TableRoom::new(alloc, &group) {
         Ok(mut room) => {
             room.put(table);
-            room.table() == Some(table)
+            is_kept(room.table(), table)
         }
         Err(_) => false,
     }
 }
 
-// Whether a slot keeps the table of a Ready between these nodes, until its outcome is taken.
-fn is_kept_in_slot(alloc: Global, group: Setup, caller: Node, callee: Node, table: &Table) -> bool
+// Whether the slot, which is empty, keeps the table of a Ready until its outcome is taken.
+fn keeps_ready(slot: &mut Slot, tag: Tag, call: Call, table: &Table) -> bool
+    requires empty { slot.old.content ≡ None }
+    requires carries { CarriesFor call (Some table.now) slot.old.room }
+{
+    slot.open(tag, call, Some(table));
+    let kept = is_kept(slot.table(), table);
+    slot.ran(Answer::Yes);
+    let outcome = slot.take();
+    kept && outcome == Outcome::Yes && slot.call().is_none()
+}
+
+// The same of a new slot, and a Ready of this node.
+fn is_kept_in_slot(alloc: Global, group: Setup, caller: Node, table: &Table) -> bool
     requires { length table.now ≡ group.partitions }
 {
     let tag = Tag {
         caller,
         generation: 0,
     };
+    let Some(callee) = Node::new(1023) else {
+        return false;
+    };
     let call = Call {
         callee,
         kind: CallKind::Ready,
     };
     match Slot::new(alloc, group) {
-        Ok(mut slot) => {
-            slot.open(tag, call, Some(table));
-            let kept = slot.table() == Some(table);
-            slot.ran(Answer::Yes);
-            let outcome = slot.take();
-            kept && outcome == Outcome::Yes && slot.call().is_none()
-        }
+        Ok(mut slot) => keeps_ready(&mut slot, tag, call, table),
         Err(_) => false,
     }
 }
@@ -123,7 +134,7 @@ fn is_kept_in_vector(alloc: Global, group: Setup, table: &Table) -> bool
         Ok(mut vector) => {
             let new = is_new(&vector);
             vector.plan(table);
-            new && vector.task() == Some(table)
+            new && is_kept(vector.task(), table)
         }
         Err(_) => false,
     }
@@ -139,34 +150,19 @@ fn everybody() -> NodeSet {
     nodes
 }
 
-// Whether the plan over the members has this table, and these moves and this bound.
-fn plans(
-    alloc: Global,
-    group: Setup,
-    members: &NodeSet,
-    old: Option<&Table>,
-    table: &Table,
-    counts: (u16, u16),
-) -> bool
-    requires covers { IfSome (option_copied old) (λ t. length t ≡ group.partitions) }
-    requires members { All (λ m. m ≤ group.nodes) members.now }
+// Whether the plan over all nodes from the table is the same one, which is balanced.
+// (what else is planned in the largest group, `examples/cases/table.txt` shows)
+fn is_planned(alloc: Global, group: Setup, table: &Table) -> bool
+    requires { length table.now ≡ group.partitions }
 {
-    match plan(alloc, group, members, old) {
-        Ok(found) => found.table == *table && (found.moves, found.bound) == counts,
-        Err(_) => false,
-    }
-}
-
-// Whether the plan over all nodes is this table, without an old one and from itself.
-fn is_planned(alloc: Global, group: Setup, table: &Table) -> bool {
     let members = everybody();
-    if table.len() != usize::from(group.partitions()) || !group.has_all(&members) {
+    if members.len() != 1024 || !group.has_all(&members) {
         return false;
     }
-    members.len() == 1024
-        && table.is_balanced(group, &members)
-        && plans(alloc, group, &members, None, table, (4096, 0))
-        && plans(alloc, group, &members, Some(table), table, (0, 4096))
+    match plan(alloc, group, &members, Some(table)) {
+        Ok(found) => found.table == *table && table.is_balanced(group, &members),
+        Err(_) => false,
+    }
 }
 
 // Whether the node prepares from this table, for itself alone, the one in which the last node owns each partition.
@@ -182,23 +178,34 @@ fn is_prepared_from(alloc: Global, group: Setup, last: Node, table: &Table) -> b
         && prepares_in_place(alloc, &mut in_place, table, &owners)
 }
 
+// Whether the table of fours is copied, kept, planned, and prepared from by the last node.
+fn is_used(alloc: Global, group: Setup, last: Node, table: &Table) -> bool
+    requires last { last ≤ group.nodes }
+    requires covers { length table.now ≡ group.partitions }
+{
+    is_of_fours(table)
+        && is_copied(table)
+        && is_kept_in_room(alloc, group, table)
+        && is_kept_in_slot(alloc, group, last, table)
+        && is_kept_in_vector(alloc, group, table)
+        && is_planned(alloc, group, table)
+        && is_prepared_from(alloc, group, last, table)
+}
+
+// The same of a table that is read.
+fn is_read_and_used(alloc: Global, group: Setup, last: Node) -> bool
+    requires { last ≤ group.nodes }
+{
+    match table_of_fours(alloc, group) {
+        Some(table) => is_used(alloc, group, last, &table),
+        None => false,
+    }
+}
+
 #[test]
 fn tables(rt: HostRuntime) {
     let (group, last) = (largest(&rt), node(&rt, NODES));
-    assert!(rt; last.number() <= group.nodes());
-    match table_of_fours(rt.alloc(), group) {
-        Some(table) => {
-            assert!(rt; is_of_fours(&table));
-            assert!(rt; is_copied(&table));
-            assert!(rt; is_kept_in_room(rt.alloc(), group, &table));
-            assert!(rt; is_kept_in_slot(rt.alloc(), group, last, node(&rt, 1023), &table));
-            assert!(rt; is_kept_in_vector(rt.alloc(), group, &table));
-            assert!(rt; is_planned(rt.alloc(), group, &table));
-            assert!(rt; is_planned(rt.alloc(), heaviest(&rt), &table));
-            assert!(rt; is_prepared_from(rt.alloc(), group, last, &table));
-        }
-        None => assert!(rt; false),
-    }
+    assert!(rt; last.number() <= group.nodes() && is_read_and_used(rt.alloc(), group, last));
 }
 
 // Whether it shows one event, after which the last of 1,024 nodes elects.
@@ -219,10 +226,7 @@ fn shows_recovered(alloc: Global, world: &World, last: Node) -> bool {
 // Whether a new world shows that after the event.
 fn world_recovers(alloc: Global, group: Setup, event: &Event, last: Node) -> bool {
     match World::new(alloc, group) {
-        Ok(mut world) => {
-            let answer = world.apply(event);
-            answer.is_ok() && shows_recovered(alloc, &world, last)
-        }
+        Ok(mut world) => world.apply(event).is_ok() && shows_recovered(alloc, &world, last),
         Err(_) => false,
     }
 }
@@ -235,10 +239,13 @@ fn run_recovers(alloc: Global, group: Setup, events: &[Event], last: Node) -> bo
     }
 }
 
+// Whether a new world and a run show the last node's recovery.
+fn recovers(alloc: Global, group: Setup, last: Node) -> bool {
+    let events = [Event::Recover(last)];
+    world_recovers(alloc, group, &events[0], last) && run_recovers(alloc, group, &events, last)
+}
+
 #[test]
 fn worlds_and_runs(rt: HostRuntime) {
-    let (group, last) = (largest(&rt), node(&rt, NODES));
-    let events = [Event::Recover(last)];
-    assert!(rt; world_recovers(rt.alloc(), group, &events[0], last));
-    assert!(rt; run_recovers(rt.alloc(), group, &events, last));
+    assert!(rt; recovers(rt.alloc(), largest(&rt), node(&rt, NODES)));
 }

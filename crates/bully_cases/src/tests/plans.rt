@@ -4,17 +4,18 @@
 ghost use Rattle.std.specs.Prelude.{◌≡◌, ◌≤◌, All, IfSome, length};
 ghost use Rattle.std.specs.Option.{option_copied};
 
-use bully_base::{Node, NodeSet, Setup};
+use bully_base::{Node, NodeSet, Setup, SetupFault};
 use bully_table::{PlanFault, Table, plan};
 use std::alloc::Global;
 
-// A group of 1 to 3 nodes and 1 to 7 partitions, what its nodes weigh, and which of them are members.
+// A group of 1 to 3 nodes and 1 to 5 partitions, what its nodes weigh, and their shares: what each of them weighs as a member,
+// and nothing where it is none.
 #[derive(Clone, Copy)]
 struct Case {
     nodes: u16,
     partitions: u16,
     weights: [u16; 3],
-    members: [bool; 3],
+    shares: [u32; 3],
 }
 
 impl Case {
@@ -23,45 +24,28 @@ impl Case {
         Setup::weighted(self.nodes, self.partitions, 1, weights, false).ok()
     }
 
-    // What the node weighs where it is a member, and else nothing.
-    fn weight(self, node: u16) -> u32 {
-        let weight = match node {
-            1 => self.weights[0],
-            2 => self.weights[1],
-            3 => self.weights[2],
+    fn share(self, node: u16) -> u32 {
+        match node {
+            1 => self.shares[0],
+            2 => self.shares[1],
+            3 => self.shares[2],
             _ => 0,
-        };
-        if self.is_member(node) {
-            u32::from(weight)
-        } else {
-            0
         }
     }
 
     // The node's part of the partitions by weight, rounded down.
     fn base(self, node: u16) -> u32 {
-        let mut total: u32 = 0;
-        for member in 1..=3 {
-            total = total.saturating_add(self.weight(member));
-        }
-        let parts = u32::from(self.partitions).saturating_mul(self.weight(node));
+        let [first, second, third] = self.shares;
+        let total = first.saturating_add(second).saturating_add(third);
+        let parts = u32::from(self.partitions).saturating_mul(self.share(node));
         parts.checked_div(total).unwrap_or(0)
-    }
-
-    fn is_member(self, node: u16) -> bool {
-        match node {
-            1 => self.members[0],
-            2 => self.members[1],
-            3 => self.members[2],
-            _ => false,
-        }
     }
 
     fn member_set(self) -> NodeSet {
         let mut set = NodeSet::new();
         for number in 1..=3 {
             if let Some(node) = Node::new(number) {
-                if self.is_member(number) {
+                if self.share(number) > 0 {
                     set.insert(node);
                 }
             }
@@ -69,57 +53,36 @@ impl Case {
         set
     }
 
-    // Whether there is a member, and each is one of the nodes.
-    fn has_members(self) -> bool {
-        match self.member_set().highest() {
-            Some(node) => node.number() <= self.nodes,
-            None => false,
-        }
-    }
-
     // How many lists of owners there are.
     fn lists(self) -> u32 {
         u32::from(self.nodes).wrapping_pow(u32::from(self.partitions))
     }
 
-    // The owner at the place in the list of this number: a digit of it, and one more.
-    fn owner(self, list: u32, place: u16) -> u16 {
-        let mut rest = list;
-        for _ in 0..place {
-            rest = rest.checked_div(u32::from(self.nodes)).unwrap_or(0);
-        }
-        match rest.checked_rem(u32::from(self.nodes)) {
-            Some(0) => 1,
-            Some(1) => 2,
-            _ => 3,
-        }
+    // The number of the owner at the place in the list of this number: a digit of it, and one more.
+    fn owner(self, list: u32, place: u16) -> u32 {
+        let nodes = u32::from(self.nodes);
+        let rest = list.checked_div(nodes.wrapping_pow(u32::from(place)));
+        let digit = rest.unwrap_or(0).checked_rem(nodes);
+        digit.unwrap_or(0).saturating_add(1)
     }
 
     // How many partitions the node owns in the list.
     fn owned(self, list: u32, node: u16) -> u32 {
         let mut count: u32 = 0;
         for place in 0..self.partitions {
-            if self.owner(list, place) == node {
+            if self.owner(list, place) == u32::from(node) {
                 count = count.saturating_add(1);
             }
         }
         count
     }
 
-    // Whether the node may own so many: a member its base or one more, and any other nothing.
-    fn may_own(self, node: u16, count: u32) -> bool {
-        if self.is_member(node) {
-            let base = self.base(node);
-            count == base || count == base.saturating_add(1)
-        } else {
-            count == 0
-        }
-    }
-
-    // Whether the list is balanced: each node owns as many as it may.
+    // Whether the list is balanced: a member owns its base or one more, and any other node nothing.
     fn is_fair(self, list: u32) -> bool {
         for node in 1..=self.nodes {
-            if !self.may_own(node, self.owned(list, node)) {
+            let (count, base) = (self.owned(list, node), self.base(node));
+            let is_one_more = self.share(node) > 0 && count == base.saturating_add(1);
+            if count != base && !is_one_more {
                 return false;
             }
         }
@@ -148,28 +111,18 @@ impl Case {
         best
     }
 
-    // Adds the list of this number as a text.
+    // Adds the list of this number as a text, with a space behind each owner.
     // (where there is no memory for it, the text is no such list)
     fn add_list(self, text: &mut String, list: u32) {
         for place in 0..self.partitions {
-            if place > 0 {
-                let _ = text.push_str(" ");
-            }
             let _ = text.push_str(match self.owner(list, place) {
-                1 => "1",
-                2 => "2",
-                _ => "3",
+                1 => "1 ",
+                2 => "2 ",
+                _ => "3 ",
             });
         }
     }
 }
-
-/// The number of partitions, the weights and the old table, for a plan over nobody.
-const FOR_NOBODY: [(u16, [u16; 3], &str); 3] = [
-    (2, [1; 3], ""),
-    (3, [1; 3], "3 3 3"),
-    (7, [1, 2, 1], ""),
-];
 
 // Whether nothing is planned over nobody.
 fn plans_nothing(alloc: Global, setup: Setup, old: Option<&Table>) -> bool
@@ -178,8 +131,11 @@ fn plans_nothing(alloc: Global, setup: Setup, old: Option<&Table>) -> bool
     plan(alloc, setup, &NodeSet::new(), old).err() == Some(PlanFault::NoMember)
 }
 
-// The same from the table of a text, or from none where it is empty.
-fn plans_nothing_from(alloc: Global, setup: Setup, old: &str) -> bool {
+// The same by a setup that isn't refused, from the table of a text, or from none where it is empty.
+fn plans_nothing_by(alloc: Global, setup: Result<Setup, SetupFault>, old: &str) -> bool {
+    let Ok(setup) = setup else {
+        return false;
+    };
     if old.is_empty() {
         return plans_nothing(alloc, setup, None);
     }
@@ -191,14 +147,10 @@ fn plans_nothing_from(alloc: Global, setup: Setup, old: &str) -> bool {
 
 #[test]
 fn plans_over_nobody(rt: HostRuntime) {
-    for (partitions, weights, old) in FOR_NOBODY.iter() {
-        let setup = Setup::weighted(3, *partitions, 1, weights.as_slice(), false);
-        let setup = setup.expect(&rt, "a setup");
-        assert!(rt;
-            plans_nothing_from(rt.alloc(), setup, *old),
-            "{partitions}, {old}"
-        );
-    }
+    let heavy = Setup::weighted(3, 7, 1, &[1, 2, 1], false);
+    assert!(rt; plans_nothing_by(rt.alloc(), Setup::new(3, 2, 1), ""));
+    assert!(rt; plans_nothing_by(rt.alloc(), Setup::new(3, 3, 1), "3 3 3"));
+    assert!(rt; plans_nothing_by(rt.alloc(), heavy, ""));
 }
 
 // Whether the plan from the old table is as good as the best, which keeps so many.
@@ -231,7 +183,7 @@ fn is_best_over(alloc: Global, setup: Setup, case: Case, list: u32, old: &Table)
 fn is_best_from(alloc: Global, setup: Setup, case: Case, list: u32) -> bool {
     let mut text = String::new(alloc);
     case.add_list(&mut text, list);
-    match Table::read(alloc, setup, text.as_str()) {
+    match Table::read(alloc, setup, text.as_str().trim_end()) {
         Ok(old) => is_best_over(alloc, setup, case, list, &old),
         Err(_) => false,
     }
@@ -252,14 +204,24 @@ fn are_all_best(alloc: Global, case: Case) -> bool {
 
 // For each set of members among the nodes that isn't empty, the plans are as good as what the search finds.
 fn are_best_for_all(alloc: Global, nodes: u16, partitions: u16, weights: [u16; 3]) -> bool {
-    for marks in 1..8 {
+    let sets: u32 = match nodes {
+        1 => 2,
+        2 => 4,
+        _ => 8,
+    };
+    let [first, second, third] = weights;
+    for marks in 1..sets {
         let case = Case {
             nodes,
             partitions,
             weights,
-            members: [marks % 2 == 1, marks / 2 % 2 == 1, marks / 4 == 1],
+            shares: [
+                u32::from(first).saturating_mul(marks % 2),
+                u32::from(second).saturating_mul(marks / 2 % 2),
+                u32::from(third).saturating_mul(marks / 4),
+            ],
         };
-        if case.has_members() && !are_all_best(alloc, case) {
+        if !are_all_best(alloc, case) {
             return false;
         }
     }
@@ -269,16 +231,21 @@ fn are_best_for_all(alloc: Global, nodes: u16, partitions: u16, weights: [u16; 3
 /// What the three nodes weigh.
 const WEIGHTS: [[u16; 3]; 5] = [[1, 1, 1], [1, 2, 1], [3, 1, 2], [1, 1000, 1], [2, 3, 3]];
 
+// The same of each group of up to three nodes and five partitions.
+fn are_best_by(alloc: Global, weights: [u16; 3]) -> bool {
+    for nodes in 1..=3 {
+        for partitions in 1..=5 {
+            if !are_best_for_all(alloc, nodes, partitions, weights) {
+                return false;
+            }
+        }
+    }
+    true
+}
+
 #[test]
 fn plans_beside_a_search(rt: HostRuntime) {
     for weights in WEIGHTS.iter() {
-        for nodes in 1..=3 {
-            for partitions in 1..=5 {
-                assert!(rt;
-                    are_best_for_all(rt.alloc(), nodes, partitions, *weights),
-                    "{weights:?}, {nodes}, {partitions}"
-                );
-            }
-        }
+        assert!(rt; are_best_by(rt.alloc(), *weights), "{weights:?}");
     }
 }

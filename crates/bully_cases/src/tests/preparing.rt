@@ -19,8 +19,8 @@ pub fn owner_in(table: &Table, place: usize) -> Option<u16> {
     Some(table.owner(place).number())
 }
 
-// Whether the table has these owners.
-fn has_owners(table: &Table, owners: &[u16]) -> bool {
+/// Whether the table has these owners.
+pub fn has_owners(table: &Table, owners: &[u16]) -> bool {
     for (place, owner) in owners.iter().enumerate() {
         if owner_in(table, place) != Some(*owner) {
             return false;
@@ -106,14 +106,14 @@ const PREPARED: [([u16; 3], [u16; 5]); 2] = [
     ([1, 4, 1], [1, 2, 2, 2, 2]),
 ];
 
-#[test]
-fn prepares_tables(rt: HostRuntime) {
+// The same of each of these weights.
+fn are_prepared(alloc: Global) -> bool {
     for (weights, owners) in PREPARED.iter() {
-        assert!(rt;
-            is_prepared(rt.alloc(), weights.as_slice(), owners.as_slice()),
-            "{weights:?}"
-        );
+        if !is_prepared(alloc, weights.as_slice(), owners.as_slice()) {
+            return false;
+        }
     }
+    true
 }
 
 // Whether the procedure readies node 1 and awaits its call.
@@ -140,8 +140,8 @@ fn goes_on(setup: Setup) -> bool
 }
 
 #[test]
-fn goes_on_by_outcomes(rt: HostRuntime) {
+fn prepares_and_goes_on(rt: HostRuntime) {
+    assert!(rt; are_prepared(rt.alloc()));
     let three = setup(&rt, 3, 5, 1);
-    assert!(rt; three.nodes() == 3);
-    assert!(rt; goes_on(three));
+    assert!(rt; three.nodes() == 3 && goes_on(three));
 }

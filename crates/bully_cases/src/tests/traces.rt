@@ -62,11 +62,14 @@ const UPGRADES: [(&str, u32, &str); 9] = [
     ),
 ];
 
-#[test]
-fn upgraded(rt: HostRuntime) {
+// The same of each of these traces.
+fn are_upgraded(alloc: Global) -> bool {
     for (text, rows, expected) in UPGRADES.iter() {
-        assert!(rt; upgrades_to(rt.alloc(), *text, *rows, *expected), "{text}");
+        if !upgrades_to(alloc, *text, *rows, *expected) {
+            return false;
+        }
     }
+    true
 }
 
 // The version of a trace, what node 1 weighs, whether tasks are kept, how many rows there are, and the bound on events.
@@ -97,11 +100,19 @@ fn is_read(alloc: Global, text: &str, header: (Version, Option<u16>, bool, usize
     }
 }
 
-// (a trace doesn't tell its bound on events, which is the largest)
-#[test]
-fn read_and_written_again(rt: HostRuntime) {
+// The same of each of these traces. (A trace doesn't tell its bound on events, which is the largest.)
+fn are_read(alloc: Global) -> bool {
     for (text, version, weight, keeps, rows) in READ.iter() {
         let header = (*version, Some(*weight), *keeps, *rows, 1_000_000);
-        assert!(rt; is_read(rt.alloc(), *text, header), "{text}");
+        if !is_read(alloc, *text, header) {
+            return false;
+        }
     }
+    true
+}
+
+#[test]
+fn read_and_upgraded(rt: HostRuntime) {
+    assert!(rt; are_read(rt.alloc()));
+    assert!(rt; are_upgraded(rt.alloc()));
 }

@@ -1,10 +1,11 @@
 //! A world at its bound on events, and who waits for whom.
 
 use super::scripts::ALONE;
-use super::{bounded, node, number_of};
-use bully_base::Node;
+use super::{bounded, number_of};
+use bully_base::{Node, Status};
+use bully_calls::Answer;
 use bully_rows::{Row, Trace, read_trace};
-use bully_world::{Event, World};
+use bully_world::{Event, Refused, World};
 use std::alloc::Global;
 
 /// Two nodes wait for node 3, one after the other.
@@ -17,130 +18,160 @@ const DROPPED: &str = "\
 bully,1,3,3\nrecover,1\nrecover,2\nstart,1\nrecover,3\nmove,3\nstart,3\nrun,3\nreturn,3\n\
 start,3\ndrop,1\nrun,3\ndrop,1\ndrop,1\n";
 
-/// A trace, a bound on events, and two nodes. Of each event the cause is told, the answer, and who waits for the first
-/// node; at last how many events there are, and the second node's status and generation.
-const WORLDS: [(&str, u32, u16, u16, &str); 3] = [
-    (
-        ALONE,
-        5,
-        1,
-        1,
-        "None Ok(Done) None
-None Ok(Done) None
-None Ok(Done) None
-None Ok(Done) None
-None Ok(Done) None
-Some(Full) Err(Full) None
-5 Reorganization 0
-",
-    ),
-    (
-        WAITING,
-        100,
-        3,
-        2,
-        "None Ok(Done) None
-None Ok(Done) None
-None Ok(Done) None
-None Ok(Failed) None
-None Ok(Done) Some(1)
-None Ok(Done) Some(1)
-None Ok(Done) Some(1)
-None Ok(Done) Some(2)
-None Ok(Done) None
-9 Down 1
-",
-    ),
-    (
-        DROPPED,
-        100,
-        2,
-        1,
-        "None Ok(Done) None
-None Ok(Done) None
-None Ok(Done) Some(1)
-None Ok(Done) Some(1)
-None Ok(Done) Some(1)
-None Ok(Done) Some(1)
-None Ok(Yes) Some(1)
-None Ok(Yes) Some(1)
-None Ok(Done) Some(1)
-Some(NotOrphan) Err(NotOrphan) Some(1)
-None Ok(Yes) Some(1)
-None Ok(Discarded) None
-Some(NoCall) Err(NoCall) None
-11 Election 1
-",
-    ),
+/// What an event is answered, or why it is refused; and who waits for a node then.
+type Told = (Result<Answer, Refused>, Option<u16>);
+
+const ALONE_TOLD: [Told; 6] = [
+    (Ok(Answer::Done), None),
+    (Ok(Answer::Done), None),
+    (Ok(Answer::Done), None),
+    (Ok(Answer::Done), None),
+    (Ok(Answer::Done), None),
+    (Err(Refused::Full), None),
 ];
 
-// (where a line isn't written, the text is another one)
-fn add_event(text: &mut String, world: &mut World, event: &Event, callee: Node) {
+const WAITING_TOLD: [Told; 9] = [
+    (Ok(Answer::Done), None),
+    (Ok(Answer::Done), None),
+    (Ok(Answer::Done), None),
+    (Ok(Answer::Failed), None),
+    (Ok(Answer::Done), Some(1)),
+    (Ok(Answer::Done), Some(1)),
+    (Ok(Answer::Done), Some(1)),
+    (Ok(Answer::Done), Some(2)),
+    (Ok(Answer::Done), None),
+];
+
+const DROPPED_TOLD: [Told; 13] = [
+    (Ok(Answer::Done), None),
+    (Ok(Answer::Done), None),
+    (Ok(Answer::Done), Some(1)),
+    (Ok(Answer::Done), Some(1)),
+    (Ok(Answer::Done), Some(1)),
+    (Ok(Answer::Done), Some(1)),
+    (Ok(Answer::Yes), Some(1)),
+    (Ok(Answer::Yes), Some(1)),
+    (Ok(Answer::Done), Some(1)),
+    (Err(Refused::NotOrphan), Some(1)),
+    (Ok(Answer::Yes), Some(1)),
+    (Ok(Answer::Discarded), None),
+    (Err(Refused::NoCall), None),
+];
+
+/// A trace, a bound on events, and what is told of each event, with who waits for the first node; at last how many events there
+/// are, and the status and the generation of the second node.
+struct Case {
+    trace: &'static str,
+    events_max: u32,
+    told: &'static [Told],
+    callee: u16,
+    last: u16,
+    events: u32,
+    status: Status,
+    generation: u32,
+}
+
+const CASES: [Case; 3] = [
+    Case {
+        trace: ALONE,
+        events_max: 5,
+        told: &ALONE_TOLD,
+        callee: 1,
+        last: 1,
+        events: 5,
+        status: Status::Reorganization,
+        generation: 0,
+    },
+    Case {
+        trace: WAITING,
+        events_max: 100,
+        told: &WAITING_TOLD,
+        callee: 3,
+        last: 2,
+        events: 9,
+        status: Status::Down,
+        generation: 1,
+    },
+    Case {
+        trace: DROPPED,
+        events_max: 100,
+        told: &DROPPED_TOLD,
+        callee: 2,
+        last: 1,
+        events: 11,
+        status: Status::Election,
+        generation: 1,
+    },
+];
+
+// Whether this is told of the event, which the world takes.
+fn takes(world: &mut World, event: &Event, callee: Node, told: Option<&Told>) -> bool {
+    let Some((answer, waiting)) = told else {
+        return false;
+    };
     let cause = world.cause(event);
-    let answer = world.apply(event);
-    let waiting = number_of(world.waiting_for(callee));
-    let _ = writeln!(text, "{cause:?} {answer:?} {waiting:?}");
+    world.apply(event) == *answer
+        && cause == answer.err()
+        && number_of(world.waiting_for(callee)) == *waiting
 }
 
-fn add_events(text: &mut String, world: &mut World, trace: &Trace, callee: Node) {
-    for row in trace.rows.as_slice() {
+// The same of the events of all rows.
+fn takes_all(world: &mut World, rows: &[Row], case: &Case) -> bool {
+    let Some(callee) = Node::new(case.callee) else {
+        return false;
+    };
+    for (index, row) in rows.iter().enumerate() {
         if let Row::Event(event) = row {
-            add_event(text, world, event, callee);
+            if !takes(world, event, callee, case.told.get(index)) {
+                return false;
+            }
         }
     }
+    rows.len() == case.told.len()
 }
 
-// Adds nothing where the group hasn't the node.
-fn add_end(text: &mut String, world: &World, node: Node) {
-    if node.number() <= world.setup().nodes() {
-        let (status, generation) = (world.vector(node).status(), world.generation(node));
-        let events = world.events();
-        let _ = writeln!(text, "{events} {status:?} {generation}");
+// Whether the world ends as the case says.
+fn ends_as(world: &World, case: &Case) -> bool {
+    match Node::new(case.last) {
+        Some(last) => {
+            last.number() <= world.setup().nodes()
+                && world.vector(last).status() == case.status
+                && world.generation(last) == case.generation
+                && world.events() == case.events
+        }
+        None => false,
     }
 }
 
-// Whether this is told of the trace's events, with this bound.
-fn is_told(
-    alloc: Global,
-    trace: &Trace,
-    events_max: u32,
-    callee: Node,
-    last: Node,
-    expected: &str,
-) -> bool {
-    match World::new(alloc, bounded(&trace.setup, events_max)) {
+// Whether a world of the trace's setup, with the case's bound, takes the rows so, and ends so.
+fn is_told(alloc: Global, trace: &Trace, case: &Case) -> bool {
+    match World::new(alloc, bounded(&trace.setup, case.events_max)) {
         Ok(mut world) => {
-            let mut text = String::new(alloc);
-            add_events(&mut text, &mut world, trace, callee);
-            add_end(&mut text, &world, last);
-            text.as_str() == expected
+            takes_all(&mut world, trace.rows.as_slice(), case) && ends_as(&world, case)
         }
         Err(_) => false,
     }
 }
 
-// The same of the text of a trace.
-fn tells(
-    alloc: Global,
-    text: &str,
-    events_max: u32,
-    callee: Node,
-    last: Node,
-    expected: &str,
-) -> bool {
-    match read_trace(alloc, text.as_bytes()) {
-        Ok(trace) => is_told(alloc, &trace, events_max, callee, last, expected),
+// The same of the case's trace.
+fn tells(alloc: Global, case: &Case) -> bool {
+    match read_trace(alloc, case.trace.as_bytes()) {
+        Ok(trace) => is_told(alloc, &trace, case),
         Err(_) => false,
     }
+}
+
+// The same of each case.
+fn are_told(alloc: Global) -> bool {
+    for case in CASES.iter() {
+        if !tells(alloc, case) {
+            return false;
+        }
+    }
+    true
 }
 
 #[test]
 fn bound_and_waiting_callers(rt: HostRuntime) {
-    for (trace, events_max, callee, last, expected) in WORLDS.iter() {
-        let (callee, last) = (node(&rt, *callee), node(&rt, *last));
-        assert!(rt;
-            tells(rt.alloc(), *trace, *events_max, callee, last, *expected),
-            "{trace}"
-        );
-    }
+    assert!(rt; are_told(rt.alloc()));
 }
