@@ -1,12 +1,15 @@
 //! Nodes on their own that do what a trace says, and a world that does.
 
+use crate::agents::{answer_of, asked, failed, new_agent, place_of, started};
+use crate::lines::{Lines, one_line};
 use bully_base::{Node, Setup};
 use bully_calls::Answer;
 use bully_messages::{Reply, Request};
 use bully_node::Agent;
-use bully_rows::Row;
-use bully_world::{Event, Refused, TakenStep, World};
+use bully_rows::{Row, Trace, read_trace};
+use bully_world::{Event, Refused, World};
 use std::alloc::Global;
+use std::io::Read;
 use std::mem;
 
 /// What follows on a trace that nodes on their own did, and a world.
@@ -20,100 +23,134 @@ pub enum Turns {
     OfWorld(u32),
 }
 
-/// The events of these rows.
-pub fn events_of(alloc: Global, rows: Vec<Row>) -> Option<Vec<Event>> {
-    let mut events = Vec::new(alloc);
-    for row in rows {
-        match row {
-            Row::Event(event) => events.push(event).ok()?,
-            Row::Detailed(told) => events.push(told.event()).ok()?,
-            other => drop(other),
-        }
-    }
-    Some(events)
+/// How many events of the trace were followed, up to one that is refused, before these turns were taken. None where nodes on
+/// their own aren't those of the world, where a turn is refused, or where memory is.
+pub fn follow_trace<R: Read + Drop>(alloc: Global, input: R, turns: Turns) -> Option<Lines> {
+    let Trace { setup, rows, .. } = read_trace(alloc, input).ok()?;
+    follow(alloc, &setup, rows.as_slice(), turns)
 }
 
-/// How many of the events were followed, up to one that is refused, before these turns were taken. None where nodes on their own
-/// aren't those of the world, where a turn is refused, or where memory is.
-pub fn follow(alloc: Global, setup: &Setup, events: &[Event], turns: Turns) -> Option<usize> {
-    let mut actors = actors_of(alloc, setup)?;
+fn follow(alloc: Global, setup: &Setup, rows: &[Row], turns: Turns) -> Option<Lines> {
     let mut world = World::new(alloc, *setup).ok()?;
-    let count = both_follow(&mut actors, &mut world, events)?;
-    match turns {
-        Turns::None => {}
-        Turns::OfAgents(number) => agents_turn(&mut actors, number)?,
-        Turns::OfWorld(number) => world_turns(&mut world, Node::new(1)?, number)?,
+    let mut actors = Vec::new(alloc);
+    if add_actors(alloc, setup, &mut actors) {
+        both_go_on(&mut actors, &mut world, rows, turns)
+    } else {
+        None
     }
-    Some(count)
 }
 
-fn both_follow(actors: &mut [Actor], world: &mut World, events: &[Event]) -> Option<usize> {
-    for (count, event) in events.iter().enumerate() {
-        if !both_take(actors, world, event)? {
-            return Some(count);
+// Both follow the rows, and one of them takes these turns.
+fn both_go_on(
+    actors: &mut [Actor],
+    world: &mut World,
+    rows: &[Row],
+    turns: Turns,
+) -> Option<Lines> {
+    if !both_follow(actors, world, rows) {
+        return None;
+    }
+    let followed = u64::from(world.events());
+    let are_taken = match turns {
+        Turns::None => true,
+        Turns::OfAgents(number) => agents_turn(actors, number),
+        Turns::OfWorld(number) => world_turns(world, number),
+    };
+    if are_taken {
+        Some(one_line("followed", followed))
+    } else {
+        None
+    }
+}
+
+// Both follow the rows, up to an event that is refused. Whether they do the same.
+fn both_follow(actors: &mut [Actor], world: &mut World, rows: &[Row]) -> bool {
+    for row in rows {
+        let taken = match row {
+            Row::Event(event) => both_take(actors, world, event),
+            Row::Detailed(told) => both_take(actors, world, &told.event()),
+            _ => Some(true),
+        };
+        match taken {
+            Some(true) => {}
+            Some(false) => return true,
+            None => return false,
         }
     }
-    Some(events.len())
+    true
 }
 
-// Turns of the first node, which asks whether the last one is up, its coordinator.
-fn agents_turn(actors: &mut [Actor], number: u32) -> Option<()> {
-    let (first, others) = actors.split_first_mut()?;
-    let last = others.last_mut()?;
+// Turns of the first node, which asks whether the last one is up, its coordinator. Whether they could be taken.
+fn agents_turn(actors: &mut [Actor], number: u32) -> bool {
+    let Some((first, others)) = actors.split_first_mut() else {
+        return false;
+    };
+    match others.last_mut() {
+        Some(last) => take_turns(&mut first.agent, &mut last.agent, number),
+        None => false,
+    }
+}
+
+fn take_turns(caller: &mut Agent, callee: &mut Agent, number: u32) -> bool {
     for _ in 0..number {
-        turn(&mut first.agent, &mut last.agent)?;
+        if !turn(caller, callee) {
+            return false;
+        }
     }
-    Some(())
+    true
 }
 
-fn turn(caller: &mut Agent, callee: &mut Agent) -> Option<()> {
-    caller.timeout().ok()?;
-    caller.start().ok()?;
-    let reply = asked(callee, caller.request().ok()??)?;
-    caller.replied(reply).ok()?;
-    Some(())
-}
-
-fn asked(callee: &mut Agent, request: Request) -> Option<Reply> {
-    match callee.serve(&request) {
-        Ok(served) => Some(served.reply),
-        Err(_) => None,
+fn turn(caller: &mut Agent, callee: &mut Agent) -> bool {
+    if answer_of(caller.timeout()).is_err() {
+        return false;
+    }
+    match reply_of(callee, caller) {
+        Some(reply) => answer_of(caller.replied(reply)).is_ok(),
+        None => false,
     }
 }
 
-// The same turns in the world.
-fn world_turns(world: &mut World, node: Node, number: u32) -> Option<()> {
+// The callee's reply to the call that the caller starts.
+fn reply_of(callee: &mut Agent, caller: &mut Agent) -> Option<Reply> {
+    let request = started(caller)?;
+    asked(callee, &request)
+}
+
+// The same turns in the world. Whether they could be taken.
+fn world_turns(world: &mut World, number: u32) -> bool {
+    let Some(node) = Node::new(1) else {
+        return false;
+    };
     for _ in 0..number {
-        world.apply(&Event::Timeout(node)).ok()?;
-        world.apply(&Event::Start(node)).ok()?;
-        world.apply(&Event::Run(node)).ok()?;
-        world.apply(&Event::Return(node)).ok()?;
+        if !world_turn(world, node) {
+            return false;
+        }
     }
-    Some(())
+    true
+}
+
+fn world_turn(world: &mut World, node: Node) -> bool {
+    apply(world, Event::Timeout(node))
+        && apply(world, Event::Start(node))
+        && apply(world, Event::Run(node))
+        && apply(world, Event::Return(node))
+}
+
+fn apply(world: &mut World, event: Event) -> bool {
+    world.apply(&event).is_ok()
 }
 
 // Whether both take the event, or refuse it; none where they don't do the same.
 fn both_take(actors: &mut [Actor], world: &mut World, event: &Event) -> Option<bool> {
-    match world.apply(event) {
-        Ok(answer) => {
-            let same = is_answer(take(actors, event)?, answer) && are_nodes_of(actors, world);
-            if same { Some(true) } else { None }
-        }
-        Err(_) if is_of_two(event) => Some(false),
-        Err(why) => if is_refusal(take(actors, event)?, why) {
-            Some(false)
-        } else {
-            None
-        },
+    let told = world.apply(event);
+    if told.is_err() && is_of_two(event) {
+        return Some(false);
     }
-}
-
-fn is_answer(taken: Result<Answer, Refused>, answer: Answer) -> bool {
-    matches!(taken, Ok(told) if told == answer)
-}
-
-fn is_refusal(taken: Result<Answer, Refused>, why: Refused) -> bool {
-    matches!(taken, Err(told) if told == why)
+    if take(actors, event)? == told && are_nodes_of(actors, world) {
+        Some(told.is_ok())
+    } else {
+        None
+    }
 }
 
 // Whether no node can tell by itself that the event is refused.
@@ -138,15 +175,18 @@ struct Actor {
     mail: OnItsWay,
 }
 
-// The nodes of a group, all Down.
-fn actors_of(alloc: Global, setup: &Setup) -> Option<Vec<Actor>> {
-    let mut actors = Vec::new(alloc);
+// The nodes of a group, all Down. Whether there was memory for them.
+fn add_actors(alloc: Global, setup: &Setup, actors: &mut Vec<Actor>) -> bool {
     for number in 1..=setup.nodes() {
-        let agent = Agent::new(alloc, setup, Node::new(number)?, 0, None).ok()?;
+        let Some(agent) = new_agent(alloc, setup, number) else {
+            return false;
+        };
         let mail = OnItsWay::Nothing;
-        actors.push(Actor { agent, mail }).ok()?;
+        if actors.push(Actor { agent, mail }).is_err() {
+            return false;
+        }
     }
-    Some(actors)
+    true
 }
 
 // What the event is answered, or why it is refused; none where there is no such node, or nothing on its way, or where memory is
@@ -154,33 +194,27 @@ fn actors_of(alloc: Global, setup: &Setup) -> Option<Vec<Actor>> {
 fn take(actors: &mut [Actor], event: &Event) -> Option<Result<Answer, Refused>> {
     let place = place_of(event.node());
     match event {
-        Event::Start(_) => start(actors.get_mut(place)?),
         Event::Run(_) => run(actors, place),
-        Event::Lose(_) => lose(actors.get_mut(place)?),
-        Event::Return(_) => come_back(actors.get_mut(place)?),
-        _ => Some(answer_of(act(&mut actors.get_mut(place)?.agent, event)?)),
+        _ => act(actors.get_mut(place)?, event),
     }
 }
 
-fn answer_of(taken: Result<TakenStep, Refused>) -> Result<Answer, Refused> {
-    match taken {
-        Ok(taken) => Ok(taken.answer),
-        Err(why) => Err(why),
-    }
-}
-
-// What the node does by itself.
-fn act(agent: &mut Agent, event: &Event) -> Option<Result<TakenStep, Refused>> {
-    match event {
-        Event::Recover(_) => Some(agent.recover()),
-        Event::Crash(_) => Some(agent.crash()),
-        Event::Check(_) => Some(agent.check()),
-        Event::Timeout(_) => Some(agent.timeout()),
-        Event::Drop(_) => Some(agent.drop_orphan()),
-        Event::Move(_) => Some(agent.advance()),
-        Event::Plan(_, table) => Some(agent.plan(table.copy().ok()?)),
-        _ => None,
-    }
+// What the node does without another one.
+fn act(actor: &mut Actor, event: &Event) -> Option<Result<Answer, Refused>> {
+    let taken = match event {
+        Event::Start(_) => return start(actor),
+        Event::Run(_) => return None,
+        Event::Lose(_) => return lose(actor),
+        Event::Return(_) => return come_back(actor),
+        Event::Recover(_) => actor.agent.recover(),
+        Event::Crash(_) => actor.agent.crash(),
+        Event::Check(_) => actor.agent.check(),
+        Event::Timeout(_) => actor.agent.timeout(),
+        Event::Drop(_) => actor.agent.drop_orphan(),
+        Event::Move(_) => actor.agent.advance(),
+        Event::Plan(_, table) => actor.agent.plan(table.copy().ok()?),
+    };
+    Some(answer_of(taken))
 }
 
 // The node starts its call, whose request is on its way then.
@@ -194,29 +228,21 @@ fn start(actor: &mut Actor) -> Option<Result<Answer, Refused>> {
 
 // The request of this caller runs at its callee.
 fn run(actors: &mut [Actor], place: usize) -> Option<Result<Answer, Refused>> {
-    match request_of(actors.get_mut(place)?) {
-        Some(request) => serve(actors, &request),
-        None => None,
+    match mem::replace(&mut actors.get_mut(place)?.mail, OnItsWay::Nothing) {
+        OnItsWay::Request(request) => serve(actors, &request),
+        other => {
+            drop(other);
+            None
+        }
     }
 }
 
 // The request runs at its callee, and its reply is on its way then.
 fn serve(actors: &mut [Actor], request: &Request) -> Option<Result<Answer, Refused>> {
     let callee = actors.get_mut(place_of(request.call.callee))?;
-    let reply = callee.agent.serve(request).ok()?.reply;
+    let reply = asked(&mut callee.agent, request)?;
     actors.get_mut(place_of(request.caller))?.mail = OnItsWay::Reply(reply);
     Some(Ok(reply.answer))
-}
-
-// The request that is on its way from this node.
-fn request_of(actor: &mut Actor) -> Option<Request> {
-    match mem::replace(&mut actor.mail, OnItsWay::Nothing) {
-        OnItsWay::Request(request) => Some(request),
-        other => {
-            drop(other);
-            None
-        }
-    }
 }
 
 // The node's call is lost: it will be told that it failed.
@@ -229,10 +255,7 @@ fn lose(actor: &mut Actor) -> Option<Result<Answer, Refused>> {
 fn come_back(actor: &mut Actor) -> Option<Result<Answer, Refused>> {
     match mem::replace(&mut actor.mail, OnItsWay::Nothing) {
         OnItsWay::Reply(reply) => Some(answer_of(actor.agent.replied(reply))),
-        OnItsWay::Failure(number) => match actor.agent.failed(number) {
-            Ok(failed) => Some(Ok(failed.returned.answer)),
-            Err(why) => Some(Err(why)),
-        },
+        OnItsWay::Failure(number) => Some(failed(&mut actor.agent, number)),
         other => {
             drop(other);
             None
@@ -241,7 +264,12 @@ fn come_back(actor: &mut Actor) -> Option<Result<Answer, Refused>> {
 }
 
 fn are_nodes_of(actors: &[Actor], world: &World) -> bool {
-    actors.iter().all(|actor| is_node_of(&actor.agent, world))
+    for actor in actors {
+        if !is_node_of(&actor.agent, world) {
+            return false;
+        }
+    }
+    true
 }
 
 // Whether the node is that of the world.
@@ -259,8 +287,4 @@ fn is_node_of(agent: &Agent, world: &World) -> bool {
         && agent.point() == world.point(node)
         && agent.generation() == world.generation(node)
         && agent.slot().call() == world.slot(node).call()
-}
-
-fn place_of(node: Node) -> usize {
-    usize::from(node.number() - 1)
 }

@@ -5,28 +5,31 @@
 //! It stands on bully_group and bully_node, the crates below them, bully_rows and csv. Nothing stands on it.
 #![tactic(auto)]
 
+mod agents;
 mod following;
+mod hand;
+mod lines;
 mod network;
 mod planning;
 mod player;
 mod random;
 mod records;
 mod simulating;
+mod team;
 mod turns;
 mod watching;
 
-use crate::following::Turns;
+use crate::following::{Turns, follow_trace};
+use crate::lines::Lines;
 use crate::network::Breach;
 use crate::planning::plan_rounds;
 use crate::records::count_records;
-use crate::simulating::{answer_follow, answer_requests, answer_trace};
+use crate::simulating::{count_requests, tell_trace};
 use crate::turns::take_turns;
 use crate::watching::{THREADS, Watching, watch_group};
-use std::alloc::Global;
 use std::env;
+use std::env::Args;
 use std::process::ExitCode;
-use std::sync::Wait;
-use std::thread::Threads;
 
 /// What is asked for.
 #[derive(Clone, Copy)]
@@ -44,25 +47,33 @@ fn main(rt: HostRuntime) -> ExitCode {
     let Some(task) = task_asked(&rt) else {
         return ExitCode::from(2);
     };
-    let done = match task {
-        Task::Plans(rounds) => answer_plans(&rt, rounds),
-        Task::Records => answer_records(&rt),
-        Task::Turns(nodes, count) => answer_turns(&rt, rt.alloc(), nodes, count),
-        Task::Watch(nodes, observers, task) => answer_watch(
-            &rt,
-            rt.alloc(),
-            nodes,
-            observers,
-            task,
-        ),
-        Task::Trace(nodes, seed, steps, breach) => answer_trace(&rt, nodes, seed, steps, breach),
-        Task::Requests(nodes, steps) => answer_requests(&rt, nodes, steps),
-        Task::Follow(turns) => answer_follow(&rt, turns),
+    let alloc = rt.alloc();
+    let answered = match task {
+        Task::Plans(rounds) => plan_rounds(alloc, rounds),
+        Task::Records => count_records(alloc, rt.stdin()),
+        Task::Turns(nodes, count) => take_turns(&rt, alloc, nodes, count),
+        Task::Watch(nodes, observers, task) => watch_group(&rt, alloc, nodes, observers, task),
+        Task::Trace(nodes, seed, steps, breach) => {
+            tell_trace(alloc, &mut rt.stdout(), nodes, seed, steps, breach)
+        }
+        Task::Requests(nodes, steps) => count_requests(alloc, nodes, steps),
+        Task::Follow(turns) => follow_trace(alloc, rt.stdin(), turns),
     };
-    match done {
+    match print_lines(&rt, answered) {
         Some(()) => ExitCode::from(0),
         None => ExitCode::from(4),
     }
+}
+
+// Prints what was answered, a line for each number.
+fn print_lines(rt: &HostRuntime, answered: Option<Lines>) -> Option<()> {
+    let Lines(lines) = answered?;
+    for line in lines {
+        if let Some((name, number)) = line {
+            println!(rt; "{name} {number}").ok()?;
+        }
+    }
+    Some(())
 }
 
 // What the words behind the program's name ask for: `plan ROUNDS`, `records`, `turns NODES COUNT`, `quiet NODES LOOKS`,
@@ -70,14 +81,16 @@ fn main(rt: HostRuntime) -> ExitCode {
 // `world TURNS`.
 fn task_asked(rt: &HostRuntime) -> Option<Task> {
     let mut words = env::args(rt).ok()?;
-    let task = words.nth(1)?;
-    let numbers = [
-        number_in(words.next()),
-        number_in(words.next()),
-        number_in(words.next()),
-    ];
-    let breach = breach_named(words.next());
-    task_named(task.as_str(), numbers, breach)
+    task_in(&mut words)
+}
+
+fn task_in(words: &mut Args) -> Option<Task> {
+    let name = words.nth(1)?;
+    let first = number_in(words.next());
+    let second = number_in(words.next());
+    let third = number_in(words.next());
+    let breach = breach_in(words.next());
+    task_named(name.as_str(), first, second, third, breach)
 }
 
 fn number_in(word: Option<String>) -> Option<u32> {
@@ -85,11 +98,15 @@ fn number_in(word: Option<String>) -> Option<u32> {
 }
 
 // The premise that is broken on purpose; without a word none is.
-fn breach_named(word: Option<String>) -> Option<Breach> {
-    let Some(word) = word else {
-        return Some(Breach::Nothing);
-    };
-    match word.as_str() {
+fn breach_in(word: Option<String>) -> Option<Breach> {
+    match word {
+        Some(word) => breach_named(word.as_str()),
+        None => Some(Breach::Nothing),
+    }
+}
+
+fn breach_named(name: &str) -> Option<Breach> {
+    match name {
         "slow" => Some(Breach::Slow),
         "invented" => Some(Breach::Invented),
         "late" => Some(Breach::Late),
@@ -101,60 +118,45 @@ fn breach_named(word: Option<String>) -> Option<Breach> {
 // The task of this name, with the numbers and the breach behind it.
 fn task_named(
     name: &str,
-    [first, second, third]: [Option<u32>; 3],
+    first: Option<u32>,
+    second: Option<u32>,
+    third: Option<u32>,
     breach: Option<Breach>,
 ) -> Option<Task> {
-    let nodes = first.and_then(|first| u16::try_from(first).ok());
     match name {
-        "plan" => Some(Task::Plans(first?)),
         "records" => Some(Task::Records),
-        "turns" => Some(Task::Turns(nodes?, second?)),
-        "quiet" => Some(Task::Watch(nodes?, 1, Watching::Quiet(second?))),
-        "publishing" => Some(Task::Watch(nodes?, 1, Watching::Publishing(second?))),
-        "watch" => Some(Task::Watch(THREADS, THREADS, Watching::Threads(first?))),
-        "trace" => Some(Task::Trace(nodes?, u64::from(second?), third?, breach?)),
-        "requests" => Some(Task::Requests(nodes?, second?)),
         "follow" => Some(Task::Follow(Turns::None)),
-        "agents" => Some(Task::Follow(Turns::OfAgents(first?))),
-        "world" => Some(Task::Follow(Turns::OfWorld(first?))),
+        "plan" | "watch" | "agents" | "world" => counting_task(name, first?),
+        "trace" => {
+            let (nodes, seed) = (nodes_of(first)?, u64::from(second?));
+            Some(Task::Trace(nodes, seed, third?, breach?))
+        }
+        _ => group_task(name, nodes_of(first)?, second?),
+    }
+}
+
+fn nodes_of(number: Option<u32>) -> Option<u16> {
+    u16::try_from(number?).ok()
+}
+
+// The task of this name that has a count behind it.
+fn counting_task(name: &str, count: u32) -> Option<Task> {
+    match name {
+        "plan" => Some(Task::Plans(count)),
+        "watch" => Some(Task::Watch(THREADS, THREADS, Watching::Threads(count))),
+        "agents" => Some(Task::Follow(Turns::OfAgents(count))),
+        "world" => Some(Task::Follow(Turns::OfWorld(count))),
         _ => None,
     }
 }
 
-// Plans, and prints the sums.
-fn answer_plans(rt: &HostRuntime, rounds: u32) -> Option<()> {
-    let sums = plan_rounds(rt.alloc(), rounds)?;
-    let (moves, bounds, owners) = (sums.moves, sums.bounds, sums.owners);
-    println!(rt; "moves {moves}\nbounds {bounds}\nowners {owners}").ok()
-}
-
-// Counts the records on standard input, and prints how many there are.
-fn answer_records(rt: &HostRuntime) -> Option<()> {
-    let count = count_records(rt.alloc(), rt.stdin())?;
-    println!(rt; "records {count}").ok()
-}
-
-// Takes turns, and prints what they come to.
-fn answer_turns<R: Wait + Print>(rt: &R, alloc: Global, nodes: u16, count: u32) -> Option<()> {
-    let sums = take_turns(rt, alloc, nodes, count)?;
-    let (entries, made) = (sums.entries, sums.made);
-    println!(rt; "entries {entries}\nmade {made}").ok()
-}
-
-// Does something with a watched group, and prints what came of it.
-fn answer_watch<R: Threads + Wait + Sync + Print>(
-    rt: &R,
-    alloc: Global,
-    nodes: u16,
-    observers: u16,
-    task: Watching,
-) -> Option<()> {
-    let watched = watch_group(rt, alloc, nodes, observers, task)?;
-    let (looks, publishes, made) = (watched.looks, watched.publishes, watched.made);
-    let (entries, seen) = (watched.entries, watched.seen);
-    match task {
-        Watching::Quiet(_) => println!(rt; "looks {looks}\nmade {made}").ok(),
-        Watching::Publishing(_) => println!(rt; "looks {looks}\npublishes {publishes}").ok(),
-        Watching::Threads(_) => println!(rt; "entries {entries}\nlooks {looks}\nseen {seen}").ok(),
+// The task of this name that has a number of nodes and a count behind it.
+fn group_task(name: &str, nodes: u16, count: u32) -> Option<Task> {
+    match name {
+        "turns" => Some(Task::Turns(nodes, count)),
+        "quiet" => Some(Task::Watch(nodes, 1, Watching::Quiet(count))),
+        "publishing" => Some(Task::Watch(nodes, 1, Watching::Publishing(count))),
+        "requests" => Some(Task::Requests(nodes, count)),
+        _ => None,
     }
 }

@@ -1,3 +1,4 @@
+use crate::agents::{answer_of, asked, failed, new_agent, place_of, started};
 use crate::random::Random;
 use bully_base::{Node, Setup, Status};
 use bully_calls::{Answer, Call};
@@ -40,6 +41,7 @@ pub struct Network {
     agents: Vec<Agent>,
     mail: Vec<Mail>,
     rows: Vec<Row>,
+    requests: u64, // how many ran
 }
 
 impl Network {
@@ -47,9 +49,8 @@ impl Network {
     /// that more elections come to their end.
     pub fn new(alloc: Global, setup: &Setup, seed: u64, breach: Breach) -> Option<Network> {
         let mut agents = Vec::new(alloc);
-        for number in 1..=setup.nodes() {
-            let agent = Agent::new(alloc, setup, Node::new(number)?, 0, None).ok()?;
-            agents.push(agent).ok()?;
+        if !add_agents(alloc, setup, &mut agents) {
+            return None;
         }
         Some(Network {
             alloc,
@@ -59,6 +60,7 @@ impl Network {
             agents,
             mail: Vec::new(alloc),
             rows: Vec::new(alloc),
+            requests: 0,
         })
     }
 
@@ -68,31 +70,46 @@ impl Network {
     }
 
     /// How many requests ran.
-    pub fn requests(&self) -> usize {
-        self.rows.iter().filter(|row| is_run(*row)).count()
+    pub fn requests(&self) -> u64 {
+        self.requests
     }
 
-    /// One step: a crash or a recovery, once in a period; else a delivery, a node's turn, its timer, or a look at it. None where
-    /// memory is refused, or where an agent refuses what it shouldn't.
-    pub fn step(&mut self) -> Option<()> {
-        let place = self.random.below(self.agents.len())?;
-        if self.random.below(self.period)? == 0 {
+    /// So many steps, and then each node's vector comes into the log. Whether that could be done: not where memory is refused,
+    /// or where an agent refuses what it shouldn't.
+    pub fn run(&mut self, steps: u32) -> bool {
+        for _ in 0..steps {
+            if !self.step() {
+                return false;
+            }
+        }
+        self.claim_all()
+    }
+
+    // One step: a crash or a recovery, once in a period; else a delivery, a node's turn, its timer, or a look at it. Whether it
+    // could be taken, as of all that follow.
+    fn step(&mut self) -> bool {
+        let Some(place) = self.random.below(self.agents.len()) else {
+            return false;
+        };
+        if self.random.below(self.period) == Some(0) {
             return self.fall_or_rise(place);
         }
         match self.random.next() % 20 {
             0 => self.time(place),
             1 => self.claim(place),
-            2 | 3 | 4 | 5 | 6 | 7 | 8 | 9 => self.deliver(place),
+            2..=9 => self.deliver(place),
             _ => self.go_on(place),
         }
     }
 
-    /// Each node's vector comes into the log.
-    pub fn claim_all(&mut self) -> Option<()> {
+    // Each node's vector comes into the log.
+    fn claim_all(&mut self) -> bool {
         for place in 0..self.agents.len() {
-            self.claim(place)?;
+            if !self.claim(place) {
+                return false;
+            }
         }
-        Some(())
+        true
     }
 
     // Whether the premise is broken now, if it is this one.
@@ -100,36 +117,69 @@ impl Network {
         self.breach == breach && self.random.next() % 8 == 0
     }
 
-    fn log(&mut self, row: Row) -> Option<()> {
-        self.rows.push(row).ok()
+    fn log(&mut self, row: Row) -> bool {
+        self.rows.push(row).is_ok()
     }
 
-    fn log_call(&mut self, node: Node, detail: Detail) -> Option<()> {
+    // The step's event comes into the log, if it was taken.
+    fn log_taken(&mut self, taken: Result<TakenStep, Refused>) -> bool {
+        match taken {
+            Ok(taken) => self.log(Row::Event(taken.event)),
+            Err(_) => false,
+        }
+    }
+
+    fn log_call(&mut self, node: Node, detail: Detail) -> bool {
         self.log(Row::Detailed(DetailedEvent { node, detail }))
     }
 
-    // The node's vector comes into the log.
-    fn claim(&mut self, place: usize) -> Option<()> {
-        let claim = claim_of(self.alloc, self.agents.get(place)?)?;
-        self.log(Row::Whole(claim))
+    fn send(&mut self, mail: Mail) -> bool {
+        self.mail.push(mail).is_ok()
     }
 
-    // A node that is up crashes, and what it sent is lost; one that is Down recovers, at times in a process of its own.
-    fn fall_or_rise(&mut self, place: usize) -> Option<()> {
-        let alloc = self.alloc;
-        let is_new = self.random.next() % 2 == 0;
-        let agent = self.agents.get_mut(place)?;
-        let node = agent.node();
-        if agent.vector().status() == Status::Down {
-            if is_new {
-                *agent = made_anew(alloc, agent)?;
-            }
-            let taken = agent.recover().ok()?;
-            return self.log(Row::Event(taken.event));
+    // The node's vector comes into the log.
+    fn claim(&mut self, place: usize) -> bool {
+        let Some(agent) = self.agents.get(place) else {
+            return false;
+        };
+        match claim_of(self.alloc, agent) {
+            Some(claim) => self.log(Row::Whole(claim)),
+            None => false,
         }
-        let taken = agent.crash().ok()?;
+    }
+
+    // A node that is up crashes; one that is Down recovers, at times in a process of its own.
+    fn fall_or_rise(&mut self, place: usize) -> bool {
+        let is_new = self.random.next() % 2 == 0;
+        if self.is_down(place) {
+            self.rise(place, is_new)
+        } else {
+            self.fall(place)
+        }
+    }
+
+    // The node crashes, and what it sent is lost.
+    fn fall(&mut self, place: usize) -> bool {
+        let Some(agent) = self.agents.get_mut(place) else {
+            return false;
+        };
+        let node = agent.node();
+        let taken = agent.crash();
         self.forget(node);
-        self.log(Row::Event(taken.event))
+        self.log_taken(taken)
+    }
+
+    // The node recovers, in another process if it is to be new.
+    fn rise(&mut self, place: usize, is_new: bool) -> bool {
+        let alloc = self.alloc;
+        let Some(agent) = self.agents.get_mut(place) else {
+            return false;
+        };
+        if is_new && !make_anew(alloc, agent) {
+            return false;
+        }
+        let taken = agent.recover();
+        self.log_taken(taken)
     }
 
     // What the node sent is lost.
@@ -140,164 +190,238 @@ impl Network {
     }
 
     // The node's timer: it checks, or has a timeout.
-    fn time(&mut self, place: usize) -> Option<()> {
+    fn time(&mut self, place: usize) -> bool {
         let checks = self.random.next() % 2 == 0;
-        let agent = self.agents.get_mut(place)?;
+        let Some(agent) = self.agents.get_mut(place) else {
+            return false;
+        };
         let taken = if checks {
             agent.check()
         } else {
             agent.timeout()
         };
         match taken {
-            Ok(taken) => self.log(Row::Event(taken.event)),
-            Err(Refused::IsDown | Refused::Busy) => Some(()),
-            Err(_) => None,
+            Err(Refused::IsDown | Refused::Busy) => true,
+            taken => self.log_taken(taken),
         }
     }
 
     // The first node from this place on that can do something does it.
-    fn go_on(&mut self, place: usize) -> Option<()> {
+    fn go_on(&mut self, place: usize) -> bool {
         let count = self.agents.len();
         for offset in 0..count {
-            if self.turn(place.wrapping_add(offset).checked_rem(count)?)? {
-                return Some(());
+            let next = place.wrapping_add(offset) % count;
+            match self.turn(next) {
+                Turn::Nothing => {}
+                Turn::Done => return true,
+                Turn::Failed => return false,
             }
         }
-        Some(())
+        true
     }
 
-    // The node does what it wants to do next. Whether it did something.
-    fn turn(&mut self, place: usize) -> Option<bool> {
+    // The node does what it wants to do next.
+    fn turn(&mut self, place: usize) -> Turn {
         let alloc = self.alloc;
-        let agent = self.agents.get_mut(place)?;
-        let taken = match agent.wants() {
-            Want::Nothing => return Some(false),
-            Want::Await => return self.give_up(place),
-            Want::Start(call) => return self.start(place, call),
-            Want::Move => agent.advance().ok()?,
-            Want::Plan => planned(alloc, agent)?,
+        let Some(agent) = self.agents.get_mut(place) else {
+            return Turn::Failed;
         };
-        self.log(Row::Event(taken.event))?;
-        Some(true)
+        let is_done = match agent.wants() {
+            Want::Nothing => return Turn::Nothing,
+            Want::Await => return self.give_up(place),
+            Want::Start(call) => self.start(place, call),
+            Want::Move => {
+                let taken = agent.advance();
+                self.log_taken(taken)
+            }
+            Want::Plan => {
+                let taken = planned(alloc, agent);
+                self.log_taken(taken)
+            }
+        };
+        turned(is_done)
     }
 
     // The node starts its call, whose request is on its way then.
-    fn start(&mut self, place: usize, call: Call) -> Option<bool> {
-        let agent = self.agents.get_mut(place)?;
+    fn start(&mut self, place: usize, call: Call) -> bool {
+        let Some(agent) = self.agents.get_mut(place) else {
+            return false;
+        };
         let node = agent.node();
-        agent.start().ok()?;
-        let request = agent.request().ok()??;
-        self.mail.push(Mail::Ask(request)).ok()?;
-        self.log_call(node, Detail::Start(call))?;
-        Some(true)
+        match started(agent) {
+            Some(request) => {
+                self.send(Mail::Ask(request)) && self.log_call(node, Detail::Start(call))
+            }
+            None => false,
+        }
     }
 
-    // An orphan is dropped at times, and with it what it sent. Whether it was.
-    fn give_up(&mut self, place: usize) -> Option<bool> {
+    // An orphan is dropped at times.
+    fn give_up(&mut self, place: usize) -> Turn {
         let waits = self.random.next() % 4 != 0;
-        let agent = self.agents.get_mut(place)?;
-        if waits || !agent.slot().is_orphan(agent.generation()) {
-            return Some(false);
+        if waits || !self.has_orphan(place) {
+            return Turn::Nothing;
         }
+        turned(self.drop_orphan(place))
+    }
+
+    fn has_orphan(&self, place: usize) -> bool {
+        match self.agents.get(place) {
+            Some(agent) => agent.slot().is_orphan(agent.generation()),
+            None => false,
+        }
+    }
+
+    // The node's call is dropped, and with it what it sent.
+    fn drop_orphan(&mut self, place: usize) -> bool {
+        let Some(agent) = self.agents.get_mut(place) else {
+            return false;
+        };
         let node = agent.node();
-        let call = agent.slot().call()?;
-        agent.drop_orphan().ok()?;
+        let Some(call) = agent.slot().call() else {
+            return false;
+        };
+        let dropped = answer_of(agent.drop_orphan());
         self.forget(node);
-        self.log_call(node, Detail::Drop(call))?;
-        Some(true)
+        dropped.is_ok() && self.log_call(node, Detail::Drop(call))
     }
 
     // Something that is on its way comes; where nothing is, a node goes on.
-    fn deliver(&mut self, place: usize) -> Option<()> {
+    fn deliver(&mut self, place: usize) -> bool {
         let Some(index) = self.random.below(self.mail.len()) else {
             return self.go_on(place);
         };
         match self.mail.swap_remove(index) {
-            Mail::Ask(request) => self.ask(request),
+            Mail::Ask(request) => self.ask(&request),
             Mail::Tell(reply, call) => self.tell(reply, call),
         }
     }
 
     // A request comes to its callee, or fails where that is Down.
-    fn ask(&mut self, request: Request) -> Option<()> {
-        let call = request.call;
-        let (caller, number) = (request.caller, request.number);
-        if self.is_down(call.callee) || self.breaks(Breach::Slow) {
+    fn ask(&mut self, request: &Request) -> bool {
+        let (caller, number, call) = (request.caller, request.number, request.call);
+        if self.is_down(place_of(call.callee)) || self.breaks(Breach::Slow) {
             return self.fail(caller, number, call);
         }
         if self.breaks(Breach::Invented) {
             let answer = Answer::Yes;
-            return self.tell(
-                Reply {
-                    caller,
-                    number,
-                    answer,
-                },
-                call,
-            );
+            let reply = Reply {
+                caller,
+                number,
+                answer,
+            };
+            return self.tell(reply, call);
         }
-        self.serve(&request)?;
-        if self.breaks(Breach::Twice) {
-            return self.serve(&request);
-        }
-        Some(())
+        self.serve(request) && (!self.breaks(Breach::Twice) || self.serve(request))
     }
 
     // The request runs at its callee, and its reply is on its way then.
-    fn serve(&mut self, request: &Request) -> Option<()> {
-        let call = request.call;
-        let served = self
-            .agents
-            .get_mut(place_of(call.callee))?
-            .serve(request)
-            .ok()?;
-        self.mail.push(Mail::Tell(served.reply, call)).ok()?;
-        self.log_call(request.caller, Detail::Run(call, served.reply.answer))
+    fn serve(&mut self, request: &Request) -> bool {
+        let Some(callee) = self.agents.get_mut(place_of(request.call.callee)) else {
+            return false;
+        };
+        match asked(callee, request) {
+            Some(reply) => {
+                self.log_run(request, reply.answer) && self.send(Mail::Tell(reply, request.call))
+            }
+            None => false,
+        }
+    }
+
+    fn log_run(&mut self, request: &Request, answer: Answer) -> bool {
+        self.requests = self.requests.wrapping_add(1);
+        self.log_call(request.caller, Detail::Run(request.call, answer))
+    }
+
+    // The call failed, and returned with this answer.
+    fn log_failure(&mut self, caller: Node, call: Call, answer: Answer) -> bool {
+        let Call { callee, kind } = call;
+        if !self.log_call(caller, Detail::Lose(Call { callee, kind })) {
+            return false;
+        }
+        self.log_call(caller, Detail::Return(Call { callee, kind }, answer))
     }
 
     // The caller's call failed, and is over.
-    fn fail(&mut self, caller: Node, number: u32, call: Call) -> Option<()> {
-        match self.agents.get_mut(place_of(caller))?.failed(number) {
-            Ok(failed) => {
-                self.log_call(caller, Detail::Lose(call))?;
-                self.log_call(caller, Detail::Return(call, failed.returned.answer))
-            }
-            Err(Refused::NoCall) => Some(()),
-            Err(_) => None,
+    fn fail(&mut self, caller: Node, number: u32, call: Call) -> bool {
+        let returned = match self.agents.get_mut(place_of(caller)) {
+            Some(agent) => failed(agent, number),
+            None => return false,
+        };
+        match returned {
+            Ok(answer) => self.log_failure(caller, call, answer),
+            Err(Refused::NoCall) => true,
+            Err(_) => false,
         }
     }
 
     // A reply comes to its caller, which lets it go where that call is over; it is lost where its callee is Down.
-    fn tell(&mut self, reply: Reply, call: Call) -> Option<()> {
-        if self.is_down(call.callee) {
-            return self.fail(reply.caller, reply.number, call);
+    fn tell(&mut self, reply: Reply, call: Call) -> bool {
+        let caller = reply.caller;
+        if self.is_down(place_of(call.callee)) {
+            return self.fail(caller, reply.number, call);
         }
-        match self.agents.get_mut(place_of(reply.caller))?.replied(reply) {
-            Ok(taken) => self.log_call(reply.caller, Detail::Return(call, taken.answer)),
-            Err(Refused::NoCall) => Some(()),
-            Err(_) => None,
+        let Some(agent) = self.agents.get_mut(place_of(caller)) else {
+            return false;
+        };
+        match answer_of(agent.replied(reply)) {
+            Ok(answer) => self.log_call(caller, Detail::Return(call, answer)),
+            Err(Refused::NoCall) => true,
+            Err(_) => false,
         }
     }
 
-    // Whether there is such a node, and it is Down.
-    fn is_down(&self, node: Node) -> bool {
-        match self.agents.get(place_of(node)) {
+    // Whether there is a node at this place, and it is Down.
+    fn is_down(&self, place: usize) -> bool {
+        match self.agents.get(place) {
             Some(agent) => agent.vector().status() == Status::Down,
             None => false,
         }
     }
 }
 
-// The node plans, from the task that it has.
-fn planned(alloc: Global, agent: &mut Agent) -> Option<TakenStep> {
-    let table = agent.prepare(alloc, agent.vector().task()).ok()?;
-    agent.plan(table).ok()
+// What a node did, whose turn it was: something, if it could.
+enum Turn {
+    Nothing,
+    Done,
+    Failed,
 }
 
-// The node, which is Down, in another process, with its log and with the task that it kept.
-fn made_anew(alloc: Global, agent: &Agent) -> Option<Agent> {
+fn turned(is_done: bool) -> Turn {
+    if is_done { Turn::Done } else { Turn::Failed }
+}
+
+// The nodes of a group, all Down. Whether there was memory for them.
+fn add_agents(alloc: Global, setup: &Setup, agents: &mut Vec<Agent>) -> bool {
+    for number in 1..=setup.nodes() {
+        let Some(agent) = new_agent(alloc, setup, number) else {
+            return false;
+        };
+        if agents.push(agent).is_err() {
+            return false;
+        }
+    }
+    true
+}
+
+// The node plans, from the task that it has. Memory that is refused is told as a step that isn't offered.
+fn planned(alloc: Global, agent: &mut Agent) -> Result<TakenStep, Refused> {
+    match agent.prepare(alloc, agent.vector().task()) {
+        Ok(table) => agent.plan(table),
+        Err(_) => Err(Refused::NoStep),
+    }
+}
+
+// The node, which is Down, comes to another process, with its log and with the task that it kept. Whether there was memory for it.
+fn make_anew(alloc: Global, agent: &mut Agent) -> bool {
     let task = agent.vector().task();
-    Agent::new(alloc, agent.setup(), agent.node(), agent.events(), task).ok()
+    match Agent::new(alloc, agent.setup(), agent.node(), agent.events(), task) {
+        Ok(made) => {
+            *agent = made;
+            true
+        }
+        Err(_) => false,
+    }
 }
 
 // A claim of all of the node's vector.
@@ -321,16 +445,4 @@ fn is_request_of(mail: &Mail, node: Node) -> bool {
         Mail::Ask(request) => request.caller == node,
         Mail::Tell(_, _) => false,
     }
-}
-
-// Whether a request ran.
-fn is_run(row: &Row) -> bool {
-    match row {
-        Row::Detailed(told) => matches!(told.detail, Detail::Run(_, _)),
-        _ => false,
-    }
-}
-
-fn place_of(node: Node) -> usize {
-    usize::from(node.number() - 1)
 }

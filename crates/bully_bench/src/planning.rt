@@ -1,6 +1,8 @@
+use crate::lines::Lines;
 use crate::random::Random;
+use crate::turns::with_owners;
 use bully_base::{Node, NodeSet, Setup};
-use bully_table::{Table, TablePlan, plan};
+use bully_table::{Table, plan};
 use std::alloc::Global;
 
 const NODES: u16 = 64;
@@ -9,53 +11,80 @@ const PARTITIONS: u16 = 256;
 
 const TABLES: usize = 64;
 
-/// What the plans of some rounds come to: the sums of their moves and of their bounds, and a number that all their
-/// owners make.
+// What the plans of some rounds come to: the sums of their moves and of their bounds, and a number that all their
+// owners make.
 #[derive(Drop)]
-pub struct Sums {
-    pub moves: u64,
-    pub bounds: u64,
-    pub owners: u64,
+struct Sums {
+    moves: u64,
+    bounds: u64,
+    owners: u64,
 }
 
 impl Sums {
-    // The sums with those of one more plan. A sum goes on at 0 behind the largest number.
-    fn add(&mut self, moves: u16, bound: u16, table: &Table) {
-        self.moves = self.moves.wrapping_add(u64::from(moves));
-        self.bounds = self.bounds.wrapping_add(u64::from(bound));
-        for place in 0..table.len() {
-            let owner = u64::from(table.owner(place).number());
-            self.owners = self.owners.wrapping_mul(31).wrapping_add(owner);
+    // The sums of no plan.
+    fn new() -> Sums {
+        Sums {
+            moves: 0,
+            bounds: 0,
+            owners: 0,
         }
     }
+
+    // Plans from the old table for the members of these bits, and adds the plan. A sum goes on at 0 behind the largest number.
+    // Whether there is one: there isn't for a table of another length, too.
+    fn add_plan(&mut self, alloc: Global, setup: &Setup, old: &Table, bits: u64) -> bool {
+        let members = members_of(bits);
+        if old.len() != usize::from(setup.partitions()) || !setup.has_all(&members) {
+            return false;
+        }
+        let Ok(made) = plan(alloc, *setup, &members, Some(old)) else {
+            return false;
+        };
+        self.moves = self.moves.wrapping_add(u64::from(made.moves));
+        self.bounds = self.bounds.wrapping_add(u64::from(made.bound));
+        self.owners = with_owners(self.owners, &made.table);
+        true
+    }
+
+    // The lines that tell them.
+    fn lines(&self) -> Lines {
+        Lines([
+            Some(("moves", self.moves)),
+            Some(("bounds", self.bounds)),
+            Some(("owners", self.owners)),
+        ])
+    }
 }
 
-/// Plans as often as asked, from 64 random tables in turn, each time for a random set of members. None where a
-/// allocation fails.
-pub fn plan_rounds(alloc: Global, rounds: u32) -> Option<Sums> {
+/// Plans as often as asked, from 64 random tables in turn, each time for a random set of members: what the plans come to.
+/// None where a allocation fails.
+pub fn plan_rounds(alloc: Global, rounds: u32) -> Option<Lines> {
     let mut random = Random(1982);
     let setup = Setup::new(NODES, PARTITIONS, 1).ok()?;
-    let tables = random_tables(alloc, &setup, &mut random)?;
-    let mut sums = Sums {
-        moves: 0,
-        bounds: 0,
-        owners: 0,
-    };
-    for round in 0..rounds {
-        let old = tables.get(usize::try_from(round).ok()? % TABLES)?;
-        let made = plan_from(alloc, &setup, old, random.next())?;
-        sums.add(made.moves, made.bound, &made.table);
+    let mut tables = Vec::new(alloc);
+    if add_tables(alloc, &setup, &mut random, &mut tables) {
+        plan_from(alloc, &setup, &mut random, &tables, rounds)
+    } else {
+        None
     }
-    Some(sums)
 }
 
-// A plan from the old table for the members of these bits. None for a table of another length, too.
-fn plan_from(alloc: Global, setup: &Setup, old: &Table, bits: u64) -> Option<TablePlan> {
-    let members = members_of(bits);
-    if old.len() != usize::from(setup.partitions()) || !setup.has_all(&members) {
-        return None;
+// The same, from these tables.
+fn plan_from(
+    alloc: Global,
+    setup: &Setup,
+    random: &mut Random,
+    tables: &[Table],
+    rounds: u32,
+) -> Option<Lines> {
+    let mut sums = Sums::new();
+    for round in 0..rounds {
+        let old = tables.get(round as usize % TABLES)?;
+        if !sums.add_plan(alloc, setup, old, random.next()) {
+            return None;
+        }
     }
-    plan(alloc, *setup, &members, Some(old)).ok()
+    Some(sums.lines())
 }
 
 // The nodes whose bits are set, node 1 by the lowest one, and the last node where none is.
@@ -71,23 +100,40 @@ fn members_of(bits: u64) -> NodeSet {
     members
 }
 
-fn random_tables(alloc: Global, setup: &Setup, random: &mut Random) -> Option<Vec<Table>> {
-    let mut tables = Vec::new(alloc);
+// The random tables. Whether there was memory for them.
+fn add_tables(alloc: Global, setup: &Setup, random: &mut Random, tables: &mut Vec<Table>) -> bool {
     for _ in 0..TABLES {
-        tables.push(random_table(alloc, setup, random)?).ok()?;
+        if !add_table(alloc, setup, random, tables) {
+            return false;
+        }
     }
-    Some(tables)
+    true
+}
+
+fn add_table(alloc: Global, setup: &Setup, random: &mut Random, tables: &mut Vec<Table>) -> bool {
+    match random_table(alloc, setup, random) {
+        Some(table) => tables.push(table).is_ok(),
+        None => false,
+    }
 }
 
 // A table with random owners.
 fn random_table(alloc: Global, setup: &Setup, random: &mut Random) -> Option<Table> {
     let mut text = String::new(alloc);
-    for place in 0..PARTITIONS {
-        let owner = random.next() % u64::from(NODES) + 1;
-        if place > 0 {
-            text.push(' ').ok()?;
-        }
-        write!(text, "{owner}").ok()?;
+    if write_owners(&mut text, random) {
+        Table::read_in(alloc, setup, text.trim_start().as_bytes()).ok()
+    } else {
+        None
     }
-    Table::read_in(alloc, setup, text.as_bytes()).ok()
+}
+
+// Random owners, each behind a space. Whether there was memory for them.
+fn write_owners(text: &mut String, random: &mut Random) -> bool {
+    for _ in 0..PARTITIONS {
+        let owner = random.next() % u64::from(NODES) + 1;
+        if write!(text, " {owner}").is_err() {
+            return false;
+        }
+    }
+    true
 }

@@ -1,21 +1,21 @@
 ghost use Rattle.std.specs.Prelude.{◌≡◌, ◌≤◌};
 ghost use Rattle.bully_steps.specs.Procedure.{state_of};
 
-use crate::turns::publish;
+use crate::hand::{Hand, is_passed};
 use bully_base::{Node, Setup};
-use bully_group::{Group, Locked, Naming, Pass, Seat, StepFault};
+use bully_group::{Group, Locked, Naming, StepFault};
 use bully_steps::{Choice, Driver, Procedure};
 use bully_world::Event;
 use std::alloc::Global;
 use std::marker::Model;
 use std::sync::{MutexGuard, Wait};
 
-/// A node that takes its turns: its seat, its pass and the procedure that it holds, whose setup is the group's.
+/// A node that takes its turns: its hand, and the procedure that it holds, whose setup is the group's.
 #[derive(Drop)]
 pub struct Player<L: Naming> {
+    alloc: Global,
     node: Node,
-    seat: Seat,
-    pass: Pass<L>,
+    hand: Hand<L>,
     procedure: Procedure,
 }
 
@@ -33,68 +33,63 @@ impl<L: Naming> Model for Player<L> {
 
 impl<L: Naming> Player<L> {
     /// The node's player before any turn. The node is at most the setup's last.
-    pub fn new(setup: &Setup, node: Node, seat: Seat, pass: Pass<L>) -> Player<L>
+    pub fn new(alloc: Global, setup: &Setup, node: Node, hand: Hand<L>) -> Player<L>
         requires setup { setup.now ≡ L.setup }
         requires node { node ≤ setup.now.nodes }
     {
         Player {
+            alloc,
             node,
-            seat,
-            pass,
+            hand,
             procedure: Procedure::idle_in(setup, node, 0),
         }
     }
 
+    /// What it takes its turns with.
+    pub fn hand(&self) -> &Hand<L> {
+        &self.hand
+    }
+
     /// The node's turn in this round, in one hold of the lock: it serves, or else does what it chooses. What the world
-    /// refuses, as a full history, is passed over. None where the turn can't be taken.
-    pub fn turn<R: Wait>(
-        &mut self,
-        rt: &R,
-        alloc: Global,
-        group: &Group<L>,
-        round: u32,
-    ) -> Option<()> {
-        match Driver::choose(round, &self.procedure) {
-            Choice::Check => self.serve_or_step(rt, group, &Event::Check(self.node)),
-            Choice::Timeout => self.serve_or_step(rt, group, &Event::Timeout(self.node)),
-            Choice::Proceed => self.serve_or_proceed(rt, alloc, group),
-        }
-    }
-
-    /// How many entries are its own.
-    pub fn entries(&self) -> u64 {
-        self.pass.amount()
-    }
-
-    /// The group's history is shown to its observers.
-    pub fn publish<R: Wait>(&self, rt: &R, group: &Group<L>) -> Option<()> {
-        publish(rt, group, &self.seat)
-    }
-
-    // It serves, or else takes this event.
-    fn serve_or_step<R: Wait>(&mut self, rt: &R, group: &Group<L>, event: &Event) -> Option<()> {
+    /// refuses, as a full history, is passed over. Whether the turn could be taken.
+    pub fn turn<R: Wait>(&mut self, rt: &R, group: &Group<L>, round: u32) -> bool {
+        let choice = Driver::choose(round, &self.procedure);
         let mut guard = group.locked.lock(rt);
-        let stepped = match guard.serve(&mut self.seat, &mut self.pass) {
-            Ok(true) => Ok(()),
-            Ok(false) => guard.step(&mut self.seat, event, &mut self.pass),
-            Err(fault) => Err(fault),
-        };
+        let done = self.serve_or_do(&mut *guard, choice);
         MutexGuard::unlock(guard);
-        match stepped {
-            Ok(()) | Err(StepFault::Refused(_)) => Some(()),
-            Err(_) => None,
+        is_passed(done)
+    }
+
+    // It serves, or else does what it chose.
+    fn serve_or_do(&mut self, locked: &mut Locked<L>, choice: Choice) -> Result<(), StepFault> {
+        match choice {
+            Choice::Check => self.serve_or_step(locked, true),
+            Choice::Timeout => self.serve_or_step(locked, false),
+            Choice::Proceed => self.serve_or_proceed(locked),
         }
+    }
+
+    // It serves, or else checks, or has a timeout.
+    fn serve_or_step(&mut self, locked: &mut Locked<L>, checks: bool) -> Result<(), StepFault> {
+        let Hand { seat, pass } = &mut self.hand;
+        if locked.serve(seat, pass)? {
+            return Ok(());
+        }
+        let event = if checks {
+            Event::Check(self.node)
+        } else {
+            Event::Timeout(self.node)
+        };
+        locked.step(seat, &event, pass)
     }
 
     // It serves, or else its procedure goes on by the turn rule, with a table where it is Planning.
-    fn serve_or_proceed<R: Wait>(&mut self, rt: &R, alloc: Global, group: &Group<L>) -> Option<()> {
-        let mut guard = group.locked.lock(rt);
-        prepare(alloc, &*guard, &mut self.procedure);
-        let turn = guard.serve_or_turn(&mut self.seat, &mut self.procedure, &mut self.pass);
-        MutexGuard::unlock(guard);
-        match turn {
-            Ok(_) | Err(StepFault::Refused(_)) => Some(()),
-            Err(_) => None,
+    fn serve_or_proceed(&mut self, locked: &mut Locked<L>) -> Result<(), StepFault> {
+        prepare(self.alloc, locked, &mut self.procedure);
+        let Hand { seat, pass } = &mut self.hand;
+        match locked.serve_or_turn(seat, &mut self.procedure, pass) {
+            Ok(_) => Ok(()),
+            Err(fault) => Err(fault),
         }
     }
 }

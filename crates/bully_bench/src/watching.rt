@@ -1,17 +1,19 @@
 ghost use Rattle.std.specs.Prelude.{◌≡◌, ◌+◌, ◌≤◌, [], Some};
 
+use crate::hand::Hand;
+use crate::lines::Lines;
 use crate::player::Player;
 use crate::random::Random;
-use crate::turns::{Team, joined, players_of, step};
+use crate::team::Team;
+use crate::turns::{joined, with_owners};
 use bully_agree::View;
 use bully_base::{EVENTS_MAX, Node, Setup};
-use bully_group::{Group, Naming, Pass, Seat};
+use bully_group::{Group, Naming};
 use bully_watch::{Observer, Publisher};
-use bully_world::Event;
 use std::alloc::Global;
 use std::marker::Brand;
 use std::sync::Wait;
-use std::sync::atomic::{AtomicBool, AtomicU64, Ordering};
+use std::sync::atomic::{AtomicU64, Ordering};
 use std::sync::ledger::Blank;
 use std::thread;
 use std::thread::Threads;
@@ -40,20 +42,21 @@ pub enum Watching {
     Threads(u32),
 }
 
-/// What came of it.
-#[derive(Clone, Copy, Default)]
-pub struct Watched {
-    /// How many looks there were.
-    pub looks: u64,
-    /// How many publishes there were beside them, by a thread that only publishes.
-    pub publishes: u64,
-    /// How many entries the history has in the end.
-    pub entries: usize,
-    /// How many of them were seen at most.
-    pub seen: u32,
-    /// A number that all of the last view makes.
-    pub made: u64,
+// What came of it.
+#[derive(Clone, Copy)]
+struct Watched {
+    looks: u64, // how many there were
+    publishes: u64, // how many there were beside them, by a thread that publishes after each turn
+    seen: u32, // how many entries were seen at most
+    made: u64, // a number that all of the last view makes
 }
+
+const NOTHING: Watched = Watched {
+    looks: 0,
+    publishes: 0,
+    seen: 0,
+    made: 0,
+};
 
 /// Opens a group with four partitions for each node and so many observers, and does this with it. None where an
 /// allocation fails, for numbers that no group has, and where a count that an observer sees falls.
@@ -63,7 +66,7 @@ pub fn watch_group<R: Threads + Wait + Sync>(
     nodes: u16,
     observers: u16,
     task: Watching,
-) -> Option<Watched> {
+) -> Option<Lines> {
     let partitions = nodes.checked_mul(4)?;
     let setup = Setup::new(nodes, partitions, EVENTS_MAX).ok()?;
     let parts = u64::from(setup.nodes()) + 1;
@@ -89,7 +92,7 @@ fn watched_by<L: Naming + Send + Sync, R: Threads + Wait + Sync>(
     observers: Vec<Observer>,
     blank: Blank,
     task: Watching,
-) -> Option<Watched>
+) -> Option<Lines>
     requires setup { (setup ≡ L.setup) × (publisher.publisher.setup ≡ setup) }
     requires publisher { L.publisher ≡ Some publisher.publisher }
     requires new { (publisher.shown ≡ []) × (publisher.taken ≡ []) }
@@ -98,25 +101,12 @@ fn watched_by<L: Naming + Send + Sync, R: Threads + Wait + Sync>(
 {
     match Group::<L>::open_watched(alloc, setup, publisher, blank) {
         Ok((group, seats, passes)) => {
-            let watched = match task {
-                Watching::Quiet(looks) => {
-                    let team = Team::new(alloc, &setup, seats, passes);
-                    look_quietly(rt, alloc, &group, team, observers, looks)
-                }
-                Watching::Publishing(looks) => {
-                    let team = Team::new(alloc, &setup, seats, passes);
-                    look_beside(rt, alloc, &group, team, observers, looks)
-                }
-                Watching::Threads(turns) => {
-                    let jobs = jobs_of(alloc, &setup, seats, passes);
-                    in_threads(rt, alloc, &group, jobs, observers, turns)
-                }
-            };
+            let team = Team::new(alloc, &setup, seats, passes);
+            let watched = watch(rt, alloc, &group, team, observers, task);
             let locked = group.close();
-            let entries = locked.history().len();
+            let entries = locked.history().len() as u64;
             locked.end(rt);
-            let watched = watched?;
-            Some(Watched { entries, ..watched })
+            lines_of(task, entries, watched)
         }
         Err((publisher, _, _)) => {
             publisher.end(rt);
@@ -125,185 +115,155 @@ fn watched_by<L: Naming + Send + Sync, R: Threads + Wait + Sync>(
     }
 }
 
-// Takes the first rounds of turns, and publishes them. The team.
-fn settled<L: Naming, R: Wait>(
-    rt: &R,
-    alloc: Global,
-    group: &Group<L>,
-    team: Option<Team<L>>,
-) -> Option<Team<L>> {
-    let mut team = team?;
-    for turn in 0..team.turns_in(ROUNDS) {
-        team.turn(rt, alloc, group, turn)?;
-    }
-    team.publish(rt, group)?;
-    Some(team)
-}
-
-// So many looks of one observer.
-fn look_quietly<L: Naming, R: Wait>(
-    rt: &R,
-    alloc: Global,
-    group: &Group<L>,
-    team: Option<Team<L>>,
-    observers: Vec<Observer>,
-    looks: u32,
-) -> Option<Watched> {
-    let _team = settled(rt, alloc, group, team)?;
-    let mut observers = observers;
-    look_often(observers.pop()?, looks)
-}
-
-// So many looks of one observer, beside a thread that takes turns and publishes after each.
-fn look_beside<L: Naming + Send + Sync, R: Threads + Wait + Sync>(
-    rt: &R,
-    alloc: Global,
-    group: &Group<L>,
-    team: Option<Team<L>>,
-    observers: Vec<Observer>,
-    looks: u32,
-) -> Option<Watched> {
-    let team = settled(rt, alloc, group, team)?;
-    let mut observers = observers;
-    let observer = observers.pop()?;
-    let stop = AtomicBool::new(false);
-    let (publishes, watched) = thread::join(
-        rt,
-        || publish_on(rt, alloc, group, team, &stop),
-        || {
-            let watched = look_often(observer, looks);
-            stop.store(true, Ordering::SeqCst);
-            watched
-        },
-    );
-    let publishes = publishes?;
+// The lines that tell what came of it, behind so many entries.
+fn lines_of(task: Watching, entries: u64, watched: Option<Watched>) -> Option<Lines> {
     let watched = watched?;
-    Some(Watched {
-        publishes,
-        ..watched
-    })
-}
-
-// Takes turns and publishes after each, until told to stop: how often it did.
-fn publish_on<L: Naming, R: Wait>(
-    rt: &R,
-    alloc: Global,
-    group: &Group<L>,
-    team: Team<L>,
-    stop: &AtomicBool,
-) -> Option<u64> {
-    let mut team = team;
-    let first = team.turns_in(ROUNDS);
-    for turn in first..u32::MAX {
-        if stop.load(Ordering::SeqCst) {
-            return Some(u64::from(turn - first));
-        }
-        team.turn(rt, alloc, group, turn)?;
-        team.publish(rt, group)?;
-    }
-    None
-}
-
-// So many looks, at least one. None where a count falls.
-fn look_often(observer: Observer, looks: u32) -> Option<Watched> {
-    let mut observer = observer;
-    let mut last = observer.look().ok()?;
-    for _ in 1..looks {
-        let view = observer.look().ok()?;
-        if view.events() < last.events() {
-            return None;
-        }
-        last = view;
-    }
-    Some(Watched {
-        looks: u64::from(looks),
-        seen: last.events(),
-        made: made_of(&last),
-        ..Watched::default()
-    })
-}
-
-// A number that all of the view makes.
-fn made_of(view: &View) -> u64 {
-    let mut made = u64::from(view.events());
-    for before in 0..view.nodes() {
-        made = made_with(made, view, before + 1);
-    }
-    made
-}
-
-// The number with what is shown of one node more.
-fn made_with(made: u64, view: &View, number: u16) -> u64
-    requires { number ≤ view.now.setup.nodes }
-{
-    let Some(node) = Node::new(number) else {
-        return made;
-    };
-    let made = joined(made, view.status(node) as u64);
-    let coordinator = view
-        .coordinator(node)
-        .map_or(0, |leader| u64::from(leader.number()));
-    let mut made = joined(made, coordinator);
-    if let Some(table) = view.task(node) {
-        for place in 0..table.len() {
-            made = joined(made, u64::from(table.owner(place).number()));
-        }
-    }
-    made
+    let looks = Some(("looks", watched.looks));
+    Some(Lines(match task {
+        Watching::Quiet(_) => [looks, Some(("made", watched.made)), None],
+        Watching::Publishing(_) => [looks, Some(("publishes", watched.publishes)), None],
+        Watching::Threads(_) => [
+            Some(("entries", entries)),
+            looks,
+            Some(("seen", u64::from(watched.seen))),
+        ],
+    }))
 }
 
 // What one thread of a group is for.
 #[derive(Drop)]
 enum Job<L: Naming> {
-    Play(Player<L>),
-    Operate(Seat, Pass<L>),
-    Look(Observer),
+    /// So many turns of a node.
+    Play(Player<L>, u32),
+    /// So many turns of the team's operator.
+    Operate(Team<L>, u32),
+    /// Turns of all of the team, until the others have ended.
+    Publish(Team<L>),
+    /// So many looks.
+    LookOften(Observer, u32),
+    /// Looks until the others have ended.
+    LookOn(Observer),
 }
 
-// A job for the operator, and one for each node.
-fn jobs_of<L: Naming>(
-    alloc: Global,
-    setup: &Setup,
-    seats: Vec<Seat>,
-    passes: Vec<Pass<L>>,
-) -> Option<Vec<Job<L>>>
-    requires { setup.now ≡ L.setup }
-{
-    let (mut seats, mut passes) = (seats, passes);
-    let players = players_of(alloc, setup, &mut seats, &mut passes)?;
-    let mut jobs = Vec::new(alloc);
-    jobs.push(Job::Operate(seats.pop()?, passes.pop()?)).ok()?;
-    for player in players {
-        jobs.push(Job::Play(player)).ok()?;
-    }
-    Some(jobs)
-}
-
-// Each job in a thread of its own, and one for each observer. The observers look until all others have ended.
-fn in_threads<L: Naming + Send + Sync, R: Threads + Wait + Sync>(
+// Does this with the group, by jobs in threads of their own.
+fn watch<L: Naming + Send + Sync, R: Threads + Wait + Sync>(
     rt: &R,
     alloc: Global,
     group: &Group<L>,
-    jobs: Option<Vec<Job<L>>>,
+    team: Option<Team<L>>,
     observers: Vec<Observer>,
-    turns: u32,
+    task: Watching,
 ) -> Option<Watched> {
-    let mut jobs = jobs?;
-    let left = AtomicU64::new(jobs.len() as u64);
-    for observer in observers {
-        jobs.push(Job::Look(observer)).ok()?;
+    let mut team = team?;
+    let mut observers = observers;
+    let mut jobs = Vec::new(alloc);
+    let are_added = add_jobs(rt, group, &mut team, &mut observers, &mut jobs, task);
+    if are_added && jobs.push(team_job(team, task)).is_ok() {
+        in_threads(rt, group, jobs, ending(task))
+    } else {
+        None
     }
-    let work = |job: Job<L>| -> Option<Watched> { work(rt, alloc, group, turns, &left, job) };
-    sum_of(thread::map_vec(rt, jobs, &work).ok()?)
 }
 
-// All looks, and the largest number of entries that was seen. None where one has none.
-fn sum_of(all: Vec<Option<Watched>>) -> Option<Watched> {
-    let mut sum = Watched::default();
+// The jobs that this task has beside that of the team. Whether they could be made.
+fn add_jobs<L: Naming, R: Wait>(
+    rt: &R,
+    group: &Group<L>,
+    team: &mut Team<L>,
+    observers: &mut Vec<Observer>,
+    jobs: &mut Vec<Job<L>>,
+    task: Watching,
+) -> bool {
+    match task {
+        Watching::Quiet(looks) | Watching::Publishing(looks) => {
+            settle(rt, group, team) && add_looks(jobs, observers, looks)
+        }
+        Watching::Threads(turns) => add_turns(jobs, team, turns) && add_lookers(jobs, observers),
+    }
+}
+
+// Takes the first rounds of turns, and publishes them.
+fn settle<L: Naming, R: Wait>(rt: &R, group: &Group<L>, team: &mut Team<L>) -> bool {
+    let turns = team.turns_in(ROUNDS);
+    team.take_turns(rt, group, turns) && team.operator.publish(rt, group)
+}
+
+// So many looks of one observer.
+fn add_looks<L: Naming>(jobs: &mut Vec<Job<L>>, observers: &mut Vec<Observer>, looks: u32) -> bool {
+    match observers.pop() {
+        Some(observer) => jobs.push(Job::LookOften(observer, looks)).is_ok(),
+        None => false,
+    }
+}
+
+// So many turns of each of the team's players.
+fn add_turns<L: Naming>(jobs: &mut Vec<Job<L>>, team: &mut Team<L>, turns: u32) -> bool {
+    for _ in 0..team.players.len() {
+        let Some(player) = team.players.pop() else {
+            return false;
+        };
+        if jobs.push(Job::Play(player, turns)).is_err() {
+            return false;
+        }
+    }
+    true
+}
+
+// A job for each observer, that looks on.
+fn add_lookers<L: Naming>(jobs: &mut Vec<Job<L>>, observers: &mut Vec<Observer>) -> bool {
+    for _ in 0..observers.len() {
+        let Some(observer) = observers.pop() else {
+            return false;
+        };
+        if jobs.push(Job::LookOn(observer)).is_err() {
+            return false;
+        }
+    }
+    true
+}
+
+// What the team is for, beside the other jobs of this task.
+fn team_job<L: Naming>(team: Team<L>, task: Watching) -> Job<L> {
+    match task {
+        Watching::Quiet(_) => Job::Operate(team, 0),
+        Watching::Publishing(_) => Job::Publish(team),
+        Watching::Threads(turns) => Job::Operate(team, turns),
+    }
+}
+
+// How many jobs of this task end by themselves.
+fn ending(task: Watching) -> u64 {
+    match task {
+        Watching::Quiet(_) => 2,
+        Watching::Publishing(_) => 1,
+        Watching::Threads(_) => u64::from(THREADS) + 1,
+    }
+}
+
+// Each job in a thread of its own. So many of them end by themselves, and the others behind these.
+fn in_threads<L: Naming + Send + Sync, R: Threads + Wait + Sync>(
+    rt: &R,
+    group: &Group<L>,
+    jobs: Vec<Job<L>>,
+    ending: u64,
+) -> Option<Watched> {
+    let left = AtomicU64::new(ending);
+    let work = |job: Job<L>| -> Option<Watched> { work(rt, group, &left, job) };
+    match thread::map_vec(rt, jobs, &work) {
+        Ok(all) => sum_of(&all),
+        Err(_) => None,
+    }
+}
+
+// All looks and publishes, the largest number of entries that was seen, and what the last views make. None where one has none.
+fn sum_of(all: &[Option<Watched>]) -> Option<Watched> {
+    let mut sum = NOTHING;
     for one in all {
-        let one = one?;
+        let one = (*one)?;
         sum.looks = sum.looks.wrapping_add(one.looks);
+        sum.publishes = sum.publishes.wrapping_add(one.publishes);
         sum.seen = sum.seen.max(one.seen);
+        sum.made = sum.made.wrapping_add(one.made);
     }
     Some(sum)
 }
@@ -311,87 +271,181 @@ fn sum_of(all: Vec<Option<Watched>>) -> Option<Watched> {
 // What one thread does.
 fn work<L: Naming, R: Wait>(
     rt: &R,
-    alloc: Global,
     group: &Group<L>,
-    turns: u32,
     left: &AtomicU64,
     job: Job<L>,
 ) -> Option<Watched> {
-    let ended = match job {
-        Job::Look(observer) => return look_on(observer, left),
-        Job::Play(player) => play(rt, alloc, group, player, turns),
-        Job::Operate(seat, pass) => operate(rt, group, seat, pass, turns),
-    };
-    left.fetch_sub(1, Ordering::SeqCst);
-    ended?;
-    Some(Watched::default())
+    match job {
+        Job::Play(player, turns) => {
+            let mut player = player;
+            ended(left, play(rt, group, &mut player, turns))
+        }
+        Job::Operate(team, turns) => {
+            let mut team = team;
+            ended(left, operate(rt, group, &mut team.operator, turns))
+        }
+        Job::Publish(team) => {
+            let mut team = team;
+            publish_on(rt, group, &mut team, left)
+        }
+        Job::LookOften(observer, looks) => {
+            let mut observer = observer;
+            ended(left, look_often(&mut observer, looks))
+        }
+        Job::LookOn(observer) => {
+            let mut observer = observer;
+            look_on(&mut observer, left)
+        }
+    }
 }
 
-// Looks until none is left of those that take turns, and gives the processor away after each look, since a publish waits
+// One job fewer is left of those that end by themselves.
+fn ended(left: &AtomicU64, watched: Option<Watched>) -> Option<Watched> {
+    left.fetch_sub(1, Ordering::SeqCst);
+    watched
+}
+
+// Takes turns and publishes after each, until none is left of those that end by themselves: how often it did.
+fn publish_on<L: Naming, R: Wait>(
+    rt: &R,
+    group: &Group<L>,
+    team: &mut Team<L>,
+    left: &AtomicU64,
+) -> Option<Watched> {
+    let first = team.turns_in(ROUNDS);
+    for turn in first..u32::MAX {
+        if left.load(Ordering::SeqCst) == 0 {
+            let publishes = u64::from(turn - first);
+            return Some(Watched {
+                publishes,
+                ..NOTHING
+            });
+        }
+        if !team.turn(rt, group, turn) || !team.operator.publish(rt, group) {
+            return None;
+        }
+    }
+    None
+}
+
+// So many looks, at least one. None where a count falls.
+fn look_often(observer: &mut Observer, looks: u32) -> Option<Watched> {
+    let mut seen = 0;
+    for _ in 1..looks {
+        seen = look(observer, seen)?;
+    }
+    let last = observer.look().ok()?;
+    let watched = Watched {
+        looks: u64::from(looks),
+        seen: last.events(),
+        made: made_of(&last),
+        ..NOTHING
+    };
+    if watched.seen < seen {
+        None
+    } else {
+        Some(watched)
+    }
+}
+
+// One more look: how many entries it saw. None where they are fewer than before.
+fn look(observer: &mut Observer, before: u32) -> Option<u32> {
+    let seen = observer.look().ok()?.events();
+    if seen < before { None } else { Some(seen) }
+}
+
+// A number that all of the view makes.
+fn made_of(view: &View) -> u64 {
+    let mut made = u64::from(view.events());
+    for before in 0..view.nodes() {
+        made = with_node(made, view, before + 1);
+    }
+    made
+}
+
+// The number with what is shown of one node more.
+fn with_node(made: u64, view: &View, number: u16) -> u64
+    requires { number ≤ view.now.setup.nodes }
+{
+    let Some(node) = Node::new(number) else {
+        return made;
+    };
+    let made = joined(made, view.status(node) as u64);
+    let coordinator = match view.coordinator(node) {
+        Some(leader) => u64::from(leader.number()),
+        None => 0,
+    };
+    let made = joined(made, coordinator);
+    match view.task(node) {
+        Some(table) => with_owners(made, table),
+        None => made,
+    }
+}
+
+// Looks until none is left of those that end by themselves, and gives the processor away after each look, since a publish waits
 // for a look that has begun. None where a count falls.
-fn look_on(observer: Observer, left: &AtomicU64) -> Option<Watched> {
-    let mut observer = observer;
+fn look_on(observer: &mut Observer, left: &AtomicU64) -> Option<Watched> {
     let mut seen = 0;
     for looks in 0..u64::MAX {
         if left.load(Ordering::SeqCst) == 0 {
             return Some(Watched {
                 looks,
                 seen,
-                ..Watched::default()
+                ..NOTHING
             });
         }
-        let view = observer.look().ok()?;
-        if view.events() < seen {
-            return None;
-        }
-        seen = view.events();
+        seen = look(observer, seen)?;
         thread::yield_now();
     }
     None
 }
 
-// The turns of a node. One that adds no entry gives its processor away.
+// The turns of a node.
 fn play<L: Naming, R: Wait>(
     rt: &R,
-    alloc: Global,
     group: &Group<L>,
-    player: Player<L>,
+    player: &mut Player<L>,
     turns: u32,
-) -> Option<()> {
-    let mut player = player;
+) -> Option<Watched> {
     for before in 0..turns {
-        let entries = player.entries();
-        player.turn(rt, alloc, group, before + 1)?;
-        if (before + 1) % PUBLISHES == 0 {
-            player.publish(rt, group)?;
-        }
-        if player.entries() == entries {
-            thread::yield_now();
+        if !play_round(rt, group, player, before + 1) {
+            return None;
         }
     }
-    Some(())
+    Some(NOTHING)
+}
+
+// A node's turn in this round. One that adds no entry gives its processor away. Whether it could be taken.
+fn play_round<L: Naming, R: Wait>(
+    rt: &R,
+    group: &Group<L>,
+    player: &mut Player<L>,
+    round: u32,
+) -> bool {
+    let entries = player.hand().pass.amount();
+    let is_taken = player.turn(rt, group, round)
+        && (round % PUBLISHES != 0 || player.hand().publish(rt, group));
+    if player.hand().pass.amount() == entries {
+        thread::yield_now();
+    }
+    is_taken
 }
 
 // The turns of the operator: now and then a node crashes, else one recovers, where it is down.
 fn operate<L: Naming, R: Wait>(
     rt: &R,
     group: &Group<L>,
-    seat: Seat,
-    pass: Pass<L>,
+    operator: &mut Hand<L>,
     turns: u32,
-) -> Option<()> {
-    let (mut seat, mut pass) = (seat, pass);
+) -> Option<Watched> {
     let mut random = Random(1982);
     for before in 0..turns {
-        let number = u16::try_from(random.next() % u64::from(THREADS)).ok()?;
-        let node = Node::new(number.saturating_add(1))?;
-        let event = if (before + 1) % CRASHES == 0 {
-            Event::Crash(node)
-        } else {
-            Event::Recover(node)
-        };
-        step(rt, group, &mut seat, &event, &mut pass)?;
+        let number = (random.next() % u64::from(THREADS)) as u16 + 1;
+        let crashes = (before + 1) % CRASHES == 0;
+        if !operator.operate(rt, group, number, crashes) {
+            return None;
+        }
         thread::yield_now();
     }
-    Some(())
+    Some(NOTHING)
 }
