@@ -21,48 +21,41 @@ pub fn push_fault(text: &mut Draft, document: &Table, fault: ConfigFault) {
 // Appends what is wrong at a key: of the document, or of the first fault in which it is wrong.
 fn push_key_fault(text: &mut Draft, document: &Table, fault: ConfigFault, key: Key) {
     text.push_between("the key ", key, " ");
-    match number_of(document, fault, key) {
-        Some(number) => {
+    match faulty(document, fault, key) {
+        Some((number, table)) => {
             text.push_between("of fault ", number, " ");
-            push_found(text, table_at(items_at(document, Key::Fault), number), key);
+            push_found(text, table, key);
         }
-        None => push_found(text, Some(document), key),
+        None => push_found(text, document, key),
     }
     push_expected(text, document, key);
 }
 
-// Which of the faults breaks the rule of the refusal at this key, counted from 1; none where the key stands at the top.
-fn number_of(document: &Table, fault: ConfigFault, key: Key) -> Option<usize> {
+// Which of the faults breaks the rule of the refusal at this key, counted from 1, and its table; none where the key stands at
+// the top.
+fn faulty(document: &Table, fault: ConfigFault, key: Key) -> Option<(usize, &Table)> {
     if !matches!(key, Key::At | Key::Node | Key::Kind) {
         return None;
     }
     for (place, item) in items_at(document, Key::Fault).iter().enumerate() {
-        if breaks(document, item, fault) {
-            return Some(place + 1);
+        if let Some(table) = breaking(document, item, fault) {
+            return Some((place + 1, table));
         }
     }
     None
 }
 
-// Whether the item breaks the rule of the refusal.
-fn breaks(document: &Table, item: &Value, fault: ConfigFault) -> bool {
-    match item.as_table() {
-        Some(table) => key_in_fault(document, table, fault).is_some(),
-        None => false,
+// The item's table, where it breaks the rule of the refusal.
+fn breaking<'a>(document: &Table, item: &'a Value, fault: ConfigFault) -> Option<&'a Table> {
+    let table = item.as_table()?;
+    if key_in_fault(document, table, fault).is_none() {
+        return None;
     }
-}
-
-// The table of this number among the items, counted from 1.
-fn table_at(items: &[Value], number: usize) -> Option<&Table> {
-    let item = items.get(number.saturating_sub(1))?;
-    item.as_table()
+    Some(table)
 }
 
 // Appends what stands at the key of the table.
-fn push_found(text: &mut Draft, table: Option<&Table>, key: Key) {
-    let Some(table) = table else {
-        return;
-    };
+fn push_found(text: &mut Draft, table: &Table, key: Key) {
     match value_at(table, key) {
         Some(value) => {
             push_value(text, value);

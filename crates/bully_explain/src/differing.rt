@@ -5,7 +5,7 @@ use crate::sentences::push_no_node;
 use crate::sides::{push_heads, push_nodes, push_sets, push_tasks, push_words};
 use bully_account::{NodeSheet, Shown};
 use bully_base::{Node, Setup};
-use bully_calls::{Answer, Call};
+use bully_calls::Call;
 use bully_rows::{Claim, Detail, DetailedEvent, WholeClaim, answer_word, call_word, status_word};
 use bully_table::Table;
 use bully_trace::said_of;
@@ -97,22 +97,18 @@ fn push_calls(text: &mut Draft, told: Call, shown: &Option<DetailedEvent>) {
     push_nodes(text, "callee", Some(told.callee), callee);
 }
 
-// Appends the answer or the outcome that is told and the one that the group has, where the event has one.
+// Appends the answer or the outcome that is told and the one that the group has, where the event has one; a dash for none.
 fn push_answers(text: &mut Draft, told: &Detail, shown: &Option<DetailedEvent>) {
-    match told {
-        Detail::Run(_, answer) => push_answer(text, "answer", *answer, shown),
-        Detail::Return(_, answer) => push_answer(text, "outcome", *answer, shown),
-        Detail::Start(_) | Detail::Lose(_) | Detail::Drop(_) => {}
-    }
-}
-
-// Appends the line of an answer or an outcome, of this name; a dash for none.
-fn push_answer(text: &mut Draft, part: &str, told: Answer, shown: &Option<DetailedEvent>) {
+    let part = match told {
+        Detail::Run(..) => "answer",
+        Detail::Return(..) => "outcome",
+        Detail::Start(_) | Detail::Lose(_) | Detail::Drop(_) => return,
+    };
     let shown = match shown {
         Some(event) => answer_text(&event.detail),
         None => "-",
     };
-    push_words(text, part, answer_word(told), shown);
+    push_words(text, part, answer_text(told), shown);
 }
 
 // What is answered or brought, or a dash.
