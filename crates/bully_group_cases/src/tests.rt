@@ -8,81 +8,82 @@ mod scenes;
 mod scripts;
 mod two_groups;
 
-use asks::tried;
+use asks::{Case, tried};
 use bully_base::{Setup, Status};
 use bully_watch::{OpenFault, Publisher};
 use held::Way;
-use observers::watched;
 use races::counts_of_two_threads;
 use scenes::SCENES;
 use scripts::CASES;
 use std::alloc::Global;
+use std::process::Abort;
 use std::sync::Wait;
-use two_groups::{DEALS, dealt};
+use two_groups::DEALS;
 
-/// A group is called bare, or through its lock.
-const WAYS: [Way; 2] = [Way::Bare, Way::Shared];
+// Tries each case. A group is called bare, and through its lock.
+fn try_all<R: Abort + Wait>(rt: &R, alloc: Global, cases: &[Case]) {
+    for case in cases {
+        let told = case.told;
+        let is_told = tried(rt, alloc, Way::Bare, case) && tried(rt, alloc, Way::Shared, case);
+        assert!(rt; is_told, "{told}");
+    }
+}
 
 #[test]
 fn groups_that_nobody_watches(rt: HostRuntime) {
-    for case in CASES.iter() {
-        for way in WAYS.iter() {
-            let told = case.told;
-            assert!(rt; tried(&rt, rt.alloc(), *way, case), "{told}");
-        }
-    }
+    try_all(&rt, rt.alloc(), CASES);
 }
 
 #[test]
 fn watched_groups(rt: HostRuntime) {
-    for scene in SCENES.iter() {
-        for way in WAYS.iter() {
-            let told = scene.told;
-            assert!(rt; watched(&rt, rt.alloc(), *way, scene), "{told}");
-        }
-    }
+    try_all(&rt, rt.alloc(), SCENES);
 }
 
 #[test]
 fn seats_of_other_groups(rt: HostRuntime) {
-    for deal in DEALS.iter() {
-        for way in WAYS.iter() {
-            let told = deal.told;
-            assert!(rt; dealt(&rt, rt.alloc(), *way, deal), "{told}");
-        }
-    }
+    try_all(&rt, rt.alloc(), DEALS);
 }
 
 // One thread steps and publishes, and another looks on.
 #[test]
 fn counts_never_fall(rt: HostRuntime) {
-    let counts = counts_of_two_threads(&rt, rt.alloc());
-    assert_eq!(rt; counts, Some((true, Some((100, Status::Down)))));
+    let seen = counts_of_two_threads(&rt, rt.alloc());
+    assert!(rt; matches!(seen, Some((100, Status::Down))));
 }
 
-// How many observers there are, or why none.
-fn observers_of<R: Wait>(rt: &R, alloc: Global, count: u16) -> Option<Result<usize, OpenFault>> {
-    let setup = Setup::new(1, 2, 10).ok()?;
+// How many observers a publisher is opened with, or why with none.
+fn observers_of<R: Wait>(
+    rt: &R,
+    alloc: Global,
+    setup: Setup,
+    count: u16,
+) -> Result<usize, OpenFault> {
     match Publisher::open(rt, alloc, setup, count) {
         Ok((publisher, observers)) => {
             publisher.end(rt);
-            Some(Ok(observers.len()))
+            let count = observers.len();
+            drop(observers);
+            Ok(count)
         }
-        Err(fault) => Some(Err(fault)),
+        Err(fault) => Err(fault),
     }
 }
 
 /// So many are asked for, and so many there are, or why none.
-const OBSERVER_COUNTS: [(u16, Option<Result<usize, OpenFault>>); 4] = [
-    (0, Some(Err(OpenFault::BadObservers))),
-    (1, Some(Ok(1))),
-    (8, Some(Ok(8))),
-    (9, Some(Err(OpenFault::BadObservers))),
+const OBSERVER_COUNTS: [(u16, Result<usize, OpenFault>); 4] = [
+    (0, Err(OpenFault::BadObservers)),
+    (1, Ok(1)),
+    (8, Ok(8)),
+    (9, Err(OpenFault::BadObservers)),
 ];
 
 #[test]
 fn a_publisher_has_1_to_8_observers(rt: HostRuntime) {
+    let setup = Setup::new(1, 2, 10).expect(&rt, "a setup");
     for (count, opened) in OBSERVER_COUNTS.iter() {
-        assert!(rt; observers_of(&rt, rt.alloc(), *count) == *opened, "{count}");
+        assert!(rt;
+            observers_of(&rt, rt.alloc(), setup, *count) == *opened,
+            "{count}"
+        );
     }
 }

@@ -1,17 +1,22 @@
-//! What is asked of a group that nobody watches, ask by ask, what is told of each, and the group's end.
+//! What is asked of a group and of its observers, ask by ask, what is told of each, and the group's end.
 
-ghost use Rattle.std.specs.Prelude.{◌≡◌, ◌+◌, None};
+ghost use Rattle.std.specs.Prelude.{◌≡◌, ◌+◌, [], IfSome};
+ghost use Rattle.bully_group.specs.Locked.{name_of};
 ghost use Rattle.bully_steps.specs.Procedure.{state_of};
 
-use super::held::{Held, Opened, Part, Way, finished, open, without_one};
+use super::held::{Held, Opened, Way, ended, open};
+use super::observers::{Place, Watch, Watchers, Which, publisher_for, rounds};
+use super::two_groups::{Other, used_as_told};
 use bully_agree::View;
 use bully_base::{Node, Setup, Status};
 use bully_calls::Answer;
 use bully_group::{Closed, Locked, Naming, NodeTurn, Pass, Seat, StepFault, Turn};
 use bully_steps::Procedure;
 use bully_table::Table;
+use bully_watch::{Publisher, Told};
 use bully_world::Event;
 use std::alloc::Global;
+use std::fmt::Debug;
 use std::marker::Brand;
 use std::mem;
 use std::sync::ledger::Blank;
@@ -33,52 +38,129 @@ pub enum Deed {
     Plan(&'static str),
 }
 
-/// What is asked with the seat and the pass of an actor. One procedure is held, for turns.
+/// A call with the seat and the pass of an actor.
+#[derive(Clone, Copy)]
+pub enum Call {
+    /// An event of this node.
+    Step(Deed, u16),
+    Serve,
+    /// A turn of the procedure that is held.
+    Turn,
+    /// The same with the procedure where it lies.
+    TurnInPlace,
+    /// A serve, or else a turn, in one call.
+    NodeTurn,
+    View,
+    /// A publish, and what is told of it is kept at this place.
+    Publish(Place),
+    /// So many publishes. All that is told is kept.
+    PublishMany(u32),
+    /// Node 1 recovers and crashes so often. Each is published, and what is told is dropped. It is told of each round
+    /// in which a step or a publish is refused.
+    Rounds(u32),
+    /// How many entries the seat has.
+    Entries,
+}
+
 #[derive(Clone, Copy)]
 pub enum Ask {
-    /// An event of this node.
-    Step(usize, Deed, u16),
-    Serve(usize),
-    Turn(usize),
-    /// The same with the procedure where it lies.
-    TurnInPlace(usize),
-    /// A serve, or else a turn, in one call.
-    NodeTurn(usize),
-    View(usize),
-    Publish(usize),
-    /// How many entries the seat has.
-    Entries(usize),
+    /// This actor's call.
+    By(usize, Call),
     /// The procedure that is held is prepared, without an old table.
     Prepare,
+    /// What is done by the observers.
+    Watch(Watch),
 }
 
-impl Ask {
-    // With whose seat it is asked. The operator's stands for that of what needs none.
-    fn actor(self) -> usize {
-        match self {
-            Ask::Step(actor, _, _) => actor,
-            Ask::Serve(actor) | Ask::View(actor) | Ask::Publish(actor) | Ask::Entries(actor) => {
-                actor
-            }
-            Ask::Turn(actor) | Ask::TurnInPlace(actor) | Ask::NodeTurn(actor) => actor,
-            Ask::Prepare => 0,
-        }
-    }
-}
-
-/// A group, whose procedure is held, and what is asked. A line is told of each ask, and at the end one of a finish
-/// without the last seat and one without the last pass. Then the group is finished: the history begins with these
-/// entries and has so many, and the node has this status.
+/// A group, watched by two observers or by nobody, whose procedure is held, and what is asked. Then the seats may be used
+/// on another group. A line is told of each ask, and then one of a finish without the last seat, one without the last pass,
+/// and one of the finish with all of them. Of a finished group a line more tells the view of the node; and where it is
+/// watched, there is a look of the first observer then, and one once it is ended. The history begins with these entries.
+#[derive(Clone, Copy)]
 pub struct Case {
     pub nodes: u16,
     pub partitions: u16,
     pub events_max: u32,
+    pub is_watched: bool,
     pub node: u16,
     pub asks: &'static [Ask],
+    pub other: Option<Other>,
     pub told: &'static str,
     pub history: &'static [(u16, Deed, u16, Answer)],
-    pub entries: usize,
-    pub status: Status,
+}
+
+/// What stands beside a group: the procedure that is held for turns, its observers if it is watched, and what is told.
+#[derive(Drop)]
+pub struct Beside {
+    pub alloc: Global,
+    pub procedure: Procedure,
+    pub watchers: Option<Watchers>,
+    pub text: String,
+}
+
+impl Beside {
+    pub fn tells(&self, told: &str) -> bool {
+        self.text.as_str() == told
+    }
+
+    // Does it by the observers, if there are any.
+    fn watch(&mut self, watch: Watch)
+        ensures procedure { self.new.procedure ≡ self.old.procedure }
+        ensures watchers { self.new.watchers ≡ self.old.watchers }
+    {
+        if let Some(watchers) = &mut self.watchers {
+            watchers.watch(watch, &mut self.text);
+        }
+    }
+
+    fn keep(&mut self, place: Place, told: Told)
+        requires { IfSome self.old.watchers (λ w. told.publisher ≡ w) }
+        ensures procedure { self.new.procedure ≡ self.old.procedure }
+        ensures watchers { self.new.watchers ≡ self.old.watchers }
+    {
+        if let Some(watchers) = &mut self.watchers {
+            watchers.keep(place, told);
+        }
+    }
+}
+
+/// What stands beside a group with this setup, whose procedure is this node's, and the publisher of a watched one.
+pub fn beside_for<R: Wait>(
+    rt: &R,
+    alloc: Global,
+    setup: Setup,
+    number: u16,
+    is_watched: bool,
+) -> Option<(Option<Publisher>, Beside)>
+    ensures setup { IfSome result (λ r. (state_of r.1.procedure).setup ≡ setup) }
+    ensures publisher { IfSome result (λ r. name_of r.0 ≡ r.1.watchers) }
+    ensures new { IfSome result (λ r. IfSome r.0 (λ p. (p.publisher.setup ≡ setup) × (p.shown ≡ []) × (p.taken ≡ []))) }
+{
+    let procedure = procedure_of(setup, number)?;
+    let (publisher, watchers) = if is_watched {
+        let (publisher, watchers) = publisher_for(rt, alloc, setup)?;
+        (Some(publisher), Some(watchers))
+    } else {
+        (None, None)
+    };
+    let beside = Beside {
+        alloc,
+        procedure,
+        watchers,
+        text: String::new(alloc),
+    };
+    Some((publisher, beside))
+}
+
+// The idle procedure of this node, if the setup has it.
+fn procedure_of(setup: Setup, number: u16) -> Option<Procedure>
+    ensures { IfSome result (λ procedure. (state_of procedure).setup ≡ setup) }
+{
+    let node = Node::new(number)?;
+    if setup.nodes() < number {
+        return None;
+    }
+    Some(Procedure::idle(setup, node, 0))
 }
 
 // The event of a deed.
@@ -99,185 +181,157 @@ fn event_of(alloc: Global, setup: &Setup, deed: Deed, number: u16) -> Option<Eve
     })
 }
 
-/// Whether what has to be told of the case is told, and it ends as it has to.
+/// Whether what has to be told of the case is told, and its history is as it has to be.
 pub fn tried<R: Wait>(rt: &R, alloc: Global, way: Way, case: &Case) -> bool {
     let Ok(setup) = Setup::new(case.nodes, case.partitions, case.events_max) else {
         return false;
     };
-    let blank = Blank::new(u64::from(setup.nodes()) + 1);
-    tried_by::<Brand, R>(rt, alloc, way, setup, blank, case)
+    match beside_for(rt, alloc, setup, case.node, case.is_watched) {
+        Some((publisher, mut beside)) => {
+            let blank = Blank::new(u64::from(setup.nodes()) + 1);
+            let is_told = tried_by::<Brand, R>(rt, way, setup, publisher, &mut beside, blank, case);
+            drop(beside);
+            is_told
+        }
+        None => false,
+    }
 }
 
 fn tried_by<L: Naming, R: Wait>(
     rt: &R,
-    alloc: Global,
     way: Way,
     setup: Setup,
+    publisher: Option<Publisher>,
+    beside: &mut Beside,
     blank: Blank,
     case: &Case,
 ) -> bool
-    requires setup { setup ≡ L.setup }
-    requires unwatched { L.publisher ≡ None }
+    requires setup { (setup ≡ L.setup) × ((state_of beside.old.procedure).setup ≡ L.setup) }
+    requires publisher { (name_of publisher ≡ L.publisher) × (beside.old.watchers ≡ L.publisher) }
+    requires new { IfSome publisher (λ p. (p.publisher.setup ≡ setup) × (p.shown ≡ []) × (p.taken ≡ [])) }
     requires name { blank.name ≡ L.name }
     requires parts { (blank.parts ≡ L.parts) × (L.parts ≡ L.setup.nodes + 1) }
 {
-    match open::<L>(alloc, way, setup, blank) {
-        Some(opened) => goes_as_told(rt, alloc, opened, setup, case),
+    match open::<L, R>(rt, beside.alloc, way, setup, publisher, blank) {
+        Some(opened) => goes_as_told(rt, way, opened, beside, case),
         None => false,
     }
 }
 
 fn goes_as_told<L: Naming, R: Wait>(
     rt: &R,
-    alloc: Global,
+    way: Way,
     opened: Opened<L>,
-    setup: Setup,
+    beside: &mut Beside,
     case: &Case,
 ) -> bool
-    requires { setup ≡ L.setup }
+    requires setup { (state_of beside.old.procedure).setup ≡ L.setup }
+    requires watchers { beside.old.watchers ≡ L.publisher }
 {
     let mut opened = opened;
-    let mut text = String::new(alloc);
-    ask_all(
-        rt,
-        alloc,
-        &mut opened,
-        setup,
-        case.node,
-        case.asks,
-        &mut text,
-    );
-    let ends = ends_as(rt, alloc, opened, case, &mut text);
-    ends && text.as_str() == case.told
+    ask_all(rt, &mut opened, beside, case.asks);
+    let is_used = used_as_told(rt, beside.alloc, way, &mut opened.seats, &case.other);
+    let is_ended = ends_as(rt, opened, beside, case.history);
+    is_used && is_ended && beside.tells(case.told)
 }
 
-/// Asks all of it, one ask after the other. The procedure that is held is this node's. Nothing is asked where the setup
-/// has no such node.
+/// Asks all of it, one ask after the other.
 pub fn ask_all<L: Naming, R: Wait>(
     rt: &R,
-    alloc: Global,
     opened: &mut Opened<L>,
-    setup: Setup,
-    number: u16,
+    beside: &mut Beside,
     asks: &[Ask],
-    text: &mut String,
 )
-    requires { setup ≡ L.setup }
+    requires setup { (state_of beside.old.procedure).setup ≡ L.setup }
+    requires watchers { beside.old.watchers ≡ L.publisher }
+    ensures setup { (state_of beside.new.procedure).setup ≡ L.setup }
+    ensures watchers { beside.new.watchers ≡ L.publisher }
 {
-    let Some(node) = Node::new(number) else {
-        return;
-    };
-    if setup.nodes() < node.number() {
-        return;
-    }
-    let mut procedure = Procedure::idle(setup, node, 0);
     for each in asks {
-        perform(rt, alloc, opened, &mut procedure, *each, text);
+        match *each {
+            Ask::By(actor, call) => call_by(rt, opened, beside, actor, call),
+            Ask::Prepare => prepare(beside),
+            Ask::Watch(watch) => beside.watch(watch),
+        }
     }
 }
 
-// One ask, with the seat and the pass of its actor. Nothing is told where there are none.
-fn perform<L: Naming, R: Wait>(
+// A call with the actor's seat and pass, bare or in one hold of the lock. Nothing is told where there are none.
+fn call_by<L: Naming, R: Wait>(
     rt: &R,
-    alloc: Global,
     opened: &mut Opened<L>,
-    procedure: &mut Procedure,
-    asked: Ask,
-    text: &mut String,
+    beside: &mut Beside,
+    actor: usize,
+    call: Call,
 )
-    requires { (state_of procedure.old).setup ≡ L.setup }
-    ensures { (state_of procedure.new).setup ≡ L.setup }
+    requires setup { (state_of beside.old.procedure).setup ≡ L.setup }
+    requires watchers { beside.old.watchers ≡ L.publisher }
+    ensures setup { (state_of beside.new.procedure).setup ≡ L.setup }
+    ensures watchers { beside.new.watchers ≡ L.publisher }
 {
-    let actor = asked.actor();
-    let (Some(seat), Some(pass)) = (opened.seats.get_mut(actor), opened.passes.get_mut(actor))
-    else {
+    let Some(seat) = opened.seats.get_mut(actor) else {
         return;
     };
-    ask_held(
-        rt,
-        alloc,
-        &mut opened.held,
-        seat,
-        procedure,
-        pass,
-        asked,
-        text,
-    );
-}
-
-// The same, bare or in one hold of the lock.
-fn ask_held<L: Naming, R: Wait>(
-    rt: &R,
-    alloc: Global,
-    held: &mut Held<L>,
-    seat: &mut Seat,
-    procedure: &mut Procedure,
-    pass: &mut Pass<L>,
-    asked: Ask,
-    text: &mut String,
-)
-    requires { (state_of procedure.old).setup ≡ L.setup }
-    ensures { (state_of procedure.new).setup ≡ L.setup }
-{
-    match held {
-        Held::Bare(locked) => ask_locked(rt, alloc, locked, seat, procedure, pass, asked, text),
+    let Some(pass) = opened.passes.get_mut(actor) else {
+        return;
+    };
+    match &mut opened.held {
+        Held::Bare(locked) => call_locked(rt, locked, seat, pass, beside, call),
         Held::Shared(group) => {
             let mut guard = group.locked.lock(rt);
-            ask_locked(rt, alloc, &mut guard, seat, procedure, pass, asked, text);
+            call_locked(rt, &mut guard, seat, pass, beside, call);
             MutexGuard::unlock(guard);
         }
     }
 }
 
-fn ask_locked<L: Naming, R: Wait>(
+fn call_locked<L: Naming, R: Wait>(
     rt: &R,
-    alloc: Global,
     locked: &mut Locked<L>,
     seat: &mut Seat,
-    procedure: &mut Procedure,
     pass: &mut Pass<L>,
-    asked: Ask,
-    text: &mut String,
+    beside: &mut Beside,
+    call: Call,
 )
-    requires { (state_of procedure.old).setup ≡ L.setup }
-    ensures { (state_of procedure.new).setup ≡ L.setup }
+    requires setup { (state_of beside.old.procedure).setup ≡ L.setup }
+    requires watchers { beside.old.watchers ≡ L.publisher }
+    ensures setup { (state_of beside.new.procedure).setup ≡ L.setup }
+    ensures watchers { beside.new.watchers ≡ L.publisher }
 {
-    match asked {
-        Ask::Step(_, deed, number) => step_by(alloc, locked, seat, deed, number, pass, text),
-        Ask::Serve(_) => serve(locked, seat, pass, text),
-        Ask::View(_) => view(locked, seat, procedure.node().number(), text),
-        Ask::Publish(_) => publish(rt, locked, seat, text),
-        Ask::Entries(_) => tell_entries(seat, text),
-        Ask::Prepare => prepare(alloc, procedure, text),
-        _ => turn(locked, seat, procedure, pass, asked, text),
+    match call {
+        Call::Step(deed, number) => step(locked, seat, pass, beside, deed, number),
+        Call::Serve => serve(locked, seat, pass, &mut beside.text),
+        Call::View => view(
+            locked,
+            seat,
+            beside.procedure.node().number(),
+            &mut beside.text,
+        ),
+        Call::Publish(place) => publish(rt, locked, seat, beside, place),
+        Call::PublishMany(count) => publish_many(rt, locked, seat, beside, count),
+        Call::Rounds(count) => rounds(rt, locked, seat, pass, count, &mut beside.text),
+        Call::Entries => tell_entries(seat, &mut beside.text),
+        _ => turn(locked, seat, pass, beside, call),
     }
 }
 
-fn step_by<L: Naming>(
-    alloc: Global,
+fn step<L: Naming>(
     locked: &mut Locked<L>,
     seat: &mut Seat,
+    pass: &mut Pass<L>,
+    beside: &mut Beside,
     deed: Deed,
     number: u16,
-    pass: &mut Pass<L>,
-    text: &mut String,
-) {
-    let event = event_of(alloc, locked.setup(), deed, number);
-    if let Some(event) = event {
-        step(locked, seat, event, pass, text);
-    }
-}
-
-/// Tells of a step of the seat's actor.
-pub fn step<L: Naming>(
-    locked: &mut Locked<L>,
-    seat: &mut Seat,
-    event: Event,
-    pass: &mut Pass<L>,
-    text: &mut String,
-) {
+)
+    ensures procedure { beside.new.procedure ≡ beside.old.procedure }
+    ensures watchers { beside.new.watchers ≡ beside.old.watchers }
+{
+    let Some(event) = event_of(beside.alloc, locked.setup(), deed, number) else {
+        return;
+    };
     let answer = locked.step(seat, &event, pass);
-    let _ = writeln!(text, "{answer:?}");
+    drop(event);
+    let _ = writeln!(beside.text, "{answer:?}");
 }
 
 fn serve<L: Naming>(
@@ -290,18 +344,43 @@ fn serve<L: Naming>(
     let _ = writeln!(text, "{answer:?}");
 }
 
-/// Tells of the view with the seat how many events it has, and the status of the node; or why it isn't shown.
-pub fn view<L: Naming>(locked: &Locked<L>, seat: &Seat, number: u16, text: &mut String) {
-    match locked.view(seat) {
-        Ok(view) => tell_view(text, &view, number),
-        Err(fault) => drop(writeln!(text, "{fault:?}")),
-    }
+fn view<L: Naming>(locked: &Locked<L>, seat: &Seat, number: u16, text: &mut String) {
+    let seen = locked.view(seat);
+    tell_seen(text, &seen, number);
+    drop(seen);
 }
 
 // Nothing is told of a publish that succeeds.
-fn publish<L: Naming, R: Wait>(rt: &R, locked: &mut Locked<L>, seat: &Seat, text: &mut String) {
-    if let Err(fault) = locked.publish(rt, seat) {
-        let _ = writeln!(text, "{fault:?}");
+fn publish<L: Naming, R: Wait>(
+    rt: &R,
+    locked: &mut Locked<L>,
+    seat: &Seat,
+    beside: &mut Beside,
+    place: Place,
+)
+    requires { beside.old.watchers ≡ L.publisher }
+    ensures procedure { beside.new.procedure ≡ beside.old.procedure }
+    ensures watchers { beside.new.watchers ≡ beside.old.watchers }
+{
+    match locked.publish(rt, seat) {
+        Ok(told) => beside.keep(place, told),
+        Err(fault) => drop(writeln!(beside.text, "{fault:?}")),
+    }
+}
+
+fn publish_many<L: Naming, R: Wait>(
+    rt: &R,
+    locked: &mut Locked<L>,
+    seat: &Seat,
+    beside: &mut Beside,
+    count: u32,
+)
+    requires { beside.old.watchers ≡ L.publisher }
+    ensures procedure { beside.new.procedure ≡ beside.old.procedure }
+    ensures watchers { beside.new.watchers ≡ beside.old.watchers }
+{
+    for _each in 0..count {
+        publish(rt, locked, seat, beside, Place::Many);
     }
 }
 
@@ -310,11 +389,13 @@ fn tell_entries(seat: &Seat, text: &mut String) {
     let _ = writeln!(text, "{entries}");
 }
 
-fn prepare(alloc: Global, procedure: &mut Procedure, text: &mut String)
-    ensures { (state_of procedure.new).setup ≡ (state_of procedure.old).setup }
+fn prepare(beside: &mut Beside)
+    ensures setup { (state_of beside.new.procedure).setup ≡ (state_of beside.old.procedure).setup }
+    ensures watchers { beside.new.watchers ≡ beside.old.watchers }
 {
-    if procedure.prepare(alloc, None).is_ok() && procedure.table().is_some() {
-        let _ = writeln!(text, "prepared");
+    let procedure = &mut beside.procedure;
+    if procedure.prepare(beside.alloc, None).is_ok() && procedure.table().is_some() {
+        let _ = writeln!(beside.text, "prepared");
     }
 }
 
@@ -322,20 +403,21 @@ fn prepare(alloc: Global, procedure: &mut Procedure, text: &mut String)
 fn turn<L: Naming>(
     locked: &mut Locked<L>,
     seat: &mut Seat,
-    procedure: &mut Procedure,
     pass: &mut Pass<L>,
-    asked: Ask,
-    text: &mut String,
+    beside: &mut Beside,
+    call: Call,
 )
-    requires { (state_of procedure.old).setup ≡ L.setup }
-    ensures { (state_of procedure.new).setup ≡ L.setup }
+    requires { (state_of beside.old.procedure).setup ≡ L.setup }
+    ensures setup { (state_of beside.new.procedure).setup ≡ L.setup }
+    ensures watchers { beside.new.watchers ≡ beside.old.watchers }
 {
-    let answer = match asked {
-        Ask::TurnInPlace(_) => locked.turn_in_place(seat, procedure, pass),
-        Ask::NodeTurn(_) => locked.serve_or_turn(seat, procedure, pass),
+    let procedure = &mut beside.procedure;
+    let answer = match call {
+        Call::TurnInPlace => locked.turn_in_place(seat, procedure, pass),
+        Call::NodeTurn => locked.serve_or_turn(seat, procedure, pass),
         _ => turn_by_value(locked, seat, procedure, pass),
     };
-    tell_turn(text, answer, procedure);
+    tell_turn(&mut beside.text, answer, &beside.procedure);
 }
 
 fn turn_by_value<L: Naming>(
@@ -348,35 +430,22 @@ fn turn_by_value<L: Naming>(
     ensures { (state_of procedure.new).setup ≡ L.setup }
 {
     let idle = Procedure::idle_in(procedure.setup(), procedure.node(), 0);
-    let (back, answer) = turned(locked, seat, mem::replace(procedure, idle), pass);
-    *procedure = back;
-    answer
-}
-
-// The turn's answer, beside the procedure that it hands back.
-fn turned<L: Naming>(
-    locked: &mut Locked<L>,
-    seat: &mut Seat,
-    procedure: Procedure,
-    pass: &mut Pass<L>,
-) -> (Procedure, Result<NodeTurn, StepFault>)
-    requires { (state_of procedure).setup ≡ L.setup }
-    ensures { (state_of result.0).setup ≡ L.setup }
-{
-    match locked.turn(seat, procedure, pass) {
+    let (back, answer) = match locked.turn(seat, mem::replace(procedure, idle), pass) {
         Turn::Went(back) => (back, Ok(NodeTurn::Went)),
         Turn::Waiting(back) => (back, Ok(NodeTurn::Waiting)),
         Turn::Resynced(back) => (back, Ok(NodeTurn::Resynced)),
         Turn::Fault(back, fault) => (back, Err(fault)),
-    }
+    };
+    drop(mem::replace(procedure, back));
+    answer
 }
 
 fn tell_turn(text: &mut String, answer: Result<NodeTurn, StepFault>, procedure: &Procedure) {
     let _ = match answer {
         Ok(turn) => {
-            let (word, kind) = (word_of(turn), procedure.kind());
-            let (left, generation) = (left_by(procedure), procedure.generation());
-            writeln!(text, "{word} {kind:?}{left} {generation}")
+            let (kind, left) = (procedure.kind(), left_by(procedure));
+            let generation = procedure.generation();
+            writeln!(text, "{turn:?} {kind:?}{left} {generation}")
         }
         Err(fault) => writeln!(text, "{fault:?}"),
     };
@@ -391,65 +460,64 @@ fn left_by(procedure: &Procedure) -> &'static str {
     }
 }
 
-fn word_of(turn: NodeTurn) -> &'static str {
-    match turn {
-        NodeTurn::Served => "served",
-        NodeTurn::Went => "went",
-        NodeTurn::Waiting => "waits",
-        NodeTurn::Resynced => "resynced",
-    }
-}
-
-/// The status of this node, if it is shown.
-pub fn status_of(view: &View, number: u16) -> Option<Status> {
+/// How many events the view has, and the status of this node, if it is shown.
+pub fn seen_in(view: &View, number: u16) -> Option<(u32, Status)> {
     let node = Node::new(number)?;
-    if view.nodes() < node.number() {
+    if view.nodes() < number {
         return None;
     }
-    Some(view.status(node))
+    Some((view.events(), view.status(node)))
 }
 
-/// Tells how many events the view has, and the status of the node.
-pub fn tell_view(text: &mut String, view: &View, number: u16) {
-    let (events, status) = (view.events(), status_of(view, number));
-    // (where nothing can be told, a line is missing)
-    let _ = match status {
-        Some(status) => writeln!(text, "{events} {status:?}"),
-        None => writeln!(text, "no node {number}"),
-    };
-}
-
-// Tells of a finish without the last seat and of one without the last pass. Whether the finished group is as it has to be.
-fn ends_as<L: Naming, R: Wait>(
-    rt: &R,
-    alloc: Global,
-    opened: Opened<L>,
-    case: &Case,
-    text: &mut String,
-) -> bool {
-    match ended(rt, opened, text) {
-        Some(closed) => {
-            let ends = is_as_told(alloc, &closed, case);
-            closed.end(rt);
-            ends
-        }
-        None => false,
+/// Tells of the view that is seen, or why none is.
+pub fn tell_seen<F: Debug>(text: &mut String, seen: &Result<View, F>, number: u16) {
+    match seen {
+        Ok(view) => tell_view(text, view, number),
+        Err(fault) => drop(writeln!(text, "{fault:?}")),
     }
 }
 
-fn ended<L: Naming, R: Wait>(rt: &R, opened: Opened<L>, text: &mut String) -> Option<Closed> {
-    let opened = without_one(rt, opened, Part::Seat, text)?;
-    let opened = without_one(rt, opened, Part::Pass, text)?;
-    finished(rt, opened).ok()
+// Tells how many events the view has, and the status of the node, and nothing where it isn't shown.
+fn tell_view(text: &mut String, view: &View, number: u16) {
+    if let Some((events, status)) = seen_in(view, number) {
+        let _ = writeln!(text, "{events} {status:?}");
+    }
 }
 
-// Whether the finished group is as it has to be.
-fn is_as_told(alloc: Global, closed: &Closed, case: &Case) -> bool {
-    let mut is_same = closed.history().len() == case.entries;
-    for (place, wanted) in case.history.iter().enumerate() {
+/// Tells of the group's end. Whether the history begins with these entries; where it isn't finished, what is told says so.
+pub fn ends_as<L: Naming, R: Wait>(
+    rt: &R,
+    opened: Opened<L>,
+    beside: &mut Beside,
+    history: &[(u16, Deed, u16, Answer)],
+) -> bool {
+    match ended(rt, opened, &mut beside.text) {
+        Some(closed) => {
+            tell_closed(&closed, beside);
+            let begins = begins_with(beside.alloc, &closed, history);
+            closed.end(rt);
+            beside.watch(Watch::Look(Which::First));
+            begins
+        }
+        None => true,
+    }
+}
+
+// Tells of a finished group, and what is seen of it.
+fn tell_closed(closed: &Closed, beside: &mut Beside) {
+    let entries = closed.history().len();
+    let _ = writeln!(beside.text, "entries: {entries}");
+    let number = beside.procedure.node().number();
+    tell_view(&mut beside.text, closed.view(), number);
+    beside.watch(Watch::Look(Which::First));
+}
+
+fn begins_with(alloc: Global, closed: &Closed, history: &[(u16, Deed, u16, Answer)]) -> bool {
+    let mut is_same = true;
+    for (place, wanted) in history.iter().enumerate() {
         is_same = is_same && is_entry(alloc, closed, place, wanted);
     }
-    is_same && status_of(closed.view(), case.node) == Some(case.status)
+    is_same
 }
 
 // Whether the entry at this place is as it has to be.
@@ -462,10 +530,10 @@ fn is_entry(
     let Some(entry) = closed.history().get(place) else {
         return false;
     };
-    match event_of(alloc, &closed.setup(), wanted.1, wanted.2) {
-        Some(event) => {
-            entry.actor == wanted.0 && entry.answer == wanted.3 && entry.event.is_same(&event)
-        }
-        None => false,
-    }
+    let Some(event) = event_of(alloc, &closed.setup(), wanted.1, wanted.2) else {
+        return false;
+    };
+    let is_same = entry.event.is_same(&event);
+    drop(event);
+    is_same && entry.actor == wanted.0 && entry.answer == wanted.3
 }

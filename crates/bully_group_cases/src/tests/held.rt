@@ -1,9 +1,10 @@
 //! A group that is called without a lock, or each time through its lock.
 
-ghost use Rattle.std.specs.Prelude.{◌≡◌, ◌+◌, [], Some, None};
+ghost use Rattle.std.specs.Prelude.{◌≡◌, ◌+◌, [], IfSome, Some, None};
+ghost use Rattle.bully_group.specs.Locked.{name_of};
 
 use bully_base::Setup;
-use bully_group::{Closed, FinishFault, Group, Locked, Naming, Pass, Seat};
+use bully_group::{Closed, Group, Locked, Naming, Pass, Seat};
 use bully_watch::Publisher;
 use std::alloc::Global;
 use std::sync::ledger::Blank;
@@ -27,27 +28,33 @@ pub struct Opened<L: Naming> {
     pub passes: Vec<Pass<L>>,
 }
 
-impl<L: Naming> Opened<L> {
-    fn of(way: Way, locked: Locked<L>, seats: Vec<Seat>, passes: Vec<Pass<L>>) -> Opened<L> {
-        Opened {
-            held: Held::of(way, locked),
-            seats,
-            passes,
-        }
-    }
-
-    pub fn end<R: Wait>(self, rt: &R) {
-        let Opened {
-            held,
-            seats: _seats,
-            passes: _passes,
-        } = self;
-        held.closed().end(rt);
+/// A group with this publisher, or one that nobody watches.
+pub fn open<L: Naming, R: Wait>(
+    rt: &R,
+    alloc: Global,
+    way: Way,
+    setup: Setup,
+    publisher: Option<Publisher>,
+    blank: Blank,
+) -> Option<Opened<L>>
+    requires setup { setup ≡ L.setup }
+    requires publisher { name_of publisher ≡ L.publisher }
+    requires new { IfSome publisher (λ p. (p.publisher.setup ≡ setup) × (p.shown ≡ []) × (p.taken ≡ [])) }
+    requires name { blank.name ≡ L.name }
+    requires parts { (blank.parts ≡ L.parts) × (L.parts ≡ L.setup.nodes + 1) }
+{
+    match publisher {
+        Some(publisher) => open_watched(rt, alloc, way, setup, publisher, blank),
+        None => open_unwatched(alloc, way, setup, blank),
     }
 }
 
-/// A group that nobody watches.
-pub fn open<L: Naming>(alloc: Global, way: Way, setup: Setup, blank: Blank) -> Option<Opened<L>>
+fn open_unwatched<L: Naming>(
+    alloc: Global,
+    way: Way,
+    setup: Setup,
+    blank: Blank,
+) -> Option<Opened<L>>
     requires setup { setup ≡ L.setup }
     requires unwatched { L.publisher ≡ None }
     requires name { blank.name ≡ L.name }
@@ -55,8 +62,15 @@ pub fn open<L: Naming>(alloc: Global, way: Way, setup: Setup, blank: Blank) -> O
 {
     match way {
         Way::Bare => match Locked::<L>::open(alloc, setup, blank) {
-            Ok((locked, seats, passes)) => Some(Opened::of(way, locked, seats, passes)),
-            Err(_) => None,
+            Ok((locked, seats, passes)) => Some(Opened {
+                held: Held::Bare(locked),
+                seats,
+                passes,
+            }),
+            Err((_, blank)) => {
+                drop(blank);
+                None
+            }
         },
         Way::Shared => match Group::<L>::open(alloc, setup, blank) {
             Ok((group, seats, passes)) => Some(Opened {
@@ -64,13 +78,16 @@ pub fn open<L: Naming>(alloc: Global, way: Way, setup: Setup, blank: Blank) -> O
                 seats,
                 passes,
             }),
-            Err(_) => None,
+            Err((_, blank)) => {
+                drop(blank);
+                None
+            }
         },
     }
 }
 
-/// A group with this publisher. Where there is none, the publisher is ended.
-pub fn open_watched<L: Naming, R: Wait>(
+// Where there is no group, the publisher is ended.
+fn open_watched<L: Naming, R: Wait>(
     rt: &R,
     alloc: Global,
     way: Way,
@@ -85,7 +102,11 @@ pub fn open_watched<L: Naming, R: Wait>(
     requires parts { (blank.parts ≡ L.parts) × (L.parts ≡ L.setup.nodes + 1) }
 {
     match Group::<L>::open_watched(alloc, setup, publisher, blank) {
-        Ok((group, seats, passes)) => Some(Opened::of(way, group.close(), seats, passes)),
+        Ok((group, seats, passes)) => Some(Opened {
+            held: Held::of(way, group),
+            seats,
+            passes,
+        }),
         Err((publisher, _, _)) => {
             publisher.end(rt);
             None
@@ -93,16 +114,26 @@ pub fn open_watched<L: Naming, R: Wait>(
     }
 }
 
-/// What a finish is tried without.
+/// Tells why the group isn't finished without its last seat, or without its last pass, and then its finish.
+pub fn ended<L: Naming, R: Wait>(rt: &R, opened: Opened<L>, text: &mut String) -> Option<Closed> {
+    match without_one(rt, opened, Part::Seat, text) {
+        Some(opened) => match without_one(rt, opened, Part::Pass, text) {
+            Some(opened) => with_all(rt, opened, text),
+            None => None,
+        },
+        None => None,
+    }
+}
+
+// What a finish is tried without.
 #[derive(Clone, Copy)]
-pub enum Part {
+enum Part {
     Seat,
     Pass,
 }
 
-/// Tells why the group isn't finished without its last seat, or without its last pass. It is given back, called as
-/// before, with all of them.
-pub fn without_one<L: Naming, R: Wait>(
+// Where it isn't finished, the group is given back with all of them.
+fn without_one<L: Naming, R: Wait>(
     rt: &R,
     opened: Opened<L>,
     part: Part,
@@ -113,50 +144,50 @@ pub fn without_one<L: Naming, R: Wait>(
         Part::Seat => ("a seat less", opened.seats.pop(), None),
         Part::Pass => ("a pass less", None, opened.passes.pop()),
     };
-    let mut back = refused(rt, opened, told, text);
-    give_back(&mut back, seat, pass);
-    back
+    match finished(opened, told, text) {
+        Ok(closed) => {
+            closed.end(rt);
+            drop((seat, pass));
+            None
+        }
+        Err(mut back) => {
+            give_back(&mut back.seats, seat);
+            give_back(&mut back.passes, pass);
+            Some(back)
+        }
+    }
 }
 
-// Tells why it isn't finished with the seats and passes that are left.
-fn refused<L: Naming, R: Wait>(
-    rt: &R,
+// Where a push fails, the group isn't finished.
+fn give_back<T: Drop>(items: &mut Vec<T>, item: Option<T>) {
+    if let Some(item) = item {
+        drop(items.push(item));
+    }
+}
+
+fn with_all<L: Naming, R: Wait>(rt: &R, opened: Opened<L>, text: &mut String) -> Option<Closed> {
+    match finished(opened, "all", text) {
+        Ok(closed) => Some(closed),
+        Err(
+            Opened {
+                held,
+                seats,
+                passes,
+            },
+        ) => {
+            held.closed().end(rt);
+            drop((seats, passes));
+            None
+        }
+    }
+}
+
+// Its finish. Where it has none, tells why, and gives the group back, which isn't shared any more.
+fn finished<L: Naming>(
     opened: Opened<L>,
     told: &str,
     text: &mut String,
-) -> Option<Opened<L>> {
-    let Opened {
-        held,
-        seats,
-        passes,
-    } = opened;
-    let way = held.way();
-    match held.closed().finish(seats, passes) {
-        Ok(closed) => {
-            closed.end(rt);
-            None
-        }
-        Err((locked, seats, passes, fault)) => {
-            let _ = writeln!(text, "{told}: {fault:?}");
-            Some(Opened::of(way, locked, seats, passes))
-        }
-    }
-}
-
-fn give_back<L: Naming>(opened: &mut Option<Opened<L>>, seat: Option<Seat>, pass: Option<Pass<L>>) {
-    if let Some(opened) = opened {
-        // (where a push fails, the group isn't finished)
-        if let Some(seat) = seat {
-            let _ = opened.seats.push(seat);
-        }
-        if let Some(pass) = pass {
-            let _ = opened.passes.push(pass);
-        }
-    }
-}
-
-/// Its finish, or why it has none.
-pub fn finished<L: Naming, R: Wait>(rt: &R, opened: Opened<L>) -> Result<Closed, FinishFault> {
+) -> Result<Closed, Opened<L>> {
     let Opened {
         held,
         seats,
@@ -164,39 +195,22 @@ pub fn finished<L: Naming, R: Wait>(rt: &R, opened: Opened<L>) -> Result<Closed,
     } = opened;
     match held.closed().finish(seats, passes) {
         Ok(closed) => Ok(closed),
-        Err((locked, _seats, _passes, fault)) => {
-            locked.end(rt);
-            Err(fault)
+        Err((locked, seats, passes, fault)) => {
+            let _ = writeln!(text, "{told}: {fault:?}");
+            Err(Opened {
+                held: Held::Bare(locked),
+                seats,
+                passes,
+            })
         }
-    }
-}
-
-/// The same, with the number of entries.
-pub fn ends<L: Naming, R: Wait>(rt: &R, opened: Opened<L>) -> Result<usize, FinishFault> {
-    match finished(rt, opened) {
-        Ok(closed) => {
-            let entries = closed.history().len();
-            closed.end(rt);
-            Ok(entries)
-        }
-        Err(fault) => Err(fault),
     }
 }
 
 impl<L: Naming> Held<L> {
-    fn of(way: Way, locked: Locked<L>) -> Held<L> {
+    fn of(way: Way, group: Group<L>) -> Held<L> {
         match way {
-            Way::Bare => Held::Bare(locked),
-            Way::Shared => Held::Shared(Group {
-                locked: Mutex::new(locked),
-            }),
-        }
-    }
-
-    fn way(&self) -> Way {
-        match self {
-            Held::Bare(_) => Way::Bare,
-            Held::Shared(_) => Way::Shared,
+            Way::Bare => Held::Bare(group.close()),
+            Way::Shared => Held::Shared(group),
         }
     }
 

@@ -1,149 +1,202 @@
-//! What is done with watched groups, and what has to be told of it. The last two lines are looks of the first observer:
-//! of the finished group, and of its end.
+//! What is done with watched groups of one node, and what has to be told of it.
 
-use super::observers::{Act, Scene, Which};
+use super::asks::{Ask, Call, Case, Deed};
+use super::observers::{Place, Watch, Which};
 
-const FIRST: Which = Which::First;
-
-const SECOND: Which = Which::Second;
+// Nothing is asked yet.
+const WATCHED: Case = Case {
+    nodes: 1,
+    partitions: 2,
+    events_max: 2_000,
+    is_watched: true,
+    node: 1,
+    asks: &[],
+    other: None,
+    told: "",
+    history: &[],
+};
 
 /// Each is tried on a bare `Locked`, and through the lock of a `Group`.
-pub const SCENES: [Scene; 6] = [
+pub const SCENES: &[Case] = &[
     // An observer learns of each publish, and looks.
-    Scene {
-        acts: &[
-            Act::Recover,
-            Act::Publish(FIRST),
-            Act::Learn(FIRST, FIRST),
-            Act::Look(FIRST),
-            Act::Crash,
-            Act::Publish(FIRST),
-            Act::Learn(FIRST, FIRST),
-            Act::Look(FIRST),
-        ],
-        told: "Ok(())\n1 Election\nOk(())\n2 Down\n2 Down\nGone\n",
-    },
-    // Both look between any two calls. They see what was published last, learned or not, and nothing that wasn't.
-    Scene {
-        acts: &[
-            Act::Look(FIRST),
-            Act::Recover,
-            Act::Publish(FIRST),
-            Act::Look(FIRST),
-            Act::Learn(FIRST, FIRST),
-            Act::Look(FIRST),
-            Act::Publish(FIRST),
-            Act::Learn(SECOND, FIRST),
-            Act::Look(SECOND),
-            Act::Crash,
-            Act::Look(FIRST),
-            Act::Publish(FIRST),
-            Act::Learn(SECOND, FIRST),
-            Act::Look(SECOND),
-            Act::Look(FIRST),
-        ],
-        told: "0 Down
-Ok(())
-1 Election
-1 Election
-1 Election
-Ok(())
-1 Election
-2 Down
-2 Down
-2 Down
-Gone
-",
-    },
-    // What was told first is learned after what was told later.
-    Scene {
-        acts: &[
-            Act::Recover,
-            Act::Publish(FIRST),
-            Act::Crash,
-            Act::Publish(SECOND),
-            Act::Learn(FIRST, SECOND),
-            Act::Learn(FIRST, FIRST),
-            Act::Look(FIRST),
-        ],
-        told: "Ok(())\nOk(())\n2 Down\n2 Down\nGone\n",
-    },
-    // 120 told prefixes are kept: a publish is refused and shows nothing, until one is learned, and again until one is
-    // dropped.
-    Scene {
-        acts: &[
-            Act::Publish(FIRST),
-            Act::PublishMany(119),
-            Act::Recover,
-            Act::Publish(SECOND),
-            Act::Look(FIRST),
-            Act::Learn(FIRST, FIRST),
-            Act::Publish(SECOND),
-            Act::Look(FIRST),
-            Act::Crash,
-            Act::Publish(FIRST),
-            Act::Look(SECOND),
-            Act::Forget(SECOND),
-            Act::Publish(FIRST),
-            Act::Learn(SECOND, FIRST),
-            Act::Look(SECOND),
-        ],
-        told: "0 refused
-Ok(())
-OutOfMemory
-0 Down
-1 Election
-Ok(())
-OutOfMemory
-1 Election
-2 Down
-2 Down
-Gone
-",
-    },
-    // 120 are kept, and 130 are asked for. Then a crash isn't shown, until all of them are dropped.
-    Scene {
-        acts: &[
-            Act::Recover,
-            Act::Publish(FIRST),
-            Act::Learn(FIRST, FIRST),
-            Act::Look(FIRST),
-            Act::PublishMany(130),
-            Act::Crash,
-            Act::Publish(FIRST),
-            Act::Look(FIRST),
-            Act::ForgetMany,
-            Act::Publish(FIRST),
-            Act::Learn(FIRST, FIRST),
-            Act::Look(FIRST),
+    Case {
+        asks: &[
+            Ask::By(0, Call::Step(Deed::Recover, 1)),
+            Ask::By(0, Call::Publish(Place::First)),
+            Ask::Watch(Watch::Learn(Which::First, Place::First)),
+            Ask::Watch(Watch::Look(Which::First)),
+            Ask::By(0, Call::Step(Deed::Crash, 1)),
+            Ask::By(0, Call::Publish(Place::First)),
+            Ask::Watch(Watch::Learn(Which::First, Place::First)),
+            Ask::Watch(Watch::Look(Which::First)),
         ],
         told: "Ok(())
 1 Election
-10 refused
 Ok(())
-OutOfMemory
-1 Election
+2 Down
+a seat less: SeatCount
+a pass less: SeatCount
+entries: 2
 2 Down
 2 Down
 Gone
 ",
+        ..WATCHED
+    },
+    // Both look between any two calls. They see what was published last, learned or not, and nothing that wasn't.
+    Case {
+        asks: &[
+            Ask::Watch(Watch::Look(Which::First)),
+            Ask::By(0, Call::Step(Deed::Recover, 1)),
+            Ask::By(0, Call::Publish(Place::First)),
+            Ask::Watch(Watch::Look(Which::First)),
+            Ask::Watch(Watch::Learn(Which::First, Place::First)),
+            Ask::Watch(Watch::Look(Which::First)),
+            Ask::By(0, Call::Publish(Place::First)),
+            Ask::Watch(Watch::Learn(Which::Second, Place::First)),
+            Ask::Watch(Watch::Look(Which::Second)),
+            Ask::By(0, Call::Step(Deed::Crash, 1)),
+            Ask::Watch(Watch::Look(Which::First)),
+            Ask::By(0, Call::Publish(Place::First)),
+            Ask::Watch(Watch::Learn(Which::Second, Place::First)),
+            Ask::Watch(Watch::Look(Which::Second)),
+            Ask::Watch(Watch::Look(Which::First)),
+        ],
+        told: "0 Down
+Ok(())
+1 Election
+1 Election
+1 Election
+Ok(())
+1 Election
+2 Down
+2 Down
+a seat less: SeatCount
+a pass less: SeatCount
+entries: 2
+2 Down
+2 Down
+Gone
+",
+        ..WATCHED
+    },
+    // What was told first is learned after what was told later.
+    Case {
+        asks: &[
+            Ask::By(0, Call::Step(Deed::Recover, 1)),
+            Ask::By(0, Call::Publish(Place::First)),
+            Ask::By(0, Call::Step(Deed::Crash, 1)),
+            Ask::By(0, Call::Publish(Place::Second)),
+            Ask::Watch(Watch::Learn(Which::First, Place::Second)),
+            Ask::Watch(Watch::Learn(Which::First, Place::First)),
+            Ask::Watch(Watch::Look(Which::First)),
+        ],
+        told: "Ok(())
+Ok(())
+2 Down
+a seat less: SeatCount
+a pass less: SeatCount
+entries: 2
+2 Down
+2 Down
+Gone
+",
+        ..WATCHED
+    },
+    // 120 told prefixes are kept: a publish is refused and shows nothing, until one is learned, and again until one is
+    // dropped.
+    Case {
+        asks: &[
+            Ask::By(0, Call::Publish(Place::First)),
+            Ask::By(0, Call::PublishMany(119)),
+            Ask::By(0, Call::Step(Deed::Recover, 1)),
+            Ask::By(0, Call::Publish(Place::Second)),
+            Ask::Watch(Watch::Look(Which::First)),
+            Ask::Watch(Watch::Learn(Which::First, Place::First)),
+            Ask::By(0, Call::Publish(Place::Second)),
+            Ask::Watch(Watch::Look(Which::First)),
+            Ask::By(0, Call::Step(Deed::Crash, 1)),
+            Ask::By(0, Call::Publish(Place::First)),
+            Ask::Watch(Watch::Look(Which::Second)),
+            Ask::Watch(Watch::Forget(Place::Second)),
+            Ask::By(0, Call::Publish(Place::First)),
+            Ask::Watch(Watch::Learn(Which::Second, Place::First)),
+            Ask::Watch(Watch::Look(Which::Second)),
+        ],
+        told: "Ok(())
+OutOfMemory
+0 Down
+1 Election
+Ok(())
+OutOfMemory
+1 Election
+2 Down
+a seat less: SeatCount
+a pass less: SeatCount
+entries: 2
+2 Down
+2 Down
+Gone
+",
+        ..WATCHED
+    },
+    // 120 are kept, and 130 are asked for. Then a crash isn't shown, until all of them are dropped.
+    Case {
+        asks: &[
+            Ask::By(0, Call::Step(Deed::Recover, 1)),
+            Ask::By(0, Call::Publish(Place::First)),
+            Ask::Watch(Watch::Learn(Which::First, Place::First)),
+            Ask::Watch(Watch::Look(Which::First)),
+            Ask::By(0, Call::PublishMany(130)),
+            Ask::By(0, Call::Step(Deed::Crash, 1)),
+            Ask::By(0, Call::Publish(Place::First)),
+            Ask::Watch(Watch::Look(Which::First)),
+            Ask::Watch(Watch::Forget(Place::Many)),
+            Ask::By(0, Call::Publish(Place::First)),
+            Ask::Watch(Watch::Learn(Which::First, Place::First)),
+            Ask::Watch(Watch::Look(Which::First)),
+        ],
+        told: "Ok(())
+1 Election
+OutOfMemory
+OutOfMemory
+OutOfMemory
+OutOfMemory
+OutOfMemory
+OutOfMemory
+OutOfMemory
+OutOfMemory
+OutOfMemory
+OutOfMemory
+Ok(())
+OutOfMemory
+1 Election
+2 Down
+a seat less: SeatCount
+a pass less: SeatCount
+entries: 2
+2 Down
+2 Down
+Gone
+",
+        ..WATCHED
     },
     // A new group, one after 1 and 2 publishes, and one after 1,000 of as many events: each look and view has memory.
-    Scene {
-        acts: &[
-            Act::View(0),
-            Act::View(1),
-            Act::Look(FIRST),
-            Act::Recover,
-            Act::Publish(FIRST),
-            Act::Look(FIRST),
-            Act::Crash,
-            Act::Publish(FIRST),
-            Act::Look(FIRST),
-            Act::Rounds(499),
-            Act::View(0),
-            Act::View(1),
-            Act::Look(SECOND),
+    Case {
+        asks: &[
+            Ask::By(0, Call::View),
+            Ask::By(1, Call::View),
+            Ask::Watch(Watch::Look(Which::First)),
+            Ask::By(0, Call::Step(Deed::Recover, 1)),
+            Ask::By(0, Call::Publish(Place::First)),
+            Ask::Watch(Watch::Look(Which::First)),
+            Ask::By(0, Call::Step(Deed::Crash, 1)),
+            Ask::By(0, Call::Publish(Place::First)),
+            Ask::Watch(Watch::Look(Which::First)),
+            Ask::By(0, Call::Rounds(499)),
+            Ask::By(0, Call::View),
+            Ask::By(1, Call::View),
+            Ask::Watch(Watch::Look(Which::Second)),
         ],
         told: "0 Down
 0 Down
@@ -152,12 +205,16 @@ Ok(())
 1 Election
 Ok(())
 2 Down
-0 refused
 1000 Down
 1000 Down
+1000 Down
+a seat less: SeatCount
+a pass less: SeatCount
+entries: 1000
 1000 Down
 1000 Down
 Gone
 ",
+        ..WATCHED
     },
 ];

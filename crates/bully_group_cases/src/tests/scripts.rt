@@ -1,11 +1,11 @@
 //! The groups that are tried.
 
-use super::asks::{Ask, Case, Deed};
-use bully_base::Status;
+use super::asks::{Ask, Call, Case, Deed};
+use super::observers::Place;
 use bully_calls::Answer;
 
 /// Each is tried on a bare `Locked`, and through the lock of a `Group`.
-pub const CASES: [Case; 9] = [
+pub const CASES: &[Case] = &[
     SMALL_GROUP,
     ALONE_BY_TURNS,
     TURNS_IN_PLACE,
@@ -23,24 +23,26 @@ const SMALL_GROUP: Case = Case {
     nodes: 1,
     partitions: 2,
     events_max: 10,
+    is_watched: false,
     node: 1,
     asks: &[
-        Ask::View(0),
-        Ask::Step(0, Deed::Recover, 1),
-        Ask::View(0),
-        Ask::Turn(1),
-        Ask::Turn(1),
-        Ask::Step(1, Deed::Crash, 1),
-        Ask::Step(0, Deed::Recover, 1),
-        Ask::Serve(1),
-        Ask::Serve(0),
-        Ask::Publish(0),
+        Ask::By(0, Call::View),
+        Ask::By(0, Call::Step(Deed::Recover, 1)),
+        Ask::By(0, Call::View),
+        Ask::By(1, Call::Turn),
+        Ask::By(1, Call::Turn),
+        Ask::By(1, Call::Step(Deed::Crash, 1)),
+        Ask::By(0, Call::Step(Deed::Recover, 1)),
+        Ask::By(1, Call::Serve),
+        Ask::By(0, Call::Serve),
+        Ask::By(0, Call::Publish(Place::First)),
     ],
+    other: None,
     told: "0 Down
 Ok(())
 1 Election
-resynced Asking(2) 0
-went Halting(0) 0
+Resynced Asking(2) 0
+Went Halting(0) 0
 Err(NotYours)
 Err(Refused(IsUp))
 Ok(false)
@@ -48,13 +50,13 @@ Err(NotYours)
 NotWatched
 a seat less: SeatCount
 a pass less: SeatCount
+entries: 2
+2 Election
 ",
     history: &[
         (0, Deed::Recover, 1, Answer::Done),
         (1, Deed::Move, 1, Answer::Done),
     ],
-    entries: 2,
-    status: Status::Election,
 };
 
 // Alone, a node elects itself by its turns; at Planning it waits until its procedure is prepared.
@@ -62,31 +64,35 @@ const ALONE_BY_TURNS: Case = Case {
     nodes: 1,
     partitions: 2,
     events_max: 6,
+    is_watched: false,
     node: 1,
     asks: &[
-        Ask::Step(0, Deed::Recover, 1),
-        Ask::Turn(1),
-        Ask::Turn(1),
-        Ask::Turn(1),
-        Ask::Turn(1),
-        Ask::Turn(1),
+        Ask::By(0, Call::Step(Deed::Recover, 1)),
+        Ask::By(1, Call::Turn),
+        Ask::By(1, Call::Turn),
+        Ask::By(1, Call::Turn),
+        Ask::By(1, Call::Turn),
+        Ask::By(1, Call::Turn),
         Ask::Prepare,
-        Ask::Turn(1),
-        Ask::Turn(1),
-        Ask::Turn(1),
+        Ask::By(1, Call::Turn),
+        Ask::By(1, Call::Turn),
+        Ask::By(1, Call::Turn),
     ],
+    other: None,
     told: "Ok(())
-resynced Asking(2) 0
-went Halting(0) 0
-went Announcing to nobody 0
-went Planning 0
-waits Planning 0
+Resynced Asking(2) 0
+Went Halting(0) 0
+Went Announcing to nobody 0
+Went Planning 0
+Waiting Planning 0
 prepared
-went Readying to nobody 0
-went Idle 0
-waits Idle 0
+Went Readying to nobody 0
+Went Idle 0
+Waiting Idle 0
 a seat less: SeatCount
 a pass less: SeatCount
+entries: 6
+6 Normal
 ",
     history: &[
         (0, Deed::Recover, 1, Answer::Done),
@@ -96,8 +102,6 @@ a pass less: SeatCount
         (1, Deed::Plan("1 1"), 1, Answer::Done),
         (1, Deed::Move, 1, Answer::Done),
     ],
-    entries: 6,
-    status: Status::Normal,
 };
 
 // The procedure goes on where it lies, and stays as it was where the seat isn't its node's.
@@ -105,30 +109,32 @@ const TURNS_IN_PLACE: Case = Case {
     nodes: 1,
     partitions: 2,
     events_max: 10,
+    is_watched: false,
     node: 1,
     asks: &[
-        Ask::TurnInPlace(1),
-        Ask::Step(0, Deed::Recover, 1),
-        Ask::TurnInPlace(1),
-        Ask::TurnInPlace(1),
-        Ask::TurnInPlace(0),
-        Ask::Entries(1),
+        Ask::By(1, Call::TurnInPlace),
+        Ask::By(0, Call::Step(Deed::Recover, 1)),
+        Ask::By(1, Call::TurnInPlace),
+        Ask::By(1, Call::TurnInPlace),
+        Ask::By(0, Call::TurnInPlace),
+        Ask::By(1, Call::Entries),
     ],
-    told: "waits Idle 0
+    other: None,
+    told: "Waiting Idle 0
 Ok(())
-resynced Asking(2) 0
-went Halting(0) 0
+Resynced Asking(2) 0
+Went Halting(0) 0
 NotYours
 1
 a seat less: SeatCount
 a pass less: SeatCount
+entries: 2
+2 Election
 ",
     history: &[
         (0, Deed::Recover, 1, Answer::Done),
         (1, Deed::Move, 1, Answer::Done),
     ],
-    entries: 2,
-    status: Status::Election,
 };
 
 // Node 1 elects itself while node 2 is down, and plans. Then node 2 recovers and halts it: the plan is given up.
@@ -136,39 +142,43 @@ const TURNS_AND_A_STOP: Case = Case {
     nodes: 2,
     partitions: 2,
     events_max: 100,
+    is_watched: false,
     node: 1,
     asks: &[
-        Ask::Step(0, Deed::Recover, 1),
-        Ask::Turn(1),
-        Ask::Turn(1),
-        Ask::Turn(1),
-        Ask::Turn(1),
-        Ask::Turn(1),
-        Ask::Turn(1),
-        Ask::Turn(1),
+        Ask::By(0, Call::Step(Deed::Recover, 1)),
+        Ask::By(1, Call::Turn),
+        Ask::By(1, Call::Turn),
+        Ask::By(1, Call::Turn),
+        Ask::By(1, Call::Turn),
+        Ask::By(1, Call::Turn),
+        Ask::By(1, Call::Turn),
+        Ask::By(1, Call::Turn),
         Ask::Prepare,
-        Ask::Step(0, Deed::Recover, 2),
-        Ask::Step(2, Deed::Move, 2),
-        Ask::Step(2, Deed::Start, 2),
-        Ask::Serve(1),
-        Ask::Turn(1),
+        Ask::By(0, Call::Step(Deed::Recover, 2)),
+        Ask::By(2, Call::Step(Deed::Move, 2)),
+        Ask::By(2, Call::Step(Deed::Start, 2)),
+        Ask::By(1, Call::Serve),
+        Ask::By(1, Call::Turn),
     ],
+    other: None,
     told: "Ok(())
-resynced Asking(2) 0
-went Asking(2) 0
-went Asking(2) 0
-went Asking(3) 0
-went Halting(0) 0
-went Announcing to nobody 0
-went Planning 0
+Resynced Asking(2) 0
+Went Asking(2) 0
+Went Asking(2) 0
+Went Asking(3) 0
+Went Halting(0) 0
+Went Announcing to nobody 0
+Went Planning 0
 prepared
 Ok(())
 Ok(())
 Ok(())
 Ok(true)
-resynced Idle 1
+Resynced Idle 1
 a seat less: SeatCount
 a pass less: SeatCount
+entries: 11
+11 Election
 ",
     history: &[
         (0, Deed::Recover, 1, Answer::Done),
@@ -183,8 +193,6 @@ a pass less: SeatCount
         (2, Deed::Start, 2, Answer::Done),
         (1, Deed::Run, 2, Answer::Yes),
     ],
-    entries: 11,
-    status: Status::Election,
 };
 
 // Node 1 takes whole turns. Node 2 recovers and halts it: the Halt runs by such a turn, which leaves the procedure as it
@@ -193,37 +201,41 @@ const NODE_TURNS: Case = Case {
     nodes: 2,
     partitions: 2,
     events_max: 100,
+    is_watched: false,
     node: 1,
     asks: &[
-        Ask::Step(0, Deed::Recover, 1),
-        Ask::NodeTurn(1),
-        Ask::NodeTurn(1),
-        Ask::NodeTurn(1),
-        Ask::NodeTurn(1),
-        Ask::Step(0, Deed::Recover, 2),
-        Ask::Step(2, Deed::Move, 2),
-        Ask::Step(2, Deed::Start, 2),
-        Ask::NodeTurn(1),
-        Ask::NodeTurn(1),
-        Ask::NodeTurn(1),
-        Ask::NodeTurn(2),
-        Ask::NodeTurn(0),
+        Ask::By(0, Call::Step(Deed::Recover, 1)),
+        Ask::By(1, Call::NodeTurn),
+        Ask::By(1, Call::NodeTurn),
+        Ask::By(1, Call::NodeTurn),
+        Ask::By(1, Call::NodeTurn),
+        Ask::By(0, Call::Step(Deed::Recover, 2)),
+        Ask::By(2, Call::Step(Deed::Move, 2)),
+        Ask::By(2, Call::Step(Deed::Start, 2)),
+        Ask::By(1, Call::NodeTurn),
+        Ask::By(1, Call::NodeTurn),
+        Ask::By(1, Call::NodeTurn),
+        Ask::By(2, Call::NodeTurn),
+        Ask::By(0, Call::NodeTurn),
     ],
+    other: None,
     told: "Ok(())
-resynced Asking(2) 0
-went Asking(2) 0
-went Asking(2) 0
-went Asking(3) 0
+Resynced Asking(2) 0
+Went Asking(2) 0
+Went Asking(2) 0
+Went Asking(3) 0
 Ok(())
 Ok(())
 Ok(())
-served Asking(3) 0
-resynced Idle 1
-waits Idle 1
+Served Asking(3) 0
+Resynced Idle 1
+Waiting Idle 1
 NotYours
 NotYours
 a seat less: SeatCount
 a pass less: SeatCount
+entries: 8
+8 Election
 ",
     history: &[
         (0, Deed::Recover, 1, Answer::Done),
@@ -235,8 +247,6 @@ a pass less: SeatCount
         (2, Deed::Start, 2, Answer::Done),
         (1, Deed::Run, 2, Answer::Yes),
     ],
-    entries: 8,
-    status: Status::Election,
 };
 
 // Node 2 is halted while its Ready is under way, and begins a new election; its turn drops the orphan, and the next one
@@ -245,34 +255,36 @@ const DROPPED_CALL: Case = Case {
     nodes: 3,
     partitions: 2,
     events_max: 100,
+    is_watched: false,
     node: 2,
     asks: &[
-        Ask::Step(0, Deed::Recover, 1),
-        Ask::Step(0, Deed::Recover, 2),
-        Ask::Step(2, Deed::Start, 2),
-        Ask::Step(2, Deed::Lose, 2),
-        Ask::Step(2, Deed::Return, 2),
-        Ask::Step(2, Deed::Move, 2),
-        Ask::Step(2, Deed::Start, 2),
-        Ask::Step(1, Deed::Run, 2),
-        Ask::Step(2, Deed::Return, 2),
-        Ask::Step(2, Deed::Move, 2),
-        Ask::Step(2, Deed::Start, 2),
-        Ask::Step(1, Deed::Run, 2),
-        Ask::Step(2, Deed::Return, 2),
-        Ask::Step(2, Deed::Move, 2),
-        Ask::Step(2, Deed::Plan("1 2"), 2),
-        Ask::Step(2, Deed::Start, 2),
-        Ask::Step(0, Deed::Recover, 3),
-        Ask::Step(3, Deed::Move, 3),
-        Ask::Step(3, Deed::Start, 3),
-        Ask::Step(2, Deed::Run, 3),
-        Ask::Step(0, Deed::Crash, 3),
-        Ask::Step(2, Deed::Timeout, 2),
-        Ask::Turn(2),
-        Ask::Turn(2),
-        Ask::Turn(2),
+        Ask::By(0, Call::Step(Deed::Recover, 1)),
+        Ask::By(0, Call::Step(Deed::Recover, 2)),
+        Ask::By(2, Call::Step(Deed::Start, 2)),
+        Ask::By(2, Call::Step(Deed::Lose, 2)),
+        Ask::By(2, Call::Step(Deed::Return, 2)),
+        Ask::By(2, Call::Step(Deed::Move, 2)),
+        Ask::By(2, Call::Step(Deed::Start, 2)),
+        Ask::By(1, Call::Step(Deed::Run, 2)),
+        Ask::By(2, Call::Step(Deed::Return, 2)),
+        Ask::By(2, Call::Step(Deed::Move, 2)),
+        Ask::By(2, Call::Step(Deed::Start, 2)),
+        Ask::By(1, Call::Step(Deed::Run, 2)),
+        Ask::By(2, Call::Step(Deed::Return, 2)),
+        Ask::By(2, Call::Step(Deed::Move, 2)),
+        Ask::By(2, Call::Step(Deed::Plan("1 2"), 2)),
+        Ask::By(2, Call::Step(Deed::Start, 2)),
+        Ask::By(0, Call::Step(Deed::Recover, 3)),
+        Ask::By(3, Call::Step(Deed::Move, 3)),
+        Ask::By(3, Call::Step(Deed::Start, 3)),
+        Ask::By(2, Call::Step(Deed::Run, 3)),
+        Ask::By(0, Call::Step(Deed::Crash, 3)),
+        Ask::By(2, Call::Step(Deed::Timeout, 2)),
+        Ask::By(2, Call::Turn),
+        Ask::By(2, Call::Turn),
+        Ask::By(2, Call::Turn),
     ],
+    other: None,
     told: "Ok(())
 Ok(())
 Ok(())
@@ -295,11 +307,13 @@ Ok(())
 Ok(())
 Ok(())
 Ok(())
-resynced Asking(3) 1
-went Asking(3) 1
-went Asking(3) 1
+Resynced Asking(3) 1
+Went Asking(3) 1
+Went Asking(3) 1
 a seat less: SeatCount
 a pass less: SeatCount
+entries: 24
+24 Election
 ",
     history: &[
         (0, Deed::Recover, 1, Answer::Done),
@@ -327,8 +341,6 @@ a pass less: SeatCount
         (2, Deed::Drop, 2, Answer::Discarded),
         (2, Deed::Start, 2, Answer::Done),
     ],
-    entries: 24,
-    status: Status::Election,
 };
 
 // Node 2 plans for itself, and keeps the plan over an election in which node 1 is up: another up set, and the same
@@ -337,43 +349,45 @@ const STALE_PLAN: Case = Case {
     nodes: 2,
     partitions: 2,
     events_max: 100,
+    is_watched: false,
     node: 2,
     asks: &[
-        Ask::Step(0, Deed::Recover, 2),
-        Ask::Turn(2),
-        Ask::Turn(2),
-        Ask::Turn(2),
-        Ask::Turn(2),
-        Ask::Turn(2),
-        Ask::Turn(2),
-        Ask::Turn(2),
+        Ask::By(0, Call::Step(Deed::Recover, 2)),
+        Ask::By(2, Call::Turn),
+        Ask::By(2, Call::Turn),
+        Ask::By(2, Call::Turn),
+        Ask::By(2, Call::Turn),
+        Ask::By(2, Call::Turn),
+        Ask::By(2, Call::Turn),
+        Ask::By(2, Call::Turn),
         Ask::Prepare,
-        Ask::Step(2, Deed::Plan("2 2"), 2),
-        Ask::Step(2, Deed::Move, 2),
-        Ask::Step(2, Deed::Check, 2),
-        Ask::Step(0, Deed::Recover, 1),
-        Ask::Step(2, Deed::Start, 2),
-        Ask::Step(1, Deed::Run, 2),
-        Ask::Step(2, Deed::Return, 2),
-        Ask::Step(2, Deed::Move, 2),
-        Ask::Step(2, Deed::Start, 2),
-        Ask::Step(1, Deed::Run, 2),
-        Ask::Step(2, Deed::Return, 2),
-        Ask::Step(2, Deed::Move, 2),
-        Ask::Step(2, Deed::Start, 2),
-        Ask::Step(1, Deed::Run, 2),
-        Ask::Step(2, Deed::Return, 2),
-        Ask::Step(2, Deed::Move, 2),
-        Ask::Turn(2),
+        Ask::By(2, Call::Step(Deed::Plan("2 2"), 2)),
+        Ask::By(2, Call::Step(Deed::Move, 2)),
+        Ask::By(2, Call::Step(Deed::Check, 2)),
+        Ask::By(0, Call::Step(Deed::Recover, 1)),
+        Ask::By(2, Call::Step(Deed::Start, 2)),
+        Ask::By(1, Call::Step(Deed::Run, 2)),
+        Ask::By(2, Call::Step(Deed::Return, 2)),
+        Ask::By(2, Call::Step(Deed::Move, 2)),
+        Ask::By(2, Call::Step(Deed::Start, 2)),
+        Ask::By(1, Call::Step(Deed::Run, 2)),
+        Ask::By(2, Call::Step(Deed::Return, 2)),
+        Ask::By(2, Call::Step(Deed::Move, 2)),
+        Ask::By(2, Call::Step(Deed::Start, 2)),
+        Ask::By(1, Call::Step(Deed::Run, 2)),
+        Ask::By(2, Call::Step(Deed::Return, 2)),
+        Ask::By(2, Call::Step(Deed::Move, 2)),
+        Ask::By(2, Call::Turn),
     ],
+    other: None,
     told: "Ok(())
-resynced Asking(3) 0
-went Halting(1) 0
-went Halting(1) 0
-went Halting(1) 0
-went Halting(0) 0
-went Announcing to nobody 0
-went Planning 0
+Resynced Asking(3) 0
+Went Halting(1) 0
+Went Halting(1) 0
+Went Halting(1) 0
+Went Halting(0) 0
+Went Announcing to nobody 0
+Went Planning 0
 prepared
 Ok(())
 Ok(())
@@ -391,13 +405,13 @@ Ok(())
 Ok(())
 Ok(())
 Ok(())
-resynced Planning 0
+Resynced Planning 0
 a seat less: SeatCount
 a pass less: SeatCount
+entries: 23
+23 Reorganization
 ",
     history: &[],
-    entries: 23,
-    status: Status::Reorganization,
 };
 
 // A procedure that was kept over a crash is resynced, and so is one over the next.
@@ -405,31 +419,33 @@ const KEPT_PROCEDURES: Case = Case {
     nodes: 1,
     partitions: 2,
     events_max: 100,
+    is_watched: false,
     node: 1,
     asks: &[
-        Ask::Step(0, Deed::Recover, 1),
-        Ask::Turn(1),
-        Ask::Step(0, Deed::Crash, 1),
-        Ask::Step(0, Deed::Recover, 1),
-        Ask::Turn(1),
-        Ask::Step(0, Deed::Crash, 1),
-        Ask::Turn(1),
-        Ask::Turn(1),
+        Ask::By(0, Call::Step(Deed::Recover, 1)),
+        Ask::By(1, Call::Turn),
+        Ask::By(0, Call::Step(Deed::Crash, 1)),
+        Ask::By(0, Call::Step(Deed::Recover, 1)),
+        Ask::By(1, Call::Turn),
+        Ask::By(0, Call::Step(Deed::Crash, 1)),
+        Ask::By(1, Call::Turn),
+        Ask::By(1, Call::Turn),
     ],
+    other: None,
     told: "Ok(())
-resynced Asking(2) 0
+Resynced Asking(2) 0
 Ok(())
 Ok(())
-resynced Asking(2) 1
+Resynced Asking(2) 1
 Ok(())
-resynced Idle 2
-waits Idle 2
+Resynced Idle 2
+Waiting Idle 2
 a seat less: SeatCount
 a pass less: SeatCount
+entries: 4
+4 Down
 ",
     history: &[],
-    entries: 4,
-    status: Status::Down,
 };
 
 // Where the bound on events is reached, a resync is still no step.
@@ -437,21 +453,23 @@ const FULL_GROUP: Case = Case {
     nodes: 1,
     partitions: 2,
     events_max: 1,
+    is_watched: false,
     node: 1,
     asks: &[
-        Ask::Step(0, Deed::Recover, 1),
-        Ask::Turn(1),
-        Ask::Turn(1),
-        Ask::NodeTurn(1),
+        Ask::By(0, Call::Step(Deed::Recover, 1)),
+        Ask::By(1, Call::Turn),
+        Ask::By(1, Call::Turn),
+        Ask::By(1, Call::NodeTurn),
     ],
+    other: None,
     told: "Ok(())
-resynced Asking(2) 0
+Resynced Asking(2) 0
 Refused(Full)
 Refused(Full)
 a seat less: SeatCount
 a pass less: SeatCount
+entries: 1
+1 Election
 ",
     history: &[],
-    entries: 1,
-    status: Status::Election,
 };

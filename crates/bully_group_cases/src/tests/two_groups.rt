@@ -1,10 +1,12 @@
 //! Seats that are used on another group. Both groups are called in the same way.
 
-ghost use Rattle.std.specs.Prelude.{◌≡◌, ◌+◌, [], None, Some};
+ghost use Rattle.std.specs.Prelude.{◌≡◌, ◌+◌, [], IfSome};
+ghost use Rattle.bully_group.specs.Locked.{name_of};
+ghost use Rattle.bully_steps.specs.Procedure.{state_of};
 
-use super::asks::{Ask, Deed, ask_all};
-use super::held::{Opened, Way, ends, open, open_watched};
-use super::races::publisher_for;
+use super::asks::{Ask, Beside, Call, Case, Deed, ask_all, beside_for, ends_as};
+use super::held::{Opened, Way, open};
+use super::observers::Place;
 use bully_base::Setup;
 use bully_group::{Naming, Seat};
 use bully_watch::Publisher;
@@ -14,26 +16,23 @@ use std::mem;
 use std::sync::Wait;
 use std::sync::ledger::Blank;
 
-/// What is done with two groups of so many nodes. The first one is asked; then the seat of this actor there and the one at
-/// this place in the second are swapped, and the second is asked, also with the seat that isn't its own. Then each seat
-/// goes back, or not, and both groups are finished. In both a procedure of node 1 is held.
+/// What is done with a second group of so many nodes: the seat of this actor in the first group and the one at this place
+/// in the second are swapped, and the second is asked, also with the seat that isn't its own. Then each seat goes back, or
+/// not, and the second group is finished, before the first one. In both a procedure of node 1 is held.
 #[derive(Clone, Copy)]
-pub struct Deal {
+pub struct Other {
     pub nodes: u16,
-    pub other_nodes: u16,
-    pub asks: &'static [Ask],
+    pub is_watched: bool,
     pub actor: usize,
     pub place: usize,
-    pub other_asks: &'static [Ask],
+    pub asks: &'static [Ask],
     pub goes_back: bool,
-    /// The second group is watched. The first one isn't.
-    pub is_watched: bool,
-    /// A line for each ask, and at last one of the finishes, by the numbers of the entries.
+    /// A line for each ask, and those of the finish.
     pub told: &'static str,
 }
 
 /// Each is tried on two bare `Locked`, and through the locks of two `Group`s.
-pub const DEALS: [Deal; 6] = [
+pub const DEALS: &[Case] = &[
     FOREIGN,
     CROSSED,
     SWAPPED,
@@ -43,238 +42,262 @@ pub const DEALS: [Deal; 6] = [
 ];
 
 // Node 1 recovers in the first group, and then the same is tried in the second one with that seat, and a view and turns.
-const FOREIGN: Deal = Deal {
+const FOREIGN: Case = Case {
     nodes: 1,
-    other_nodes: 1,
-    asks: &[Ask::Step(0, Deed::Recover, 1), Ask::View(0)],
-    actor: 0,
-    place: 0,
-    other_asks: &[
-        Ask::Step(0, Deed::Recover, 1),
-        Ask::View(0),
-        Ask::Turn(0),
-        Ask::TurnInPlace(0),
-        Ask::Entries(0),
-    ],
-    goes_back: true,
+    partitions: 2,
+    events_max: 10,
     is_watched: false,
-    told: "Ok(())
-1 Election
-Err(Foreign { index: 0 })
+    node: 1,
+    asks: &[
+        Ask::By(0, Call::Step(Deed::Recover, 1)),
+        Ask::By(0, Call::View),
+    ],
+    other: Some(Other {
+        nodes: 1,
+        is_watched: false,
+        actor: 0,
+        place: 0,
+        asks: &[
+            Ask::By(0, Call::Step(Deed::Recover, 1)),
+            Ask::By(0, Call::View),
+            Ask::By(0, Call::Turn),
+            Ask::By(0, Call::TurnInPlace),
+            Ask::By(0, Call::Entries),
+        ],
+        goes_back: true,
+        told: "Err(Foreign { index: 0 })
 Foreign { index: 0 }
 Foreign { index: 0 }
 Foreign { index: 0 }
 1
-Ok(1) Ok(0)
+a seat less: SeatCount
+a pass less: SeatCount
+entries: 0
+0 Down
 ",
+    }),
+    told: "Ok(())
+1 Election
+a seat less: SeatCount
+a pass less: SeatCount
+entries: 1
+1 Election
+",
+    history: &[],
 };
 
 // The first one's operator recovers node 1 of the second. Each is finished with its own seats.
-const CROSSED: Deal = Deal {
-    nodes: 1,
-    other_nodes: 1,
+const CROSSED: Case = Case {
     asks: &[],
+    other: Some(CROSSING),
+    told: "a seat less: SeatCount
+a pass less: SeatCount
+all: Differs(0)
+",
+    ..FOREIGN
+};
+
+const CROSSING: Other = Other {
+    nodes: 1,
+    is_watched: false,
     actor: 0,
     place: 0,
-    other_asks: &[Ask::Step(0, Deed::Recover, 1)],
+    asks: &[Ask::By(0, Call::Step(Deed::Recover, 1))],
     goes_back: true,
-    is_watched: false,
-    told: "Ok(())\nErr(Differs(0)) Err(Differs(0))\n",
+    told: "Ok(())
+a seat less: SeatCount
+a pass less: SeatCount
+all: Differs(0)
+",
 };
 
 // The same, and each is finished with the other's operator.
-const SWAPPED: Deal = Deal {
-    goes_back: false,
-    told: "Ok(())\nOk(0) Ok(1)\n",
+const SWAPPED: Case = Case {
+    other: Some(Other {
+        goes_back: false,
+        told: "Ok(())
+a seat less: SeatCount
+a pass less: SeatCount
+entries: 1
+1 Election
+",
+        ..CROSSING
+    }),
+    told: "a seat less: SeatCount
+a pass less: SeatCount
+entries: 0
+0 Down
+",
     ..CROSSED
 };
 
 // The seat of node 2 of the first group serves, checks node 2 and takes turns of node 1 in the second one, which has no
 // node 2, and stays in the place of node 1's.
-const STRANGE_NODE: Deal = Deal {
+const STRANGE_NODE: Case = Case {
     nodes: 2,
-    other_nodes: 1,
-    asks: &[],
+    other: Some(STRANGE),
+    told: "a seat less: SeatCount
+a pass less: SeatCount
+all: Stranger
+",
+    ..CROSSED
+};
+
+const STRANGE: Other = Other {
+    nodes: 1,
+    is_watched: false,
     actor: 2,
     place: 1,
-    other_asks: &[
-        Ask::Serve(1),
-        Ask::Step(1, Deed::Check, 2),
-        Ask::Turn(1),
-        Ask::TurnInPlace(1),
+    asks: &[
+        Ask::By(1, Call::Serve),
+        Ask::By(1, Call::Step(Deed::Check, 2)),
+        Ask::By(1, Call::Turn),
+        Ask::By(1, Call::TurnInPlace),
     ],
     goes_back: false,
-    is_watched: false,
     told: "Ok(false)
 Err(Refused(BadNode))
 NotYours
 NotYours
-Err(Stranger) Err(Stranger)
+a seat less: SeatCount
+a pass less: SeatCount
+all: Stranger
 ",
 };
 
 // The operator's seat of the first group does the same.
-const STRANGE_OPERATOR: Deal = Deal {
-    actor: 0,
-    told: "Err(NotYours)
+const STRANGE_OPERATOR: Case = Case {
+    other: Some(Other {
+        actor: 0,
+        told: "Err(NotYours)
 Err(NotYours)
 NotYours
 NotYours
-Err(Stranger) Err(Stranger)
+a seat less: SeatCount
+a pass less: SeatCount
+all: Stranger
 ",
+        ..STRANGE
+    }),
     ..STRANGE_NODE
 };
 
 // The operator's seat of the first group, which has two entries there, publishes nothing in the second one.
-const FOREIGN_PUBLISH: Deal = Deal {
-    nodes: 1,
-    other_nodes: 1,
-    asks: &[Ask::Step(0, Deed::Recover, 1), Ask::Step(0, Deed::Crash, 1)],
-    actor: 0,
-    place: 0,
-    other_asks: &[Ask::Publish(0)],
-    goes_back: true,
-    is_watched: true,
-    told: "Ok(())\nOk(())\nForeign { index: 1 }\nOk(2) Ok(0)\n",
+const FOREIGN_PUBLISH: Case = Case {
+    asks: &[
+        Ask::By(0, Call::Step(Deed::Recover, 1)),
+        Ask::By(0, Call::Step(Deed::Crash, 1)),
+    ],
+    other: Some(Other {
+        nodes: 1,
+        is_watched: true,
+        actor: 0,
+        place: 0,
+        asks: &[Ask::By(0, Call::Publish(Place::First))],
+        goes_back: true,
+        told: "Foreign { index: 1 }
+a seat less: SeatCount
+a pass less: SeatCount
+entries: 0
+0 Down
+0 Down
+Gone
+",
+    }),
+    told: "Ok(())
+Ok(())
+a seat less: SeatCount
+a pass less: SeatCount
+entries: 2
+2 Down
+",
+    ..FOREIGN
 };
 
-/// Whether what has to be told of the deal is told.
-pub fn dealt<R: Wait>(rt: &R, alloc: Global, way: Way, deal: &Deal) -> bool {
-    if deal.is_watched {
-        dealt_watched(rt, alloc, way, deal)
-    } else {
-        dealt_unwatched(rt, alloc, way, deal)
-    }
-}
-
-fn dealt_unwatched<R: Wait>(rt: &R, alloc: Global, way: Way, deal: &Deal) -> bool {
-    let (Some(setup), Some(other_setup)) = (setup_of(deal.nodes), setup_of(deal.other_nodes)) else {
-        return false;
-    };
-    let blank = Blank::new(u64::from(setup.nodes()) + 1);
-    let other = Blank::new(u64::from(other_setup.nodes()) + 1);
-    dealt_by::<Brand, Brand, R>(rt, alloc, way, setup, other_setup, deal, blank, other)
-}
-
-fn setup_of(nodes: u16) -> Option<Setup> {
-    Setup::new(nodes, 2, 10).ok()
-}
-
-fn dealt_by<L: Naming, M: Naming, R: Wait>(
+/// Whether what has to be told of the second group is told, if there is one. These are the seats of the first.
+pub fn used_as_told<R: Wait>(
     rt: &R,
     alloc: Global,
     way: Way,
-    setup: Setup,
-    other_setup: Setup,
-    deal: &Deal,
-    blank: Blank,
-    other: Blank,
-) -> bool
-    requires setup { (setup ≡ L.setup) × (other_setup ≡ M.setup) }
-    requires unwatched { (L.publisher ≡ None) × (M.publisher ≡ None) }
-    requires name { (blank.name ≡ L.name) × (other.name ≡ M.name) }
-    requires parts { (blank.parts ≡ L.parts) × (L.parts ≡ L.setup.nodes + 1) }
-    requires other_parts { (other.parts ≡ M.parts) × (M.parts ≡ M.setup.nodes + 1) }
-{
-    match open::<L>(alloc, way, setup, blank) {
-        Some(first) => match open::<M>(alloc, way, other_setup, other) {
-            Some(second) => goes_as_told(rt, alloc, first, second, setup, other_setup, deal),
-            None => {
-                first.end(rt);
-                false
-            }
-        },
-        None => false,
+    seats: &mut Vec<Seat>,
+    other: &Option<Other>,
+) -> bool {
+    match other {
+        Some(other) => used_on(rt, alloc, way, seats, other),
+        None => true,
     }
 }
 
-// Both groups have as many nodes.
-fn dealt_watched<R: Wait>(rt: &R, alloc: Global, way: Way, deal: &Deal) -> bool {
-    let Some(setup) = setup_of(deal.nodes) else {
+fn used_on<R: Wait>(rt: &R, alloc: Global, way: Way, seats: &mut Vec<Seat>, other: &Other) -> bool {
+    let Ok(setup) = Setup::new(other.nodes, 2, 10) else {
         return false;
     };
-    match publisher_for(rt, alloc, setup) {
-        Some((publisher, _observer)) => {
+    match beside_for(rt, alloc, setup, 1, other.is_watched) {
+        Some((publisher, mut beside)) => {
             let blank = Blank::new(u64::from(setup.nodes()) + 1);
-            let other = Blank::new(u64::from(setup.nodes()) + 1);
-            dealt_watched_by::<Brand, Brand, R>(
-                rt, alloc, way, setup, publisher, deal, blank, other,
-            )
+            let is_told = used_by::<Brand, R>(
+                rt,
+                way,
+                setup,
+                publisher,
+                &mut beside,
+                blank,
+                seats,
+                other,
+            );
+            drop(beside);
+            is_told
         }
         None => false,
     }
 }
 
-fn dealt_watched_by<L: Naming, M: Naming, R: Wait>(
+fn used_by<L: Naming, R: Wait>(
     rt: &R,
-    alloc: Global,
     way: Way,
     setup: Setup,
-    publisher: Publisher,
-    deal: &Deal,
+    publisher: Option<Publisher>,
+    beside: &mut Beside,
     blank: Blank,
-    other: Blank,
+    seats: &mut Vec<Seat>,
+    other: &Other,
 ) -> bool
-    requires setup { (setup ≡ L.setup) × (setup ≡ M.setup) × (publisher.publisher.setup ≡ setup) }
-    requires unwatched { L.publisher ≡ None }
-    requires publisher { M.publisher ≡ Some publisher.publisher }
-    requires new { (publisher.shown ≡ []) × (publisher.taken ≡ []) }
-    requires name { (blank.name ≡ L.name) × (other.name ≡ M.name) }
+    requires setup { (setup ≡ L.setup) × ((state_of beside.old.procedure).setup ≡ L.setup) }
+    requires publisher { (name_of publisher ≡ L.publisher) × (beside.old.watchers ≡ L.publisher) }
+    requires new { IfSome publisher (λ p. (p.publisher.setup ≡ setup) × (p.shown ≡ []) × (p.taken ≡ [])) }
+    requires name { blank.name ≡ L.name }
     requires parts { (blank.parts ≡ L.parts) × (L.parts ≡ L.setup.nodes + 1) }
-    requires other_parts { (other.parts ≡ M.parts) × (M.parts ≡ M.setup.nodes + 1) }
 {
-    match open::<L>(alloc, way, setup, blank) {
-        Some(first) => match open_watched::<M, R>(rt, alloc, way, setup, publisher, other) {
-            Some(second) => goes_as_told(rt, alloc, first, second, setup, setup, deal),
-            None => {
-                first.end(rt);
-                false
-            }
-        },
-        None => {
-            publisher.end(rt);
-            false
-        }
+    match open::<L, R>(rt, beside.alloc, way, setup, publisher, blank) {
+        Some(opened) => goes_as_told(rt, opened, beside, seats, other),
+        None => false,
     }
 }
 
-// The deal with these groups, and their finishes.
-fn goes_as_told<L: Naming, M: Naming, R: Wait>(
+fn goes_as_told<L: Naming, R: Wait>(
     rt: &R,
-    alloc: Global,
-    first: Opened<L>,
-    second: Opened<M>,
-    setup: Setup,
-    other_setup: Setup,
-    deal: &Deal,
+    opened: Opened<L>,
+    beside: &mut Beside,
+    seats: &mut Vec<Seat>,
+    other: &Other,
 ) -> bool
-    requires { (setup ≡ L.setup) × (other_setup ≡ M.setup) }
+    requires setup { (state_of beside.old.procedure).setup ≡ L.setup }
+    requires watchers { beside.old.watchers ≡ L.publisher }
 {
-    let (mut first, mut second) = (first, second);
-    let mut text = String::new(alloc);
-    ask_all(rt, alloc, &mut first, setup, 1, deal.asks, &mut text);
-    swap(&mut first.seats, &mut second.seats, deal);
-    ask_all(
-        rt,
-        alloc,
-        &mut second,
-        other_setup,
-        1,
-        deal.other_asks,
-        &mut text,
-    );
-    if deal.goes_back {
-        swap(&mut first.seats, &mut second.seats, deal);
+    let mut opened = opened;
+    swap(seats, &mut opened.seats, other);
+    ask_all(rt, &mut opened, beside, other.asks);
+    if other.goes_back {
+        swap(seats, &mut opened.seats, other);
     }
-    let (first, second) = (ends(rt, first), ends(rt, second));
-    let _ = writeln!(text, "{first:?} {second:?}");
-    text.as_str() == deal.told
+    ends_as(rt, opened, beside, &[]) && beside.tells(other.told)
 }
 
-// The two seats of the deal change places.
-fn swap(seats: &mut Vec<Seat>, others: &mut Vec<Seat>, deal: &Deal) {
-    let (Some(seat), Some(other)) = (seats.get_mut(deal.actor), others.get_mut(deal.place)) else {
+// The two seats change places.
+fn swap(seats: &mut Vec<Seat>, others: &mut Vec<Seat>, other: &Other) {
+    let (Some(seat), Some(strange)) = (seats.get_mut(other.actor), others.get_mut(other.place))
+    else {
         return;
     };
-    mem::swap(seat, other);
+    mem::swap(seat, strange);
 }
