@@ -2,6 +2,7 @@
 
 use crate::agents::{answer_of, asked, failed, new_agent, place_of, started};
 use crate::lines::{Lines, one_line};
+use crate::lists::push;
 use bully_base::{Node, Setup};
 use bully_calls::Answer;
 use bully_messages::{Reply, Request};
@@ -182,7 +183,7 @@ fn add_actors(alloc: Global, setup: &Setup, actors: &mut Vec<Actor>) -> bool {
             return false;
         };
         let mail = OnItsWay::Nothing;
-        if actors.push(Actor { agent, mail }).is_err() {
+        if !push(actors, Actor { agent, mail }) {
             return false;
         }
     }
@@ -221,7 +222,8 @@ fn act(actor: &mut Actor, event: &Event) -> Option<Result<Answer, Refused>> {
 fn start(actor: &mut Actor) -> Option<Result<Answer, Refused>> {
     let taken = answer_of(actor.agent.start());
     if taken.is_ok() {
-        actor.mail = OnItsWay::Request(actor.agent.request().ok()??);
+        let request = actor.agent.request().ok()??;
+        send(actor, OnItsWay::Request(request));
     }
     Some(taken)
 }
@@ -241,14 +243,23 @@ fn run(actors: &mut [Actor], place: usize) -> Option<Result<Answer, Refused>> {
 fn serve(actors: &mut [Actor], request: &Request) -> Option<Result<Answer, Refused>> {
     let callee = actors.get_mut(place_of(request.call.callee))?;
     let reply = asked(&mut callee.agent, request)?;
-    actors.get_mut(place_of(request.caller))?.mail = OnItsWay::Reply(reply);
-    Some(Ok(reply.answer))
+    let answer = reply.answer;
+    send(
+        actors.get_mut(place_of(request.caller))?,
+        OnItsWay::Reply(reply),
+    );
+    Some(Ok(answer))
 }
 
 // The node's call is lost: it will be told that it failed.
 fn lose(actor: &mut Actor) -> Option<Result<Answer, Refused>> {
-    actor.mail = OnItsWay::Failure(actor.agent.number());
+    let number = actor.agent.number();
+    send(actor, OnItsWay::Failure(number));
     Some(Ok(Answer::Done))
+}
+
+fn send(actor: &mut Actor, mail: OnItsWay) {
+    actor.mail = mail;
 }
 
 // The node is told what came of its call.

@@ -1,5 +1,5 @@
 use bully_base::Node;
-use bully_group::{Group, Naming, Pass, Seat, StepFault};
+use bully_group::{Group, Locked, Naming, Pass, Seat, StepFault};
 use bully_world::Event;
 use std::sync::{MutexGuard, Wait};
 
@@ -41,6 +41,15 @@ impl<L: Naming> Hand<L> {
         let stepped = guard.step(&mut self.seat, &event, &mut self.pass);
         MutexGuard::unlock(guard);
         is_passed(stepped)
+    }
+
+    /// The node serves, or else takes this event.
+    pub fn serve_or_step(&mut self, locked: &mut Locked<L>, event: Event) -> Result<(), StepFault> {
+        match locked.serve(&mut self.seat, &mut self.pass) {
+            Ok(true) => Ok(()),
+            Ok(false) => locked.step(&mut self.seat, &event, &mut self.pass),
+            Err(fault) => Err(fault),
+        }
     }
 
     /// The history is shown to the group's observers, under the lock. What is told is dropped. Whether it could be.

@@ -9,6 +9,7 @@ mod agents;
 mod following;
 mod hand;
 mod lines;
+mod lists;
 mod network;
 mod planning;
 mod player;
@@ -126,37 +127,41 @@ fn task_named(
     match name {
         "records" => Some(Task::Records),
         "follow" => Some(Task::Follow(Turns::None)),
-        "plan" | "watch" | "agents" | "world" => counting_task(name, first?),
-        "trace" => {
-            let (nodes, seed) = (nodes_of(first)?, u64::from(second?));
-            Some(Task::Trace(nodes, seed, third?, breach?))
-        }
-        _ => group_task(name, nodes_of(first)?, second?),
+        _ => counting_task(name, first?, second, third, breach),
     }
 }
 
-fn nodes_of(number: Option<u32>) -> Option<u16> {
-    u16::try_from(number?).ok()
-}
-
-// The task of this name that has a count behind it.
-fn counting_task(name: &str, count: u32) -> Option<Task> {
+// The task of this name that has a count behind it, or more.
+fn counting_task(
+    name: &str,
+    first: u32,
+    second: Option<u32>,
+    third: Option<u32>,
+    breach: Option<Breach>,
+) -> Option<Task> {
     match name {
-        "plan" => Some(Task::Plans(count)),
-        "watch" => Some(Task::Watch(THREADS, THREADS, Watching::Threads(count))),
-        "agents" => Some(Task::Follow(Turns::OfAgents(count))),
-        "world" => Some(Task::Follow(Turns::OfWorld(count))),
-        _ => None,
+        "plan" => Some(Task::Plans(first)),
+        "watch" => Some(Task::Watch(THREADS, THREADS, Watching::Threads(first))),
+        "agents" => Some(Task::Follow(Turns::OfAgents(first))),
+        "world" => Some(Task::Follow(Turns::OfWorld(first))),
+        _ => group_task(name, u16::try_from(first).ok()?, second?, third, breach),
     }
 }
 
-// The task of this name that has a number of nodes and a count behind it.
-fn group_task(name: &str, nodes: u16, count: u32) -> Option<Task> {
+// The task of this name that has a number of nodes and a count behind it, or more.
+fn group_task(
+    name: &str,
+    nodes: u16,
+    count: u32,
+    third: Option<u32>,
+    breach: Option<Breach>,
+) -> Option<Task> {
     match name {
         "turns" => Some(Task::Turns(nodes, count)),
         "quiet" => Some(Task::Watch(nodes, 1, Watching::Quiet(count))),
         "publishing" => Some(Task::Watch(nodes, 1, Watching::Publishing(count))),
         "requests" => Some(Task::Requests(nodes, count)),
+        "trace" => Some(Task::Trace(nodes, u64::from(count), third?, breach?)),
         _ => None,
     }
 }

@@ -1,4 +1,5 @@
 use crate::agents::{answer_of, asked, failed, new_agent, place_of, started};
+use crate::lists::push;
 use crate::random::Random;
 use bully_base::{Node, Setup, Status};
 use bully_calls::{Answer, Call};
@@ -118,7 +119,7 @@ impl Network {
     }
 
     fn log(&mut self, row: Row) -> bool {
-        self.rows.push(row).is_ok()
+        push(&mut self.rows, row)
     }
 
     // The step's event comes into the log, if it was taken.
@@ -134,7 +135,7 @@ impl Network {
     }
 
     fn send(&mut self, mail: Mail) -> bool {
-        self.mail.push(mail).is_ok()
+        push(&mut self.mail, mail)
     }
 
     // The node's vector comes into the log.
@@ -397,7 +398,7 @@ fn add_agents(alloc: Global, setup: &Setup, agents: &mut Vec<Agent>) -> bool {
         let Some(agent) = new_agent(alloc, setup, number) else {
             return false;
         };
-        if agents.push(agent).is_err() {
+        if !push(agents, agent) {
             return false;
         }
     }

@@ -1,4 +1,5 @@
 use crate::lines::Lines;
+use crate::lists::push;
 use crate::random::Random;
 use crate::turns::with_owners;
 use bully_base::{Node, NodeSet, Setup};
@@ -112,7 +113,7 @@ fn add_tables(alloc: Global, setup: &Setup, random: &mut Random, tables: &mut Ve
 
 fn add_table(alloc: Global, setup: &Setup, random: &mut Random, tables: &mut Vec<Table>) -> bool {
     match random_table(alloc, setup, random) {
-        Some(table) => tables.push(table).is_ok(),
+        Some(table) => push(tables, table),
         None => false,
     }
 }

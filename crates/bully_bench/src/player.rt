@@ -63,24 +63,10 @@ impl<L: Naming> Player<L> {
     // It serves, or else does what it chose.
     fn serve_or_do(&mut self, locked: &mut Locked<L>, choice: Choice) -> Result<(), StepFault> {
         match choice {
-            Choice::Check => self.serve_or_step(locked, true),
-            Choice::Timeout => self.serve_or_step(locked, false),
+            Choice::Check => self.hand.serve_or_step(locked, Event::Check(self.node)),
+            Choice::Timeout => self.hand.serve_or_step(locked, Event::Timeout(self.node)),
             Choice::Proceed => self.serve_or_proceed(locked),
         }
-    }
-
-    // It serves, or else checks, or has a timeout.
-    fn serve_or_step(&mut self, locked: &mut Locked<L>, checks: bool) -> Result<(), StepFault> {
-        let Hand { seat, pass } = &mut self.hand;
-        if locked.serve(seat, pass)? {
-            return Ok(());
-        }
-        let event = if checks {
-            Event::Check(self.node)
-        } else {
-            Event::Timeout(self.node)
-        };
-        locked.step(seat, &event, pass)
     }
 
     // It serves, or else its procedure goes on by the turn rule, with a table where it is Planning.

@@ -2,6 +2,7 @@ ghost use Rattle.std.specs.Prelude.{◌≡◌, ◌+◌, ◌≤◌, [], Some};
 
 use crate::hand::Hand;
 use crate::lines::Lines;
+use crate::lists::push;
 use crate::player::Player;
 use crate::random::Random;
 use crate::team::Team;
@@ -118,16 +119,16 @@ fn watched_by<L: Naming + Send + Sync, R: Threads + Wait + Sync>(
 // The lines that tell what came of it, behind so many entries.
 fn lines_of(task: Watching, entries: u64, watched: Option<Watched>) -> Option<Lines> {
     let watched = watched?;
-    let looks = Some(("looks", watched.looks));
-    Some(Lines(match task {
-        Watching::Quiet(_) => [looks, Some(("made", watched.made)), None],
-        Watching::Publishing(_) => [looks, Some(("publishes", watched.publishes)), None],
-        Watching::Threads(_) => [
-            Some(("entries", entries)),
-            looks,
-            Some(("seen", u64::from(watched.seen))),
-        ],
-    }))
+    let first = match task {
+        Watching::Threads(_) => Some(("entries", entries)),
+        _ => None,
+    };
+    let last = match task {
+        Watching::Quiet(_) => ("made", watched.made),
+        Watching::Publishing(_) => ("publishes", watched.publishes),
+        Watching::Threads(_) => ("seen", u64::from(watched.seen)),
+    };
+    Some(Lines([first, Some(("looks", watched.looks)), Some(last)]))
 }
 
 // What one thread of a group is for.
@@ -135,14 +136,10 @@ fn lines_of(task: Watching, entries: u64, watched: Option<Watched>) -> Option<Li
 enum Job<L: Naming> {
     /// So many turns of a node.
     Play(Player<L>, u32),
-    /// So many turns of the team's operator.
-    Operate(Team<L>, u32),
-    /// Turns of all of the team, until the others have ended.
-    Publish(Team<L>),
-    /// So many looks.
-    LookOften(Observer, u32),
-    /// Looks until the others have ended.
-    LookOn(Observer),
+    /// What the team does in this task, without the players that have jobs of their own.
+    Lead(Team<L>, Watching),
+    /// So many looks, or looks until the others have ended.
+    Look(Observer, Option<u32>),
 }
 
 // Does this with the group, by jobs in threads of their own.
@@ -154,19 +151,35 @@ fn watch<L: Naming + Send + Sync, R: Threads + Wait + Sync>(
     observers: Vec<Observer>,
     task: Watching,
 ) -> Option<Watched> {
-    let mut team = team?;
     let mut observers = observers;
     let mut jobs = Vec::new(alloc);
-    let are_added = add_jobs(rt, group, &mut team, &mut observers, &mut jobs, task);
-    if are_added && jobs.push(team_job(team, task)).is_ok() {
+    if add_jobs(rt, group, team, &mut observers, &mut jobs, task) {
         in_threads(rt, group, jobs, ending(task))
     } else {
         None
     }
 }
 
-// The jobs that this task has beside that of the team. Whether they could be made.
+// All jobs of this task. Whether they could be made.
 fn add_jobs<L: Naming, R: Wait>(
+    rt: &R,
+    group: &Group<L>,
+    team: Option<Team<L>>,
+    observers: &mut Vec<Observer>,
+    jobs: &mut Vec<Job<L>>,
+    task: Watching,
+) -> bool {
+    let Some(mut team) = team else {
+        return false;
+    };
+    if !add_others(rt, group, &mut team, observers, jobs, task) {
+        return false;
+    }
+    push(jobs, Job::Lead(team, task))
+}
+
+// The jobs beside that of the team.
+fn add_others<L: Naming, R: Wait>(
     rt: &R,
     group: &Group<L>,
     team: &mut Team<L>,
@@ -176,9 +189,11 @@ fn add_jobs<L: Naming, R: Wait>(
 ) -> bool {
     match task {
         Watching::Quiet(looks) | Watching::Publishing(looks) => {
-            settle(rt, group, team) && add_looks(jobs, observers, looks)
+            settle(rt, group, team) && add_looks(jobs, observers, Some(looks))
         }
-        Watching::Threads(turns) => add_turns(jobs, team, turns) && add_lookers(jobs, observers),
+        Watching::Threads(turns) => {
+            add_turns(jobs, team, turns) && add_looks(jobs, observers, None)
+        }
     }
 }
 
@@ -188,59 +203,45 @@ fn settle<L: Naming, R: Wait>(rt: &R, group: &Group<L>, team: &mut Team<L>) -> b
     team.take_turns(rt, group, turns) && team.operator.publish(rt, group)
 }
 
-// So many looks of one observer.
-fn add_looks<L: Naming>(jobs: &mut Vec<Job<L>>, observers: &mut Vec<Observer>, looks: u32) -> bool {
-    match observers.pop() {
-        Some(observer) => jobs.push(Job::LookOften(observer, looks)).is_ok(),
-        None => false,
-    }
-}
-
 // So many turns of each of the team's players.
 fn add_turns<L: Naming>(jobs: &mut Vec<Job<L>>, team: &mut Team<L>, turns: u32) -> bool {
     for _ in 0..team.players.len() {
         let Some(player) = team.players.pop() else {
             return false;
         };
-        if jobs.push(Job::Play(player, turns)).is_err() {
+        if !push(jobs, Job::Play(player, turns)) {
             return false;
         }
     }
     true
 }
 
-// A job for each observer, that looks on.
-fn add_lookers<L: Naming>(jobs: &mut Vec<Job<L>>, observers: &mut Vec<Observer>) -> bool {
+// So many looks of each observer, or looks until the others have ended.
+fn add_looks<L: Naming>(
+    jobs: &mut Vec<Job<L>>,
+    observers: &mut Vec<Observer>,
+    looks: Option<u32>,
+) -> bool {
     for _ in 0..observers.len() {
         let Some(observer) = observers.pop() else {
             return false;
         };
-        if jobs.push(Job::LookOn(observer)).is_err() {
+        if !push(jobs, Job::Look(observer, looks)) {
             return false;
         }
     }
     true
 }
 
-// What the team is for, beside the other jobs of this task.
-fn team_job<L: Naming>(team: Team<L>, task: Watching) -> Job<L> {
-    match task {
-        Watching::Quiet(_) => Job::Operate(team, 0),
-        Watching::Publishing(_) => Job::Publish(team),
-        Watching::Threads(turns) => Job::Operate(team, turns),
-    }
-}
-
-// How many jobs of this task end by themselves.
+// How many jobs of this task the others wait for: that of the observer, or those of the operator and of each node.
 fn ending(task: Watching) -> u64 {
     match task {
-        Watching::Quiet(_) => 2,
-        Watching::Publishing(_) => 1,
+        Watching::Quiet(_) | Watching::Publishing(_) => 1,
         Watching::Threads(_) => u64::from(THREADS) + 1,
     }
 }
 
-// Each job in a thread of its own. So many of them end by themselves, and the others behind these.
+// Each job in a thread of its own. The others go on until so many have ended.
 fn in_threads<L: Naming + Send + Sync, R: Threads + Wait + Sync>(
     rt: &R,
     group: &Group<L>,
@@ -280,32 +281,47 @@ fn work<L: Naming, R: Wait>(
             let mut player = player;
             ended(left, play(rt, group, &mut player, turns))
         }
-        Job::Operate(team, turns) => {
+        Job::Lead(team, task) => {
             let mut team = team;
-            ended(left, operate(rt, group, &mut team.operator, turns))
+            lead(rt, group, left, &mut team, task)
         }
-        Job::Publish(team) => {
-            let mut team = team;
-            publish_on(rt, group, &mut team, left)
-        }
-        Job::LookOften(observer, looks) => {
+        Job::Look(observer, looks) => {
             let mut observer = observer;
-            ended(left, look_often(&mut observer, looks))
-        }
-        Job::LookOn(observer) => {
-            let mut observer = observer;
-            look_on(&mut observer, left)
+            look(left, &mut observer, looks)
         }
     }
 }
 
-// One job fewer is left of those that end by themselves.
+// What the team does.
+fn lead<L: Naming, R: Wait>(
+    rt: &R,
+    group: &Group<L>,
+    left: &AtomicU64,
+    team: &mut Team<L>,
+    task: Watching,
+) -> Option<Watched> {
+    match task {
+        Watching::Quiet(_) => Some(NOTHING),
+        Watching::Publishing(_) => publish_on(rt, group, team, left),
+        Watching::Threads(turns) => ended(left, operate(rt, group, &mut team.operator, turns)),
+    }
+}
+
+// So many looks, or looks until the others have ended.
+fn look(left: &AtomicU64, observer: &mut Observer, looks: Option<u32>) -> Option<Watched> {
+    match looks {
+        Some(looks) => ended(left, look_often(observer, looks)),
+        None => look_on(observer, left),
+    }
+}
+
+// One job fewer is left that others wait for.
 fn ended(left: &AtomicU64, watched: Option<Watched>) -> Option<Watched> {
     left.fetch_sub(1, Ordering::SeqCst);
     watched
 }
 
-// Takes turns and publishes after each, until none is left of those that end by themselves: how often it did.
+// Takes turns and publishes after each, until no job is left that it waits for: how often it did.
 fn publish_on<L: Naming, R: Wait>(
     rt: &R,
     group: &Group<L>,
@@ -332,7 +348,7 @@ fn publish_on<L: Naming, R: Wait>(
 fn look_often(observer: &mut Observer, looks: u32) -> Option<Watched> {
     let mut seen = 0;
     for _ in 1..looks {
-        seen = look(observer, seen)?;
+        seen = look_once(observer, seen)?;
     }
     let last = observer.look().ok()?;
     let watched = Watched {
@@ -349,7 +365,7 @@ fn look_often(observer: &mut Observer, looks: u32) -> Option<Watched> {
 }
 
 // One more look: how many entries it saw. None where they are fewer than before.
-fn look(observer: &mut Observer, before: u32) -> Option<u32> {
+fn look_once(observer: &mut Observer, before: u32) -> Option<u32> {
     let seen = observer.look().ok()?.events();
     if seen < before { None } else { Some(seen) }
 }
@@ -382,7 +398,7 @@ fn with_node(made: u64, view: &View, number: u16) -> u64
     }
 }
 
-// Looks until none is left of those that end by themselves, and gives the processor away after each look, since a publish waits
+// Looks until no job is left that it waits for, and gives the processor away after each look, since a publish waits
 // for a look that has begun. None where a count falls.
 fn look_on(observer: &mut Observer, left: &AtomicU64) -> Option<Watched> {
     let mut seen = 0;
@@ -394,7 +410,7 @@ fn look_on(observer: &mut Observer, left: &AtomicU64) -> Option<Watched> {
                 ..NOTHING
             });
         }
-        seen = look(observer, seen)?;
+        seen = look_once(observer, seen)?;
         thread::yield_now();
     }
     None
