@@ -1,4 +1,3 @@
-use crate::tables::setup;
 use crate::trying::{Outcome, Trial};
 use bully_base::{EVENTS_MAX, Node, OutOfMemory, Setup};
 use bully_calls::Answer;
@@ -33,8 +32,9 @@ pub enum LineCall {
 
 /// The last of two nodes with four partitions, on its own.
 pub fn agent_call<R: Print>(trial: &Trial<R>, call: AgentCall) -> Option<Outcome> {
-    let setup = Setup::new(2, 4, EVENTS_MAX).ok()?;
-    let node = Node::new(2)?;
+    let (Ok(setup), Some(node)) = (Setup::new(2, 4, EVENTS_MAX), Node::new(2)) else {
+        return None;
+    };
     if setup.nodes() < node.number() {
         return None;
     }
@@ -43,22 +43,20 @@ pub fn agent_call<R: Print>(trial: &Trial<R>, call: AgentCall) -> Option<Outcome
             trial.begin();
             trial.outcome(Agent::new(trial.alloc, &setup, node, 0, None), "AllocError")
         }
-        _ => {
-            let mut agent = Agent::new(trial.alloc, &setup, node, 0, None).ok()?;
-            call_of(trial, call, &mut agent)
-        }
+        _ => match Agent::new(trial.alloc, &setup, node, 0, None) {
+            Ok(mut agent) => call_of(trial, call, &mut agent),
+            Err(_) => None,
+        },
     }
 }
 
 // A call of the node where it plans, or where it calls with its table.
 fn call_of<R: Print>(trial: &Trial<R>, call: AgentCall, agent: &mut Agent) -> Option<Outcome> {
-    take_to_plan(agent)?;
+    if !comes_to_plan(agent) {
+        return None;
+    }
     match call {
-        AgentCall::Request => {
-            start_ready(trial.alloc, agent)?;
-            trial.begin();
-            trial.outcome(agent.request(), "AllocError")
-        }
+        AgentCall::Request => request_call(trial, agent),
         _ => {
             trial.begin();
             trial.outcome(agent.prepare(trial.alloc, None), "AllocError")
@@ -66,61 +64,77 @@ fn call_of<R: Print>(trial: &Trial<R>, call: AgentCall, agent: &mut Agent) -> Op
     }
 }
 
-// Takes the node on from its recovery until it plans.
-fn take_to_plan(agent: &mut Agent) -> Option<()> {
-    taken(agent.recover())?;
+// The request of a Ready.
+fn request_call<R: Print>(trial: &Trial<R>, agent: &mut Agent) -> Option<Outcome> {
+    if !comes_to_ready(trial.alloc, agent) {
+        return None;
+    }
+    trial.begin();
+    trial.outcome(agent.request(), "AllocError")
+}
+
+// Takes the node on from its recovery, and tells whether it comes to plan.
+fn comes_to_plan(agent: &mut Agent) -> bool {
+    if !is_taken(agent.recover()) {
+        return false;
+    }
     for _ in 0..STEPS {
-        match agent.wants() {
-            Want::Start(_) => call(agent)?,
-            Want::Move => taken(agent.advance())?,
-            _ => return Some(()),
+        let goes_on = match agent.wants() {
+            Want::Start(_) => is_called(agent),
+            Want::Move => is_taken(agent.advance()),
+            _ => return true,
+        };
+        if !goes_on {
+            return false;
         }
     }
-    None
+    false
 }
 
 // The node's call is started, and is answered Yes.
-fn call(agent: &mut Agent) -> Option<()> {
-    taken(agent.start())?;
+fn is_called(agent: &mut Agent) -> bool {
+    if !is_taken(agent.start()) {
+        return false;
+    }
     let reply = Reply {
         caller: agent.node(),
         number: agent.number(),
         answer: Answer::Yes,
     };
-    taken(agent.replied(reply))
+    is_taken(agent.replied(reply))
 }
 
 // Plans the table, and starts the first Ready.
-fn start_ready(alloc: Global, agent: &mut Agent) -> Option<()> {
-    let table = agent.prepare(alloc, None).ok()?;
-    taken(agent.plan(table))?;
-    taken(agent.start())
-}
-
-// Whether the step was taken.
-fn taken(step: Result<TakenStep, Refused>) -> Option<()> {
-    match step {
-        Ok(_) => Some(()),
-        Err(_) => None,
+fn comes_to_ready(alloc: Global, agent: &mut Agent) -> bool {
+    match agent.prepare(alloc, None) {
+        Ok(table) => is_taken(agent.plan(table)) && is_taken(agent.start()),
+        Err(_) => false,
     }
 }
 
+fn is_taken(step: Result<TakenStep, Refused>) -> bool {
+    step.is_ok()
+}
+
 pub fn line_call<R: Print>(trial: &Trial<R>, call: LineCall) -> Option<Outcome> {
-    let setup = setup()?;
     match call {
         LineCall::Read => {
             trial.begin();
-            trial.outcome(
-                read_request(trial.alloc, &setup, READY),
-                "Table(OutOfMemory)",
-            )
+            let answer = read_request(trial.alloc, &trial.setup, READY);
+            trial.outcome(answer, "Table(OutOfMemory)")
         }
-        LineCall::PushRequest => {
-            let request = read_request(trial.alloc, &setup, READY).ok()?;
+        LineCall::PushRequest => push_call(trial),
+        LineCall::PushReply => reply_call(trial),
+    }
+}
+
+fn push_call<R: Print>(trial: &Trial<R>) -> Option<Outcome> {
+    match read_request(trial.alloc, &trial.setup, READY) {
+        Ok(request) => {
             trial.begin();
             trial.outcome(request_line(trial.alloc, &request), "AllocError")
         }
-        LineCall::PushReply => reply_call(trial),
+        Err(_) => None,
     }
 }
 

@@ -1,6 +1,6 @@
 use crate::agents::{AgentCall, LineCall};
+use crate::changes::Change;
 use crate::groups::Asked;
-use crate::opened::Deed;
 use crate::tables::{FullCall, NewCall, TableCall};
 use crate::texts::{TraceCall, Version};
 use crate::watched::Watching;
@@ -56,16 +56,16 @@ const NAMES: [(&str, Call); 59] = [
     ("Publisher::publish", Call::Group(Asked::PublishHistory)),
     ("Observer::look", Call::Watched(Watching::Look)),
     ("Locked::open", Call::Group(Asked::Open)),
-    ("Locked::step", Call::Group(Asked::Step)),
-    ("Locked::serve", Call::Group(Asked::Act(Deed::Serve))),
-    ("Locked::turn", Call::Group(Asked::Act(Deed::Turn))),
+    ("Locked::step", Call::Group(Asked::Change(Change::Step))),
+    ("Locked::serve", Call::Group(Asked::Change(Change::Serve))),
+    ("Locked::turn", Call::Group(Asked::Change(Change::Turn))),
     (
         "Locked::turn_in_place",
-        Call::Group(Asked::Act(Deed::TurnInPlace)),
+        Call::Group(Asked::Change(Change::TurnInPlace)),
     ),
     (
         "Locked::serve_or_turn",
-        Call::Group(Asked::Act(Deed::NodeTurn)),
+        Call::Group(Asked::Change(Change::NodeTurn)),
     ),
     ("Locked::view", Call::Group(Asked::View)),
     ("Locked::publish", Call::Watched(Watching::Publish)),

@@ -6,6 +6,7 @@
 
 mod agents;
 mod calls;
+mod changes;
 mod finished;
 mod groups;
 mod opened;
@@ -22,7 +23,7 @@ use crate::tables::{full_call, new_call, table_call};
 use crate::texts::{claim_call, trace_call};
 use crate::trying::{Outcome, Trial};
 use crate::watched::{publisher_call, watching_call};
-use crate::worlds::event_call;
+use crate::worlds::{ELECTION, event_call, events_in, trial_of};
 use std::alloc::Global;
 use std::env;
 use std::process::ExitCode;
@@ -110,13 +111,16 @@ fn word(rt: &HostRuntime) -> Option<String> {
 
 // Makes the call, and again where it was refused memory and is still to be made.
 fn try_call<R: Print + Wait>(rt: &R, alloc: Global, name: &str) -> Option<()> {
-    let call = call_of(name)?;
-    match outcome_of(rt, alloc, false, call)? {
-        Outcome::Told => Some(()),
-        Outcome::Refused => match outcome_of(rt, alloc, true, call)? {
-            Outcome::Told => Some(()),
-            Outcome::Refused => None,
+    let Some(call) = call_of(name) else {
+        return None;
+    };
+    match outcome_of(rt, alloc, false, call) {
+        Some(Outcome::Told) => Some(()),
+        Some(Outcome::Refused) => match outcome_of(rt, alloc, true, call) {
+            Some(Outcome::Told) => Some(()),
+            _ => None,
         },
+        None => None,
     }
 }
 
@@ -127,22 +131,27 @@ fn outcome_of<R: Print + Wait>(
     is_again: bool,
     call: Call,
 ) -> Option<Outcome> {
-    let trial = Trial {
-        rt,
-        alloc,
-        is_again,
+    let Some(events) = events_in(alloc, ELECTION) else {
+        return None;
     };
+    match trial_of(rt, alloc, is_again, events.as_slice()) {
+        Some(trial) => made(&trial, call),
+        None => None,
+    }
+}
+
+fn made<R: Print + Wait>(trial: &Trial<R>, call: Call) -> Option<Outcome> {
     match call {
-        Call::New(call) => new_call(&trial, call),
-        Call::Full(call) => full_call(&trial, call),
-        Call::Table(call) => table_call(&trial, call),
-        Call::Event(call) => event_call(&trial, call),
-        Call::Agent(call) => agent_call(&trial, call),
-        Call::Line(call) => line_call(&trial, call),
-        Call::Group(call) => group_call(&trial, call),
-        Call::Publisher => publisher_call(&trial),
-        Call::Watched(call) => watching_call(&trial, call),
-        Call::Claim => claim_call(&trial),
-        Call::Trace(call, version) => trace_call(&trial, call, version),
+        Call::New(call) => new_call(trial, call),
+        Call::Full(call) => full_call(trial, call),
+        Call::Table(call) => table_call(trial, call),
+        Call::Event(call) => event_call(trial, call),
+        Call::Agent(call) => agent_call(trial, call),
+        Call::Line(call) => line_call(trial, call),
+        Call::Group(call) => group_call(trial, call),
+        Call::Publisher => publisher_call(trial),
+        Call::Watched(call) => watching_call(trial, call),
+        Call::Claim => claim_call(trial),
+        Call::Trace(call, version) => trace_call(trial, call, version),
     }
 }

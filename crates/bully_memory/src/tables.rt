@@ -8,11 +8,6 @@ use bully_table::{Table, TableRoom, plan, plan_in, push_owners};
 use bully_world::World;
 use std::alloc::Global;
 
-/// The group: three nodes and four partitions.
-pub fn setup() -> Option<Setup> {
-    Setup::new(3, 4, EVENTS_MAX).ok()
-}
-
 /// A table of the group.
 const OWNERS: &str = "1 2 2 3";
 
@@ -48,8 +43,7 @@ pub enum TableCall {
 }
 
 pub fn new_call<R: Print>(trial: &Trial<R>, call: NewCall) -> Option<Outcome> {
-    let setup = setup()?;
-    let alloc = trial.alloc;
+    let (setup, alloc) = (trial.setup, trial.alloc);
     trial.begin();
     match call {
         NewCall::Weighted => {
@@ -71,20 +65,26 @@ pub fn new_call<R: Print>(trial: &Trial<R>, call: NewCall) -> Option<Outcome> {
 }
 
 pub fn full_call<R: Print>(trial: &Trial<R>, call: FullCall) -> Option<Outcome> {
-    let largest = Setup::new(NODES_MAX, PARTITIONS_MAX, EVENTS_MAX).ok()?;
+    let Ok(largest) = Setup::new(NODES_MAX, PARTITIONS_MAX, EVENTS_MAX) else {
+        return None;
+    };
     match call {
         FullCall::World => {
             trial.begin();
             trial.outcome(World::new(trial.alloc, largest), "AllocError")
         }
-        FullCall::View => view_call(trial, &World::new(trial.alloc, largest).ok()?),
+        FullCall::View => match World::new(trial.alloc, largest) {
+            Ok(world) => view_call(trial, &world),
+            Err(_) => None,
+        },
     }
 }
 
 pub fn table_call<R: Print>(trial: &Trial<R>, call: TableCall) -> Option<Outcome> {
-    let setup = setup()?;
-    let table = Table::read(trial.alloc, setup, OWNERS).ok()?;
-    call_on(trial, call, &setup, &table)
+    match Table::read(trial.alloc, trial.setup, OWNERS) {
+        Ok(table) => call_on(trial, call, &trial.setup, &table),
+        Err(_) => None,
+    }
 }
 
 // A call that is given this table: a copy, a text, or a plan for two members, from a table that has three.
@@ -95,9 +95,12 @@ fn call_on<R: Print>(
     table: &Table,
 ) -> Option<Outcome> {
     let alloc = trial.alloc;
+    let (Some(first), Some(third)) = (Node::new(1), Node::new(3)) else {
+        return None;
+    };
     let mut members = NodeSet::new();
-    members.insert(Node::new(1)?);
-    members.insert(Node::new(3)?);
+    members.insert(first);
+    members.insert(third);
     if table.len() != usize::from(setup.partitions()) || !setup.has_all(&members) {
         return None;
     }

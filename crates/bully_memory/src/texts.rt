@@ -1,10 +1,11 @@
-use crate::trying::{Outcome, Trial};
+use crate::trying::{Outcome, Text, Trial};
 use crate::worlds::ELECTION;
 use bully_annotate::annotate;
 use bully_base::{Node, NodeSet, Setup, Status};
-use bully_rows::{Claim, Trace, WholeClaim, read_trace, write_trace};
+use bully_rows::{Claim, TraceFault, WholeClaim, read_trace, write_trace};
 use bully_table::Table;
 use bully_trace::{check, upgrade};
+use std::fmt::Debug;
 
 // A trace of version 2: node 2 leads itself alone, and its task is kept over a crash.
 const KEPT: &str = "bully,2,2,3,2 1,keep
@@ -81,11 +82,10 @@ pub fn trace_call<R: Print>(
             trial.begin();
             trial.outcome(read_trace(trial.alloc, text), OF_TRACE)
         }
-        TraceCall::Write => write_call(trial, &read_trace(trial.alloc, text).ok()?),
-        _ => {
-            let mut output = Vec::with_capacity(trial.alloc, ROOM).ok()?;
-            output_call(trial, call, text, &mut output)
-        }
+        _ => match Vec::with_capacity(trial.alloc, ROOM) {
+            Ok(mut output) => output_call(trial, call, text, &mut output),
+            Err(_) => None,
+        },
     }
 }
 
@@ -96,40 +96,62 @@ fn output_call<R: Print>(
     text: &[u8],
     output: &mut Vec<u8>,
 ) -> Option<Outcome> {
+    if matches!(call, TraceCall::Write) {
+        return write_call(trial, text, output);
+    }
     trial.begin();
     match call {
         TraceCall::Check => {
             let answer = check(trial.alloc, text, output);
-            trial.written(answer, OF_TRACE, output)
+            written(trial, answer, output)
         }
         TraceCall::Upgrade => {
             let answer = upgrade(trial.alloc, text, output);
-            trial.written(answer, OF_TRACE, output)
+            written(trial, answer, output)
         }
         _ => {
             let answer = annotate(trial.alloc, text, output);
-            trial.written(answer, OF_TRACE, output)
+            written(trial, answer, output)
         }
     }
 }
 
-fn write_call<R: Print>(trial: &Trial<R>, trace: &Trace) -> Option<Outcome> {
-    let mut output = Vec::with_capacity(trial.alloc, ROOM).ok()?;
+// The outcome of a call that writes. None where it wrote though it was refused memory.
+fn written<T: Debug + Drop, R: Print>(
+    trial: &Trial<R>,
+    answer: Result<T, TraceFault>,
+    output: &[u8],
+) -> Option<Outcome> {
+    trial.end();
+    match answer {
+        Ok(value) => trial.tell(false, &Text::of_both(trial.alloc, &value, &output)),
+        Err(fault) if output.is_empty() => trial.refused(&fault, OF_TRACE),
+        Err(_) => None,
+    }
+}
+
+fn write_call<R: Print>(trial: &Trial<R>, text: &[u8], output: &mut Vec<u8>) -> Option<Outcome> {
+    let Ok(trace) = read_trace(trial.alloc, text) else {
+        return None;
+    };
     trial.begin();
-    let answer = write_trace(trial.alloc, &mut output, trace);
-    trial.written(answer, OF_TRACE, output.as_slice())
+    let answer = write_trace(trial.alloc, output, &trace);
+    written(trial, answer, output)
 }
 
 /// A call that makes a claim: node 2 is Normal under itself, with a task.
 pub fn claim_call<R: Print>(trial: &Trial<R>) -> Option<Outcome> {
-    let node = Node::new(2)?;
-    let setup = Setup::new(2, 3, 1).ok()?;
+    let (Ok(setup), Some(node)) = (Setup::new(2, 3, 1), Node::new(2)) else {
+        return None;
+    };
     let claim = Claim {
         node,
         status: Status::Normal,
         coordinator: Some(node),
     };
-    let task = Table::read(trial.alloc, setup, "2 2 2").ok()?;
+    let Ok(task) = Table::read(trial.alloc, setup, "2 2 2") else {
+        return None;
+    };
     trial.begin();
     let answer = WholeClaim::new(trial.alloc, claim, Some(node), NodeSet::new(), Some(task));
     trial.outcome(answer, "AllocError")

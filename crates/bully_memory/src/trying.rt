@@ -1,23 +1,42 @@
+use bully_base::Setup;
+use bully_world::Event;
 use std::alloc::Global;
 use std::fmt::Debug;
 
-/// How a call is tried.
+/// How a call is tried, and what with.
 #[derive(Drop)]
 pub struct Trial<'a, R: Print> {
     pub rt: &'a R,
     pub alloc: Global,
     /// Whether it was refused memory, and is made again with the same arguments anew.
     pub is_again: bool,
+    /// The group: three nodes and four partitions.
+    pub setup: Setup,
+    /// The events of an election.
+    pub events: &'a [Event],
+    /// Those before the run of its first call.
+    pub before_run: &'a [Event],
+    /// Those before the plan.
+    pub before_plan: &'a [Event],
+    pub plan: &'a Event,
 }
 
 /// What became of a call.
 #[derive(Clone, Copy)]
 pub enum Outcome {
-    /// It was answered, and made again first on what it left or handed back where it was refused memory. What it answered in
-    /// the end and what it left is told.
+    /// It was answered, and made again first on what it left or handed back where it was refused memory. What it
+    /// answered in the end and what it left is told.
     Told,
     /// It was refused memory. The call is still to be made again, with the same arguments anew.
     Refused,
+}
+
+/// The text of what can be read of something.
+#[derive(Drop)]
+pub struct Text {
+    text: String,
+    /// Whether there was memory for all of it.
+    is_whole: bool,
 }
 
 impl<'a, R: Print> Trial<'a, R> {
@@ -40,87 +59,87 @@ impl<'a, R: Print> Trial<'a, R> {
     ) -> Option<Outcome> {
         self.end();
         match answer {
-            Ok(value) => self.tell(false, &value),
-            Err(fault) => refused(self.alloc, &fault, refusal),
+            Ok(value) => self.tell(false, &Text::of(self.alloc, &value)),
+            Err(fault) => self.refused(&fault, refusal),
         }
     }
 
-    /// The same of a call that writes. None where it wrote though it was refused memory.
-    pub fn written<T: Debug + Drop, E: Debug + Drop>(
-        &self,
-        answer: Result<T, E>,
-        refusal: &str,
-        output: &[u8],
-    ) -> Option<Outcome> {
-        self.end();
-        match answer {
-            Ok(value) => self.tell_both(false, &value, &output),
-            Err(fault) if output.is_empty() => refused(self.alloc, &fault, refusal),
-            Err(_) => None,
+    /// A call with this fault, whose want of memory reads as `refusal`; None for another one.
+    pub fn refused<E: Debug>(&self, fault: &E, refusal: &str) -> Option<Outcome> {
+        if Text::of(self.alloc, fault).reads(refusal) {
+            Some(Outcome::Refused)
+        } else {
+            None
         }
     }
 
-    /// Tells what a call answered in the end or left, and whether it was refused memory at first.
-    pub fn tell<T: Debug>(&self, was_refused: bool, value: &T) -> Option<Outcome> {
-        let mut text = String::new(self.alloc);
-        match read(&mut text, value) {
-            Some(()) => self.tell_text(was_refused, text.as_str()),
-            None => None,
+    /// Tells how it reads what a call answered in the end or left, and whether it was refused memory at first.
+    pub fn tell(&self, was_refused: bool, text: &Text) -> Option<Outcome> {
+        if !text.is_whole {
+            return None;
         }
-    }
-
-    /// The same of two values.
-    pub fn tell_both<T: Debug, U: Debug>(
-        &self,
-        was_refused: bool,
-        first: &T,
-        second: &U,
-    ) -> Option<Outcome> {
-        let mut text = String::new(self.alloc);
-        match read_both(&mut text, first, second) {
-            Some(()) => self.tell_text(was_refused, text.as_str()),
-            None => None,
-        }
-    }
-
-    /// The same of what reads so.
-    pub fn tell_text(&self, was_refused: bool, text: &str) -> Option<Outcome> {
         let answer = if self.is_again || was_refused {
             "OutOfMemory"
         } else {
             "ample"
         };
-        println!(self.rt; "{answer}\n{text}").ok()?;
-        Some(Outcome::Told)
+        let text = text.text.as_str();
+        match println!(self.rt; "{answer}\n{text}") {
+            Ok(()) => Some(Outcome::Told),
+            Err(_) => None,
+        }
     }
 }
 
-// Whether the fault reads as the want of memory; None for another one.
-fn refused<E: Debug>(alloc: Global, fault: &E, refusal: &str) -> Option<Outcome> {
-    if reads_as(alloc, fault, refusal) {
-        Some(Outcome::Refused)
-    } else {
-        None
+impl Text {
+    pub fn new(alloc: Global) -> Text {
+        Text {
+            text: String::new(alloc),
+            is_whole: true,
+        }
     }
-}
 
-/// Whether the value reads so.
-pub fn reads_as<T: Debug>(alloc: Global, value: &T, before: &str) -> bool {
-    let mut text = String::new(alloc);
-    read(&mut text, value).is_some() && text.as_str() == before
-}
+    /// The text of a value.
+    pub fn of<T: Debug>(alloc: Global, value: &T) -> Text {
+        let mut text = String::new(alloc);
+        let is_whole = write!(text, "{value:?}").is_ok();
+        Text { text, is_whole }
+    }
 
-/// Adds the text of a value.
-pub fn read<T: Debug>(text: &mut String, value: &T) -> Option<()> {
-    write!(text, "{value:?}").ok()
-}
+    /// The text of a value, and behind it that of another one.
+    pub fn of_both<T: Debug, U: Debug>(alloc: Global, first: &T, second: &U) -> Text {
+        let mut text = Text::of(alloc, first);
+        text.add(second);
+        text
+    }
 
-/// Adds the text of a value, and behind it that of another one.
-pub fn read_both<T: Debug, U: Debug>(text: &mut String, first: &T, second: &U) -> Option<()> {
-    write!(text, "{first:?} {second:?}").ok()
-}
+    /// Adds the text of a value.
+    pub fn add<T: Debug>(&mut self, value: &T) {
+        if write!(self.text, " {value:?}").is_err() {
+            self.is_whole = false;
+        }
+    }
 
-/// Adds the text of a value to a text.
-pub fn add<T: Debug>(text: &mut String, value: &T) -> Option<()> {
-    write!(text, " {value:?}").ok()
+    /// The text of what couldn't be read.
+    pub fn unread(alloc: Global) -> Text {
+        Text {
+            text: String::new(alloc),
+            is_whole: false,
+        }
+    }
+
+    /// Something couldn't be read.
+    pub fn cut(&mut self) {
+        self.is_whole = false;
+    }
+
+    /// Whether it is whole, and reads so.
+    pub fn reads(&self, text: &str) -> bool {
+        self.is_whole && self.text.as_str() == text
+    }
+
+    /// Whether both are whole, and the same.
+    pub fn is_same(&self, other: &Text) -> bool {
+        other.is_whole && self.reads(other.text.as_str())
+    }
 }

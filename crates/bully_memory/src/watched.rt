@@ -4,12 +4,11 @@ ghost use Rattle.bully_watch.specs.History.{IsHistory};
 ghost use Rattle.bully_world.specs.World.{World as WorldOf};
 
 use crate::opened::{OPERATOR, Opened};
-use crate::trying::{Outcome, Trial, add};
+use crate::trying::{Outcome, Text, Trial};
 use crate::worlds::events_in;
 use bully_base::Setup;
 use bully_group::{Group, Locked, Naming, PublishFault};
 use bully_watch::{Entry, Observer, OpenFault, Publisher};
-use bully_world::Event;
 use std::alloc::Global;
 use std::marker::Brand;
 use std::sync::Wait;
@@ -18,10 +17,13 @@ use std::sync::ledger::Blank;
 // So many observers look, in the call that opens a publisher.
 const OBSERVERS: u16 = 2;
 
-// What a group of one node is watched at: it recovers, crashes, and comes back twice, so that there is no room for all
-// entries yet.
-const CRASHES: &str = "bully,1,1,2
+// What a group of one node is watched at: it recovers.
+const RECOVERY: &str = "bully,1,1,2
 recover,1
+";
+
+// It crashes, and comes back twice, so that there is no room for all entries yet.
+const CRASHES: &str = "bully,1,1,2
 crash,1
 recover,1
 crash,1
@@ -39,65 +41,50 @@ pub enum Watching {
 
 /// A call that opens a publisher.
 pub fn publisher_call<R: Print + Wait>(trial: &Trial<R>) -> Option<Outcome> {
-    let setup = Setup::new(1, 2, 10).ok()?;
+    let Ok(setup) = Setup::new(1, 2, 10) else {
+        return None;
+    };
     trial.begin();
     let answer = Publisher::open(trial.rt, trial.alloc, setup, OBSERVERS);
     trial.end();
     match answer {
         Ok((publisher, observers)) => {
             let mut observers = observers;
-            let outcome = tell_looks(trial, observers.as_mut_slice());
+            let text = looks_of(trial.alloc, observers.as_mut_slice());
             publisher.end(trial.rt);
-            outcome
+            trial.tell(false, &text)
         }
         Err(OpenFault::OutOfMemory) => Some(Outcome::Refused),
         Err(_) => None,
     }
 }
 
-// Tells what all of them see.
-fn tell_looks<R: Print>(trial: &Trial<R>, observers: &mut [Observer]) -> Option<Outcome> {
-    let mut text = String::new(trial.alloc);
-    match read_looks(&mut text, observers) {
-        Some(()) => trial.tell_text(false, text.as_str()),
-        None => None,
-    }
-}
-
-fn read_looks(text: &mut String, observers: &mut [Observer]) -> Option<()> {
+// What all of them see.
+fn looks_of(alloc: Global, observers: &mut [Observer]) -> Text {
+    let mut text = Text::new(alloc);
     for observer in observers.iter_mut() {
-        read_look(text, observer)?;
+        add_look(&mut text, observer);
     }
-    Some(())
+    text
 }
 
 // Adds what the observer sees to the text.
-fn read_look(text: &mut String, observer: &mut Observer) -> Option<()>
+fn add_look(text: &mut Text, observer: &mut Observer)
     ensures { observer.new.publisher ≡ observer.old.publisher }
 {
     match observer.look() {
-        Ok(view) => add(text, &view),
-        Err(_) => None,
+        Ok(view) => text.add(&view),
+        Err(_) => text.cut(),
     }
 }
 
-// Whether it sees what reads so.
-fn looks_as(alloc: Global, observer: &mut Observer, before: &str) -> bool
+// What the observer sees.
+fn look_of(alloc: Global, observer: &mut Observer) -> Text
     ensures { observer.new.publisher ≡ observer.old.publisher }
 {
-    let mut text = String::new(alloc);
-    read_look(&mut text, observer).is_some() && text.as_str() == before
-}
-
-// Tells what it sees, and whether the call was refused memory at first.
-fn tell_look<R: Print>(
-    trial: &Trial<R>,
-    was_refused: bool,
-    observer: &mut Observer,
-) -> Option<Outcome> {
     match observer.look() {
-        Ok(view) => trial.tell(was_refused, &view),
-        Err(_) => None,
+        Ok(view) => Text::of(alloc, &view),
+        Err(_) => Text::unread(alloc),
     }
 }
 
@@ -119,8 +106,12 @@ fn publisher_for<R: Wait>(rt: &R, alloc: Global, setup: Setup) -> Option<(Publis
 }
 
 pub fn watching_call<R: Print + Wait>(trial: &Trial<R>, watching: Watching) -> Option<Outcome> {
-    let setup = Setup::new(1, 2, 10).ok()?;
-    let (publisher, observer) = publisher_for(trial.rt, trial.alloc, setup)?;
+    let Ok(setup) = Setup::new(1, 2, 10) else {
+        return None;
+    };
+    let Some((publisher, observer)) = publisher_for(trial.rt, trial.alloc, setup) else {
+        return None;
+    };
     let blank = Blank::new(2);
     watched_by::<Brand, R>(trial, watching, setup, publisher, observer, blank)
 }
@@ -156,8 +147,10 @@ fn watched_by<L: Naming, R: Print + Wait>(
             opened_call(trial, watching, false, opened, observer)
         }
         Err((publisher, _, blank)) => {
-            let opened = open_again::<L, R>(trial, setup, publisher, blank)?;
-            opened_call(trial, watching, true, opened, observer)
+            match open_again::<L, R>(trial, setup, publisher, blank) {
+                Some(opened) => opened_call(trial, watching, true, opened, observer),
+                None => None,
+            }
         }
     }
 }
@@ -195,7 +188,7 @@ fn opened_call<L: Naming, R: Print + Wait>(
 {
     let (mut opened, mut observer) = (opened, observer);
     let outcome = match watching {
-        Watching::Open => opened.tell(trial, was_refused),
+        Watching::Open => trial.tell(was_refused, &opened.text(trial.alloc)),
         _ => watched_call(trial, watching, &mut opened, &mut observer),
     };
     opened.end(trial.rt);
@@ -210,30 +203,33 @@ fn watched_call<L: Naming, R: Print + Wait>(
 ) -> Option<Outcome>
     requires { L.publisher ≡ Some observer.old.publisher }
 {
-    let events = events_in(trial.alloc, CRASHES)?;
-    shown_call(trial, watching, opened, observer, events.as_slice())
-}
-
-// A look at the node that recovered; or a publish of a crash, behind that of a recovery.
-fn shown_call<L: Naming, R: Print + Wait>(
-    trial: &Trial<R>,
-    watching: Watching,
-    opened: &mut Opened<L>,
-    observer: &mut Observer,
-    events: &[Event],
-) -> Option<Outcome>
-    requires { L.publisher ≡ Some observer.old.publisher }
-{
-    opened.play(events.get(..1)?)?;
-    if !matches!(publish(trial.rt, opened, observer), Some(false)) {
+    if !shows(trial.rt, trial.alloc, opened, observer) {
         return None;
     }
     match watching {
         Watching::Look => look_call(trial, observer),
-        _ => {
-            opened.play(events.get(1..)?)?;
-            publish_call(trial, opened, observer)
-        }
+        _ => crashes_call(trial, opened, observer),
+    }
+}
+
+// Whether the recovery is taken, and published.
+fn shows<L: Naming, R: Wait>(
+    rt: &R,
+    alloc: Global,
+    opened: &mut Opened<L>,
+    observer: &mut Observer,
+) -> bool
+    requires { L.publisher ≡ Some observer.old.publisher }
+    ensures { observer.new.publisher ≡ observer.old.publisher }
+{
+    plays(alloc, opened, RECOVERY) && matches!(publish(rt, opened, observer), Some(false))
+}
+
+// Whether the events of this trace are taken.
+fn plays<L: Naming>(alloc: Global, opened: &mut Opened<L>, text: &str) -> bool {
+    match events_in(alloc, text) {
+        Some(events) => opened.play(events.as_slice()),
+        None => false,
     }
 }
 
@@ -246,7 +242,9 @@ fn publish<L: Naming, R: Wait>(
     requires { L.publisher ≡ Some observer.old.publisher }
     ensures { observer.new.publisher ≡ observer.old.publisher }
 {
-    let seat = opened.seats.get(OPERATOR)?;
+    let Some(seat) = opened.seats.get(OPERATOR) else {
+        return None;
+    };
     match opened.locked.publish(rt, seat) {
         Ok(told) => {
             observer.learn(told);
@@ -260,71 +258,58 @@ fn publish<L: Naming, R: Wait>(
 // It looks again where that was refused memory.
 fn look_call<R: Print>(trial: &Trial<R>, observer: &mut Observer) -> Option<Outcome> {
     trial.begin();
-    match trial.outcome(observer.look(), "OutOfMemory")? {
-        Outcome::Told => Some(Outcome::Told),
-        Outcome::Refused => tell_look(trial, true, observer),
+    let answer = observer.look();
+    match trial.outcome(answer, "OutOfMemory") {
+        Some(Outcome::Refused) => trial.tell(true, &look_of(trial.alloc, observer)),
+        outcome => outcome,
     }
 }
 
-// Where it is refused memory, the group is as it was, and the observer sees what it saw; and what is seen in the end is the
-// crash.
-fn publish_call<L: Naming, R: Print + Wait>(
+// A publish of the crashes. Where it is refused memory, the group is as it was, and the observer sees what it saw; and what is
+// seen in the end is the last crash.
+fn crashes_call<L: Naming, R: Print + Wait>(
     trial: &Trial<R>,
     opened: &mut Opened<L>,
     observer: &mut Observer,
 ) -> Option<Outcome>
     requires { L.publisher ≡ Some observer.old.publisher }
 {
-    let mut before = String::new(trial.alloc);
-    let _ = read_shown(&mut before, opened, observer);
+    if !plays(trial.alloc, opened, CRASHES) {
+        return None;
+    }
+    let before = shown_text(trial.alloc, opened, observer);
     trial.begin();
     let was_refused = publish(trial.rt, opened, observer);
     trial.end();
-    match was_refused {
-        Some(false) => tell_look(trial, false, observer),
-        Some(true) if reads_shown(trial.alloc, opened, observer, before.as_str()) => {
-            publish_again(trial, opened, observer)
-        }
-        _ => None,
+    let Some(was_refused) = was_refused else {
+        return None;
+    };
+    if was_refused && !publishes_again(trial, opened, observer, &before) {
+        return None;
     }
+    trial.tell(was_refused, &look_of(trial.alloc, observer))
 }
 
-fn publish_again<L: Naming, R: Print + Wait>(
+// Whether all is as before, and is published.
+fn publishes_again<L: Naming, R: Print + Wait>(
     trial: &Trial<R>,
     opened: &mut Opened<L>,
     observer: &mut Observer,
-) -> Option<Outcome>
+    before: &Text,
+) -> bool
     requires { L.publisher ≡ Some observer.old.publisher }
 {
-    match publish(trial.rt, opened, observer) {
-        Some(false) => tell_look(trial, true, observer),
-        _ => None,
-    }
+    shown_text(trial.alloc, opened, observer).is_same(before)
+        && matches!(publish(trial.rt, opened, observer), Some(false))
 }
 
-// Adds all that can be read of the group, and what the observer sees, to the text.
-fn read_shown<L: Naming>(
-    text: &mut String,
-    opened: &Opened<L>,
-    observer: &mut Observer,
-) -> Option<()>
+// All that can be read of the group, and what the observer sees.
+fn shown_text<L: Naming>(alloc: Global, opened: &Opened<L>, observer: &mut Observer) -> Text
     ensures { observer.new.publisher ≡ observer.old.publisher }
 {
-    opened.read(text)?;
-    read_look(text, observer)
-}
-
-// Whether that reads so.
-fn reads_shown<L: Naming>(
-    alloc: Global,
-    opened: &Opened<L>,
-    observer: &mut Observer,
-    before: &str,
-) -> bool
-    ensures { observer.new.publisher ≡ observer.old.publisher }
-{
-    let mut text = String::new(alloc);
-    read_shown(&mut text, opened, observer).is_some() && text.as_str() == before
+    let mut text = opened.text(alloc);
+    add_look(&mut text, observer);
+    text
 }
 
 /// A publish of the group's history by a publisher alone.
@@ -349,37 +334,38 @@ fn shown_by<R: Print + Wait>(
     requires new { publisher.old.taken ≡ [] }
     requires observer { observer.old.publisher ≡ publisher.old.publisher }
 {
-    let mut before = String::new(trial.alloc);
-    let _ = read_look(&mut before, observer);
+    let before = look_of(trial.alloc, observer);
     trial.begin();
     let answer = publisher.publish(trial.rt, entries);
     trial.end();
     match answer {
         Ok(told) => {
             observer.learn(told);
-            tell_look(trial, false, observer)
+            trial.tell(false, &look_of(trial.alloc, observer))
         }
-        Err(_) if looks_as(trial.alloc, observer, before.as_str()) => {
-            shown_again(trial, publisher, observer, entries)
-        }
-        Err(_) => None,
+        Err(_) => shown_again(trial, publisher, observer, entries, &before),
     }
 }
 
+// The observer has to see what it saw, and the history is published.
 fn shown_again<R: Print + Wait>(
     trial: &Trial<R>,
     publisher: &mut Publisher,
     observer: &mut Observer,
     entries: &[Entry],
+    before: &Text,
 ) -> Option<Outcome>
     requires history { (w : WorldOf) × IsHistory publisher.old.publisher.setup entries.now w }
     requires taken { IsPrefix publisher.old.taken entries.now }
     requires observer { observer.old.publisher ≡ publisher.old.publisher }
 {
+    if !look_of(trial.alloc, observer).is_same(before) {
+        return None;
+    }
     match publisher.publish(trial.rt, entries) {
         Ok(told) => {
             observer.learn(told);
-            tell_look(trial, true, observer)
+            trial.tell(true, &look_of(trial.alloc, observer))
         }
         Err(_) => None,
     }

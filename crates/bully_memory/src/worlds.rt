@@ -1,7 +1,6 @@
-use crate::tables::setup;
-use crate::trying::{Outcome, Trial, read, reads_as};
+use crate::trying::{Outcome, Text, Trial};
 use bully_agree::{Walk, run, run_whole, view};
-use bully_base::{Node, Setup};
+use bully_base::{EVENTS_MAX, Node, Setup};
 use bully_calls::Answer;
 use bully_rows::{Row, read_trace};
 use bully_steps::{Planning, Procedure};
@@ -40,10 +39,57 @@ return,3
 move,3
 ";
 
-/// How many of its events come before the plan, and before the run of its first call.
-pub const BEFORE_PLAN: usize = 18;
+// How many of its events come before the plan, and before the run of its first call.
+const BEFORE_PLAN: usize = 18;
 
-pub const BEFORE_RUN: usize = 5;
+const BEFORE_RUN: usize = 5;
+
+/// Tries a call with these events, which are those of the election; it was refused memory before, or not.
+pub fn trial_of<'a, R: Print>(
+    rt: &'a R,
+    alloc: Global,
+    is_again: bool,
+    events: &'a [Event],
+) -> Option<Trial<'a, R>> {
+    let Ok(setup) = Setup::new(3, 4, EVENTS_MAX) else {
+        return None;
+    };
+    let Some((before_plan, rest)) = events.split_at_checked(BEFORE_PLAN) else {
+        return None;
+    };
+    let (Some((before_run, _)), Some(plan)) = (
+        before_plan.split_at_checked(BEFORE_RUN),
+        rest.first(),
+    ) else {
+        return None;
+    };
+    Some(Trial {
+        rt,
+        alloc,
+        is_again,
+        setup,
+        events,
+        before_run,
+        before_plan,
+        plan,
+    })
+}
+
+/// The events of this trace.
+pub fn events_in(alloc: Global, text: &str) -> Option<Vec<Event>> {
+    let Ok(trace) = read_trace(alloc, text.as_bytes()) else {
+        return None;
+    };
+    let mut events = Vec::new(alloc);
+    for row in trace.rows.into_vec() {
+        if let Row::Event(event) = row {
+            if events.push(event).is_err() {
+                return None;
+            }
+        }
+    }
+    Some(events)
+}
 
 /// A call that goes over the events of the election, or copies its plan.
 #[derive(Clone, Copy)]
@@ -61,65 +107,47 @@ pub enum EventCall {
 }
 
 pub fn event_call<R: Print>(trial: &Trial<R>, call: EventCall) -> Option<Outcome> {
-    let events = election(trial.alloc)?;
-    call_on(trial, call, events.as_slice())
-}
-
-fn call_on<R: Print>(trial: &Trial<R>, call: EventCall, events: &[Event]) -> Option<Outcome> {
-    let (setup, alloc) = (setup()?, trial.alloc);
+    let events = trial.events;
     match call {
         EventCall::Run => {
             trial.begin();
-            trial.outcome(run(alloc, setup, events), "OutOfMemory")
+            trial.outcome(run(trial.alloc, trial.setup, events), "OutOfMemory")
         }
         EventCall::RunWhole => {
             trial.begin();
-            trial.outcome(run_whole(alloc, setup, events), "OutOfMemory")
+            trial.outcome(run_whole(trial.alloc, trial.setup, events), "OutOfMemory")
         }
-        EventCall::CopyEvent => event_copy_call(trial, events.get(BEFORE_PLAN)?),
-        EventCall::CopyEntry => entry_copy_call(trial, events.get(BEFORE_PLAN)?),
-        EventCall::View => view_call(trial, &run(alloc, setup, events).ok()?.0),
-        EventCall::WalkView | EventCall::Apply => walk_call(trial, call, setup, events),
-        EventCall::Prepare | EventCall::PrepareInPlace => {
-            prepare_call(
-                trial,
-                call,
-                planning(alloc, setup, events.get(..BEFORE_PLAN)?)?,
-            )
+        EventCall::CopyEvent => {
+            trial.begin();
+            trial.outcome(trial.plan.copy(), "AllocError")
         }
+        EventCall::CopyEntry => entry_copy_call(trial),
+        EventCall::View => view_behind_call(trial),
+        EventCall::WalkView | EventCall::Apply => walk_call(trial, call),
+        EventCall::Prepare => prepare_call(trial),
+        EventCall::PrepareInPlace => prepare_in_place_call(trial),
     }
 }
 
-/// The events of the election.
-pub fn election(alloc: Global) -> Option<Vec<Event>> {
-    events_in(alloc, ELECTION)
-}
-
-/// The events of this trace.
-pub fn events_in(alloc: Global, text: &str) -> Option<Vec<Event>> {
-    let trace = read_trace(alloc, text.as_bytes()).ok()?;
-    let mut events = Vec::new(alloc);
-    for row in trace.rows.into_vec() {
-        if let Row::Event(event) = row {
-            events.push(event).ok()?;
-        }
-    }
-    Some(events)
-}
-
-fn event_copy_call<R: Print>(trial: &Trial<R>, event: &Event) -> Option<Outcome> {
-    trial.begin();
-    trial.outcome(event.copy(), "AllocError")
-}
-
-fn entry_copy_call<R: Print>(trial: &Trial<R>, event: &Event) -> Option<Outcome> {
+fn entry_copy_call<R: Print>(trial: &Trial<R>) -> Option<Outcome> {
+    let Ok(event) = trial.plan.copy() else {
+        return None;
+    };
     let entry = Entry {
         actor: 3,
-        event: event.copy().ok()?,
+        event,
         answer: Answer::Done,
     };
     trial.begin();
     trial.outcome(entry.copy(), "AllocError")
+}
+
+// A view of the world behind all of the events.
+fn view_behind_call<R: Print>(trial: &Trial<R>) -> Option<Outcome> {
+    match run(trial.alloc, trial.setup, trial.events) {
+        Ok((world, _)) => view_call(trial, &world),
+        Err(_) => None,
+    }
 }
 
 /// A view of this world.
@@ -128,54 +156,57 @@ pub fn view_call<R: Print>(trial: &Trial<R>, world: &World) -> Option<Outcome> {
     trial.outcome(view(trial.alloc, world), "AllocError")
 }
 
-fn walk_call<R: Print>(
-    trial: &Trial<R>,
-    call: EventCall,
-    setup: Setup,
-    events: &[Event],
-) -> Option<Outcome> {
-    let mut walk = Walk::new(trial.alloc, setup).ok()?;
+fn walk_call<R: Print>(trial: &Trial<R>, call: EventCall) -> Option<Outcome> {
+    let Ok(mut walk) = Walk::new(trial.alloc, trial.setup) else {
+        return None;
+    };
     match call {
-        EventCall::Apply => apply_call(trial, &mut walk, events),
-        _ => walk_view_call(trial, &mut walk, events),
+        EventCall::Apply => apply_call(trial, &mut walk),
+        _ => walk_view_call(trial, &mut walk),
     }
 }
 
-fn apply_call<R: Print>(trial: &Trial<R>, walk: &mut Walk, events: &[Event]) -> Option<Outcome> {
+fn apply_call<R: Print>(trial: &Trial<R>, walk: &mut Walk) -> Option<Outcome> {
     trial.begin();
-    let applied = apply(walk, events);
+    let is_applied = apply(walk, trial.events);
     trial.end();
-    applied?;
-    trial.tell(false, walk)
+    if !is_applied {
+        return None;
+    }
+    trial.tell(false, &Text::of(trial.alloc, walk))
 }
 
-fn walk_view_call<R: Print>(
-    trial: &Trial<R>,
-    walk: &mut Walk,
-    events: &[Event],
-) -> Option<Outcome> {
-    apply(walk, events)?;
+fn walk_view_call<R: Print>(trial: &Trial<R>, walk: &mut Walk) -> Option<Outcome> {
+    if !apply(walk, trial.events) {
+        return None;
+    }
     trial.begin();
     trial.outcome(walk.view(), "AllocError")
 }
 
-// Takes the walk behind all of the events.
-fn apply(walk: &mut Walk, events: &[Event]) -> Option<()> {
+// Takes the walk behind all of the events, and tells whether it comes there.
+fn apply(walk: &mut Walk, events: &[Event]) -> bool {
     for event in events {
-        walk.apply(event).ok()?;
+        if walk.apply(event).is_err() {
+            return false;
+        }
     }
-    Some(())
+    true
 }
 
-// The planning of node 3, which these events come to.
+// The planning of node 3, which the events before the plan come to.
 fn planning(alloc: Global, setup: Setup, events: &[Event]) -> Option<Planning> {
-    let (world, _) = run(alloc, setup, events).ok()?;
-    planning_in(&world)
+    match run(alloc, setup, events) {
+        Ok((world, _)) => planning_in(&world),
+        Err(_) => None,
+    }
 }
 
 /// The planning of node 3 in a world in which it comes to that.
 pub fn planning_in(world: &World) -> Option<Planning> {
-    let node = Node::new(3)?;
+    let Some(node) = Node::new(3) else {
+        return None;
+    };
     if world.setup().nodes() < node.number() {
         return None;
     }
@@ -189,62 +220,59 @@ fn planning_of(procedure: Procedure) -> Option<Planning> {
     Some(planning)
 }
 
-// A preparation, which hands the planning back where it is refused; or where the procedure lies, which stays as it was then.
-fn prepare_call<R: Print>(
-    trial: &Trial<R>,
-    call: EventCall,
-    planning: Planning,
-) -> Option<Outcome> {
-    match call {
-        EventCall::Prepare => prepare_from(trial, planning),
-        _ => prepare_in_place(trial, &mut Procedure::Planning(planning)),
-    }
+// A preparation where the procedure lies, which stays as it was where it is refused.
+fn prepare_in_place_call<R: Print>(trial: &Trial<R>) -> Option<Outcome> {
+    let Some(planning) = planning(trial.alloc, trial.setup, trial.before_plan) else {
+        return None;
+    };
+    prepare_in_place(trial, &mut Procedure::Planning(planning))
 }
 
 fn prepare_in_place<R: Print>(trial: &Trial<R>, procedure: &mut Procedure) -> Option<Outcome> {
-    let mut before = String::new(trial.alloc);
-    read(&mut before, procedure)?;
-    prepare_behind(trial, procedure, before.as_str())
-}
-
-// The same, where the procedure reads so before.
-fn prepare_behind<R: Print>(
-    trial: &Trial<R>,
-    procedure: &mut Procedure,
-    before: &str,
-) -> Option<Outcome> {
+    let before = Text::of(trial.alloc, procedure);
     trial.begin();
     let was_refused = procedure.prepare(trial.alloc, None).is_err();
     trial.end();
-    if was_refused {
-        if !reads_as(trial.alloc, procedure, before) {
-            return None;
-        }
-        procedure.prepare(trial.alloc, None).ok()?;
+    let is_prepared = !was_refused || is_prepared_again(trial.alloc, procedure, &before);
+    if is_prepared {
+        trial.tell(was_refused, &Text::of(trial.alloc, procedure))
+    } else {
+        None
     }
-    trial.tell(was_refused, procedure)
 }
 
-fn prepare_from<R: Print>(trial: &Trial<R>, planning: Planning) -> Option<Outcome> {
-    let mut before = String::new(trial.alloc);
-    read(&mut before, &planning)?;
+// What is left has to read as before, and is prepared.
+fn is_prepared_again(alloc: Global, procedure: &mut Procedure, before: &Text) -> bool {
+    Text::of(alloc, procedure).is_same(before) && procedure.prepare(alloc, None).is_ok()
+}
+
+// A preparation, which hands the planning back where it is refused.
+fn prepare_call<R: Print>(trial: &Trial<R>) -> Option<Outcome> {
+    match planning(trial.alloc, trial.setup, trial.before_plan) {
+        Some(planning) => prepare(trial, planning),
+        None => None,
+    }
+}
+
+fn prepare<R: Print>(trial: &Trial<R>, planning: Planning) -> Option<Outcome> {
+    let before = Text::of(trial.alloc, &planning);
     trial.begin();
     let answer = planning.prepare(trial.alloc, None);
     trial.end();
     match answer {
-        Ok(planned) => trial.tell(false, &planned),
-        Err((planning, PlanFault::OutOfMemory)) => prepare_again(trial, planning, before.as_str()),
+        Ok(planned) => trial.tell(false, &Text::of(trial.alloc, &planned)),
+        Err((planning, PlanFault::OutOfMemory)) => prepare_again(trial, planning, &before),
         Err(_) => None,
     }
 }
 
 // The planning that came back has to read as before, and is prepared.
-fn prepare_again<R: Print>(trial: &Trial<R>, planning: Planning, before: &str) -> Option<Outcome> {
-    if !reads_as(trial.alloc, &planning, before) {
+fn prepare_again<R: Print>(trial: &Trial<R>, planning: Planning, before: &Text) -> Option<Outcome> {
+    if !Text::of(trial.alloc, &planning).is_same(before) {
         return None;
     }
     match planning.prepare(trial.alloc, None) {
-        Ok(planned) => trial.tell(true, &planned),
+        Ok(planned) => trial.tell(true, &Text::of(trial.alloc, &planned)),
         Err(_) => None,
     }
 }

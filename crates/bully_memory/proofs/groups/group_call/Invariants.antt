@@ -1,5 +1,5 @@
 use Rattle.std.proofs.Common.{None}
-use Rattle.bully_memory.proofs.groups.asked_call.Given as goal
+use Rattle.bully_memory.proofs.groups.group_call.Given as goal
 
 abbrev pub ghosts-tried_by-L-Naming : goal.ghosts-tried_by-L-Naming
 ghosts-tried_by-L-Naming g a = record { setup = a.setup; publisher = None }

@@ -1,6 +1,6 @@
 use Rattle.std.proofs.Common.{◌∙◌, sym}
 use Rattle.bully_base.proofs.SetupLemmas.{same_setup-by_ne}
-use Rattle.bully_memory.proofs.opened.turned_by.Goals as goal
+use Rattle.bully_memory.proofs.changes.turned_by.Goals as goal
 
 pub turn-requires : goal.turn-requires
 turn-requires g c = record {

@@ -1,6 +1,6 @@
 use Rattle.std.proofs.Common.{◌∙◌, sym}
 use Rattle.bully_base.proofs.SetupLemmas.{same_setup-by_ne}
-use Rattle.bully_memory.proofs.opened.turned_in_place.Goals as goal
+use Rattle.bully_memory.proofs.changes.turned_in_place.Goals as goal
 
 pub serve_or_turn-turn-requires : goal.serve_or_turn-turn-requires
 serve_or_turn-turn-requires g c = record {
