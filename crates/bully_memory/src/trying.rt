@@ -128,9 +128,10 @@ impl Text {
         }
     }
 
-    /// Something couldn't be read.
-    pub fn cut(&mut self) {
-        self.is_whole = false;
+    /// Adds another text, in quotes.
+    pub fn add_text(&mut self, other: &Text) {
+        self.add(&other.text);
+        self.is_whole = self.is_whole && other.is_whole;
     }
 
     /// Whether it is whole, and reads so.

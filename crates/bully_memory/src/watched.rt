@@ -63,19 +63,9 @@ pub fn publisher_call<R: Print + Wait>(trial: &Trial<R>) -> Option<Outcome> {
 fn looks_of(alloc: Global, observers: &mut [Observer]) -> Text {
     let mut text = Text::new(alloc);
     for observer in observers.iter_mut() {
-        add_look(&mut text, observer);
+        text.add_text(&look_of(alloc, observer));
     }
     text
-}
-
-// Adds what the observer sees to the text.
-fn add_look(text: &mut Text, observer: &mut Observer)
-    ensures { observer.new.publisher ≡ observer.old.publisher }
-{
-    match observer.look() {
-        Ok(view) => text.add(&view),
-        Err(_) => text.cut(),
-    }
 }
 
 // What the observer sees.
@@ -308,7 +298,7 @@ fn shown_text<L: Naming>(alloc: Global, opened: &Opened<L>, observer: &mut Obser
     ensures { observer.new.publisher ≡ observer.old.publisher }
 {
     let mut text = opened.text(alloc);
-    add_look(&mut text, observer);
+    text.add_text(&look_of(alloc, observer));
     text
 }
 
