@@ -52,12 +52,10 @@ fn counts_never_fall(rt: HostRuntime) {
 }
 
 // How many observers a publisher is opened with, or why with none.
-fn observers_of<R: Wait>(
-    rt: &R,
-    alloc: Global,
-    setup: Setup,
-    count: u16,
-) -> Result<usize, OpenFault> {
+fn observers_of<R: Wait>(rt: &R, alloc: Global, count: u16) -> Result<usize, OpenFault> {
+    let Ok(setup) = Setup::new(1, 2, 10) else {
+        return Err(OpenFault::OutOfMemory);
+    };
     match Publisher::open(rt, alloc, setup, count) {
         Ok((publisher, observers)) => {
             publisher.end(rt);
@@ -79,11 +77,7 @@ const OBSERVER_COUNTS: [(u16, Result<usize, OpenFault>); 4] = [
 
 #[test]
 fn a_publisher_has_1_to_8_observers(rt: HostRuntime) {
-    let setup = Setup::new(1, 2, 10).expect(&rt, "a setup");
     for (count, opened) in OBSERVER_COUNTS.iter() {
-        assert!(rt;
-            observers_of(&rt, rt.alloc(), setup, *count) == *opened,
-            "{count}"
-        );
+        assert!(rt; observers_of(&rt, rt.alloc(), *count) == *opened, "{count}");
     }
 }

@@ -51,10 +51,8 @@ pub enum Call {
     /// A serve, or else a turn, in one call.
     NodeTurn,
     View,
-    /// A publish, and what is told of it is kept at this place.
-    Publish(Place),
-    /// So many publishes. All that is told is kept.
-    PublishMany(u32),
+    /// So many publishes. What is told of each is kept at this place.
+    Publish(Place, u32),
     /// Node 1 recovers and crashes so often. Each is published, and what is told is dropped. It is told of each round
     /// in which a step or a publish is refused.
     Rounds(u32),
@@ -99,12 +97,20 @@ pub struct Beside {
 }
 
 impl Beside {
-    pub fn tells(&self, told: &str) -> bool {
-        self.text.as_str() == told
+    fn of(alloc: Global, procedure: Procedure, watchers: Option<Watchers>) -> Beside
+        ensures procedure { state_of result.procedure ≡ state_of procedure }
+        ensures watchers { result.watchers ≡ watchers }
+    {
+        Beside {
+            alloc,
+            procedure,
+            watchers,
+            text: String::new(alloc),
+        }
     }
 
     // Does it by the observers, if there are any.
-    fn watch(&mut self, watch: Watch)
+    fn watch(&mut self, watch: &Watch)
         ensures procedure { self.new.procedure ≡ self.old.procedure }
         ensures watchers { self.new.watchers ≡ self.old.watchers }
     {
@@ -137,19 +143,19 @@ pub fn beside_for<R: Wait>(
     ensures new { IfSome result (λ r. IfSome r.0 (λ p. (p.publisher.setup ≡ setup) × (p.shown ≡ []) × (p.taken ≡ []))) }
 {
     let procedure = procedure_of(setup, number)?;
-    let (publisher, watchers) = if is_watched {
-        let (publisher, watchers) = publisher_for(rt, alloc, setup)?;
-        (Some(publisher), Some(watchers))
-    } else {
-        (None, None)
-    };
-    let beside = Beside {
-        alloc,
-        procedure,
-        watchers,
-        text: String::new(alloc),
-    };
-    Some((publisher, beside))
+    if !is_watched {
+        return Some((None, Beside::of(alloc, procedure, None)));
+    }
+    match publisher_for(rt, alloc, setup) {
+        Some((publisher, watchers)) => {
+            let beside = Beside::of(alloc, procedure, Some(watchers));
+            Some((Some(publisher), beside))
+        }
+        None => {
+            drop(procedure);
+            None
+        }
+    }
 }
 
 // The idle procedure of this node, if the setup has it.
@@ -164,7 +170,7 @@ fn procedure_of(setup: Setup, number: u16) -> Option<Procedure>
 }
 
 // The event of a deed.
-fn event_of(alloc: Global, setup: &Setup, deed: Deed, number: u16) -> Option<Event> {
+fn event_of(alloc: Global, setup: &Setup, deed: &Deed, number: u16) -> Option<Event> {
     let node = Node::new(number)?;
     Some(match deed {
         Deed::Recover => Event::Recover(node),
@@ -221,18 +227,16 @@ fn tried_by<L: Naming, R: Wait>(
 fn goes_as_told<L: Naming, R: Wait>(
     rt: &R,
     way: Way,
-    opened: Opened<L>,
+    mut opened: Opened<L>,
     beside: &mut Beside,
     case: &Case,
 ) -> bool
     requires setup { (state_of beside.old.procedure).setup ≡ L.setup }
     requires watchers { beside.old.watchers ≡ L.publisher }
 {
-    let mut opened = opened;
     ask_all(rt, &mut opened, beside, case.asks);
     let is_used = used_as_told(rt, beside.alloc, way, &mut opened.seats, &case.other);
-    let is_ended = ends_as(rt, opened, beside, case.history);
-    is_used && is_ended && beside.tells(case.told)
+    ends_as(rt, opened, beside, case.history, case.told) && is_used
 }
 
 /// Asks all of it, one ask after the other.
@@ -248,8 +252,8 @@ pub fn ask_all<L: Naming, R: Wait>(
     ensures watchers { beside.new.watchers ≡ L.publisher }
 {
     for each in asks {
-        match *each {
-            Ask::By(actor, call) => call_by(rt, opened, beside, actor, call),
+        match each {
+            Ask::By(actor, call) => call_by(rt, opened, beside, *actor, call),
             Ask::Prepare => prepare(beside),
             Ask::Watch(watch) => beside.watch(watch),
         }
@@ -262,17 +266,15 @@ fn call_by<L: Naming, R: Wait>(
     opened: &mut Opened<L>,
     beside: &mut Beside,
     actor: usize,
-    call: Call,
+    call: &Call,
 )
     requires setup { (state_of beside.old.procedure).setup ≡ L.setup }
     requires watchers { beside.old.watchers ≡ L.publisher }
     ensures setup { (state_of beside.new.procedure).setup ≡ L.setup }
     ensures watchers { beside.new.watchers ≡ L.publisher }
 {
-    let Some(seat) = opened.seats.get_mut(actor) else {
-        return;
-    };
-    let Some(pass) = opened.passes.get_mut(actor) else {
+    let (Some(seat), Some(pass)) = (opened.seats.get_mut(actor), opened.passes.get_mut(actor))
+    else {
         return;
     };
     match &mut opened.held {
@@ -291,7 +293,7 @@ fn call_locked<L: Naming, R: Wait>(
     seat: &mut Seat,
     pass: &mut Pass<L>,
     beside: &mut Beside,
-    call: Call,
+    call: &Call,
 )
     requires setup { (state_of beside.old.procedure).setup ≡ L.setup }
     requires watchers { beside.old.watchers ≡ L.publisher }
@@ -299,7 +301,7 @@ fn call_locked<L: Naming, R: Wait>(
     ensures watchers { beside.new.watchers ≡ L.publisher }
 {
     match call {
-        Call::Step(deed, number) => step(locked, seat, pass, beside, deed, number),
+        Call::Step(deed, number) => step(locked, seat, pass, beside, deed, *number),
         Call::Serve => serve(locked, seat, pass, &mut beside.text),
         Call::View => view(
             locked,
@@ -307,12 +309,16 @@ fn call_locked<L: Naming, R: Wait>(
             beside.procedure.node().number(),
             &mut beside.text,
         ),
-        Call::Publish(place) => publish(rt, locked, seat, beside, place),
-        Call::PublishMany(count) => publish_many(rt, locked, seat, beside, count),
-        Call::Rounds(count) => rounds(rt, locked, seat, pass, count, &mut beside.text),
+        Call::Publish(place, count) => publish_all(rt, locked, seat, beside, *place, *count),
+        Call::Rounds(count) => rounds(rt, locked, seat, pass, *count, &mut beside.text),
         Call::Entries => tell_entries(seat, &mut beside.text),
         _ => turn(locked, seat, pass, beside, call),
     }
+}
+
+// Tells of it in a line.
+fn tell<T: Debug>(text: &mut String, value: &T) {
+    let _ = writeln!(text, "{value:?}");
 }
 
 fn step<L: Naming>(
@@ -320,7 +326,7 @@ fn step<L: Naming>(
     seat: &mut Seat,
     pass: &mut Pass<L>,
     beside: &mut Beside,
-    deed: Deed,
+    deed: &Deed,
     number: u16,
 )
     ensures procedure { beside.new.procedure ≡ beside.old.procedure }
@@ -331,7 +337,7 @@ fn step<L: Naming>(
     };
     let answer = locked.step(seat, &event, pass);
     drop(event);
-    let _ = writeln!(beside.text, "{answer:?}");
+    tell(&mut beside.text, &answer);
 }
 
 fn serve<L: Naming>(
@@ -341,13 +347,30 @@ fn serve<L: Naming>(
     text: &mut String,
 ) {
     let answer = locked.serve(seat, pass);
-    let _ = writeln!(text, "{answer:?}");
+    tell(text, &answer);
 }
 
 fn view<L: Naming>(locked: &Locked<L>, seat: &Seat, number: u16, text: &mut String) {
     let seen = locked.view(seat);
     tell_seen(text, &seen, number);
     drop(seen);
+}
+
+fn publish_all<L: Naming, R: Wait>(
+    rt: &R,
+    locked: &mut Locked<L>,
+    seat: &Seat,
+    beside: &mut Beside,
+    place: Place,
+    count: u32,
+)
+    requires { beside.old.watchers ≡ L.publisher }
+    ensures procedure { beside.new.procedure ≡ beside.old.procedure }
+    ensures watchers { beside.new.watchers ≡ beside.old.watchers }
+{
+    for _each in 0..count {
+        publish(rt, locked, seat, beside, place);
+    }
 }
 
 // Nothing is told of a publish that succeeds.
@@ -364,29 +387,12 @@ fn publish<L: Naming, R: Wait>(
 {
     match locked.publish(rt, seat) {
         Ok(told) => beside.keep(place, told),
-        Err(fault) => drop(writeln!(beside.text, "{fault:?}")),
-    }
-}
-
-fn publish_many<L: Naming, R: Wait>(
-    rt: &R,
-    locked: &mut Locked<L>,
-    seat: &Seat,
-    beside: &mut Beside,
-    count: u32,
-)
-    requires { beside.old.watchers ≡ L.publisher }
-    ensures procedure { beside.new.procedure ≡ beside.old.procedure }
-    ensures watchers { beside.new.watchers ≡ beside.old.watchers }
-{
-    for _each in 0..count {
-        publish(rt, locked, seat, beside, Place::Many);
+        Err(fault) => tell(&mut beside.text, &fault),
     }
 }
 
 fn tell_entries(seat: &Seat, text: &mut String) {
-    let entries = seat.log().len();
-    let _ = writeln!(text, "{entries}");
+    tell(text, &seat.log().len());
 }
 
 fn prepare(beside: &mut Beside)
@@ -395,7 +401,7 @@ fn prepare(beside: &mut Beside)
 {
     let procedure = &mut beside.procedure;
     if procedure.prepare(beside.alloc, None).is_ok() && procedure.table().is_some() {
-        let _ = writeln!(beside.text, "prepared");
+        drop(beside.text.push_str("prepared\n"));
     }
 }
 
@@ -405,7 +411,7 @@ fn turn<L: Naming>(
     seat: &mut Seat,
     pass: &mut Pass<L>,
     beside: &mut Beside,
-    call: Call,
+    call: &Call,
 )
     requires { (state_of beside.old.procedure).setup ≡ L.setup }
     ensures setup { (state_of beside.new.procedure).setup ≡ L.setup }
@@ -441,14 +447,14 @@ fn turn_by_value<L: Naming>(
 }
 
 fn tell_turn(text: &mut String, answer: Result<NodeTurn, StepFault>, procedure: &Procedure) {
-    let _ = match answer {
+    match answer {
         Ok(turn) => {
             let (kind, left) = (procedure.kind(), left_by(procedure));
             let generation = procedure.generation();
-            writeln!(text, "{turn:?} {kind:?}{left} {generation}")
+            drop(writeln!(text, "{turn:?} {kind:?}{left} {generation}"));
         }
-        Err(fault) => writeln!(text, "{fault:?}"),
-    };
+        Err(fault) => tell(text, &fault),
+    }
 }
 
 // Whether nobody is left to be announced to or readied, where the procedure does that.
@@ -473,7 +479,7 @@ pub fn seen_in(view: &View, number: u16) -> Option<(u32, Status)> {
 pub fn tell_seen<F: Debug>(text: &mut String, seen: &Result<View, F>, number: u16) {
     match seen {
         Ok(view) => tell_view(text, view, number),
-        Err(fault) => drop(writeln!(text, "{fault:?}")),
+        Err(fault) => tell(text, fault),
     }
 }
 
@@ -484,23 +490,30 @@ fn tell_view(text: &mut String, view: &View, number: u16) {
     }
 }
 
-/// Tells of the group's end. Whether the history begins with these entries; where it isn't finished, what is told says so.
+/// Tells of the group's end. Whether this is told of the group, and its history, if it is finished, begins with these
+/// entries.
 pub fn ends_as<L: Naming, R: Wait>(
     rt: &R,
     opened: Opened<L>,
     beside: &mut Beside,
     history: &[(u16, Deed, u16, Answer)],
+    told: &str,
 ) -> bool {
-    match ended(rt, opened, &mut beside.text) {
+    let begins = match ended(rt, opened, &mut beside.text) {
         Some(closed) => {
             tell_closed(&closed, beside);
             let begins = begins_with(beside.alloc, &closed, history);
             closed.end(rt);
-            beside.watch(Watch::Look(Which::First));
+            beside.watch(&Watch::Look(Which::First));
             begins
         }
         None => true,
-    }
+    };
+    begins && is_same(beside.text.as_str(), told)
+}
+
+fn is_same(text: &str, told: &str) -> bool {
+    text == told
 }
 
 // Tells of a finished group, and what is seen of it.
@@ -509,7 +522,7 @@ fn tell_closed(closed: &Closed, beside: &mut Beside) {
     let _ = writeln!(beside.text, "entries: {entries}");
     let number = beside.procedure.node().number();
     tell_view(&mut beside.text, closed.view(), number);
-    beside.watch(Watch::Look(Which::First));
+    beside.watch(&Watch::Look(Which::First));
 }
 
 fn begins_with(alloc: Global, closed: &Closed, history: &[(u16, Deed, u16, Answer)]) -> bool {
@@ -530,7 +543,7 @@ fn is_entry(
     let Some(entry) = closed.history().get(place) else {
         return false;
     };
-    let Some(event) = event_of(alloc, &closed.setup(), wanted.1, wanted.2) else {
+    let Some(event) = event_of(alloc, &closed.setup(), &wanted.1, wanted.2) else {
         return false;
     };
     let is_same = entry.event.is_same(&event);

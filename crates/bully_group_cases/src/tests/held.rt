@@ -116,12 +116,12 @@ fn open_watched<L: Naming, R: Wait>(
 
 /// Tells why the group isn't finished without its last seat, or without its last pass, and then its finish.
 pub fn ended<L: Naming, R: Wait>(rt: &R, opened: Opened<L>, text: &mut String) -> Option<Closed> {
-    match without_one(rt, opened, Part::Seat, text) {
-        Some(opened) => match without_one(rt, opened, Part::Pass, text) {
-            Some(opened) => with_all(rt, opened, text),
-            None => None,
+    match without_one(opened, Part::Seat, text) {
+        Ok(closed) => Some(closed),
+        Err(opened) => match without_one(opened, Part::Pass, text) {
+            Ok(closed) => Some(closed),
+            Err(opened) => with_all(rt, opened, text),
         },
-        None => None,
     }
 }
 
@@ -132,28 +132,25 @@ enum Part {
     Pass,
 }
 
-// Where it isn't finished, the group is given back with all of them.
-fn without_one<L: Naming, R: Wait>(
-    rt: &R,
-    opened: Opened<L>,
+// Where it isn't finished, the group is given back with all of them. (Else nothing is told, as it should be.)
+fn without_one<L: Naming>(
+    mut opened: Opened<L>,
     part: Part,
     text: &mut String,
-) -> Option<Opened<L>> {
-    let mut opened = opened;
+) -> Result<Closed, Opened<L>> {
     let (told, seat, pass) = match part {
         Part::Seat => ("a seat less", opened.seats.pop(), None),
         Part::Pass => ("a pass less", None, opened.passes.pop()),
     };
     match finished(opened, told, text) {
         Ok(closed) => {
-            closed.end(rt);
             drop((seat, pass));
-            None
+            Ok(closed)
         }
         Err(mut back) => {
             give_back(&mut back.seats, seat);
             give_back(&mut back.passes, pass);
-            Some(back)
+            Err(back)
         }
     }
 }

@@ -32,8 +32,9 @@ pub enum Place {
 pub enum Watch {
     /// The observer learns what is kept at the first or second place.
     Learn(Which, Place),
-    /// What is kept at the place is dropped.
+    /// What is kept at the first or second place is dropped, or what is kept among many.
     Forget(Place),
+    ForgetMany,
     Look(Which),
 }
 
@@ -60,13 +61,14 @@ impl Model for Watchers {
 }
 
 impl Watchers {
-    pub fn watch(&mut self, watch: Watch, text: &mut String)
+    pub fn watch(&mut self, watch: &Watch, text: &mut String)
         ensures { self.new ≡ self.old }
     {
         match watch {
-            Watch::Learn(observer, place) => self.learn(observer, place),
-            Watch::Forget(place) => self.forget(place),
-            Watch::Look(observer) => self.tell_look(observer, text),
+            Watch::Learn(observer, place) => self.learn(*observer, *place),
+            Watch::Forget(place) => drop(self.take(*place)),
+            Watch::ForgetMany => self.all_told.clear(),
+            Watch::Look(observer) => self.tell_look(*observer, text),
         }
     }
 
@@ -94,15 +96,6 @@ impl Watchers {
         }
     }
 
-    fn forget(&mut self, place: Place)
-        ensures { self.new ≡ self.old }
-    {
-        match place {
-            Place::Many => self.all_told.clear(),
-            _ => drop(self.take(place)),
-        }
-    }
-
     pub fn learn(&mut self, observer: Which, place: Place)
         ensures { self.new ≡ self.old }
     {
@@ -118,8 +111,8 @@ impl Watchers {
         ensures { self.new ≡ self.old }
     {
         match observer {
-            Which::First => look_at(&mut self.first),
-            Which::Second => look_at(&mut self.second),
+            Which::First => self.first.look(),
+            Which::Second => self.second.look(),
         }
     }
 
@@ -141,12 +134,6 @@ impl Watchers {
         drop(seen);
         told
     }
-}
-
-fn look_at(observer: &mut Observer) -> Result<View, LookFault>
-    ensures { observer.new.publisher ≡ observer.old.publisher }
-{
-    observer.look()
 }
 
 /// A publisher, and its observers.
@@ -184,45 +171,52 @@ pub fn rounds<L: Naming, R: Wait>(
     count: u32,
     text: &mut String,
 ) {
+    let mut told = None;
     for _each in 0..count {
-        let told = round(rt, locked, seat, pass);
-        if told.is_none() {
-            let _ = writeln!(text, "a refused round");
+        if !round(rt, locked, seat, pass, &mut told) {
+            drop(text.push_str("a refused round\n"));
         }
-        drop(told);
     }
+    drop(told);
 }
 
-/// Node 1 recovers and crashes, with a publish after each: what the second one tells.
+/// Whether node 1 recovers and crashes, with a publish after each, of which is kept what is told.
 pub fn round<L: Naming, R: Wait>(
     rt: &R,
     locked: &mut Locked<L>,
     seat: &mut Seat,
     pass: &mut Pass<L>,
-) -> Option<Told>
-    ensures { IfSome result (λ told. L.publisher ≡ Some told.publisher) }
+    told: &mut Option<Told>,
+) -> bool
+    requires { IfSome told.old (λ t. L.publisher ≡ Some t.publisher) }
+    ensures { IfSome told.new (λ t. L.publisher ≡ Some t.publisher) }
 {
-    let one = Node::new(1)?;
-    let told = published(rt, locked, seat, pass, Event::Recover(one))?;
-    drop(told);
-    published(rt, locked, seat, pass, Event::Crash(one))
+    let Some(one) = Node::new(1) else {
+        return false;
+    };
+    is_published(rt, locked, seat, pass, Event::Recover(one), told)
+        && is_published(rt, locked, seat, pass, Event::Crash(one), told)
 }
 
-// A step, and what a publish tells of it.
-fn published<L: Naming, R: Wait>(
+// Whether the step is taken and published.
+fn is_published<L: Naming, R: Wait>(
     rt: &R,
     locked: &mut Locked<L>,
     seat: &mut Seat,
     pass: &mut Pass<L>,
     event: Event,
-) -> Option<Told>
-    ensures { IfSome result (λ told. L.publisher ≡ Some told.publisher) }
+    told: &mut Option<Told>,
+) -> bool
+    requires { IfSome told.old (λ t. L.publisher ≡ Some t.publisher) }
+    ensures { IfSome told.new (λ t. L.publisher ≡ Some t.publisher) }
 {
     let is_taken = locked.step(seat, &event, pass).is_ok();
     drop(event);
-    if is_taken {
-        locked.publish(rt, seat).ok()
-    } else {
-        None
+    match locked.publish(rt, seat) {
+        Ok(new) => {
+            drop(told.replace(new));
+            is_taken
+        }
+        Err(_) => false,
     }
 }

@@ -19,9 +19,15 @@ pub fn counts_of_two_threads<R: Threads + Wait + Sync>(
     rt: &R,
     alloc: Global,
 ) -> Option<(u32, Status)> {
-    let setup = Setup::new(1, 1, 100).ok()?;
-    let (publisher, watchers) = publisher_for(rt, alloc, setup)?;
-    counts_by::<Brand, R>(rt, alloc, setup, publisher, watchers, Blank::new(2))
+    let Ok(setup) = Setup::new(1, 1, 100) else {
+        return None;
+    };
+    match publisher_for(rt, alloc, setup) {
+        Some((publisher, watchers)) => {
+            counts_by::<Brand, R>(rt, alloc, setup, publisher, watchers, Blank::new(2))
+        }
+        None => None,
+    }
 }
 
 fn counts_by<L: Naming + Send + Sync, R: Threads + Wait + Sync>(
@@ -98,12 +104,14 @@ fn recovers_and_crashes<L: Naming, R: Wait>(
 ) -> Option<Told>
     ensures { IfSome result (λ told. L.publisher ≡ Some told.publisher) }
 {
-    let seat = seats.get_mut(0)?;
-    let pass = passes.get_mut(0)?;
-    for _round in 1..50u32 {
-        drop(locked_round(rt, group, seat, pass));
+    let (Some(seat), Some(pass)) = (seats.get_mut(0), passes.get_mut(0)) else {
+        return None;
+    };
+    let mut last = None;
+    for _round in 0..50u32 {
+        locked_round(rt, group, seat, pass, &mut last);
     }
-    locked_round(rt, group, seat, pass)
+    last
 }
 
 // A round in one hold of the lock.
@@ -112,13 +120,14 @@ fn locked_round<L: Naming, R: Wait>(
     group: &Group<L>,
     seat: &mut Seat,
     pass: &mut Pass<L>,
-) -> Option<Told>
-    ensures { IfSome result (λ told. L.publisher ≡ Some told.publisher) }
+    told: &mut Option<Told>,
+)
+    requires { IfSome told.old (λ t. L.publisher ≡ Some t.publisher) }
+    ensures { IfSome told.new (λ t. L.publisher ≡ Some t.publisher) }
 {
     let mut guard = group.locked.lock(rt);
-    let told = round(rt, &mut guard, seat, pass);
+    let _ = round(rt, &mut guard, seat, pass, told);
     MutexGuard::unlock(guard);
-    told
 }
 
 // Looks 1,000 times. Whether each shows a count, and none of them falls.

@@ -35,7 +35,7 @@ const SMALL_GROUP: Case = Case {
         Ask::By(0, Call::Step(Deed::Recover, 1)),
         Ask::By(1, Call::Serve),
         Ask::By(0, Call::Serve),
-        Ask::By(0, Call::Publish(Place::First)),
+        Ask::By(0, Call::Publish(Place::First, 1)),
     ],
     other: None,
     told: "0 Down

@@ -193,7 +193,7 @@ const FOREIGN_PUBLISH: Case = Case {
         is_watched: true,
         actor: 0,
         place: 0,
-        asks: &[Ask::By(0, Call::Publish(Place::First))],
+        asks: &[Ask::By(0, Call::Publish(Place::First, 1))],
         goes_back: true,
         told: "Foreign { index: 1 }
 a seat less: SeatCount
@@ -222,13 +222,9 @@ pub fn used_as_told<R: Wait>(
     seats: &mut Vec<Seat>,
     other: &Option<Other>,
 ) -> bool {
-    match other {
-        Some(other) => used_on(rt, alloc, way, seats, other),
-        None => true,
-    }
-}
-
-fn used_on<R: Wait>(rt: &R, alloc: Global, way: Way, seats: &mut Vec<Seat>, other: &Other) -> bool {
+    let Some(other) = other else {
+        return true;
+    };
     let Ok(setup) = Setup::new(other.nodes, 2, 10) else {
         return false;
     };
@@ -276,7 +272,7 @@ fn used_by<L: Naming, R: Wait>(
 
 fn goes_as_told<L: Naming, R: Wait>(
     rt: &R,
-    opened: Opened<L>,
+    mut opened: Opened<L>,
     beside: &mut Beside,
     seats: &mut Vec<Seat>,
     other: &Other,
@@ -284,13 +280,12 @@ fn goes_as_told<L: Naming, R: Wait>(
     requires setup { (state_of beside.old.procedure).setup ≡ L.setup }
     requires watchers { beside.old.watchers ≡ L.publisher }
 {
-    let mut opened = opened;
     swap(seats, &mut opened.seats, other);
     ask_all(rt, &mut opened, beside, other.asks);
     if other.goes_back {
         swap(seats, &mut opened.seats, other);
     }
-    ends_as(rt, opened, beside, &[]) && beside.tells(other.told)
+    ends_as(rt, opened, beside, &[], other.told)
 }
 
 // The two seats change places.

@@ -1,4 +1,4 @@
-use Rattle.bully_group_cases.proofs.tests.two_groups.used_on.Given as goal
+use Rattle.bully_group_cases.proofs.tests.two_groups.used_as_told.Given as goal
 
 abbrev pub ghosts-used_by-L-Naming : goal.ghosts-used_by-L-Naming
 ghosts-used_by-L-Naming g a = record { setup = a.setup; publisher = a.beside.now.watchers }
