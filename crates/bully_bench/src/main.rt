@@ -25,7 +25,7 @@ use crate::lines::Lines;
 use crate::network::Breach;
 use crate::planning::plan_rounds;
 use crate::records::count_records;
-use crate::simulating::{count_requests, tell_trace};
+use crate::simulating::{Simulation, count_requests, tell_trace};
 use crate::turns::take_turns;
 use crate::watching::{THREADS, Watching, watch_group};
 use std::env;
@@ -39,8 +39,8 @@ enum Task {
     Records,
     Turns(u16, u32),
     Watch(u16, u16, Watching),
-    Trace(u16, u64, u32, Breach),
-    Requests(u16, u32),
+    Trace(Simulation),
+    Requests(Simulation),
     Follow(Turns),
 }
 
@@ -54,10 +54,8 @@ fn main(rt: HostRuntime) -> ExitCode {
         Task::Records => count_records(alloc, rt.stdin()),
         Task::Turns(nodes, count) => take_turns(&rt, alloc, nodes, count),
         Task::Watch(nodes, observers, task) => watch_group(&rt, alloc, nodes, observers, task),
-        Task::Trace(nodes, seed, steps, breach) => {
-            tell_trace(alloc, &mut rt.stdout(), nodes, seed, steps, breach)
-        }
-        Task::Requests(nodes, steps) => count_requests(alloc, nodes, steps),
+        Task::Trace(simulation) => tell_trace(alloc, &mut rt.stdout(), &simulation),
+        Task::Requests(simulation) => count_requests(alloc, &simulation),
         Task::Follow(turns) => follow_trace(alloc, rt.stdin(), turns),
     };
     match print_lines(&rt, answered) {
@@ -160,8 +158,18 @@ fn group_task(
         "turns" => Some(Task::Turns(nodes, count)),
         "quiet" => Some(Task::Watch(nodes, 1, Watching::Quiet(count))),
         "publishing" => Some(Task::Watch(nodes, 1, Watching::Publishing(count))),
-        "requests" => Some(Task::Requests(nodes, count)),
-        "trace" => Some(Task::Trace(nodes, u64::from(count), third?, breach?)),
+        "requests" => Some(Task::Requests(Simulation {
+            nodes,
+            seed: 1,
+            steps: count,
+            breach: Breach::Nothing,
+        })),
+        "trace" => Some(Task::Trace(Simulation {
+            nodes,
+            seed: u64::from(count),
+            steps: third?,
+            breach: breach?,
+        })),
         _ => None,
     }
 }

@@ -259,29 +259,29 @@ impl Network {
 
     // An orphan is dropped at times.
     fn give_up(&mut self, place: usize) -> Turn {
-        let waits = self.random.next() % 4 != 0;
-        if waits || !self.has_orphan(place) {
+        if self.random.next() % 4 != 0 {
             return Turn::Nothing;
         }
-        turned(self.drop_orphan(place))
+        match self.orphan(place) {
+            Some(call) => turned(self.drop_orphan(place, call)),
+            None => Turn::Nothing,
+        }
     }
 
-    fn has_orphan(&self, place: usize) -> bool {
+    // The node's call, if it is an orphan.
+    fn orphan(&self, place: usize) -> Option<Call> {
         match self.agents.get(place) {
-            Some(agent) => agent.slot().is_orphan(agent.generation()),
-            None => false,
+            Some(agent) if agent.slot().is_orphan(agent.generation()) => agent.slot().call(),
+            _ => None,
         }
     }
 
     // The node's call is dropped, and with it what it sent.
-    fn drop_orphan(&mut self, place: usize) -> bool {
+    fn drop_orphan(&mut self, place: usize, call: Call) -> bool {
         let Some(agent) = self.agents.get_mut(place) else {
             return false;
         };
         let node = agent.node();
-        let Some(call) = agent.slot().call() else {
-            return false;
-        };
         let dropped = answer_of(agent.drop_orphan());
         self.forget(node);
         dropped.is_ok() && self.log_call(node, Detail::Drop(call))

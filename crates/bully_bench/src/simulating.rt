@@ -8,23 +8,28 @@ use bully_rows::{ROWS_MAX, Row, Rows, Trace, write_trace};
 use std::alloc::Global;
 use std::io::Write;
 
-// What a network of this seed is set up with: as many partitions as nodes; of an even seed tasks are kept over a crash.
-fn setup_of(nodes: u16, seed: u64) -> Option<Setup> {
-    let ones = [1; 16];
-    let weights = ones.get(..usize::from(nodes))?;
-    Setup::weighted(nodes, nodes, EVENTS_MAX, weights, seed % 2 == 0).ok()
+/// A network to simulate: so many nodes, a seed, so many steps, and the premise that is broken.
+#[derive(Clone, Copy)]
+pub struct Simulation {
+    pub nodes: u16,
+    pub seed: u64,
+    pub steps: u32,
+    pub breach: Breach,
 }
 
-// A network of this seed, behind so many steps, at whose end each node's vector stands.
-fn network_of(
-    alloc: Global,
-    setup: &Setup,
-    seed: u64,
-    steps: u32,
-    breach: Breach,
-) -> Option<Network> {
-    let mut network = Network::new(alloc, setup, seed, breach)?;
-    if network.run(steps) {
+// What the network is set up with: as many partitions as nodes; of an even seed tasks are kept over a crash.
+fn setup_of(simulation: &Simulation) -> Option<Setup> {
+    let nodes = simulation.nodes;
+    let ones = [1; 16];
+    let weights = ones.get(..usize::from(nodes))?;
+    let keeps = simulation.seed % 2 == 0;
+    Setup::weighted(nodes, nodes, EVENTS_MAX, weights, keeps).ok()
+}
+
+// The network behind its steps, at whose end each node's vector stands.
+fn network_of(alloc: Global, setup: &Setup, simulation: &Simulation) -> Option<Network> {
+    let mut network = Network::new(alloc, setup, simulation.seed, simulation.breach)?;
+    if network.run(simulation.steps) {
         Some(network)
     } else {
         None
@@ -35,13 +40,10 @@ fn network_of(
 pub fn tell_trace<W: Write>(
     alloc: Global,
     output: &mut W,
-    nodes: u16,
-    seed: u64,
-    steps: u32,
-    breach: Breach,
+    simulation: &Simulation,
 ) -> Option<Lines> {
-    let setup = setup_of(nodes, seed)?;
-    let network = network_of(alloc, &setup, seed, steps, breach)?;
+    let setup = setup_of(simulation)?;
+    let network = network_of(alloc, &setup, simulation)?;
     let trace = trace_of(setup, network.into_rows())?;
     match write_trace(alloc, output, &trace) {
         Ok(()) => Some(NO_LINES),
@@ -59,8 +61,8 @@ fn trace_of(setup: Setup, rows: Vec<Row>) -> Option<Trace> {
 }
 
 /// How many requests ran in a network.
-pub fn count_requests(alloc: Global, nodes: u16, steps: u32) -> Option<Lines> {
-    let setup = setup_of(nodes, 1)?;
-    let network = network_of(alloc, &setup, 1, steps, Breach::Nothing)?;
+pub fn count_requests(alloc: Global, simulation: &Simulation) -> Option<Lines> {
+    let setup = setup_of(simulation)?;
+    let network = network_of(alloc, &setup, simulation)?;
     Some(one_line("requests", network.requests()))
 }

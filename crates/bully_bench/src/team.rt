@@ -24,12 +24,11 @@ impl<L: Naming> Team<L> {
     pub fn new(
         alloc: Global,
         setup: &Setup,
-        seats: Vec<Seat>,
-        passes: Vec<Pass<L>>,
+        mut seats: Vec<Seat>,
+        mut passes: Vec<Pass<L>>,
     ) -> Option<Team<L>>
         requires { setup.now ≡ L.setup }
     {
-        let (mut seats, mut passes) = (seats, passes);
         let mut players = Vec::new(alloc);
         let operator = split(alloc, setup, &mut seats, &mut passes, &mut players)?;
         Some(Team {

@@ -148,10 +148,9 @@ fn watch<L: Naming + Send + Sync, R: Threads + Wait + Sync>(
     alloc: Global,
     group: &Group<L>,
     team: Option<Team<L>>,
-    observers: Vec<Observer>,
+    mut observers: Vec<Observer>,
     task: Watching,
 ) -> Option<Watched> {
-    let mut observers = observers;
     let mut jobs = Vec::new(alloc);
     if add_jobs(rt, group, team, &mut observers, &mut jobs, task) {
         in_threads(rt, group, jobs, ending(task))
@@ -277,18 +276,9 @@ fn work<L: Naming, R: Wait>(
     job: Job<L>,
 ) -> Option<Watched> {
     match job {
-        Job::Play(player, turns) => {
-            let mut player = player;
-            ended(left, play(rt, group, &mut player, turns))
-        }
-        Job::Lead(team, task) => {
-            let mut team = team;
-            lead(rt, group, left, &mut team, task)
-        }
-        Job::Look(observer, looks) => {
-            let mut observer = observer;
-            look(left, &mut observer, looks)
-        }
+        Job::Play(mut player, turns) => ended(left, play(rt, group, &mut player, turns)),
+        Job::Lead(mut team, task) => lead(rt, group, left, &mut team, task),
+        Job::Look(mut observer, looks) => look(left, &mut observer, looks),
     }
 }
 

@@ -9,10 +9,10 @@ mod scripts;
 mod two_groups;
 
 use asks::{Case, tried};
-use bully_base::{Setup, Status};
+use bully_base::Setup;
 use bully_watch::{OpenFault, Publisher};
 use held::Way;
-use races::counts_of_two_threads;
+use races::never_fall_in_two_threads;
 use scenes::SCENES;
 use scripts::CASES;
 use std::alloc::Global;
@@ -47,8 +47,7 @@ fn seats_of_other_groups(rt: HostRuntime) {
 // One thread steps and publishes, and another looks on.
 #[test]
 fn counts_never_fall(rt: HostRuntime) {
-    let seen = counts_of_two_threads(&rt, rt.alloc());
-    assert!(rt; matches!(seen, Some((100, Status::Down))));
+    assert!(rt; never_fall_in_two_threads(&rt, rt.alloc()));
 }
 
 // How many observers a publisher is opened with, or why with none.

@@ -1,6 +1,6 @@
 //! What is asked of a group and of its observers, ask by ask, what is told of each, and the group's end.
 
-ghost use Rattle.std.specs.Prelude.{◌≡◌, ◌+◌, [], IfSome};
+ghost use Rattle.std.specs.Prelude.{◌≡◌, ◌+◌, [], IfSome, None};
 ghost use Rattle.bully_group.specs.Locked.{name_of};
 ghost use Rattle.bully_steps.specs.Procedure.{state_of};
 
@@ -97,18 +97,6 @@ pub struct Beside {
 }
 
 impl Beside {
-    fn of(alloc: Global, procedure: Procedure, watchers: Option<Watchers>) -> Beside
-        ensures procedure { state_of result.procedure ≡ state_of procedure }
-        ensures watchers { result.watchers ≡ watchers }
-    {
-        Beside {
-            alloc,
-            procedure,
-            watchers,
-            text: String::new(alloc),
-        }
-    }
-
     // Does it by the observers, if there are any.
     fn watch(&mut self, watch: &Watch)
         ensures procedure { self.new.procedure ≡ self.old.procedure }
@@ -130,43 +118,45 @@ impl Beside {
     }
 }
 
-/// What stands beside a group with this setup, whose procedure is this node's, and the publisher of a watched one.
-pub fn beside_for<R: Wait>(
-    rt: &R,
-    alloc: Global,
-    setup: Setup,
-    number: u16,
-    is_watched: bool,
-) -> Option<(Option<Publisher>, Beside)>
-    ensures setup { IfSome result (λ r. (state_of r.1.procedure).setup ≡ setup) }
-    ensures publisher { IfSome result (λ r. name_of r.0 ≡ r.1.watchers) }
-    ensures new { IfSome result (λ r. IfSome r.0 (λ p. (p.publisher.setup ≡ setup) × (p.shown ≡ []) × (p.taken ≡ []))) }
-{
-    let procedure = procedure_of(setup, number)?;
-    if !is_watched {
-        return Some((None, Beside::of(alloc, procedure, None)));
-    }
-    match publisher_for(rt, alloc, setup) {
-        Some((publisher, watchers)) => {
-            let beside = Beside::of(alloc, procedure, Some(watchers));
-            Some((Some(publisher), beside))
-        }
-        None => {
-            drop(procedure);
-            None
-        }
-    }
-}
-
-// The idle procedure of this node, if the setup has it.
-fn procedure_of(setup: Setup, number: u16) -> Option<Procedure>
-    ensures { IfSome result (λ procedure. (state_of procedure).setup ≡ setup) }
+/// What stands beside a group with this setup that nobody watches, if it has this node. The procedure is the node's.
+pub fn beside_for(alloc: Global, setup: Setup, number: u16) -> Option<Beside>
+    ensures setup { IfSome result (λ beside. (state_of beside.procedure).setup ≡ setup) }
+    ensures unwatched { IfSome result (λ beside. beside.watchers ≡ None) }
 {
     let node = Node::new(number)?;
     if setup.nodes() < number {
         return None;
     }
-    Some(Procedure::idle(setup, node, 0))
+    Some(Beside {
+        alloc,
+        procedure: Procedure::idle(setup, node, 0),
+        watchers: None,
+        text: String::new(alloc),
+    })
+}
+
+/// The publisher of a watched group with this setup, whose observers stand beside it.
+pub fn publisher_beside<R: Wait>(
+    rt: &R,
+    setup: Setup,
+    is_watched: bool,
+    beside: &mut Beside,
+) -> Option<Publisher>
+    requires unwatched { beside.old.watchers ≡ None }
+    ensures procedure { beside.new.procedure ≡ beside.old.procedure }
+    ensures publisher { name_of result ≡ beside.new.watchers }
+    ensures new { IfSome result (λ p. (p.publisher.setup ≡ setup) × (p.shown ≡ []) × (p.taken ≡ [])) }
+{
+    if !is_watched {
+        return None;
+    }
+    match publisher_for(rt, beside.alloc, setup) {
+        Some((publisher, watchers)) => {
+            drop(beside.watchers.replace(watchers));
+            Some(publisher)
+        }
+        None => None,
+    }
 }
 
 // The event of a deed.
@@ -192,15 +182,14 @@ pub fn tried<R: Wait>(rt: &R, alloc: Global, way: Way, case: &Case) -> bool {
     let Ok(setup) = Setup::new(case.nodes, case.partitions, case.events_max) else {
         return false;
     };
-    match beside_for(rt, alloc, setup, case.node, case.is_watched) {
-        Some((publisher, mut beside)) => {
-            let blank = Blank::new(u64::from(setup.nodes()) + 1);
-            let is_told = tried_by::<Brand, R>(rt, way, setup, publisher, &mut beside, blank, case);
-            drop(beside);
-            is_told
-        }
-        None => false,
-    }
+    let Some(mut beside) = beside_for(alloc, setup, case.node) else {
+        return false;
+    };
+    let publisher = publisher_beside(rt, setup, case.is_watched, &mut beside);
+    let blank = Blank::new(u64::from(setup.nodes()) + 1);
+    let is_told = tried_by::<Brand, R>(rt, way, setup, publisher, &mut beside, blank, case);
+    drop(beside);
+    is_told
 }
 
 fn tried_by<L: Naming, R: Wait>(
@@ -273,8 +262,10 @@ fn call_by<L: Naming, R: Wait>(
     ensures setup { (state_of beside.new.procedure).setup ≡ L.setup }
     ensures watchers { beside.new.watchers ≡ L.publisher }
 {
-    let (Some(seat), Some(pass)) = (opened.seats.get_mut(actor), opened.passes.get_mut(actor))
-    else {
+    let Some(seat) = opened.seats.get_mut(actor) else {
+        return;
+    };
+    let Some(pass) = opened.passes.get_mut(actor) else {
         return;
     };
     match &mut opened.held {
@@ -302,7 +293,7 @@ fn call_locked<L: Naming, R: Wait>(
 {
     match call {
         Call::Step(deed, number) => step(locked, seat, pass, beside, deed, *number),
-        Call::Serve => serve(locked, seat, pass, &mut beside.text),
+        Call::Serve => tell(&mut beside.text, &locked.serve(seat, pass)),
         Call::View => view(
             locked,
             seat,
@@ -311,13 +302,13 @@ fn call_locked<L: Naming, R: Wait>(
         ),
         Call::Publish(place, count) => publish_all(rt, locked, seat, beside, *place, *count),
         Call::Rounds(count) => rounds(rt, locked, seat, pass, *count, &mut beside.text),
-        Call::Entries => tell_entries(seat, &mut beside.text),
+        Call::Entries => tell(&mut beside.text, &seat.log().len()),
         _ => turn(locked, seat, pass, beside, call),
     }
 }
 
-// Tells of it in a line.
-fn tell<T: Debug>(text: &mut String, value: &T) {
+/// Tells of it in a line.
+pub fn tell<T: Debug>(text: &mut String, value: &T) {
     let _ = writeln!(text, "{value:?}");
 }
 
@@ -338,16 +329,6 @@ fn step<L: Naming>(
     let answer = locked.step(seat, &event, pass);
     drop(event);
     tell(&mut beside.text, &answer);
-}
-
-fn serve<L: Naming>(
-    locked: &mut Locked<L>,
-    seat: &mut Seat,
-    pass: &mut Pass<L>,
-    text: &mut String,
-) {
-    let answer = locked.serve(seat, pass);
-    tell(text, &answer);
 }
 
 fn view<L: Naming>(locked: &Locked<L>, seat: &Seat, number: u16, text: &mut String) {
@@ -389,10 +370,6 @@ fn publish<L: Naming, R: Wait>(
         Ok(told) => beside.keep(place, told),
         Err(fault) => tell(&mut beside.text, &fault),
     }
-}
-
-fn tell_entries(seat: &Seat, text: &mut String) {
-    tell(text, &seat.log().len());
 }
 
 fn prepare(beside: &mut Beside)
@@ -499,15 +476,18 @@ pub fn ends_as<L: Naming, R: Wait>(
     history: &[(u16, Deed, u16, Answer)],
     told: &str,
 ) -> bool {
-    let begins = match ended(rt, opened, &mut beside.text) {
-        Some(closed) => {
+    let begins = match ended(opened, &mut beside.text) {
+        Ok(closed) => {
             tell_closed(&closed, beside);
             let begins = begins_with(beside.alloc, &closed, history);
             closed.end(rt);
             beside.watch(&Watch::Look(Which::First));
             begins
         }
-        None => true,
+        Err(opened) => {
+            opened.end(rt);
+            true
+        }
     };
     begins && is_same(beside.text.as_str(), told)
 }
@@ -518,8 +498,8 @@ fn is_same(text: &str, told: &str) -> bool {
 
 // Tells of a finished group, and what is seen of it.
 fn tell_closed(closed: &Closed, beside: &mut Beside) {
-    let entries = closed.history().len();
-    let _ = writeln!(beside.text, "entries: {entries}");
+    drop(beside.text.push_str("entries: "));
+    tell(&mut beside.text, &closed.history().len());
     let number = beside.procedure.node().number();
     tell_view(&mut beside.text, closed.view(), number);
     beside.watch(&Watch::Look(Which::First));

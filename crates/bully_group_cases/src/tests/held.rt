@@ -3,12 +3,13 @@
 ghost use Rattle.std.specs.Prelude.{◌≡◌, ◌+◌, [], IfSome, Some, None};
 ghost use Rattle.bully_group.specs.Locked.{name_of};
 
+use super::asks::tell;
 use bully_base::Setup;
 use bully_group::{Closed, Group, Locked, Naming, Pass, Seat};
 use bully_watch::Publisher;
 use std::alloc::Global;
+use std::sync::Wait;
 use std::sync::ledger::Blank;
-use std::sync::{Mutex, Wait};
 
 #[derive(Clone, Copy)]
 pub enum Way {
@@ -114,13 +115,26 @@ fn open_watched<L: Naming, R: Wait>(
     }
 }
 
-/// Tells why the group isn't finished without its last seat, or without its last pass, and then its finish.
-pub fn ended<L: Naming, R: Wait>(rt: &R, opened: Opened<L>, text: &mut String) -> Option<Closed> {
+impl<L: Naming> Opened<L> {
+    pub fn end<R: Wait>(self, rt: &R) {
+        let Opened {
+            held,
+            seats,
+            passes,
+        } = self;
+        drop((seats, passes));
+        held.closed().end(rt);
+    }
+}
+
+/// Tells why the group isn't finished without its last seat, and why without its last pass. Then its finish; or the group,
+/// and it is told why it has none.
+pub fn ended<L: Naming>(opened: Opened<L>, text: &mut String) -> Result<Closed, Opened<L>> {
     match without_one(opened, Part::Seat, text) {
-        Ok(closed) => Some(closed),
+        Ok(closed) => Ok(closed),
         Err(opened) => match without_one(opened, Part::Pass, text) {
-            Ok(closed) => Some(closed),
-            Err(opened) => with_all(rt, opened, text),
+            Ok(closed) => Ok(closed),
+            Err(opened) => finished(opened, "all: ", text),
         },
     }
 }
@@ -132,15 +146,15 @@ enum Part {
     Pass,
 }
 
-// Where it isn't finished, the group is given back with all of them. (Else nothing is told, as it should be.)
+// The group is given back with all of them. Where it is finished in spite of that, nothing is told.
 fn without_one<L: Naming>(
     mut opened: Opened<L>,
     part: Part,
     text: &mut String,
 ) -> Result<Closed, Opened<L>> {
     let (told, seat, pass) = match part {
-        Part::Seat => ("a seat less", opened.seats.pop(), None),
-        Part::Pass => ("a pass less", None, opened.passes.pop()),
+        Part::Seat => ("a seat less: ", opened.seats.pop(), None),
+        Part::Pass => ("a pass less: ", None, opened.passes.pop()),
     };
     match finished(opened, told, text) {
         Ok(closed) => {
@@ -162,24 +176,7 @@ fn give_back<T: Drop>(items: &mut Vec<T>, item: Option<T>) {
     }
 }
 
-fn with_all<L: Naming, R: Wait>(rt: &R, opened: Opened<L>, text: &mut String) -> Option<Closed> {
-    match finished(opened, "all", text) {
-        Ok(closed) => Some(closed),
-        Err(
-            Opened {
-                held,
-                seats,
-                passes,
-            },
-        ) => {
-            held.closed().end(rt);
-            drop((seats, passes));
-            None
-        }
-    }
-}
-
-// Its finish. Where it has none, tells why, and gives the group back, which isn't shared any more.
+// Its finish. Where it has none, tells this and why, and gives the group back, which isn't shared any more.
 fn finished<L: Naming>(
     opened: Opened<L>,
     told: &str,
@@ -193,7 +190,8 @@ fn finished<L: Naming>(
     match held.closed().finish(seats, passes) {
         Ok(closed) => Ok(closed),
         Err((locked, seats, passes, fault)) => {
-            let _ = writeln!(text, "{told}: {fault:?}");
+            drop(text.push_str(told));
+            tell(text, &fault);
             Err(Opened {
                 held: Held::Bare(locked),
                 seats,

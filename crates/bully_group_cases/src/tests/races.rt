@@ -13,20 +13,17 @@ use std::sync::{MutexGuard, Wait};
 use std::thread;
 use std::thread::Threads;
 
-/// What an observer sees in the end, where the counts that it sees never fall, while another thread recovers and crashes
-/// node 1 in turn, 50 times each, and publishes after each.
-pub fn counts_of_two_threads<R: Threads + Wait + Sync>(
-    rt: &R,
-    alloc: Global,
-) -> Option<(u32, Status)> {
+/// Whether the counts that an observer sees never fall, while another thread recovers and crashes node 1 in turn, 50
+/// times each, and publishes after each; and whether it sees all of that once it learns of the last.
+pub fn never_fall_in_two_threads<R: Threads + Wait + Sync>(rt: &R, alloc: Global) -> bool {
     let Ok(setup) = Setup::new(1, 1, 100) else {
-        return None;
+        return false;
     };
     match publisher_for(rt, alloc, setup) {
         Some((publisher, watchers)) => {
             counts_by::<Brand, R>(rt, alloc, setup, publisher, watchers, Blank::new(2))
         }
-        None => None,
+        None => false,
     }
 }
 
@@ -37,7 +34,7 @@ fn counts_by<L: Naming + Send + Sync, R: Threads + Wait + Sync>(
     publisher: Publisher,
     watchers: Watchers,
     blank: Blank,
-) -> Option<(u32, Status)>
+) -> bool
     requires setup { (setup ≡ L.setup) × (publisher.publisher.setup ≡ setup) }
     requires publisher { L.publisher ≡ Some publisher.publisher }
     requires new { (publisher.shown ≡ []) × (publisher.taken ≡ []) }
@@ -55,19 +52,18 @@ fn counts_by<L: Naming + Send + Sync, R: Threads + Wait + Sync>(
         Err((publisher, _, _)) => {
             publisher.end(rt);
             drop(watchers);
-            None
+            false
         }
     }
 }
 
-// What is seen once the last publish is learned.
 fn race<L: Naming + Send + Sync, R: Threads + Wait + Sync>(
     rt: &R,
     group: &Group<L>,
     seats: &mut Vec<Seat>,
     passes: &mut Vec<Pass<L>>,
     watchers: Watchers,
-) -> Option<(u32, Status)>
+) -> bool
     requires { L.publisher ≡ Some watchers }
 {
     let (told, (mut watchers, never_fell)) = thread::join(
@@ -79,20 +75,20 @@ fn race<L: Naming + Send + Sync, R: Threads + Wait + Sync>(
             ensures { result.0 ≡ watchers }
         { looks_on(watchers) },
     );
-    let seen = seen_at_last(&mut watchers, told);
+    let sees_all = sees_all_of(&mut watchers, told);
     drop(watchers);
-    if never_fell { seen } else { None }
+    never_fell && sees_all
 }
 
-// What the first observer sees, which learns what is told.
-fn seen_at_last(watchers: &mut Watchers, told: Option<Told>) -> Option<(u32, Status)>
+// Whether the first observer, which learns what is told, sees 100 events, of which the last is a crash.
+fn sees_all_of(watchers: &mut Watchers, told: Option<Told>) -> bool
     requires { IfSome told (λ t. t.publisher ≡ watchers.old) }
 {
     if let Some(told) = told {
         watchers.keep(Place::First, told);
         watchers.learn(Which::First, Place::First);
     }
-    watchers.seen()
+    matches!(watchers.seen(), Some((100, Status::Down)))
 }
 
 // What the last publish tells. The operator's seat is the first one, and one pass is as good as another.
@@ -104,7 +100,10 @@ fn recovers_and_crashes<L: Naming, R: Wait>(
 ) -> Option<Told>
     ensures { IfSome result (λ told. L.publisher ≡ Some told.publisher) }
 {
-    let (Some(seat), Some(pass)) = (seats.get_mut(0), passes.get_mut(0)) else {
+    let Some(seat) = seats.get_mut(0) else {
+        return None;
+    };
+    let Some(pass) = passes.get_mut(0) else {
         return None;
     };
     let mut last = None;

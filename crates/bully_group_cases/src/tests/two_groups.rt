@@ -4,7 +4,7 @@ ghost use Rattle.std.specs.Prelude.{◌≡◌, ◌+◌, [], IfSome};
 ghost use Rattle.bully_group.specs.Locked.{name_of};
 ghost use Rattle.bully_steps.specs.Procedure.{state_of};
 
-use super::asks::{Ask, Beside, Call, Case, Deed, ask_all, beside_for, ends_as};
+use super::asks::{Ask, Beside, Call, Case, Deed, ask_all, beside_for, ends_as, publisher_beside};
 use super::held::{Opened, Way, open};
 use super::observers::Place;
 use bully_base::Setup;
@@ -228,24 +228,14 @@ pub fn used_as_told<R: Wait>(
     let Ok(setup) = Setup::new(other.nodes, 2, 10) else {
         return false;
     };
-    match beside_for(rt, alloc, setup, 1, other.is_watched) {
-        Some((publisher, mut beside)) => {
-            let blank = Blank::new(u64::from(setup.nodes()) + 1);
-            let is_told = used_by::<Brand, R>(
-                rt,
-                way,
-                setup,
-                publisher,
-                &mut beside,
-                blank,
-                seats,
-                other,
-            );
-            drop(beside);
-            is_told
-        }
-        None => false,
-    }
+    let Some(mut beside) = beside_for(alloc, setup, 1) else {
+        return false;
+    };
+    let publisher = publisher_beside(rt, setup, other.is_watched, &mut beside);
+    let blank = Blank::new(u64::from(setup.nodes()) + 1);
+    let is_told = used_by::<Brand, R>(rt, way, setup, publisher, &mut beside, blank, seats, other);
+    drop(beside);
+    is_told
 }
 
 fn used_by<L: Naming, R: Wait>(

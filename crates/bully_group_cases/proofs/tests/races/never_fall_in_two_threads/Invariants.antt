@@ -1,5 +1,5 @@
 use Rattle.std.proofs.Common.{Some}
-use Rattle.bully_group_cases.proofs.tests.races.counts_of_two_threads.Given as goal
+use Rattle.bully_group_cases.proofs.tests.races.never_fall_in_two_threads.Given as goal
 
 abbrev pub ghosts-counts_by-L-Naming : goal.ghosts-counts_by-L-Naming
 ghosts-counts_by-L-Naming g a = record { setup = a.setup; publisher = Some a.publisher.publisher }
