@@ -16,6 +16,7 @@ pub fn new_agent(alloc: Global, setup: &Setup, number: u16) -> Option<Agent>
 }
 
 /// The request of the call that the node starts.
+#[inline(always)]
 pub fn started(caller: &mut Agent) -> Option<Request> {
     if answer_of(caller.start()).is_err() {
         return None;
@@ -27,6 +28,7 @@ pub fn started(caller: &mut Agent) -> Option<Request> {
 }
 
 /// The reply of this callee.
+#[inline(always)]
 pub fn asked(callee: &mut Agent, request: &Request) -> Option<Reply> {
     match callee.serve(request) {
         Ok(served) => Some(served.reply),
@@ -35,6 +37,7 @@ pub fn asked(callee: &mut Agent, request: &Request) -> Option<Reply> {
 }
 
 /// What the step was answered.
+#[inline(always)]
 pub fn answer_of(taken: Result<TakenStep, Refused>) -> Result<Answer, Refused> {
     match taken {
         Ok(taken) => Ok(taken.answer),

@@ -101,6 +101,7 @@ fn take_turns(caller: &mut Agent, callee: &mut Agent, number: u32) -> bool {
     true
 }
 
+#[inline(always)]
 fn turn(caller: &mut Agent, callee: &mut Agent) -> bool {
     if answer_of(caller.timeout()).is_err() {
         return false;
@@ -112,6 +113,7 @@ fn turn(caller: &mut Agent, callee: &mut Agent) -> bool {
 }
 
 // The callee's reply to the call that the caller starts.
+#[inline(always)]
 fn reply_of(callee: &mut Agent, caller: &mut Agent) -> Option<Reply> {
     let request = started(caller)?;
     asked(callee, &request)
@@ -130,6 +132,7 @@ fn world_turns(world: &mut World, number: u32) -> bool {
     true
 }
 
+#[inline(always)]
 fn world_turn(world: &mut World, node: Node) -> bool {
     apply(world, Event::Timeout(node))
         && apply(world, Event::Start(node))
@@ -137,6 +140,7 @@ fn world_turn(world: &mut World, node: Node) -> bool {
         && apply(world, Event::Return(node))
 }
 
+#[inline(always)]
 fn apply(world: &mut World, event: Event) -> bool {
     world.apply(&event).is_ok()
 }
