@@ -141,7 +141,7 @@ find_states() {
     done
 }
 
-# Tells how many crates are to be proved, and how long that takes: for each 40 s from nothing, as it is on four cores, and 10 s
+# Tells how many crates are to be proved, and how long that takes: for each 45 s from nothing, as it is on four cores, and 10 s
 # over the work that an earlier build kept.
 tell_plan() {
     local name seconds=0 new=0
@@ -151,7 +151,7 @@ tell_plan() {
         if [[ -d $root/crates/$name/out/incremental ]]; then
             seconds=$((seconds + 10))
         else
-            seconds=$((seconds + 40)) new=$((new + 1))
+            seconds=$((seconds + 45)) new=$((new + 1))
         fi
     done
     say "proves and builds $1: $all of $((${#libraries[@]} + 1)) crates, $new of them from nothing; on four cores about $(((seconds + 59) / 60)) min"
