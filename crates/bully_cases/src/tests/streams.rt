@@ -22,18 +22,18 @@ impl Read for Broken {
 /// How many bytes of the script are read, which are whole rows, and the row at which the read failed.
 const READS: [(usize, u32); 6] = [(0, 1), (12, 2), (22, 3), (29, 4), (104, 13), (111, 14)];
 
-// Whether the text behind which the reader fails is neither judged nor upgraded nor read, for that at this row. (Where
-// something was written, that would be told: there is no room for it.)
+// Whether the text behind which the reader fails is neither judged nor upgraded nor read, for that at this row, and nothing is
+// written.
 fn fails_at(alloc: Global, text: &[u8], row: u32) -> bool {
     let cause = TraceCause::Read;
-    let mut nothing = [0u8; 0];
-    let mut narrow = &mut nothing[..];
-    let judged = check(alloc, text.chain(Broken), &mut narrow);
-    let upgraded = upgrade(alloc, text.chain(Broken), &mut narrow);
+    let mut output = Vec::new(alloc);
+    let judged = check(alloc, text.chain(Broken), &mut output);
+    let upgraded = upgrade(alloc, text.chain(Broken), &mut output);
     let read = read_trace(alloc, text.chain(Broken)).err();
     judged == Err(TraceFault { row, cause })
         && upgraded == Err(TraceFault { row, cause })
         && read == Some(TraceFault { row, cause })
+        && output.is_empty()
 }
 
 // The same of so many bytes of a script.
