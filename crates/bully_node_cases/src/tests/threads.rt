@@ -15,7 +15,7 @@ use std::thread::Threads;
 enum Wanted {
     /// Whatever it is.
     Finished,
-    /// One node's election as it is played: the operator recovers the node, and then that takes five steps.
+    /// One node's election: the operator recovers the node, and then that takes five steps.
     Election,
     /// The operator recovers each of three nodes.
     Recoveries,
@@ -36,6 +36,12 @@ const RUNS: [(&str, Rule, Wanted); 6] = [
     (THREE_NODES, Rule::InRounds, Wanted::Played),
     (THREE_WEIGHED, Rule::InRounds, Wanted::Played),
 ];
+
+/// What is written of one node's election.
+const ELECTION: &str = "bully,1,1,2\nrecover,1\nmove,1\nmove,1\nmove,1\nplan,1,1 1\nmove,1\n";
+
+/// What is written of one recovery.
+const RECOVERY: &str = "bully,1,1,1\nrecover,1\n";
 
 /// Two nodes, which stay down.
 const BOTH_DOWN: &str = "
@@ -163,12 +169,13 @@ fn comes_to(alloc: Global, config: &Config, closed: &Closed, wanted: Wanted) -> 
         Wanted::Election => {
             has_recovery(closed, 1)
                 && count_of(closed, 1) == 5
-                && is_as_played(alloc, config, closed)
+                && is_written(alloc, closed, ELECTION.as_bytes())
         }
         Wanted::Recoveries => {
             has_recovery(closed, 1) && has_recovery(closed, 2) && has_recovery(closed, 3)
         }
-        Wanted::Recovery => closed.history().len() == 1 && has_recovery(closed, 1),
+        Wanted::Recovery => has_recovery(closed, 1)
+            && is_written(alloc, closed, RECOVERY.as_bytes()),
         Wanted::Played => is_as_played(alloc, config, closed),
     }
 }
@@ -200,11 +207,16 @@ fn recovers(event: &Event, number: u16) -> bool {
     }
 }
 
+// Whether this is written of the finished group.
+fn is_written(alloc: Global, closed: &Closed, text: &[u8]) -> bool {
+    let mut written = Vec::new(alloc);
+    let is_whole = write_history(alloc, &mut written, closed).is_ok();
+    is_whole && written.as_slice() == text
+}
+
 // Whether what is written of the finished group is what is played of the configuration.
 fn is_as_played(alloc: Global, config: &Config, closed: &Closed) -> bool {
     let mut played = Vec::new(alloc);
-    let mut written = Vec::new(alloc);
     let is_played = play(alloc, config, &mut played).is_ok();
-    let is_written = write_history(alloc, &mut written, closed).is_ok();
-    is_played && is_written && played.as_slice() == written.as_slice()
+    is_played && is_written(alloc, closed, played.as_slice())
 }
