@@ -106,10 +106,10 @@ all_jobs() {
 # Proves each library that this crate stands on and that isn't built of what it is made of now, each as soon as those below it are,
 # and then what the command behind it proves and builds. The files of the folder `room` tell what was said.
 prove_below() {
-    # (of each crate: empty while no proof was begun, `begun` or `proved`; what it is made of; and the lines of its chain. And how many were
-    # proved, are to be, and were begun)
-    local -A state=() made_of=() chain=()
-    local proved=0 all=0 begun=0 libraries
+    # (of each crate: empty while no proof was begun, `begun` or `proved`; what it is made of; the seconds of its chain; when its proof was
+    # begun, and by how many processes. And how many were proved, are to be, and were begun, and the processes of these)
+    local -A state=() made_of=() chain=() begun_at=() jobs=()
+    local proved=0 all=0 begun=0 processes=0 libraries
     read -ra libraries <<<"${below[$1]}"
     find_states
     find_chains "$1"
@@ -166,13 +166,21 @@ is_ready() {
     done
 }
 
-# Of each crate how many lines stand in the longest chain of crates from it on up to the one that is to be built.
+# Of each crate how many seconds the longest chain of proofs takes from it on up to the one that is to be built: by docs/GATE.md, and a
+# tenth of its lines where that has no row of it.
 find_chains() {
     local name lower lines place all=("${libraries[@]}" "$1")
+    local -A seconds=()
+    while read -r name lines; do
+        seconds[$name]=$lines
+    done < <(sed -nE 's/^\| (bully[a-z_]*) \| ([0-9]+) \|.*/\1 \2/p' "$root/docs/GATE.md")
     for ((place = ${#all[@]} - 1; place >= 0; place--)); do
         name=${all[place]}
-        lines=$(find "$root/crates/$name"/{src,specs,proofs} -type f -exec cat {} + 2>/dev/null | wc -l)
-        chain[$name]=$((${chain[$name]-0} + lines))
+        if [[ ! -v seconds[$name] ]]; then
+            lines=$(find "$root/crates/$name"/{src,specs,proofs} -type f -exec cat {} + 2>/dev/null | wc -l)
+            seconds[$name]=$((lines / 10))
+        fi
+        chain[$name]=$((${chain[$name]-0} + seconds[$name]))
         for lower in ${below[$name]}; do
             [[ ${chain[$lower]-0} -gt ${chain[$name]} ]] || chain[$lower]=${chain[$name]}
         done
@@ -187,35 +195,34 @@ waiting_libraries() {
     done | sort -rn | cut -d ' ' -f 2
 }
 
-# Whether a proof that was begun is of a longer chain than that of this library.
+# Whether a proof that was begun is of a longer chain than that of this library, less the time that it has had.
 is_behind() {
     local name
     for name in "${libraries[@]}"; do
-        [[ ${state[$name]} != begun || ${chain[$name]} -le ${chain[$1]} ]] || return 0
+        [[ ${state[$name]} != begun || $((${chain[$name]} - SECONDS + begun_at[$name])) -le ${chain[$1]} ]] || return 0
     done
     return 1
 }
 
-# How many processes prove a library, where so many proofs are under way or could be: two prove sooner than one, but with a fifth more
-# work. So that of the longest chain has three, the others one where there are enough to keep all cores busy, and one alone all cores.
+# How many processes prove a library, where so many other proofs wait: two prove sooner than one, but with a third more work, and more than
+# three hardly sooner. So it has the cores that neither the proofs under way nor those that wait need, and that of the longest chain two.
 jobs_for() {
-    if [[ $2 == 1 ]]; then
-        nproc
-    elif ! is_behind "$1"; then
-        echo 3
-    else
-        echo $(($2 > $(nproc) ? 1 : 2))
-    fi
+    local free least=1
+    free=$(($(nproc) - processes - $2))
+    is_behind "$1" || least=2
+    free=$((free < least ? least : free))
+    echo $((free > 3 ? 3 : free))
 }
 
 # Begins each proof that nothing keeps waiting, as long as there are cores, and one more.
 begin_all() {
-    local name waiting wanted count
+    local name waiting wanted left
     mapfile -t waiting < <(waiting_libraries)
-    count=$((begun + ${#waiting[@]}))
+    left=${#waiting[@]}
     for name in "${waiting[@]}"; do
         [[ $begun -le $(nproc) ]] || return 0
-        wanted=$(jobs_within_memory "$(jobs_for "$name" "$count")")
+        left=$((left - 1))
+        wanted=$(jobs_within_memory "$(jobs_for "$name" "$left")")
         [[ $wanted -ge 1 || $begun == 0 ]] || return 0
         begin_proof "$name" $((wanted < 1 ? 1 : wanted))
     done
@@ -225,7 +232,8 @@ begin_all() {
 begin_proof() {
     local less=0
     ! is_behind "$1" || less=10
-    state[$1]=begun begun=$((begun + 1))
+    state[$1]=begun begun=$((begun + 1)) begun_at[$1]=$SECONDS
+    jobs[$1]=$2 processes=$((processes + $2))
     prove_library "$1" "$2" "$less" &
 }
 
@@ -251,7 +259,7 @@ gather() {
             say "$name was not built"
             return 1
         fi
-        state[$name]=proved begun=$((begun - 1))
+        state[$name]=proved begun=$((begun - 1)) processes=$((processes - jobs[$name]))
         tell_proved "$name"
     done
 }
