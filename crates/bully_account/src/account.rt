@@ -93,8 +93,10 @@ impl Account {
     {
         let world = self.judge.world();
         match row {
-            Row::Event(event) => self.memories.take(world, number, event, moves),
-            Row::Detailed(event) => self.memories.take(world, number, &event.event(), moves),
+            Row::Event(event) => self.memories.take_event(world, number, event, moves),
+            Row::Detailed(event) => self
+                .memories
+                .take_event(world, number, &event.event(), moves),
             Row::Claim(_) | Row::Whole(_) => {}
         }
     }

@@ -182,7 +182,7 @@ impl Memories {
 
     /// Remembers the event of this row, which led to the world, and whether it took its node to another point; where that isn't
     /// told, it did if the node isn't idle now. A Halt that ran is remembered of the callee, too.
-    pub fn take(&mut self, world: &World, row: u32, event: &Event, moves: Option<bool>) {
+    pub fn take_event(&mut self, world: &World, row: u32, event: &Event, moves: Option<bool>) {
         let node = event.node();
         if node.number() > world.setup().nodes() {
             return;

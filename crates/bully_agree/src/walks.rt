@@ -1,6 +1,6 @@
-ghost use Rattle.std.specs.Prelude.{◌≡◌, ◌↔◌, ◌+◌, ◌<◌, None, Some, IfOk, IfErr, OnOk, IsOk};
+ghost use Rattle.std.specs.Prelude.{◌≡◌, ◌↔◌, None, Some, IfOk, IfErr, IsOk};
 ghost use Rattle.bully_agree.specs.View.{IsViewed, ViewAgrees, view_of};
-ghost use Rattle.bully_world.specs.State.{KeepsTags, RaisesGenerations, StepsTo, cause_in, first_state, world_of};
+ghost use Rattle.bully_world.specs.State.{IsApplied, cause_in, first_state, world_of};
 ghost use Rattle.bully_world.specs.World.{first_world};
 
 use crate::views::View;
@@ -44,13 +44,8 @@ impl Walk {
     // (inlined, as `World::apply` is)
     #[inline(always)]
     pub fn apply(&mut self, event: &Event) -> Result<Answer, Refused>
-        ensures step { IfOk result (StepsTo self.old event.now self.new) }
+        ensures applied { IfOk result (IsApplied self.old event.now self.new) }
         ensures exact { IsOk result ↔ (cause_in self.old event.now ≡ None) }
-        ensures counted { OnOk result (self.new.events ≡ self.old.events + 1) }
-        ensures room { OnOk result (self.old.events < self.old.setup.events_max) }
-        ensures generations { OnOk result (RaisesGenerations event.now self.old self.new) }
-        ensures tags { OnOk result (KeepsTags event.now self.old self.new) }
-        ensures setup { self.new.setup ≡ self.old.setup }
         ensures why { IfErr result (λ why. cause_in self.old event.now ≡ Some why) }
         ensures unchanged { IfErr result (λ _. self.new ≡ self.old) }
     {

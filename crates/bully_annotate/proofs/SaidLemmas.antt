@@ -32,7 +32,7 @@ use Rattle.bully_rows.specs.declared.detail.DetailedEvent.{DetailedEvent}
 use Rattle.bully_rows.specs.declared.trace.Claim.{Claim}
 use Rattle.bully_rows.specs.declared.trace.Row.{Row}
 use Rattle.bully_trace.specs.declared.verdict.Verdict.{Verdict}
-use Rattle.bully_rows.specs.EventsTold.{call_told, event_of}
+use Rattle.bully_rows.specs.EventsTold.{call_told, event_of_detailed}
 use Rattle.bully_trace.specs.Details.{brought, call_at, callee_or, has_answer, has_call, is_so, is_true, is_whole, offered_call, returned_of, said_of, same_status, same_task, says, unanswered_of}
 use Rattle.bully_rows.specs.Trace.{Trace}
 use Rattle.bully_trace.specs.Verdict.{IsJudged, IsVerdict}
@@ -62,7 +62,7 @@ callee-node setup w i c fits there = by_pending (pending w i) there (fits.fits i
 
 -- what is said is of this event, and is so
 abbrev IsSaid : Setup → World → Event → DetailedEvent → Type 0
-IsSaid setup w e d = (event_of d ≡ e) × (is_so setup w d ≡ true)
+IsSaid setup w e d = (event_of_detailed d ≡ e) × (is_so setup w d ≡ true)
 
 -- of a call that is there, where what is said of it is so
 of-call : (setup : Setup) (w : World) (i : ℕ) (e : Event) (say : Call → Detail) (there : Option Call) (d : DetailedEvent)
@@ -186,7 +186,7 @@ behind-said : (setup : Setup) (w mid : World) (count : ℕ) (e : Event) (a : Ans
 behind-said setup w mid count e a None rows after w' none step so more number = rw none (mid, a, step, more (number + 1))
 behind-said setup w mid count e a (Some d) rows after w' none step so more number =
     let (of, is) = so d refl in
-    let free : cause setup w count (event_of d) ≡ None = rw of none in
+    let free : cause setup w count (event_of_detailed d) ≡ None = rw of none in
     rw (free, is) (mid, a, rw of step, more (number + 1))
 
 -- a reached world, with as many events as were counted
@@ -247,16 +247,16 @@ rows-lawful setup w count number (Row.Event e ∷ rows) after w' reached j = by_
         subst (λ all. AreLawful setup w count all after w') (sym (said-event setup w mid e a rows step))
         (event-lawful setup w mid count e a (rows_said setup mid rows) after w' reached none step (more mid (reached-more setup w mid count e a none step reached) j))
     by_cause (Some why) is j more = absurd (cc j.0)
-rows-lawful setup w count number (Row.Detailed d ∷ rows) after w' reached j = by_cause (cause setup w count (event_of d)) (is_so setup w d) refl j (λ mid. rows-lawful setup mid (count + 1) (number + 1) rows after w')
+rows-lawful setup w count number (Row.Detailed d ∷ rows) after w' reached j = by_cause (cause setup w count (event_of_detailed d)) (is_so setup w d) refl j (λ mid. rows-lawful setup mid (count + 1) (number + 1) rows after w')
   where
-    by_cause : (q : Option Refused) (so : Bool) → cause setup w count (event_of d) ≡ q
-        → MatchOption q (MatchBool so ((mid : World) × (a : Answer) × Step setup w (event_of d) mid a × IsJudged setup mid (count + 1) (number + 1) rows (Verdict.Lawful after) w')
+    by_cause : (q : Option Refused) (so : Bool) → cause setup w count (event_of_detailed d) ≡ q
+        → MatchOption q (MatchBool so ((mid : World) × (a : Answer) × Step setup w (event_of_detailed d) mid a × IsJudged setup mid (count + 1) (number + 1) rows (Verdict.Lawful after) w')
         ((Verdict.Lawful after ≡ Verdict.Differs number) × (w' ≡ w))) (λ why. (Verdict.Lawful after ≡ Verdict.Refused number why) × (w' ≡ w))
         → ((mid : World) → IsReachedBy setup mid (count + 1) → IsJudged setup mid (count + 1) (number + 1) rows (Verdict.Lawful after) w' → AreLawful setup mid (count + 1) (rows_said setup mid rows) after w')
         → AreLawful setup w count (rows_said setup w (Row.Detailed d ∷ rows)) after w'
     by_cause None true none (mid, a, step, j) more =
-        subst (λ all. AreLawful setup w count all after w') (sym (said-event setup w mid (event_of d) a rows step))
-        (event-lawful setup w mid count (event_of d) a (rows_said setup mid rows) after w' reached none step (more mid (reached-more setup w mid count (event_of d) a none step reached) j))
+        subst (λ all. AreLawful setup w count all after w') (sym (said-event setup w mid (event_of_detailed d) a rows step))
+        (event-lawful setup w mid count (event_of_detailed d) a (rows_said setup mid rows) after w' reached none step (more mid (reached-more setup w mid count (event_of_detailed d) a none step reached) j))
     by_cause None false none j more = absurd (cc j.0)
     by_cause (Some why) so is j more = absurd (cc j.0)
 rows-lawful setup w count number (Row.Claim c ∷ rows) after w' reached j = by_claim (is_true setup w c) refl j (rows-lawful setup w count (number + 1) rows after w' reached)

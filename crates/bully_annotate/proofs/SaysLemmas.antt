@@ -20,7 +20,7 @@ use Rattle.bully_rows.specs.declared.detail.DetailedEvent.{DetailedEvent}
 use Rattle.bully_rows.specs.declared.trace.Claim.{Claim}
 use Rattle.bully_rows.specs.declared.trace.Row.{Row}
 use Rattle.bully_trace.specs.declared.verdict.Verdict.{Verdict}
-use Rattle.bully_rows.specs.EventsTold.{event_of}
+use Rattle.bully_rows.specs.EventsTold.{event_of_detailed}
 use Rattle.bully_trace.specs.Details.{is_so, is_true, is_whole}
 use Rattle.bully_trace.specs.Judging.{HasJudged, JudgeState}
 use Rattle.bully_rows.specs.Trace.{Trace}
@@ -61,16 +61,16 @@ event-says before behind number e more after w text text' count steps j = by_cau
     by_cause (Some why) is j = absurd (cc j.0)
 
 pub detailed-says : (before behind : WorldState) (number : ℕ) (d : DetailedEvent) (more : List Row) (after : ℕ) (w : World) (text text' : List ℕ) (count : ℕ)
-    → (cause_in before (event_of d) ≡ None → Steps before behind (event_of d) text text' count) → IsLawfulFrom before number (Row.Detailed d ∷ more) after w
+    → (cause_in before (event_of_detailed d) ≡ None → Steps before behind (event_of_detailed d) text text' count) → IsLawfulFrom before number (Row.Detailed d ∷ more) after w
     → Says before behind number (Row.Detailed d) more after w text text' count
-detailed-says before behind number d more after w text text' count steps j = by_cause (cause before.setup (world_of before) before.events (event_of d)) (is_so before.setup (world_of before) d) refl j
+detailed-says before behind number d more after w text text' count steps j = by_cause (cause before.setup (world_of before) before.events (event_of_detailed d)) (is_so before.setup (world_of before) d) refl j
   where
-    by_cause : (q : Option Refused) (so : Bool) → cause before.setup (world_of before) before.events (event_of d) ≡ q
-        → MatchOption q (MatchBool so ((mid : World) × (a : Answer) × Step before.setup (world_of before) (event_of d) mid a × IsJudged before.setup mid (before.events + 1) (number + 1) more (Verdict.Lawful after) w)
+    by_cause : (q : Option Refused) (so : Bool) → cause before.setup (world_of before) before.events (event_of_detailed d) ≡ q
+        → MatchOption q (MatchBool so ((mid : World) × (a : Answer) × Step before.setup (world_of before) (event_of_detailed d) mid a × IsJudged before.setup mid (before.events + 1) (number + 1) more (Verdict.Lawful after) w)
         ((Verdict.Lawful after ≡ Verdict.Differs number) × (w ≡ world_of before)))
         (λ why. (Verdict.Lawful after ≡ Verdict.Refused number why) × (w ≡ world_of before)) → Says before behind number (Row.Detailed d) more after w text text' count
     by_cause None true none (mid, a, step, j) =
-        behind-event before behind number (Row.Detailed d) (event_of d) more after w text text' count mid a (λ mid a step. said-event before.setup (world_of before) mid (event_of d) a more step) step j (steps none)
+        behind-event before behind number (Row.Detailed d) (event_of_detailed d) more after w text text' count mid a (λ mid a step. said-event before.setup (world_of before) mid (event_of_detailed d) a more step) step j (steps none)
     by_cause None false none j = absurd (cc j.0)
     by_cause (Some why) so is j = absurd (cc j.0)
 
@@ -118,7 +118,7 @@ event-said before behind number e row more after w text text' (Ok count) is step
 event-said before behind number e row more after w text text' (Err why) is steps j = tt
 
 pub detailed-said : {E : Type 0} (before behind : WorldState) (number : ℕ) (d : DetailedEvent) (row : Row) (more : List Row) (after : ℕ) (w : World) (text text' : List ℕ) (told : Result ℕ E)
-    → row ≡ Row.Detailed d → (cause_in before (event_of d) ≡ None → IfOk told (Steps before behind (event_of d) text text')) → IsLawfulFrom before number (row ∷ more) after w
+    → row ≡ Row.Detailed d → (cause_in before (event_of_detailed d) ≡ None → IfOk told (Steps before behind (event_of_detailed d) text text')) → IsLawfulFrom before number (row ∷ more) after w
     → IfOk told (Says before behind number row more after w text text')
 detailed-said before behind number d row more after w text text' (Ok count) is steps j =
     rw is (detailed-says before behind number d more after w text text' count steps (rw is at j))

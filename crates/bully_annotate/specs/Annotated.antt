@@ -6,7 +6,7 @@ use Rattle.bully_handlers.specs.Vector.{Vector}
 use Rattle.bully_rows.specs.declared.detail.DetailedEvent.{DetailedEvent}
 use Rattle.bully_rows.specs.declared.header.Version.{Version}
 use Rattle.bully_rows.specs.declared.trace.Row.{Row}
-use Rattle.bully_rows.specs.EventsTold.{event_of}
+use Rattle.bully_rows.specs.EventsTold.{event_of_detailed}
 use Rattle.bully_trace.specs.Details.{call_at, callee_or, said_of, same_status, same_task}
 use Rattle.bully_rows.specs.Trace.{Trace}
 use Rattle.bully_rows.specs.Whole.{whole_of}
@@ -52,9 +52,9 @@ rows_said setup w (Row.Event e ∷ rows) = elim (step_of setup w e) [
   | None ↦ []
   | Some r ↦ event_rows setup w e r.0 ++ rows_said setup r.0 rows
 ]
-rows_said setup w (Row.Detailed detailed ∷ rows) = elim (step_of setup w (event_of detailed)) [
+rows_said setup w (Row.Detailed detailed ∷ rows) = elim (step_of setup w (event_of_detailed detailed)) [
   | None ↦ []
-  | Some r ↦ event_rows setup w (event_of detailed) r.0 ++ rows_said setup r.0 rows
+  | Some r ↦ event_rows setup w (event_of_detailed detailed) r.0 ++ rows_said setup r.0 rows
 ]
 rows_said setup w (Row.Claim claim ∷ rows) = shown_row w claim.node ∷ rows_said setup w rows
 rows_said setup w (Row.Whole whole ∷ rows) = shown_row w whole.claim.node ∷ rows_said setup w rows

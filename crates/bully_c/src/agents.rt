@@ -1,16 +1,13 @@
 //! Agents behind their handles.
-ghost use Rattle.std.specs.Prelude.{◌≡◌, ◌≤◌, [], IsUtf8, Ok, IfErr, IfOk, IfSome, length, None, string_bytes, unwrap_or, reverse};
+ghost use Rattle.std.specs.Prelude.{◌≡◌, [], IfErr, IfOk, IfSome, length, None, unwrap_or, reverse};
 ghost use Rattle.std.specs.Option.{option_copied};
-ghost use Rattle.bully_calls.specs.declared.call.CallKind.{CallKind as CallKindState};
-ghost use Rattle.bully_handlers.specs.Handler.{reply};
-ghost use Rattle.bully_lines.specs.Texts.{reply_of_text, reply_text};
 ghost use Rattle.bully_node.specs.Agent.{new_agent};
 ghost use Rattle.bully_rows.specs.TraceText.{line_of, row_fields, rows_text};
 ghost use Rattle.bully_rows.specs.Whole.{whole_of};
 ghost use Rattle.bully_rows.specs.declared.trace.Row.{Row as RowState};
 ghost use Rattle.bully_events.specs.declared.event.Event.{Event as EventState};
 ghost use Rattle.bully_c.specs.Arguments.{IsCopied, IsMadeAndCopied, setup_given};
-ghost use Rattle.bully_c.specs.Exports.{AtOpen, CanOpen, IsRequestLine, IsClosing, IsEvent, IsFailure, IsOpening, IsPlan, IsPrepared, IsPreparedTable, IsReply, IsServe, RefusesOpening, RefusesPrepare, RefusesReplyLine, RefusesRequestLine, Shows, opened, request_line, shown, told_answer};
+ghost use Rattle.bully_c.specs.Exports.{AtOpen, CanOpen, IsClosing, IsEvent, IsOpening, IsPlan, IsPrepared, IsPreparedTable, RefusesOpening, RefusesPrepare, Shows, opened, shown};
 ghost use Rattle.bully_c.specs.Held.{TellsDrop, TellsEvent, TellsStart, rows_told};
 ghost use Rattle.bully_c.specs.Numbers.{step_number};
 ghost use Rattle.bully_c.specs.declared.status.TheConstants.{OK as OkNumber};
@@ -19,22 +16,15 @@ ghost use Rattle.bully_c.specs.declared.held.Told.{Told as ToldState};
 use crate::handle::AgentHandle;
 use crate::held::Held;
 use crate::shown::{CState, copy_owners, copy_text, copy_up, state_of};
-use crate::status::{self, CLOSED, LINE_WORD, OK, OPEN, OUT_OF_MEMORY, SHORT, TABLE_LENGTH};
+use crate::status::{self, CLOSED, OK, OPEN, OUT_OF_MEMORY, TABLE_LENGTH};
 use crate::tables::{CSetup, node_of, put_owners, read_table, setup_of, table_of};
-use bully_base::{Node, OutOfMemory, Setup, Status};
-use bully_calls::{Answer, CallKind};
-use bully_handlers::Vector;
-use bully_lines::{push_reply, push_request, read_reply, read_request};
-use bully_messages::{Reply, Request};
+use bully_base::{Node, OutOfMemory, Setup};
+use bully_calls::Answer;
 use bully_node::Agent;
 use bully_rows::push_vector;
 use bully_table::Table;
 use bully_world::Refused;
 use std::alloc::Global;
-use std::str;
-
-// What a line mostly takes, so that it is allocated once.
-const LINE_ROOM: usize = 32;
 
 // The status of a step.
 fn done(taken: Result<Answer, Refused>) -> u32
@@ -42,20 +32,6 @@ fn done(taken: Result<Answer, Refused>) -> u32
 {
     match taken {
         Ok(_) => OK,
-        Err(why) => status::of_refusal(why),
-    }
-}
-
-// The status of a step that brings an answer, which is written where it is taken.
-fn answered(taken: Result<Answer, Refused>, answer: &mut u32) -> u32
-    ensures status { result ≡ step_number taken }
-    ensures answer { answer.new ≡ told_answer answer.old taken }
-{
-    match taken {
-        Ok(told) => {
-            *answer = status::of_answer(told);
-            OK
-        }
         Err(why) => status::of_refusal(why),
     }
 }
@@ -289,186 +265,6 @@ fn prepared(alloc: Global, agent: &Agent, old: &[u16], count: usize) -> Result<T
         Ok(table) => Ok(table),
         Err(_) => Err(OUT_OF_MEMORY),
     }
-}
-
-/// The line of the request of the node's call, while that is under way, else none: [`Agent::request`].
-#[unsafe(no_mangle)]
-pub extern "C" fn bully_c_agent_request(
-    alloc: Global,
-    agent: &mut AgentHandle,
-    line: &mut [u8],
-    length: &mut usize,
-) -> u32
-    ensures open { AtOpen (Shows (λ held status. IsMadeAndCopied (request_line held.agent) line.old length.old status line.new length.new)) agent.old.value result agent.new.value }
-    ensures closed { agent.old.value ≡ None → (line.new ≡ line.old) × (length.new ≡ length.old) }
-{
-    let Some(held) = agent.take(alloc) else {
-        return CLOSED;
-    };
-    let status = match request_line(alloc, &held.agent) {
-        Ok(text) => copy_text(&text, line, length),
-        Err(_) => OUT_OF_MEMORY,
-    };
-    agent.put(alloc, held);
-    status
-}
-
-// The line of the request that the agent gives out, or nothing.
-fn request_line(alloc: Global, agent: &Agent) -> Result<String, OutOfMemory>
-    ensures { IfOk result (λ text. string_bytes text ≡ request_line agent.now) }
-{
-    let Some(request) = agent.request()? else {
-        return Ok(String::new(alloc));
-    };
-    let mut text = String::with_capacity(alloc, LINE_ROOM)?;
-    push_request(&mut text, &request)?;
-    Ok(text)
-}
-
-/// The request of this line runs at the node, and the line of the reply is written: [`Agent::serve`].
-#[unsafe(no_mangle)]
-pub extern "C" fn bully_c_agent_serve(
-    alloc: Global,
-    agent: &mut AgentHandle,
-    line: &[u8],
-    reply: &mut [u8],
-    length: &mut usize,
-) -> u32
-    ensures open { AtOpen (IsServe line.now reply.old length.old reply.new length.new) agent.old.value result agent.new.value }
-    ensures closed { agent.old.value ≡ None → (reply.new ≡ reply.old) × (length.new ≡ length.old) }
-{
-    let Some(mut held) = agent.take(alloc) else {
-        return CLOSED;
-    };
-    let status = served(alloc, &mut held, line, reply, length);
-    agent.put(alloc, held);
-    status
-}
-
-// The request of this line runs, where there is room for the reply.
-fn served(alloc: Global, held: &mut Held, line: &[u8], reply: &mut [u8], length: &mut usize) -> u32
-    ensures { IsServe line.now reply.old length.old reply.new length.new held.old result held.new }
-{
-    let request = match request_in(alloc, held.agent.setup(), line) {
-        Ok(request) => request,
-        Err(status) => return status,
-    };
-    let answer = answer_to(&request, held.agent.vector());
-    let Ok(text) = reply_line(alloc, &request, answer) else {
-        return OUT_OF_MEMORY;
-    };
-    if reply.len() < text.len() {
-        *length = text.len();
-        return SHORT;
-    }
-    match held.serve(&request) {
-        Ok(_) => copy_text(&text, reply, length),
-        Err(why) => status::of_refusal(why),
-    }
-}
-
-// What the request is answered by a node of this vector, where it runs.
-fn answer_to(request: &Request, vector: &Vector) -> Answer
-    ensures { result ≡ reply request.now.call.kind vector.now.vector }
-{
-    match request.call.kind {
-        CallKind::AreYouNormal => if_normal(vector),
-        CallKind::AreYouUp | CallKind::Halt | CallKind::NewCoordinator | CallKind::Ready =>
-            Answer::Yes,
-    }
-}
-
-// Whether a node of this vector, which may be Down, is Normal, as it answers.
-fn if_normal(vector: &Vector) -> Answer
-    ensures { result ≡ reply CallKindState.AreYouNormal vector.now.vector }
-{
-    match vector.status() {
-        Status::Down => Answer::No,
-        Status::Election | Status::Reorganization | Status::Normal => vector.are_you_normal(),
-    }
-}
-
-// The line of the reply that tells this.
-fn reply_line(alloc: Global, request: &Request, answer: Answer) -> Result<String, OutOfMemory>
-    ensures { IfOk result (λ text. string_bytes text ≡ reply_text (record { caller = request.now.caller; number = request.now.number; answer = answer })) }
-{
-    let mut text = String::with_capacity(alloc, LINE_ROOM)?;
-    let reply = Reply {
-        caller: request.caller,
-        number: request.number,
-        answer,
-    };
-    push_reply(&mut text, reply)?;
-    Ok(text)
-}
-
-// The request that the line spells.
-fn request_in(alloc: Global, setup: &Setup, line: &[u8]) -> Result<Request, u32>
-    ensures ok { IfOk result (IsRequestLine setup.now line.now) }
-    ensures err { IfErr result (RefusesRequestLine setup.now line.now) }
-{
-    let Ok(line) = str::from_utf8(line) else {
-        return Err(LINE_WORD);
-    };
-    match read_request(alloc, setup, line) {
-        Ok(request) => Ok(request),
-        Err(fault) => Err(status::of_request(fault)),
-    }
-}
-
-/// The node's call returns with the reply of this line, and what it is told is written: [`Agent::replied`].
-#[unsafe(no_mangle)]
-pub extern "C" fn bully_c_agent_replied(
-    alloc: Global,
-    agent: &mut AgentHandle,
-    line: &[u8],
-    answer: &mut u32,
-) -> u32
-    ensures open { AtOpen (IsReply line.now answer.old answer.new) agent.old.value result agent.new.value }
-    ensures closed { agent.old.value ≡ None → answer.new ≡ answer.old }
-{
-    let Some(mut held) = agent.take(alloc) else {
-        return CLOSED;
-    };
-    let status = match reply_in(held.agent.setup(), line) {
-        Ok(reply) => answered(held.replied(reply), answer),
-        Err(status) => status,
-    };
-    agent.put(alloc, held);
-    status
-}
-
-// The reply that the line spells.
-fn reply_in(setup: &Setup, line: &[u8]) -> Result<Reply, u32>
-    ensures ok { IfOk result (λ reply. IsUtf8 line.now × (reply_of_text setup.now line.now ≡ Ok reply)) }
-    ensures err { IfErr result (RefusesReplyLine setup.now line.now) }
-{
-    let Ok(line) = str::from_utf8(line) else {
-        return Err(LINE_WORD);
-    };
-    match read_reply(setup, line) {
-        Ok(reply) => Ok(reply),
-        Err(fault) => Err(status::of_reply(fault)),
-    }
-}
-
-/// The node's call of this number failed, and returns, and what it is told is written: [`Agent::failed`].
-#[unsafe(no_mangle)]
-pub extern "C" fn bully_c_agent_failed(
-    alloc: Global,
-    agent: &mut AgentHandle,
-    number: u32,
-    answer: &mut u32,
-) -> u32
-    ensures open { AtOpen (IsFailure number answer.old answer.new) agent.old.value result agent.new.value }
-    ensures closed { agent.old.value ≡ None → answer.new ≡ answer.old }
-{
-    let Some(mut held) = agent.take(alloc) else {
-        return CLOSED;
-    };
-    let status = answered(held.failed(number), answer);
-    agent.put(alloc, held);
-    status
 }
 
 /// How the node stands.

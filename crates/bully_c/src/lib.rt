@@ -7,6 +7,7 @@
 mod agents;
 mod handle;
 mod held;
+mod requests;
 mod shown;
 mod status;
 mod tables;

@@ -22,7 +22,7 @@ use Rattle.bully_world.proofs.StepOfLemmas.{computed_steps, step_is_computed}
 use Rattle.bully_rows.specs.declared.trace.Row.{Row}
 use Rattle.bully_rows.specs.declared.detail.Detail.{Detail}
 use Rattle.bully_rows.specs.declared.detail.DetailedEvent.{DetailedEvent}
-use Rattle.bully_rows.specs.EventsTold.{event_of, event_told}
+use Rattle.bully_rows.specs.EventsTold.{event_of_detailed, event_told}
 use Rattle.bully_trace.specs.declared.verdict.Verdict.{Verdict}
 use Rattle.bully_trace.specs.Details.{callee_or, is_so, is_true, is_whole}
 use Rattle.bully_trace.specs.Judging.{HasJudged, JudgeState}
@@ -52,14 +52,14 @@ leads setup w count number (Row.Event e ∷ rows) verdict w' j = by_cause (cause
         → w' ≡ taken setup w count (Row.Event e ∷ rows)
     by_cause None none (mid, a, step, j) more = rw none (event-leads setup w mid e count number rows verdict w' a step (more mid j))
     by_cause (Some why) is j more = rw is (j.1)
-leads setup w count number (Row.Detailed d ∷ rows) verdict w' j = by_cause (cause setup w count (event_of d)) (is_so setup w d) refl refl j (λ mid. leads setup mid (count + 1) (number + 1) rows verdict w')
+leads setup w count number (Row.Detailed d ∷ rows) verdict w' j = by_cause (cause setup w count (event_of_detailed d)) (is_so setup w d) refl refl j (λ mid. leads setup mid (count + 1) (number + 1) rows verdict w')
   where
-    by_cause : (q : Option Refused) (so : Bool) → cause setup w count (event_of d) ≡ q → is_so setup w d ≡ so
-        → MatchOption q (MatchBool so ((mid : World) × (a : Answer) × Step setup w (event_of d) mid a × IsJudged setup mid (count + 1) (number + 1) rows verdict w')
+    by_cause : (q : Option Refused) (so : Bool) → cause setup w count (event_of_detailed d) ≡ q → is_so setup w d ≡ so
+        → MatchOption q (MatchBool so ((mid : World) × (a : Answer) × Step setup w (event_of_detailed d) mid a × IsJudged setup mid (count + 1) (number + 1) rows verdict w')
         ((verdict ≡ Verdict.Differs number) × (w' ≡ w))) (λ why. (verdict ≡ Verdict.Refused number why) × (w' ≡ w))
         → ((mid : World) → IsJudged setup mid (count + 1) (number + 1) rows verdict w' → w' ≡ taken setup mid (count + 1) rows)
         → w' ≡ taken setup w count (Row.Detailed d ∷ rows)
-    by_cause None true none so (mid, a, step, j) more = rw (none, so) (event-leads setup w mid (event_of d) count number rows verdict w' a step (more mid j))
+    by_cause None true none so (mid, a, step, j) more = rw (none, so) (event-leads setup w mid (event_of_detailed d) count number rows verdict w' a step (more mid j))
     by_cause None false none so j more = rw (none, so) (j.1)
     by_cause (Some why) so is at j more = rw is (j.1)
 leads setup w count number (Row.Claim claim ∷ rows) verdict w' j = by_claim (is_true setup w claim) refl j (leads setup w count (number + 1) rows verdict w')
@@ -122,12 +122,12 @@ stepped-fits setup w e fits = by_step (step_of setup w e) refl
 
 next-fits : (setup : Setup) (w : World) (row : Row) → WorldInvariant setup w → WorldInvariant setup (next_world setup w row)
 next-fits setup w (Row.Event e) fits = stepped-fits setup w e fits
-next-fits setup w (Row.Detailed d) fits = stepped-fits setup w (event_of d) fits
+next-fits setup w (Row.Detailed d) fits = stepped-fits setup w (event_of_detailed d) fits
 next-fits setup w (Row.Claim claim) fits = fits
 next-fits setup w (Row.Whole whole) fits = fits
 
 -- the node that a row of version 3 names is its event's
-told-node : (d : DetailedEvent) → node_of (event_of d) ≡ d.node
+told-node : (d : DetailedEvent) → node_of (event_of_detailed d) ≡ d.node
 told-node d = by_detail d.detail
   where
     by_detail : (detail : Detail) → node_of (event_told detail d.node) ≡ d.node
@@ -141,7 +141,7 @@ next-stays : (setup : Setup) (w : World) (row : Row) (j : ℕ) → WorldInvarian
     → member (next_world setup w row) j ≡ member w j
 next-stays setup w (Row.Event e) j fits apart other = stepped-stays setup w e j fits apart other
 next-stays setup w (Row.Detailed d) j fits apart other =
-    stepped-stays setup w (event_of d) j fits (λ e. apart (e ∙ told-node d)) (λ e. other (e ∙ ap (λ i. place_at w i (Some (deed_of (event_of d)))) (told-node d)))
+    stepped-stays setup w (event_of_detailed d) j fits (λ e. apart (e ∙ told-node d)) (λ e. other (e ∙ ap (λ i. place_at w i (Some (deed_of (event_of_detailed d)))) (told-node d)))
 next-stays setup w (Row.Claim claim) j fits apart other = refl
 next-stays setup w (Row.Whole whole) j fits apart other = refl
 

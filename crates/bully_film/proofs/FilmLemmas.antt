@@ -16,7 +16,7 @@ use Rattle.bully_world.specs.State.{world_of}
 use Rattle.bully_world.specs.World.{first_world}
 use Rattle.bully_film.specs.declared.scene.Opening.{Opening}
 use Rattle.bully_film.specs.declared.scene.Scene.{Scene}
-use Rattle.bully_film.specs.declared.scene.Sight.{Sight}
+use Rattle.bully_film.specs.declared.sight.Sight.{Sight}
 use Rattle.bully_film.specs.Behind.{world_behind}
 use Rattle.bully_film.specs.Film.{FilmState, GoesOn, HasFilmed, HasShot, IsInWindow, IsLook, closed, kept}
 use Rattle.bully_film.specs.Scene.{deed_in, node_in, scene_at, scene_of, scenes_from, sights_of}

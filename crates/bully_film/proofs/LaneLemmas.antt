@@ -12,7 +12,7 @@ use Rattle.std.proofs.lemmas.List.{append_assoc, append-nil}
 use Rattle.bully_base.specs.Setup.{IsNodeNumber, Setup}
 use Rattle.bully_rows.specs.declared.trace.Row.{Row}
 use Rattle.bully_world.specs.World.{World}
-use Rattle.bully_film.specs.declared.scene.Sight.{Sight}
+use Rattle.bully_film.specs.declared.sight.Sight.{Sight}
 use Rattle.bully_film.specs.Behind.{world_behind}
 use Rattle.bully_film.specs.Lane.{lane_in, sight_after, sight_before, sights_after, start_sight}
 use Rattle.bully_film.specs.Scene.{deed_in, lane_of, node_in, place_at, scene_at, scenes_from, sight, sights_from, sights_of}

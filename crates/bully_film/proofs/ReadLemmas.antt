@@ -17,7 +17,7 @@ use Rattle.bully_trace.specs.declared.verdict.Verdict.{Verdict}
 use Rattle.bully_trace.specs.Judging.{HasJudged, IsNoRow, IsNoStart}
 use Rattle.bully_trace.specs.Verdict.{IsJudged}
 use Rattle.bully_film.specs.declared.film.Reel.{Reel}
-use Rattle.bully_film.specs.declared.scene.Sight.{Sight}
+use Rattle.bully_film.specs.declared.sight.Sight.{Sight}
 use Rattle.bully_film.specs.Behind.{world_behind}
 use Rattle.bully_film.specs.Film.{AreAllFilmed, AreFilmed, Begins, FilmState, HasFilmed, IsFilmedSoFar, IsFilmedToEnd, IsReelOf, TakesRow, closed}
 use Rattle.bully_film.specs.Scene.{sights_of}

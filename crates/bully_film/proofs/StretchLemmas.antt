@@ -1,7 +1,7 @@
 -- Stretches that lie end to end go on by a row.
 use Rattle.std.proofs.Common.{◌≡◌, ◌∙◌, ℕ, ◌+◌, ◌-◌, ◌<◌, ◌≤◌, ◌++◌, List, [], ◌∷◌, Option, length, replicate, map, take, get_or, refl, sym, ap, subst, arith}
 use Rattle.std.proofs.lemmas.List.{append_assoc, append-nil, map_more, replicate_more, take_all}
-use Rattle.bully_film.specs.declared.scene.Sight.{Sight}
+use Rattle.bully_film.specs.declared.sight.Sight.{Sight}
 use Rattle.bully_film.specs.declared.slots.Held.{Held}
 use Rattle.bully_film.specs.declared.slots.Holding.{Holding}
 use Rattle.bully_film.specs.declared.stretches.Bar.{Bar}

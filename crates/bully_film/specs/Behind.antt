@@ -2,7 +2,7 @@
 use Rattle.std.specs.Prelude.{◌≡◌, ℕ, ◌+◌, Bool, List, [], ◌∷◌, Some, None, ◌||◌, not, is_some, if◌then◌else◌}
 use Rattle.bully_base.specs.Setup.{Setup}
 use Rattle.bully_rows.specs.declared.trace.Row.{Row}
-use Rattle.bully_rows.specs.EventsTold.{event_of}
+use Rattle.bully_rows.specs.EventsTold.{event_of_detailed}
 use Rattle.bully_trace.specs.Details.{is_so, is_true, is_whole}
 use Rattle.bully_trace.specs.declared.verdict.Verdict.{Verdict}
 use Rattle.bully_trace.specs.Verdict.{IsJudged}
@@ -14,7 +14,7 @@ use Rattle.bully_world.specs.World.{World, first_world}
 -- the row decides in this world, with so many events applied: its event is refused, or what it says isn't so
 abbrev pub decides : Setup → World → ℕ → Row → Bool
 decides setup w count (Row.Event e) = is_some (cause setup w count e)
-decides setup w count (Row.Detailed d) = is_some (cause setup w count (event_of d)) || not (is_so setup w d)
+decides setup w count (Row.Detailed d) = is_some (cause setup w count (event_of_detailed d)) || not (is_so setup w d)
 decides setup w count (Row.Claim claim) = not (is_true setup w claim)
 decides setup w count (Row.Whole whole) = not (is_whole setup w whole)
 
@@ -25,7 +25,7 @@ stepped setup w e = elim (step_of setup w e) as (λ _. World) [ None ↦ w | Som
 -- the world behind a row that doesn't decide
 abbrev pub next_world : Setup → World → Row → World
 next_world setup w (Row.Event e) = stepped setup w e
-next_world setup w (Row.Detailed d) = stepped setup w (event_of d)
+next_world setup w (Row.Detailed d) = stepped setup w (event_of_detailed d)
 next_world setup w (Row.Claim claim) = w
 next_world setup w (Row.Whole whole) = w
 

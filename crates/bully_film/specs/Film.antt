@@ -17,7 +17,7 @@ use Rattle.bully_film.specs.declared.film.Reel.{Reel}
 use Rattle.bully_rows.specs.declared.kind.Deed.{Deed}
 use Rattle.bully_film.specs.declared.scene.Opening.{Opening}
 use Rattle.bully_film.specs.declared.scene.Scene.{Scene}
-use Rattle.bully_film.specs.declared.scene.Sight.{Sight}
+use Rattle.bully_film.specs.declared.sight.Sight.{Sight}
 use Rattle.bully_film.specs.Behind.{world_behind}
 use Rattle.bully_film.specs.Scene.{IsOpening, deed_in, node_in, scene_of, scenes_from, sights_of}
 use Rattle.bully_film.specs.Window.{IsWindow, WindowState}

@@ -4,8 +4,8 @@ use Rattle.bully_calls.specs.declared.call.Answer.{Answer}
 use Rattle.bully_calls.specs.declared.call.Call.{Call}
 use Rattle.bully_calls.specs.declared.call.Phase.{Phase}
 use Rattle.bully_film.specs.declared.scene.Scene.{Scene}
-use Rattle.bully_film.specs.declared.scene.Sight.{Sight}
-use Rattle.bully_film.specs.declared.scene.SlotCall.{SlotCall}
+use Rattle.bully_film.specs.declared.sight.Sight.{Sight}
+use Rattle.bully_film.specs.declared.sight.SlotCall.{SlotCall}
 use Rattle.bully_film.specs.declared.whole.Lane.{Lane}
 use Rattle.bully_film.specs.declared.slots.End.{End}
 use Rattle.bully_film.specs.declared.slots.Held.{Held}

@@ -10,7 +10,7 @@ use Rattle.bully_world.specs.Cause.{is_idle}
 use Rattle.bully_world.specs.State.{is_halt}
 use Rattle.bully_world.specs.World.{Member, World, member, point, vector}
 use Rattle.bully_rows.specs.declared.trace.Row.{Row}
-use Rattle.bully_rows.specs.EventsTold.{event_of}
+use Rattle.bully_rows.specs.EventsTold.{event_of_detailed}
 use Rattle.bully_trace.specs.Details.{call_at, callee_or}
 use Rattle.bully_rows.specs.declared.kind.Deed.{Deed}
 use Rattle.bully_rows.specs.Kinds.{deed_of}
@@ -18,8 +18,8 @@ use Rattle.bully_film.specs.declared.TheConstants.{OWNERS_SHOWN}
 use Rattle.bully_film.specs.declared.scene.Change.{Change}
 use Rattle.bully_film.specs.declared.scene.Opening.{Opening}
 use Rattle.bully_film.specs.declared.scene.Scene.{Scene}
-use Rattle.bully_film.specs.declared.scene.Sight.{Sight}
-use Rattle.bully_film.specs.declared.scene.SlotCall.{SlotCall}
+use Rattle.bully_film.specs.declared.sight.Sight.{Sight}
+use Rattle.bully_film.specs.declared.sight.SlotCall.{SlotCall}
 use Rattle.bully_film.specs.Behind.{world_behind}
 
 -- the call in a slot, without its table
@@ -51,7 +51,7 @@ node_in (Row.Whole whole) = whole.claim.node
 -- what the row's event is; none for a claim
 abbrev pub deed_in : Row → Option Deed
 deed_in (Row.Event e) = Some (deed_of e)
-deed_in (Row.Detailed d) = Some (deed_of (event_of d))
+deed_in (Row.Detailed d) = Some (deed_of (event_of_detailed d))
 deed_in (Row.Claim claim) = None
 deed_in (Row.Whole whole) = None
 

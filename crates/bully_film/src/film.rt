@@ -2,8 +2,9 @@ ghost use Rattle.std.specs.Prelude.{◌≡◌, IfSome, OnOk};
 ghost use Rattle.bully_film.specs.Film.{kept};
 
 use crate::scene::{
-    Opening, Scene, Sight, deed_at, deed_in, is_quiet, node_in, open_on, quiet_shot, shot, sights,
+    Opening, Scene, deed_at, deed_in, is_quiet, node_in, open_on, quiet_shot, shot,
 };
+use crate::sight::{Sight, sights};
 use crate::window::Window;
 use bully_base::{Node, OutOfMemory, Setup};
 use bully_rows::{Deed, EventKind, Header, NodeEvent, Row, Version};
@@ -99,7 +100,7 @@ impl Film {
         }
         let opening = self.look(deed_in(&row), node_in(&row));
         self.judge_row(number, row);
-        self.go_on(alloc, number, &opening)
+        self.keep_shown(alloc, number, &opening)
     }
 
     /// Takes the row of this number, which tells this event, as `take_row` does.
@@ -122,7 +123,7 @@ impl Film {
         let NodeEvent { kind, node } = event;
         let opening = self.look(Some(deed_at(kind, node)), node);
         self.judge_event(number, kind, node);
-        self.go_on(alloc, number, &opening)
+        self.keep_shown(alloc, number, &opening)
     }
 
     // Whether a row decided.
@@ -184,7 +185,7 @@ impl Film {
     // Goes on behind a row that was judged, of which this was seen before: keeps what it shows, and how the nodes stand, where it was
     // the window's last row.
     #[inline(always)]
-    fn go_on(
+    fn keep_shown(
         &mut self,
         alloc: Global,
         number: u32,

@@ -4,11 +4,12 @@ ghost use Rattle.bully_film.specs.Lane.{lane_in, sight_after, sight_before, sigh
 ghost use Rattle.bully_film.specs.Behind.{world_behind};
 ghost use Rattle.bully_film.specs.Scene.{lane_of as lane_seen, sight};
 ghost use Rattle.bully_film.specs.Window.{WindowState};
-ghost use Rattle.bully_film.specs.declared.scene.Sight.{Sight as SightState};
+ghost use Rattle.bully_film.specs.declared.sight.Sight.{Sight as SightState};
 ghost use Rattle.bully_rows.specs.Trace.{Trace};
 
 use crate::film::Reel;
-use crate::scene::{Scene, Sight, unseen};
+use crate::scene::Scene;
+use crate::sight::{Sight, unseen};
 use bully_base::{Node, OutOfMemory};
 use std::alloc::Global;
 

@@ -2,7 +2,7 @@
 ghost use Rattle.std.specs.Prelude.{◌≡◌, ◌+◌, ◌-◌, ◌^◌, ◌<◌, ◌≤◌, ◌↔◌, ◌++◌, ◌∷◌, [], drop, length, map, IfOk, IsTrue, OnOk};
 ghost use Rattle.bully_film.specs.Lane.{AreJoinedHeld, IsEndBefore, IsEndBy, IsEndIn, held_in, spread_held};
 
-use crate::scene::Sight;
+use crate::sight::Sight;
 use bully_base::OutOfMemory;
 use bully_calls::{Call, Phase};
 use std::alloc::Global;

@@ -2,7 +2,7 @@
 ghost use Rattle.std.specs.Prelude.{◌≡◌, ◌+◌, ◌-◌, ◌^◌, ◌<◌, ◌≤◌, ◌↔◌, ◌++◌, ◌∷◌, [], length, map, IfOk, IsTrue, OnOk};
 ghost use Rattle.bully_film.specs.Lane.{AreJoined, spread, stand_of};
 
-use crate::scene::Sight;
+use crate::sight::Sight;
 use bully_base::{Node, OutOfMemory, Status};
 use std::alloc::Global;
 

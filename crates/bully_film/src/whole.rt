@@ -8,7 +8,8 @@ ghost use Rattle.bully_rows.specs.Trace.{Trace};
 
 use crate::film::Reel;
 use crate::lane::lane_of;
-use crate::scene::{Scene, Sight};
+use crate::scene::Scene;
+use crate::sight::Sight;
 use crate::slots::{Holding, holdings};
 use crate::stretches::{Bar, bars};
 use bully_base::{Node, OutOfMemory};

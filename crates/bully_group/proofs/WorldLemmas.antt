@@ -10,7 +10,7 @@ use Rattle.bully_world.specs.declared.turn.Next.{Next}
 use Rattle.bully_world.specs.declared.turn.StepKind.{StepKind}
 use Rattle.bully_world.specs.Cause.{is_down_at}
 use Rattle.bully_world.specs.State.{WorldState, IsReached, world_of}
-use Rattle.bully_world.specs.Turn.{turn, event_of, is_in_step}
+use Rattle.bully_world.specs.Turn.{turn, step_event, is_in_step}
 use Rattle.bully_world.specs.World.{World, pending, vector}
 use Rattle.bully_world.proofs.NodeInvariantLemmas.{lawful_fits}
 use Rattle.bully_world.proofs.TurnSteps.{turn_own}
@@ -28,8 +28,8 @@ pub down_beyond : (s : WorldState) (i : ℕ) → IsReached s → s.setup.nodes <
 down_beyond s i r above = ap is_down (status_beyond s i r above)
 
 -- a step that is offered is one of the procedure's node
-pub whose_turn : (w : World) (kind : StepKind) (h : ProcedureState) → whose w (event_of kind h) ≡ Some h.node
-whose_turn w kind h = whose_own w h.node (event_of kind h) (turn_own kind h)
+pub whose_turn : (w : World) (kind : StepKind) (h : ProcedureState) → whose w (step_event kind h) ≡ Some h.node
+whose_turn w kind h = whose_own w h.node (step_event kind h) (turn_own kind h)
 
 -- a procedure that rests is in step
 pub rest_in_step : (w : WorldState) (h : ProcedureState) → turn w h ≡ Next.Rest → is_in_step w h ≡ true

@@ -5,7 +5,7 @@ use Rattle.bully_steps.specs.ProcedureState.{ProcedureState}
 use Rattle.bully_events.specs.declared.event.Refused.{Refused as Cause}
 use Rattle.bully_world.specs.declared.turn.Next.{Next}
 use Rattle.bully_world.specs.declared.turn.StepKind.{StepKind}
-use Rattle.bully_world.specs.Turn.{turn, event_of, procedure_after, procedure_in, is_in_step}
+use Rattle.bully_world.specs.Turn.{turn, step_event, procedure_after, procedure_in, is_in_step}
 use Rattle.bully_group.specs.declared.locked.step.StepFault.{StepFault}
 use Rattle.bully_group.specs.declared.locked.turn.Turn.{Turn}
 use Rattle.bully_group.specs.declared.locked.turn.Turn.TheVariants.{Went, Waiting, Resynced, Fault}
@@ -57,7 +57,7 @@ Goes s seat h s' seat' h' =
     × (kind : StepKind)
     × (turn s.world h ≡ Next.Take kind)
     × (s.world.events < s.world.setup.events_max)
-    × (r : Records s seat (event_of kind h) s' seat')
+    × (r : Records s seat (step_event kind h) s' seat')
     × (h' ≡ procedure_after kind r.answer h)
 
 -- when each fault of a turn comes, in their order

@@ -205,7 +205,7 @@ impl Agent {
         ensures why { IfErr result (IsRefused Always self.old (Event.Recover self.old.node)) }
         ensures unchanged { IfErr result (λ _. self.new ≡ self.old) }
     {
-        self.take(Event::Recover(self.node))
+        self.take_event(Event::Recover(self.node))
     }
 
     /// The node crashes. Of a process that dies nobody calls this: whoever sees its death logs the event. Refused as `Full`,
@@ -215,7 +215,7 @@ impl Agent {
         ensures why { IfErr result (IsRefused Always self.old (Event.Crash self.old.node)) }
         ensures unchanged { IfErr result (λ _. self.new ≡ self.old) }
     {
-        self.take(Event::Crash(self.node))
+        self.take_event(Event::Crash(self.node))
     }
 
     /// The idle node begins to check. Refused as `Full`, `IsDown`, `Busy`.
@@ -224,7 +224,7 @@ impl Agent {
         ensures why { IfErr result (IsRefused Always self.old (Event.Check self.old.node)) }
         ensures unchanged { IfErr result (λ _. self.new ≡ self.old) }
     {
-        self.take(Event::Check(self.node))
+        self.take_event(Event::Check(self.node))
     }
 
     /// The idle node heard nothing for too long. Refused as `Full`, `IsDown`, `Busy`.
@@ -233,7 +233,7 @@ impl Agent {
         ensures why { IfErr result (IsRefused Always self.old (Event.Timeout self.old.node)) }
         ensures unchanged { IfErr result (λ _. self.new ≡ self.old) }
     {
-        self.take(Event::Timeout(self.node))
+        self.take_event(Event::Timeout(self.node))
     }
 
     /// The node starts the call that its point offers; [`Agent::request`] then has what is to be sent. Refused as `Full`,
@@ -243,7 +243,7 @@ impl Agent {
         ensures why { IfErr result (IsRefused Always self.old (Event.Start self.old.node)) }
         ensures unchanged { IfErr result (λ _. self.new ≡ self.old) }
     {
-        self.take(Event::Start(self.node))
+        self.take_event(Event::Start(self.node))
     }
 
     /// The node's procedure moves on without a call. Refused as `Full`, `IsDown`, `NoStep`, `SlotBusy`.
@@ -252,7 +252,7 @@ impl Agent {
         ensures why { IfErr result (IsRefused Always self.old (Event.Move self.old.node)) }
         ensures unchanged { IfErr result (λ _. self.new ≡ self.old) }
     {
-        self.take(Event::Move(self.node))
+        self.take_event(Event::Move(self.node))
     }
 
     /// The node has planned this table. Refused as `Full`, `IsDown`, `NoStep`, `SlotBusy`, `BadTable`.
@@ -261,7 +261,7 @@ impl Agent {
         ensures why { IfErr result (IsRefused Always self.old (Event.Plan self.old.node table)) }
         ensures unchanged { IfErr result (λ _. self.new ≡ self.old) }
     {
-        self.take(Event::Plan(self.node, table))
+        self.take_event(Event::Plan(self.node, table))
     }
 
     /// The node's call, an orphan, is taken out of its slot. Refused as `Full`, `IsDown`, `NoCall`, `NotOrphan`.
@@ -270,7 +270,7 @@ impl Agent {
         ensures why { IfErr result (IsRefused Always self.old (Event.Drop self.old.node)) }
         ensures unchanged { IfErr result (λ _. self.new ≡ self.old) }
     {
-        self.take(Event::Drop(self.node))
+        self.take_event(Event::Drop(self.node))
     }
 
     /// The request runs at the node. Refused as `Full`; `BadNode`, where its caller is above the setup's last node;
@@ -361,7 +361,7 @@ impl Agent {
     // An event that the node takes by itself.
     // (inlined with what it calls, so that each call of the agent has what its own event needs, and no more)
     #[inline(always)]
-    fn take(&mut self, event: Event) -> Result<TakenStep, Refused>
+    fn take_event(&mut self, event: Event) -> Result<TakenStep, Refused>
         requires alone { IsAlone event }
         requires named { node_of event ≡ self.old.node }
         ensures taken { IfOk result (IsTaken self.old event self.new) }

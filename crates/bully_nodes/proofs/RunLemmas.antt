@@ -31,12 +31,12 @@ use Rattle.bully_steps.specs.ProcedureState.{ProcedureState}
 use Rattle.bully_steps.specs.Procedure.{state_of}
 use Rattle.bully_watch.specs.declared.entry.Entry.{Entry}
 use Rattle.bully_watch.specs.declared.knowledge.PublisherId.{PublisherId}
-use Rattle.bully_watch.specs.History.{event_of as entry_event, answer_of}
+use Rattle.bully_watch.specs.History.{event_of, answer_of}
 use Rattle.bully_events.specs.declared.event.Event.{Event}
 use Rattle.bully_world.specs.State.{world_of}
 use Rattle.bully_world.specs.World.{member}
 use Rattle.bully_world.proofs.NodeInvariantLemmas.{lawful_fits}
-use Rattle.bully_world.specs.Turn.{event_of}
+use Rattle.bully_world.specs.Turn.{step_event}
 
 abbrev held : SeatState → ℕ → Held
 held seat counted = record { seat = seat; counted = counted }
@@ -136,7 +136,7 @@ module _ (IsState : LockedState → Type 0) (faults : List Fault) (actor : ℕ) 
   serves_keep node false before after same kept = rw same.0 kept
 
   proceeds_keep : (before : Held) (h : ProcedureState) (after : Held) (h' : ProcedureState) → ProceedsAt IsState before h after h' → IsGivenBack faults actor before → IsGivenBack faults actor after
-  proceeds_keep before h after h' (inl taken) kept = logs_keep (event_of taken.0 h) before after (step_due faults taken.0 h) taken.1 kept
+  proceeds_keep before h after h' (inl taken) kept = logs_keep (step_event taken.0 h) before after (step_due faults taken.0 h) taken.1 kept
   proceeds_keep before h after h' (inr same) kept = rw same.0 kept
 
   goes_on_keeps : (choice : Choice) (before : Held) (h : ProcedureState) (after : Held) (h' : ProcedureState) → GoesOn (AppliesAt IsState) (ProceedsAt IsState) choice before h after h' → IsGivenBack faults actor before → IsGivenBack faults actor after
@@ -206,16 +206,16 @@ one_due faults history seats own once k e there =
     subst (λ (told : ℕ × Entry). IsDue faults told.1.event) (get_or_from_slice_get log.seat.log log.place (k, e) (k, e) log.stands)
     (due log.place (k, e) (slice_get_within log.seat.log log.place (k, e) log.stands))
 
-due_all : (faults : List Fault) (history : List Entry) → ((k : ℕ) (e : Entry) → slice_get history k ≡ Some e → IsDue faults e.event) → All (IsDue faults) (map entry_event history)
+due_all : (faults : List Fault) (history : List Entry) → ((k : ℕ) (e : Entry) → slice_get history k ≡ Some e → IsDue faults e.event) → All (IsDue faults) (map event_of history)
 due_all faults [] each = All-nil (IsDue faults)
-due_all faults (e ∷ history) each = All-cons (IsDue faults) e.event (map entry_event history) (each zero e refl) (due_all faults history (λ k f there. each (suc k) f there))
+due_all faults (e ∷ history) each = All-cons (IsDue faults) e.event (map event_of history) (each zero e refl) (due_all faults history (λ k f there. each (suc k) f there))
 
 -- the history of all seats is a play
-pub seats_play : (c : Configuration) (s : LockedState) (named : Option PublisherId) (parts : ℕ) (seats : List SeatState) → IsSetup c.setup → IsLocked c.setup named parts s → All (HasDueLog c.faults) seats → EachInOneLog s.history seats → IsPlay c (map entry_event s.history)
+pub seats_play : (c : Configuration) (s : LockedState) (named : Option PublisherId) (parts : ℕ) (seats : List SeatState) → IsSetup c.setup → IsLocked c.setup named parts s → All (HasDueLog c.faults) seats → EachInOneLog s.history seats → IsPlay c (map event_of s.history)
 seats_play c s named parts seats within is own once = record {
   answers = map answer_of s.history;
   world = world_of s.world;
   lawful = is.history.lawful;
-  lawful_in_trace = lawful-bound c.setup EVENTS_MAX (map entry_event s.history) (map answer_of s.history) (world_of s.world) within.events.1 is.history.lawful;
+  lawful_in_trace = lawful-bound c.setup EVENTS_MAX (map event_of s.history) (map answer_of s.history) (world_of s.world) within.events.1 is.history.lawful;
   due = due_all c.faults s.history (λ k e there. one_due c.faults s.history seats own once k e there);
 }

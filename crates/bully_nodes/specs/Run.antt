@@ -23,7 +23,7 @@ use Rattle.bully_steps.specs.ProcedureState.{ProcedureState}
 use Rattle.bully_watch.specs.declared.entry.Entry.{Entry}
 use Rattle.bully_events.specs.declared.event.Event.{Event}
 use Rattle.bully_world.specs.State.{world_of}
-use Rattle.bully_world.specs.Turn.{turn, event_of, procedure_after}
+use Rattle.bully_world.specs.Turn.{turn, step_event, procedure_after}
 use Rattle.bully_world.specs.declared.turn.Next.{Next}
 use Rattle.bully_world.specs.declared.turn.StepKind.{StepKind}
 
@@ -76,7 +76,7 @@ GoesNot s seat h h' = Waits s seat h h' ⊎ Resyncs s seat h h' ⊎ ((fault : St
 -- in some state of the group the procedure takes the step that the turn rule offers and goes on by it, or no entry is added
 abbrev pub ProceedsAt : (LockedState → Type 0) → Held → ProcedureState → Held → ProcedureState → Type 0
 ProceedsAt IsState before h after h' =
-    ((kind : StepKind) × (logs : Logs IsState (event_of kind h) before after) × (h' ≡ procedure_after kind logs.records.answer h)
+    ((kind : StepKind) × (logs : Logs IsState (step_event kind h) before after) × (h' ≡ procedure_after kind logs.records.answer h)
     × (turn logs.from.world h ≡ Next.Take kind))
     ⊎ ((after ≡ before) × (s : LockedState) × IsState s × GoesNot s before.seat h h')
 

@@ -89,7 +89,7 @@ fn draw_held(
 
 // The line of a stretch, from one lane to the other; only half the way to the next lane where the call gets no further.
 fn line_of(canvas: &Canvas, from: Node, to: Node, holding: &Holding, gets_there: bool) -> Line {
-    let (x1, x2) = apart(canvas.layout.x(from), canvas.layout.x(to));
+    let (x1, x2) = beside_bars(canvas.layout.x(from), canvas.layout.x(to));
     let whole = Line {
         x1,
         y1: canvas.layout.y(holding.first),
@@ -115,7 +115,7 @@ fn halfway(line: Line, far: u32) -> Line {
 }
 
 // The two, each at the side of its bar.
-fn apart(x1: u32, x2: u32) -> (u32, u32) {
+fn beside_bars(x1: u32, x2: u32) -> (u32, u32) {
     if x1 < x2 {
         (x1.saturating_add(HALF + 1), x2.saturating_sub(HALF + 1))
     } else {

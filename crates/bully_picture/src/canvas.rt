@@ -56,7 +56,7 @@ impl Canvas {
     }
 
     /// Refused where memory was wanting for anything that was drawn.
-    pub fn told(&self) -> Result<(), OutOfMemory> {
+    pub fn check_memory(&self) -> Result<(), OutOfMemory> {
         if self.head.has_failed || self.lines.has_failed || self.words.has_failed {
             return Err(AllocError);
         }
@@ -74,7 +74,7 @@ impl Canvas {
     /// Writes words at this point, where their box is free, and tells whether it was. They need no escaping.
     pub fn put(&mut self, x: u32, y: u32, style: Style, words: &str) -> bool {
         let area = Area::of(x, y, style.anchor, style.size, words);
-        if !self.take(area) {
+        if !self.take_area(area) {
             return false;
         }
         if style.has_ground {
@@ -112,7 +112,7 @@ impl Canvas {
             width,
             height: 13,
         };
-        if !self.take(area) {
+        if !self.take_area(area) {
             return false;
         }
         push_area(
@@ -124,7 +124,7 @@ impl Canvas {
     }
 
     // Takes the box, where it is free, and tells whether it was.
-    fn take(&mut self, area: Area) -> bool {
+    fn take_area(&mut self, area: Area) -> bool {
         if !is_free(&area, self.boxes.as_slice()) {
             return false;
         }

@@ -101,7 +101,7 @@ fn push_lines(alloc: Global, lines: &mut Paper, reel: &Reel) -> Result<(), OutOf
     let mut now = Vec::with_capacity(alloc, usize::from(reel.setup.nodes()))?;
     push_starts(alloc, &mut now, reel)?;
     push_rows(lines, reel, now.as_mut_slice());
-    lines.told()
+    lines.check_memory()
 }
 
 // Appends how each node stands before the first row, from node 1 on.

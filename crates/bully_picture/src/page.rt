@@ -82,7 +82,7 @@ fn draw(canvas: &mut Canvas, reel: &Reel, names: &[&str], below: &str) -> Result
     draw_rows(canvas, reel);
     draw_lanes(canvas, lanes.as_slice(), names);
     push_below(&mut canvas.words, &canvas.layout, below);
-    canvas.told()
+    canvas.check_memory()
 }
 
 // Draws what stands at each row.

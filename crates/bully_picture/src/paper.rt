@@ -31,7 +31,7 @@ impl Paper {
     }
 
     /// Refused where memory was wanting.
-    pub fn told(&self) -> Result<(), OutOfMemory> {
+    pub fn check_memory(&self) -> Result<(), OutOfMemory> {
         if self.has_failed {
             return Err(AllocError);
         }

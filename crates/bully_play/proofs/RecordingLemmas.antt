@@ -24,7 +24,7 @@ use Rattle.bully_events.specs.declared.event.Event.{Event}
 use Rattle.bully_events.specs.declared.event.Refused.{Refused}
 use Rattle.bully_world.specs.State.{WorldState, state_at, world_of, cause_in}
 use Rattle.bully_world.specs.Step.{Step}
-use Rattle.bully_world.specs.Turn.{event_of, procedure_after, turn}
+use Rattle.bully_world.specs.Turn.{step_event, procedure_after, turn}
 use Rattle.bully_world.specs.declared.turn.Next.{Next}
 use Rattle.bully_world.specs.declared.turn.StepKind.{StepKind}
 use Rattle.bully_world.proofs.LawfulLemmas.{lawful_more}
@@ -78,8 +78,8 @@ continues_then before mid after one two = record {
 }
 
 -- a node's own step needs no fault
-pub step_due : (faults : List Fault) (kind : StepKind) (h : ProcedureState) → IsDue faults (event_of kind h)
-step_due faults kind h = own_due (event_of kind h) (turn_own kind h)
+pub step_due : (faults : List Fault) (kind : StepKind) (h : ProcedureState) → IsDue faults (step_event kind h)
+step_due faults kind h = own_due (step_event kind h) (turn_own kind h)
   where
     own_due : (e : Event) → IsNodesOwn h.node e → IsDue faults e
     own_due (Event.Recover i) own = elim own [ ]
@@ -89,7 +89,7 @@ step_due faults kind h = own_due (event_of kind h) (turn_own kind h)
 pub steps_continue : (kind : StepKind) (before : RecordingState) (h : ProcedureState) (after : RecordingState) (h' : ProcedureState) → Steps kind before h after h' → Continues before after
 steps_continue kind before h after h' (inl taken) = record {
   setup = taken.0.setup;
-  recorded = λ c is. recorded_more c (event_of kind h) before after taken.0 (step_due c.faults kind h) is;
+  recorded = λ c is. recorded_more c (step_event kind h) before after taken.0 (step_due c.faults kind h) is;
 }
 steps_continue kind before h after h' (inr full) = rw full.1 (nothing_continues before)
 
@@ -121,7 +121,7 @@ turn_ok (Ok x) period number before h after h' does = turn_continues period numb
 turn_ok (Err e) period number before h after h' does = tt
 
 -- a step that the world took, with its row
-pub steps_taken : (kind : StepKind) (h h' : ProcedureState) (e : Event) (a : Answer) (w : WorldState) (before after : RecordingState) → e ≡ event_of kind h → Step before.world.setup (world_of before.world) e (world_of w) a → w.setup ≡ before.world.setup
+pub steps_taken : (kind : StepKind) (h h' : ProcedureState) (e : Event) (a : Answer) (w : WorldState) (before after : RecordingState) → e ≡ step_event kind h → Step before.world.setup (world_of before.world) e (world_of w) a → w.setup ≡ before.world.setup
     → w.events ≡ before.world.events + 1 → before.world.events < before.world.setup.events_max → ((i : ℕ) → (state_at w i).generation ≡ (state_at before.world i).generation) → h' ≡ procedure_after kind a h → after ≡ record { world = w; rows = before.rows ++ Row.Event e ∷ [] } → Steps kind before h after h'
 steps_taken kind h h' e a w before after named step setup counted room same went is =
     rw (is, went) (inl (record { answer = a; step = rw (← named) step; setup = setup; counted = counted; bounded = grind (arith, setup, counted, room); generations = no_turn_raises before.world w kind h same; rows = rw named refl }, refl))

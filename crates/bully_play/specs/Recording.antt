@@ -9,7 +9,7 @@ use Rattle.bully_events.specs.declared.event.Event.{Event}
 use Rattle.bully_world.specs.Lawful.{IsLawful}
 use Rattle.bully_world.specs.State.{WorldState, state_at, world_of, cause_in, raises}
 use Rattle.bully_world.specs.Step.{Step}
-use Rattle.bully_world.specs.Turn.{event_of, procedure_after}
+use Rattle.bully_world.specs.Turn.{step_event, procedure_after}
 use Rattle.bully_world.specs.declared.turn.StepKind.{StepKind}
 
 -- a world, and a row for each event that led to it
@@ -45,7 +45,7 @@ Applies e before after = MatchOption (cause_in before.world e) (AddsRow e before
 -- the procedure takes a step, which is recorded, and goes on by it; where the bound on events is reached, nothing changes
 abbrev pub Steps : StepKind → RecordingState → ProcedureState → RecordingState → ProcedureState → Type 0
 Steps kind before h after h' =
-    ((r : AddsRow (event_of kind h) before after) × (h' ≡ procedure_after kind r.answer h))
+    ((r : AddsRow (step_event kind h) before after) × (h' ≡ procedure_after kind r.answer h))
     ⊎ ((before.world.setup.events_max ≤ before.world.events) × (after ≡ before) × (h' ≡ h))
 
 -- whatever happens, it is recorded, and no fault is needed for it but those of the configuration

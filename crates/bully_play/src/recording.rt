@@ -46,13 +46,13 @@ impl Recording {
 
     // Takes a step that the turn rule offers, and records its event; the procedure goes on by it. Where the world
     // refuses the step, nothing changes. Refused where an allocation fails.
-    fn take(&mut self, kind: StepKind, procedure: &mut Procedure) -> Result<(), OutOfMemory>
+    fn take_step(&mut self, kind: StepKind, procedure: &mut Procedure) -> Result<(), OutOfMemory>
         requires setup { (state_of procedure.old).setup ≡ self.old.world.setup }
         requires offered { turn self.old.world (state_of procedure.old) ≡ Next.Take kind }
         ensures steps { OnOk result (Steps kind self.old (state_of procedure.old) self.new (state_of procedure.new)) }
         ensures same_node { HasSameNode (state_of procedure.old) (state_of procedure.new) }
     {
-        match self.world.take(kind, procedure) {
+        match self.world.take_step(kind, procedure) {
             Ok(step) => self.record(step.event),
             Err(_) => Ok(()),
         }
@@ -122,7 +122,7 @@ impl Stage for Recording {
                 Ok(())
             }
             Next::Rest => Ok(()),
-            Next::Take(kind) => self.take(kind, procedure),
+            Next::Take(kind) => self.take_step(kind, procedure),
         }
     }
 }

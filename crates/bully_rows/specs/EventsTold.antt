@@ -13,8 +13,8 @@ event_told (Detail.Lose call) i = Event.Lose i
 event_told (Detail.Return call a) i = Event.Return i
 event_told (Detail.Drop call) i = Event.Drop i
 
-abbrev pub event_of : DetailedEvent → Event
-event_of e = event_told e.detail e.node
+abbrev pub event_of_detailed : DetailedEvent → Event
+event_of_detailed e = event_told e.detail e.node
 
 -- the call that is told
 abbrev pub call_told : Detail → Call

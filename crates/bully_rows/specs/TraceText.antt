@@ -12,7 +12,7 @@ use Rattle.bully_rows.specs.declared.header.Version.{Version}
 use Rattle.bully_rows.specs.declared.trace.Claim.{Claim}
 use Rattle.bully_rows.specs.declared.trace.Row.{Row}
 use Rattle.bully_rows.specs.declared.trace.TraceCause.{TraceCause}
-use Rattle.bully_rows.specs.EventsTold.{event_of}
+use Rattle.bully_rows.specs.EventsTold.{event_of_detailed}
 use Rattle.bully_rows.specs.Trace.{Trace}
 use Rattle.bully_rows.specs.Kinds.{event_word, plan_word}
 use Rattle.bully_rows.specs.Words.{answer_word, call_word, keeps_word, status_word}
@@ -74,7 +74,7 @@ rest_text halter up task = codes "," ++ node_text halter ++ codes "," ++ set_tex
 
 abbrev pub row_fields : Row → List (List ℕ)
 row_fields (Row.Event e) = event_fields e
-row_fields (Row.Detailed e) = event_fields (event_of e) ++ detail_fields e.detail
+row_fields (Row.Detailed e) = event_fields (event_of_detailed e) ++ detail_fields e.detail
 row_fields (Row.Claim claim) = claim_fields claim
 row_fields (Row.Whole whole) = claim_fields whole.claim ++ node_text whole.halter ∷ set_text whole.up ∷ task_text 32 whole.task ∷ []
 

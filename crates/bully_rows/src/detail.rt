@@ -1,6 +1,6 @@
 //! What a row of version 3 may say beside an event of a call.
 ghost use Rattle.std.specs.Prelude.{◌≡◌};
-ghost use Rattle.bully_rows.specs.EventsTold.{call_told, event_of, event_told};
+ghost use Rattle.bully_rows.specs.EventsTold.{call_told, event_of_detailed, event_told};
 
 use bully_base::Node;
 use bully_calls::{Answer, Call};
@@ -54,7 +54,7 @@ impl Detail {
 impl DetailedEvent {
     /// The event.
     pub fn event(&self) -> Event
-        ensures { result ≡ event_of self.now }
+        ensures { result ≡ event_of_detailed self.now }
     {
         self.detail.event(self.node)
     }

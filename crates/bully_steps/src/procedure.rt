@@ -261,7 +261,7 @@ impl Procedure {
                 true
             }
             (Procedure::Halting(halting), PointKind::Halting(number)) => {
-                halting.go_on(number, outcome);
+                halting.halt_next(number, outcome);
                 true
             }
             (Procedure::Announcing(announcing), PointKind::Announcing) => {

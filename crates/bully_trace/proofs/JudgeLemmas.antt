@@ -19,7 +19,7 @@ use Rattle.bully_rows.specs.declared.trace.Row.{Row}
 use Rattle.bully_trace.specs.declared.verdict.Verdict.{Verdict}
 use Rattle.bully_trace.specs.Judging.{HasJudged, IsJudgedOn, JudgeState}
 use Rattle.bully_rows.specs.Trace.{Trace}
-use Rattle.bully_rows.specs.EventsTold.{event_of}
+use Rattle.bully_rows.specs.EventsTold.{event_of_detailed}
 use Rattle.bully_trace.specs.Details.{is_so, is_true, is_whole}
 use Rattle.bully_trace.specs.Verdict.{AgreesAfterEachRow, IsJudged, IsVerdict, IsLawfulCount, events_of}
 
@@ -89,15 +89,15 @@ judged_leads setup w before number (Row.Event e ∷ rows) after w' j = by_cause 
     by_cause more None none (mid, a, step, j) = behind-event setup w mid before (Row.Event e) rows e a after w' refl none step (more mid (before + 1) (number + 1) after w' j)
     by_cause more (Some why) is j = absurd (cc j.0)
 judged_leads setup w before number (Row.Detailed e ∷ rows) after w' j =
-    by_cause (λ w before number after w' j. judged_leads setup w before number rows after w' j) (cause setup w before (event_of e)) (is_so setup w e) refl j
+    by_cause (λ w before number after w' j. judged_leads setup w before number rows after w' j) (cause setup w before (event_of_detailed e)) (is_so setup w e) refl j
   where
     by_cause : ((w : World) (before number after : ℕ) (w' : World) → IsJudged setup w before number rows (Verdict.Lawful after) w' → Leads setup w before rows after w')
-        → (q : Option Refused) (so : Bool) → cause setup w before (event_of e) ≡ q
-        → MatchOption q (MatchBool so ((mid : World) × (a : Answer) × Step setup w (event_of e) mid a × IsJudged setup mid (before + 1) (number + 1) rows (Verdict.Lawful after) w')
+        → (q : Option Refused) (so : Bool) → cause setup w before (event_of_detailed e) ≡ q
+        → MatchOption q (MatchBool so ((mid : World) × (a : Answer) × Step setup w (event_of_detailed e) mid a × IsJudged setup mid (before + 1) (number + 1) rows (Verdict.Lawful after) w')
         ((Verdict.Lawful after ≡ Verdict.Differs number) × (w' ≡ w))) (λ why. (Verdict.Lawful after ≡ Verdict.Refused number why) × (w' ≡ w))
         → Leads setup w before (Row.Detailed e ∷ rows) after w'
     by_cause more None true none (mid, a, step, j) =
-        behind-event setup w mid before (Row.Detailed e) rows (event_of e) a after w' refl none step (more mid (before + 1) (number + 1) after w' j)
+        behind-event setup w mid before (Row.Detailed e) rows (event_of_detailed e) a after w' refl none step (more mid (before + 1) (number + 1) after w' j)
     by_cause more None false none j = absurd (cc j.0)
     by_cause more (Some why) so is j = absurd (cc j.0)
 judged_leads setup w before number (Row.Claim claim ∷ rows) after w' j =
@@ -116,7 +116,7 @@ lawful_count trace (Verdict.Differs number) w v = tt
 pub events-append : (rows more : List Row) → events_of (rows ++ more) ≡ events_of rows ++ events_of more
 events-append [] more = refl
 events-append (Row.Event e ∷ rows) more = ap (λ events. e ∷ events) (events-append rows more)
-events-append (Row.Detailed e ∷ rows) more = ap (λ events. event_of e ∷ events) (events-append rows more)
+events-append (Row.Detailed e ∷ rows) more = ap (λ events. event_of_detailed e ∷ events) (events-append rows more)
 events-append (Row.Claim claim ∷ rows) more = events-append rows more
 events-append (Row.Whole whole ∷ rows) more = events-append rows more
 

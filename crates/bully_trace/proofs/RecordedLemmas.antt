@@ -20,7 +20,7 @@ use Rattle.bully_rows.specs.declared.trace.Claim.{Claim}
 use Rattle.bully_rows.specs.declared.trace.Row.{Row}
 use Rattle.bully_trace.specs.declared.verdict.Verdict.{Verdict}
 use Rattle.bully_world.specs.Turn.{same_node}
-use Rattle.bully_rows.specs.EventsTold.{event_of}
+use Rattle.bully_rows.specs.EventsTold.{event_of_detailed}
 use Rattle.bully_trace.specs.Details.{is_so, is_true, is_whole, same_status}
 use Rattle.bully_trace.specs.Recorded.{ClaimsAgree, RecordedAgreement, TakesPartBy, claim_of}
 use Rattle.bully_rows.specs.Trace.{Trace}
@@ -75,12 +75,12 @@ judged-parted setup w count number (Row.Event e ∷ before) rest after w' j =
     by_cause more None (mid, a, step, j) = event-before setup w mid (Row.Event e) before rest e a after w' refl step (more mid j)
     by_cause more (Some why) j = absurd (cc j.0)
 judged-parted setup w count number (Row.Detailed e ∷ before) rest after w' j =
-    by_cause (λ mid. judged-parted setup mid (count + 1) (number + 1) before rest after w') (cause setup w count (event_of e)) (is_so setup w e) j
+    by_cause (λ mid. judged-parted setup mid (count + 1) (number + 1) before rest after w') (cause setup w count (event_of_detailed e)) (is_so setup w e) j
   where
     by_cause : ((mid : World) → IsJudged setup mid (count + 1) (number + 1) (before ++ rest) (Verdict.Lawful after) w' → Parts setup mid before rest after w')
-        → (q : Option Refused) (so : Bool) → MatchOption q (MatchBool so ((mid : World) × (a : Answer) × Step setup w (event_of e) mid a × IsJudged setup mid (count + 1) (number + 1) (before ++ rest) (Verdict.Lawful after) w')
+        → (q : Option Refused) (so : Bool) → MatchOption q (MatchBool so ((mid : World) × (a : Answer) × Step setup w (event_of_detailed e) mid a × IsJudged setup mid (count + 1) (number + 1) (before ++ rest) (Verdict.Lawful after) w')
         ((Verdict.Lawful after ≡ Verdict.Differs number) × (w' ≡ w))) (λ why. (Verdict.Lawful after ≡ Verdict.Refused number why) × (w' ≡ w)) → Parts setup w (Row.Detailed e ∷ before) rest after w'
-    by_cause more None true (mid, a, step, j) = event-before setup w mid (Row.Detailed e) before rest (event_of e) a after w' refl step (more mid j)
+    by_cause more None true (mid, a, step, j) = event-before setup w mid (Row.Detailed e) before rest (event_of_detailed e) a after w' refl step (more mid j)
     by_cause more None false j = absurd (cc j.0)
     by_cause more (Some why) so j = absurd (cc j.0)
 judged-parted setup w count number (Row.Claim claim ∷ before) rest after w' j =

@@ -7,7 +7,7 @@ use Rattle.bully_world.specs.Step.{Step, offer, sent}
 use Rattle.bully_world.specs.World.{World, member, vector, with_member}
 use Rattle.bully_rows.specs.declared.detail.Detail.{Detail}
 use Rattle.bully_rows.specs.declared.detail.DetailedEvent.{DetailedEvent}
-use Rattle.bully_rows.specs.EventsTold.{call_told, event_of}
+use Rattle.bully_rows.specs.EventsTold.{call_told, event_of_detailed}
 use Rattle.bully_trace.specs.Details.{call_at, is_so}
 
 -- what is said of an event of node i, which leads from w to w' with this answer: of a Start the call that it sends; of the others
@@ -23,5 +23,5 @@ IsOfStep setup w i (Detail.Drop call) w' a = call_at w i ≡ Some call
 -- what is said beside an event is so in the world before it exactly where its step has it, and the group has both nodes
 abbrev pub TellsTheStep : Type 0
 TellsTheStep =
-    (setup : Setup) (w : World) (e : DetailedEvent) (w' : World) (a : Answer) → Step setup w (event_of e) w' a
+    (setup : Setup) (w : World) (e : DetailedEvent) (w' : World) (a : Answer) → Step setup w (event_of_detailed e) w' a
     → (is_so setup w e ≡ true) ↔ (IsNode setup e.node × IsNode setup (call_told e.detail).callee × IsOfStep setup w e.node e.detail w' a)

@@ -11,7 +11,7 @@ use Rattle.bully_world.specs.World.{World, first_world}
 use Rattle.bully_agree.specs.Agreement.{Agreement}
 use Rattle.bully_rows.specs.declared.trace.Row.{Row}
 use Rattle.bully_trace.specs.declared.verdict.Verdict.{Verdict}
-use Rattle.bully_rows.specs.EventsTold.{event_of}
+use Rattle.bully_rows.specs.EventsTold.{event_of_detailed}
 use Rattle.bully_trace.specs.Details.{is_so, is_true, is_whole}
 use Rattle.bully_rows.specs.Trace.{Trace}
 
@@ -24,9 +24,9 @@ IsJudged setup w count number (Row.Event e ∷ rows) verdict w' =
     ((mid : World) × (a : Answer) × Step setup w e mid a × IsJudged setup mid (count + 1) (number + 1) rows verdict w')
     (λ why. (verdict ≡ Verdict.Refused number why) × (w' ≡ w))
 IsJudged setup w count number (Row.Detailed e ∷ rows) verdict w' =
-    MatchOption (cause setup w count (event_of e))
+    MatchOption (cause setup w count (event_of_detailed e))
     (MatchBool (is_so setup w e)
-    ((mid : World) × (a : Answer) × Step setup w (event_of e) mid a × IsJudged setup mid (count + 1) (number + 1) rows verdict w')
+    ((mid : World) × (a : Answer) × Step setup w (event_of_detailed e) mid a × IsJudged setup mid (count + 1) (number + 1) rows verdict w')
     ((verdict ≡ Verdict.Differs number) × (w' ≡ w)))
     (λ why. (verdict ≡ Verdict.Refused number why) × (w' ≡ w))
 IsJudged setup w count number (Row.Claim claim ∷ rows) verdict w' =
@@ -46,7 +46,7 @@ IsVerdict trace verdict w = IsJudged trace.setup (first_world trace.setup) 0 2 t
 abbrev pub events_of : List Row → List Event
 events_of [] = []
 events_of (Row.Event e ∷ rows) = e ∷ events_of rows
-events_of (Row.Detailed e ∷ rows) = event_of e ∷ events_of rows
+events_of (Row.Detailed e ∷ rows) = event_of_detailed e ∷ events_of rows
 events_of (Row.Claim claim ∷ rows) = events_of rows
 events_of (Row.Whole whole ∷ rows) = events_of rows
 

@@ -81,11 +81,11 @@ impl Observer {
         ensures goes_on { IsPrefix self.old.entries self.new.entries }
         ensures view { IfOk result (Looks self.old.publisher self.new.entries) }
     {
-        replace_with(self, (), |observer: Observer, _| observer.looked())
+        replace_with(self, (), |observer: Observer, _| observer.look_once())
     }
 
     // `look`, where the observer comes back.
-    fn looked(self) -> (Observer, Result<View, LookFault>)
+    fn look_once(self) -> (Observer, Result<View, LookFault>)
         ensures publisher { result.0.publisher ≡ self.publisher }
         ensures goes_on { IsPrefix self.entries result.0.entries }
         ensures view { IfOk result.1 (Looks self.publisher result.0.entries) }

@@ -20,7 +20,7 @@ use Rattle.bully_world.specs.declared.turn.StepKind.{StepKind}
 use Rattle.bully_world.specs.Cause.{is_live_in}
 use Rattle.bully_world.specs.NodeInvariant.{WorldInvariant, SuitsPhase}
 use Rattle.bully_world.specs.Step.{Step, IsUp, Returns, sent, emptied}
-use Rattle.bully_world.specs.Turn.{event_of, outcome_after, procedure_after}
+use Rattle.bully_world.specs.Turn.{step_event, outcome_after, procedure_after}
 use Rattle.bully_world.specs.World.{World, Member, member, vector, point, pending, with_member}
 use Rattle.bully_world.proofs.AgreeLemmas.{Agrees, resumed_agrees}
 use Rattle.bully_world.proofs.MemberLemmas.{member_here, node_of_up, node_of_pending, call_of_pending}
@@ -164,7 +164,7 @@ module _ (setup : Setup) (w : World) (i g : ℕ) (h : ProcedureState) (all : Wor
       (subst (λ q. Agrees (option_map_or (resumed h) q h) (shown setup i g (member w' i))) (sym after) (orphan_out c w' is live r.0), subst (λ q. IfSome q (CanResume h)) (sym after) tt)
 
   -- after each step of the turn rule
-  pub step_on : (kind : StepKind) (w' : World) (answer : Answer) → Step setup w (event_of kind h) w' answer → GoesOn kind w' answer
+  pub step_on : (kind : StepKind) (w' : World) (answer : Answer) → Step setup w (step_event kind h) w' answer → GoesOn kind w' answer
   step_on StepKind.Start w' answer s = start_on w' answer (subst (λ k. Step setup w (Event.Start k) w' answer) ne s)
   step_on StepKind.Move w' answer s = move_on w' answer (subst (λ k. Step setup w (Event.Move k) w' answer) ne s)
   step_on StepKind.Plan w' answer s = plan_on (unwrap_or h.table []) w' answer (subst (λ k. Step setup w (Event.Plan k (unwrap_or h.table [])) w' answer) ne s)

@@ -21,7 +21,7 @@ use Rattle.bully_world.specs.declared.turn.StepKind.{StepKind}
 use Rattle.bully_world.specs.Cause.{cause, is_call, is_down_at, is_live_in}
 use Rattle.bully_world.specs.NodeInvariant.{NodeInvariant, WorldInvariant}
 use Rattle.bully_world.specs.Step.{IsUp, offer}
-use Rattle.bully_world.specs.Turn.{turn_of_call, turn_of_want, turn_in_step, has_table, event_of}
+use Rattle.bully_world.specs.Turn.{turn_of_call, turn_of_want, turn_in_step, has_table, step_event}
 use Rattle.bully_world.specs.World.{World, Member, member, vector, pending}
 use Rattle.bully_world.proofs.AgreeLemmas.{Agrees}
 use Rattle.bully_world.proofs.MemberLemmas.{node_of_up, node_of_pending}
@@ -130,7 +130,7 @@ planned_suits h is there = by_table h.table is.plan there
 
 -- a step that the turn rule offers is refused only where the bound is reached
 pub offered_possible : (setup : Setup) (w : World) (count i g : ℕ) (h : ProcedureState) (kind : StepKind) → WorldInvariant setup w → IsProcedureState h → h.setup ≡ setup → h.node ≡ i → Agrees h (shown setup i g (member w i))
-    → turn_in_step w (pending w i) h ≡ Next.Take kind → count < setup.events_max → cause setup w count (event_of kind h) ≡ None
+    → turn_in_step w (pending w i) h ≡ Next.Take kind → count < setup.events_max → cause setup w count (step_event kind h) ≡ None
 offered_possible setup w count i g h StepKind.Start all is se ne a t room =
     let free = start_offered w (pending w i) h t in
     let offers : is_call (offer setup w i) ≡ true = ap is_call (sym (wants setup i g (member w i) h se a free.0)) ∙ free.1 in
@@ -163,7 +163,7 @@ offered_possible setup w count i g h StepKind.Drop all is se ne a t room =
     subst (λ k. cause setup w count (Event.Drop k) ≡ None) (sym ne) (drop_possible setup w count i full.0 room there.0 there.1 full.1 full.2)
 
 -- a turn's event is its node's own
-pub turn_own : (kind : StepKind) (h : ProcedureState) → IsNodesOwn h.node (event_of kind h)
+pub turn_own : (kind : StepKind) (h : ProcedureState) → IsNodesOwn h.node (step_event kind h)
 turn_own StepKind.Start h = refl
 turn_own StepKind.Lose h = refl
 turn_own StepKind.Return h = refl

@@ -9,7 +9,7 @@ use Rattle.bully_world.specs.declared.turn.Next.{Next}
 use Rattle.bully_world.specs.declared.turn.StepKind.{StepKind}
 use Rattle.bully_world.specs.State.{WorldState, IsReached, state_at, member_of, world_of, cause_in, KeepsGenerations, RaisesGenerations}
 use Rattle.bully_world.specs.Step.{Step}
-use Rattle.bully_world.specs.Turn.{turn, turn_in_step, is_in_step, procedure_in, event_of, outcome_after, procedure_after, procedure_left, outcome_left, agree, has_table}
+use Rattle.bully_world.specs.Turn.{turn, turn_in_step, is_in_step, procedure_in, step_event, outcome_after, procedure_after, procedure_left, outcome_left, agree, has_table}
 use Rattle.bully_world.specs.World.{Member, member, pending}
 use Rattle.bully_world.proofs.AgreeLemmas.{Agrees, agrees_of, agree_if}
 use Rattle.bully_world.proofs.ProcedureAfter.{step_on, identity_after}
@@ -34,7 +34,7 @@ taken_in_step w h kind t = by_test (is_in_step w h) refl t
     )
     by_test false e t = absurd (grind (arith, t))
 
-pub free_if_offered : (w : WorldState) (h : ProcedureState) (kind : StepKind) → IsReached w → IsProcedureState h → h.setup ≡ w.setup → turn w h ≡ Next.Take kind → w.events < w.setup.events_max → cause_in w (event_of kind h) ≡ None
+pub free_if_offered : (w : WorldState) (h : ProcedureState) (kind : StepKind) → IsReached w → IsProcedureState h → h.setup ≡ w.setup → turn w h ≡ Next.Take kind → w.events < w.setup.events_max → cause_in w (step_event kind h) ≡ None
 free_if_offered w h kind reached is se t room =
     let taken = taken_in_step w h kind t in
     offered_possible w.setup (world_of w) w.events h.node (state_at w h.node).generation h kind (reached_fits w reached) is se refl taken.0 taken.1 room
@@ -44,7 +44,7 @@ table_if_planned w h kind t e = (plan_offered (world_of w) (pending (world_of w)
 
 -- the procedure goes on by the step, and is in step with the world after it
 pub goes_on_taken : (w w' : WorldState) (h : ProcedureState) (kind : StepKind) (answer : Answer) → IsReached w → h.setup ≡ w.setup → turn w h ≡ Next.Take kind → w'.setup ≡ w.setup
-    → ((i : ℕ) → (state_at w' i).generation ≡ (state_at w i).generation) → Step w.setup (world_of w) (event_of kind h) (world_of w') answer
+    → ((i : ℕ) → (state_at w' i).generation ≡ (state_at w i).generation) → Step w.setup (world_of w) (step_event kind h) (world_of w') answer
     → (is_in_step w' (procedure_after kind answer h) ≡ true) × IfSome (outcome_after kind answer) (CanResume h)
 goes_on_taken w w' h kind answer reached se t same generation s =
     let taken = taken_in_step w h kind t in
@@ -65,18 +65,18 @@ gone_on StepKind.Plan answer h left e = e
 gone_on kind answer h left e = ap (λ x. option_map_or (resumed x) (outcome_after kind answer) x) e
 
 -- a turn's event raises no generation
-pub no_turn_raises : (before after : WorldState) (kind : StepKind) (h : ProcedureState) → KeepsGenerations before after → RaisesGenerations (event_of kind h) before after
+pub no_turn_raises : (before after : WorldState) (kind : StepKind) (h : ProcedureState) → KeepsGenerations before after → RaisesGenerations (step_event kind h) before after
 no_turn_raises before after kind h keeps i =
-    subst (λ (b : Bool). (state_at after i).generation ≡ (state_at before i).generation + (if b then 1 else 0)) (sym (own_raises_nothing (world_of before) h.node i (event_of kind h) (turn_own kind h))) (omega (arith, keeps i))
+    subst (λ (b : Bool). (state_at after i).generation ≡ (state_at before i).generation + (if b then 1 else 0)) (sym (own_raises_nothing (world_of before) h.node i (step_event kind h) (turn_own kind h))) (omega (arith, keeps i))
 
-keeps_generations : (kind : StepKind) (h : ProcedureState) (before after : WorldState) → RaisesGenerations (event_of kind h) before after → KeepsGenerations before after
+keeps_generations : (kind : StepKind) (h : ProcedureState) (before after : WorldState) → RaisesGenerations (step_event kind h) before after → KeepsGenerations before after
 keeps_generations kind h before after raised i =
     let same : (state_at after i).generation ≡ (state_at before i).generation + 0 =
-    subst (λ (b : Bool). (state_at after i).generation ≡ (state_at before i).generation + (if b then 1 else 0)) (own_raises_nothing (world_of before) h.node i (event_of kind h) (turn_own kind h)) (raised i) in
+    subst (λ (b : Bool). (state_at after i).generation ≡ (state_at before i).generation + (if b then 1 else 0)) (own_raises_nothing (world_of before) h.node i (step_event kind h) (turn_own kind h)) (raised i) in
     omega (arith, same)
 
 -- the same, of an event that was applied
-pub applied_goes_on : (w w' : WorldState) (h : ProcedureState) (kind : StepKind) (e : Event) (answer : Answer) → IsReached w → h.setup ≡ w.setup → turn w h ≡ Next.Take kind → e ≡ event_of kind h → w'.setup ≡ w.setup
+pub applied_goes_on : (w w' : WorldState) (h : ProcedureState) (kind : StepKind) (e : Event) (answer : Answer) → IsReached w → h.setup ≡ w.setup → turn w h ≡ Next.Take kind → e ≡ step_event kind h → w'.setup ≡ w.setup
     → Step w.setup (world_of w) e (world_of w') answer
     → RaisesGenerations e w w'
     → (is_in_step w' (procedure_after kind answer h) ≡ true) × IfSome (outcome_after kind answer) (CanResume h)

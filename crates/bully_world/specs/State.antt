@@ -133,6 +133,16 @@ KeepsGenerations before after = (i : ℕ) → (state_at after i).generation ≡ 
 abbrev pub KeepsTags : Event → WorldState → WorldState → Type 0
 KeepsTags e before after = (i : ℕ) → changes_slot e i ≡ false → tag_in (state_at after i) ≡ tag_in (state_at before i)
 
+-- the event was applied and answered so: it is one step, for which there was room, and is counted; generations rise as it says, the
+-- tags stay that it doesn't change, and the setup stays
+pub record IsApplied (before : WorldState) (e : Event) (after : WorldState) (answer : Answer) : Type 0 where
+  pub step : StepsTo before e after answer
+  pub room : before.events < before.setup.events_max
+  pub counted : after.events ≡ before.events + 1
+  pub generations : RaisesGenerations e before after
+  pub tags : KeepsTags e before after
+  pub setup : after.setup ≡ before.setup
+
 -- as many events as the setup bounds were applied
 abbrev pub IsFull : WorldState → Type 0
 IsFull w = w.setup.events_max ≤ w.events

@@ -101,8 +101,8 @@ event_at Move i table = Event.Move i
 event_at Plan i table = Event.Plan i (unwrap_or table [])
 
 -- the event of a step of the procedure; a plan has the procedure's table
-abbrev pub event_of : StepKind → ProcedureState → Event
-event_of kind h = event_at kind h.node h.table
+abbrev pub step_event : StepKind → ProcedureState → Event
+step_event kind h = event_at kind h.node h.table
 
 -- the outcome by which the procedure goes on; none at a loss, and none where an orphan returned or was dropped
 abbrev pub outcome_after : StepKind → Answer → Option Outcome

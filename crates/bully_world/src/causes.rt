@@ -161,12 +161,15 @@ fn plan_cause(setup: &Setup, member: &Member, node: Node, table: &Table) -> Opti
     if cause.is_some() {
         return cause;
     }
-    refused_if(!suits(setup, member, node, table), Refused::BadTable)
+    refused_if(
+        !accepts_table(setup, member, node, table),
+        Refused::BadTable,
+    )
 }
 
 // The table has the setup's partitions, and is balanced over the node and its up set, which has lower nodes alone.
 #[inline(always)]
-fn suits(setup: &Setup, member: &Member, node: Node, table: &Table) -> bool
+fn accepts_table(setup: &Setup, member: &Member, node: Node, table: &Table) -> bool
     requires node { node ≤ setup.now.nodes }
     requires up { IsFallingBelow node member.now.vector.vector.up }
     ensures { result ≡ (length table.now == setup.now.partitions) && is_balanced setup.now table.now (with_node node member.now.vector.vector.up) }

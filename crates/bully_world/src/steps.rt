@@ -48,10 +48,10 @@ fn keep_waiting(waiting: &mut Waiting, caller: Node, before: Option<Node>, after
     ensures { waiting.new ≡ with_sent caller after (without_sent caller before waiting.old) }
 {
     if let Some(callee) = before {
-        waiting.remove(callee, caller);
+        waiting.remove_caller(callee, caller);
     }
     if let Some(callee) = after {
-        waiting.add(callee, caller);
+        waiting.add_caller(callee, caller);
     }
 }
 

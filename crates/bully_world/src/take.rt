@@ -3,7 +3,7 @@ ghost use Rattle.std.specs.Option.{option_map_or};
 ghost use Rattle.bully_steps.specs.ProcedureState.{IsProcedureState, HasSameNode, CanResume, resumed};
 ghost use Rattle.bully_steps.specs.Procedure.{state_of};
 ghost use Rattle.bully_world.specs.State.{StepsTo, KeepsGenerations, IsFull};
-ghost use Rattle.bully_world.specs.Turn.{turn, has_table, event_of, is_in_step, procedure_after, procedure_left, outcome_left};
+ghost use Rattle.bully_world.specs.Turn.{turn, has_table, step_event, is_in_step, procedure_after, procedure_left, outcome_left};
 ghost use Rattle.bully_world.specs.declared.turn.Next.{Next};
 
 use crate::World;
@@ -26,14 +26,18 @@ impl World {
     /// the procedure goes on by the outcome, where it lies. After a loss, and after an orphan's return or drop, it is
     /// the same. Takes no memory: a plan's event has the procedure's table. Refused as Full where as many events as the
     /// setup bounds were applied; then world and procedure are unchanged.
-    pub fn take(&mut self, kind: StepKind, procedure: &mut Procedure) -> Result<TakenStep, Refused>
+    pub fn take_step(
+        &mut self,
+        kind: StepKind,
+        procedure: &mut Procedure,
+    ) -> Result<TakenStep, Refused>
         requires setup { (state_of procedure.old).setup ≡ self.old.setup }
         requires offered { turn self.old (state_of procedure.old) ≡ Next.Take kind }
         ensures step { IfOk result (λ taken. StepsTo self.old taken.event self.new taken.answer) }
         ensures counted { OnOk result (self.new.events ≡ self.old.events + 1) }
         ensures generations { OnOk result (KeepsGenerations self.old self.new) }
         ensures setup { self.new.setup ≡ self.old.setup }
-        ensures event { IfOk result (λ taken. taken.event ≡ event_of kind (state_of procedure.old)) }
+        ensures event { IfOk result (λ taken. taken.event ≡ step_event kind (state_of procedure.old)) }
         ensures procedure { IfOk result (λ taken. state_of procedure.new ≡ procedure_after kind taken.answer (state_of procedure.old)) }
         ensures in_step { OnOk result (is_in_step self.new (state_of procedure.new) ≡ true) }
         ensures same_node { HasSameNode (state_of procedure.old) (state_of procedure.new) }
@@ -46,7 +50,7 @@ impl World {
         }
         let event = take_event(kind, procedure);
         let answer = self.apply_allowed(&event);
-        go_on(procedure, kind, answer);
+        advance_after(procedure, kind, answer);
         Ok(TakenStep { event, answer })
     }
 }
@@ -54,7 +58,7 @@ impl World {
 // The event of the procedure's step. A plan takes the table from the procedure, which goes on then.
 fn take_event(kind: StepKind, procedure: &mut Procedure) -> Event
     requires { kind ≡ StepKind.Plan → has_table (state_of procedure.old) ≡ true }
-    ensures event { result ≡ event_of kind (state_of procedure.old) }
+    ensures event { result ≡ step_event kind (state_of procedure.old) }
     ensures left { state_of procedure.new ≡ procedure_left kind (state_of procedure.old) }
     ensures state { IsProcedureState (state_of procedure.old) }
 {
@@ -84,7 +88,7 @@ fn outcome_by(kind: StepKind, answer: Answer) -> Option<Outcome>
 }
 
 // The procedure goes on after its step with this answer.
-fn go_on(procedure: &mut Procedure, kind: StepKind, answer: Answer)
+fn advance_after(procedure: &mut Procedure, kind: StepKind, answer: Answer)
     requires { IfSome (outcome_left kind answer) (CanResume (state_of procedure.old)) }
     ensures { state_of procedure.new ≡ option_map_or (resumed (state_of procedure.old)) (outcome_left kind answer) (state_of procedure.old) }
 {

@@ -1,5 +1,5 @@
-ghost use Rattle.std.specs.Prelude.{◌≡◌, ◌↔◌, ◌+◌, ◌<◌, ◌≤◌, ℕ, IfOk, OnOk, IfErr, IfSome, IfNone, IsOk, length, true, false, None, Some, if◌then◌else◌};
-ghost use Rattle.bully_world.specs.State.{state_at, world_of, cause_in, waits_for, first_state, new_members, member_of, StepsTo, RaisesGenerations, KeepsTags, NobodyWaits, NobodyWaitsBelow, IsKept, IsReached};
+ghost use Rattle.std.specs.Prelude.{◌≡◌, ◌↔◌, ◌≤◌, ℕ, IfOk, IfErr, IfSome, IfNone, IsOk, length, true, false, None, Some, if◌then◌else◌};
+ghost use Rattle.bully_world.specs.State.{state_at, world_of, cause_in, waits_for, first_state, new_members, member_of, IsApplied, NobodyWaits, NobodyWaitsBelow, IsKept, IsReached};
 ghost use Rattle.bully_world.specs.NodeInvariant.{NodeInvariant};
 ghost use Rattle.bully_world.specs.World.{first_world};
 
@@ -78,13 +78,8 @@ impl World {
     // (inlined, as `cause` is)
     #[inline(always)]
     pub fn apply(&mut self, event: &Event) -> Result<Answer, Refused>
-        ensures step { IfOk result (StepsTo self.old event.now self.new) }
+        ensures applied { IfOk result (IsApplied self.old event.now self.new) }
         ensures exact { IsOk result ↔ (cause_in self.old event.now ≡ None) }
-        ensures counted { OnOk result (self.new.events ≡ self.old.events + 1) }
-        ensures room { OnOk result (self.old.events < self.old.setup.events_max) }
-        ensures generations { OnOk result (RaisesGenerations event.now self.old self.new) }
-        ensures tags { OnOk result (KeepsTags event.now self.old self.new) }
-        ensures setup { self.new.setup ≡ self.old.setup }
         ensures why { IfErr result (λ why. cause_in self.old event.now ≡ Some why) }
         ensures unchanged { IfErr result (λ _. self.new ≡ self.old) }
     {
@@ -99,12 +94,7 @@ impl World {
     #[inline(always)]
     pub fn apply_allowed(&mut self, event: &Event) -> Answer
         requires { cause_in self.old event.now ≡ None }
-        ensures step { StepsTo self.old event.now self.new result }
-        ensures counted { self.new.events ≡ self.old.events + 1 }
-        ensures room { self.old.events < self.old.setup.events_max }
-        ensures generations { RaisesGenerations event.now self.old self.new }
-        ensures tags { KeepsTags event.now self.old self.new }
-        ensures setup { self.new.setup ≡ self.old.setup }
+        ensures applied { IsApplied self.old event.now self.new result }
     {
         let answer = apply_event(
             &self.setup,

@@ -3,7 +3,7 @@ ghost use Rattle.bully_group.specs.NodeTurns.{LeavesInStep, TurnsBy, adds_entry}
 ghost use Rattle.bully_group.specs.Turns.{handed_back, IfWent, IfWaiting, IfResynced, IfFault, is_went, MayTurn, Goes, Waits, Resyncs, Fails, IsTurnFault, EndsInStep};
 ghost use Rattle.bully_steps.specs.Procedure.{state_of};
 ghost use Rattle.bully_steps.specs.ProcedureState.{HasSameNode};
-ghost use Rattle.bully_world.specs.Turn.{turn, has_table, is_in_step, event_of};
+ghost use Rattle.bully_world.specs.Turn.{turn, has_table, is_in_step, step_event};
 ghost use Rattle.bully_world.specs.declared.turn.Next.{Next};
 ghost use Rattle.bully_world.specs.declared.turn.StepKind.{StepKind};
 
@@ -133,13 +133,13 @@ impl<L: Naming> Locked<L> {
         if self.world.events() >= self.world.setup().events_max() {
             return Err(StepFault::Refused(Refused::Full));
         }
-        let Ok(logged) = event_of(kind, procedure) else {
+        let Ok(logged) = offered_event(kind, procedure) else {
             return Err(StepFault::OutOfMemory);
         };
         if reserve_entry(&mut self.history, &mut seat.log).is_err() {
             return Err(StepFault::OutOfMemory);
         }
-        let Ok(TakenStep { event, answer }) = self.world.take(kind, procedure) else {
+        let Ok(TakenStep { event, answer }) = self.world.take_step(kind, procedure) else {
             unreachable!()
         };
         pass.count(&mut self.book);
@@ -154,9 +154,9 @@ impl<L: Naming> Locked<L> {
 }
 
 // A copy of the event of the procedure's step, a plan's with the procedure's table.
-fn event_of(kind: StepKind, procedure: &Procedure) -> Result<Event, OutOfMemory>
+fn offered_event(kind: StepKind, procedure: &Procedure) -> Result<Event, OutOfMemory>
     requires { kind ≡ StepKind.Plan → has_table (state_of procedure.now) ≡ true }
-    ensures { IfOk result (λ event. event ≡ event_of kind (state_of procedure.now)) }
+    ensures { IfOk result (λ event. event ≡ step_event kind (state_of procedure.now)) }
 {
     let table = match kind {
         StepKind::Plan => Some(procedure.table().unwrap().copy()?),

@@ -52,7 +52,7 @@ impl Halting {
     }
 
     /// Goes on to halt this node next, by the outcome: a node that answered joins those that did.
-    pub(crate) fn go_on(&mut self, next: u16, outcome: Outcome)
+    pub(crate) fn halt_next(&mut self, next: u16, outcome: Outcome)
         requires can { CanResume (halting self.old) outcome }
         requires next { next_of (halting self.old) outcome ≡ Some (Point.Halting next) }
         ensures { halting self.new ≡ resumed (halting self.old) outcome }

@@ -12,10 +12,10 @@ loop-index-preserved c =
     let e = c.index-events-index.result in
     let there = slice_get_read c.args.events.now _ c.loop-index.index e refl c.loop-index-test.true c.index-events-index.is in
     let none : cause c.args.setup (world_of w) w.events e ≡ None = subst (λ s. cause s (world_of w) w.events e ≡ None) c.loop-index.invariant.setup (c.in_default.ensures.exact.0 refl) in
-    let step : Step c.args.setup (world_of w) e (world_of c.apply.new.self) c.in_default.field-0 = subst (λ s. Step s (world_of w) e (world_of c.apply.new.self) c.in_default.field-0) c.loop-index.invariant.setup c.in_default.ensures.step in
+    let step : Step c.args.setup (world_of w) e (world_of c.apply.new.self) c.in_default.field-0 = subst (λ s. Step s (world_of w) e (world_of c.apply.new.self) c.in_default.field-0) c.loop-index.invariant.setup c.in_default.ensures.applied.step in
     record {
-      setup = c.apply.ensures.setup ∙ c.loop-index.invariant.setup;
-      counted = grind (arith, c.in_default.ensures.counted, c.loop-index.invariant.counted);
+      setup = c.in_default.ensures.applied.setup ∙ c.loop-index.invariant.setup;
+      counted = grind (arith, c.in_default.ensures.applied.counted, c.loop-index.invariant.counted);
       lawful = run-more c.args.setup c.args.events.now c.loop-index.index w.events e (world_of w) (world_of c.apply.new.self) c.in_default.field-0
           there c.loop-index.invariant.counted none step c.loop-index.invariant.lawful;
       end = refl;

@@ -15,5 +15,5 @@ pub returns-clause-filmed : goal.returns-clause-filmed
 returns-clause-filmed c = λ setup rows at filmed.
     let row : Row = Row.Event (event_at c.args.event.kind c.args.event.node) in
     let look : IsLook c.args.self.now (node_in row) (deed_in row) c.look-opening.result = rw (node-told c.args.event.kind c.args.event.node) (search rules) in
-    filmed-on setup rows row c.args.number c.args.self.now c.judge_event.new.self c.go_on.new.self c.look-opening.result c.go_on.result (search rules) look
-    c.judge_event.ensures.window c.judge_event.ensures.still c.judge_event.ensures.scenes c.judge_event.ensures.judged c.go_on.ensures.on at filmed
+    filmed-on setup rows row c.args.number c.args.self.now c.judge_event.new.self c.keep_shown.new.self c.look-opening.result c.keep_shown.result (search rules) look
+    c.judge_event.ensures.window c.judge_event.ensures.still c.judge_event.ensures.scenes c.judge_event.ensures.judged c.keep_shown.ensures.on at filmed

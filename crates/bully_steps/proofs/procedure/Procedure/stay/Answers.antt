@@ -39,8 +39,8 @@ invariant_of-checking c =
     let same : checking (record { identity = c.checking.inside.identity; callee = c.in-Checking-Checking.callee; awaits = c.is_started-awaits.result }) ≡ resumed (state_of c.args.self.now) c.args.outcome = grind (arith, next, c.is_started-awaits.ensures, c.in-Checking-Checking.is-0, c.in-Checking-Checking.is-1, c.checking.view_is) in
     goes_on (state_of c.args.self.now) (checking (record { identity = c.checking.inside.identity; callee = c.in-Checking-Checking.callee; awaits = c.is_started-awaits.result })) c.args.outcome c.unwrap-next.result c.node.ensures.state c.requires next same
 
-pub go_on-requires-clause-next : goal.go_on-requires-clause-next
-go_on-requires-clause-next c =
+pub halt_next-requires-clause-next : goal.halt_next-requires-clause-next
+halt_next-requires-clause-next c =
     let next : option_map kind_of (next_of (state_of c.args.self.now) c.args.outcome) ≡ Some c.unwrap-next.result =
     grind (arith, c.next.ensures (unwrap_or (state_of c.args.self.now).up []), c.kind.ensures, c.left.ensures.point, c.unwrap-next.ensures, c.setup.ensures.setup, c.node.ensures.node) in
     grind (arith, next, c.in-Halting-Halting.is-0, c.in-Halting-Halting.is-1)

@@ -4,7 +4,7 @@ use Rattle.std.specs.Prelude.{IfSome, if◌then◌else◌}
 use Rattle.bully_base.specs.Places.{at_node}
 use Rattle.bully_events.specs.Events.{node_of}
 use Rattle.bully_world.specs.Cause.{cause}
-use Rattle.bully_world.specs.State.{MemberState, kept_of, IsWorld, members_of, state_at, world_of, cause_in, empty_state, raises, tag_in}
+use Rattle.bully_world.specs.State.{MemberState, WorldState, kept_of, IsWorld, members_of, state_at, world_of, cause_in, empty_state, raises, tag_in}
 use Rattle.bully_world.specs.Step.{Step}
 use Rattle.bully_world.specs.StateAfter.{CanApply, state_after, answer_after}
 use Rattle.bully_world.specs.Waiting.{IsWaiting, sent_in}
@@ -41,37 +41,27 @@ invariant_of-self c =
     let back = whole ∙ next in
     (subst (λ xs. IsWorld (record { setup = c.self.inside.setup; events = c.self.inside.events + 1; members = xs })) (sym back) (next_world c.self.inside.setup c.self.inside.events ms c.args.event.now c.self.invariant.0 free), subst (λ xs. IsWaiting xs c.apply_event-answer.new.waiting) (sym whole) c.apply_event-answer.ensures.waiting)
 
-pub returns-clause-step : goal.returns-clause-step
-returns-clause-step c =
+pub returns : goal.returns
+returns c =
+    let w = c.args.self.now in
     let ms = c.self.inside.members.items in
     let free : cause c.self.inside.setup (members_of ms) c.self.inside.events c.args.event.now ≡ None = subst (λ s. cause_in s c.args.event.now ≡ None) (sym c.self.view_is) c.requires in
     let next : c.apply_event-answer.new.members ≡ state_after c.self.inside.setup ms c.args.event.now = c.apply_event-answer.ensures.after ∙ ap (λ xs. state_after c.self.inside.setup xs c.args.event.now) c.as_mut_slice.ensures.value in
     let back = put_back c.self.inside.members.len c.apply_event-answer.new.members ms (ap length next ∙ (event_laws c.self.inside.setup c.args.event.now).many ms ∙ sym c.self.inside.members.ok.0) (sym c.self.inside.members.ok.0) ∙ next in
     let answer = c.apply_event-answer.ensures.answer ∙ ap (λ xs. answer_after xs c.args.event.now) c.as_mut_slice.ensures.value in
     let step = world_steps c.self.inside.setup c.self.inside.events ms c.args.event.now c.self.invariant.0 free in
-    subst (λ s. Step s.setup (world_of s) c.args.event.now (members_of (take c.self.inside.members.len (c.apply_event-answer.new.members ++ drop (length c.apply_event-answer.new.members) ms))) c.apply_event-answer.result) c.self.view_is
-    (subst (λ a. Step c.self.inside.setup (members_of ms) c.args.event.now (members_of (take c.self.inside.members.len (c.apply_event-answer.new.members ++ drop (length c.apply_event-answer.new.members) ms))) a) (sym answer)
-    (subst (λ xs. Step c.self.inside.setup (members_of ms) c.args.event.now (members_of xs) (answer_after ms c.args.event.now)) (sym back) step))
-
-pub returns-clause-generations : goal.returns-clause-generations
-returns-clause-generations c =
-    let ms = c.self.inside.members.items in
-    let free : cause c.self.inside.setup (members_of ms) c.self.inside.events c.args.event.now ≡ None = subst (λ s. cause_in s c.args.event.now ≡ None) (sym c.self.view_is) c.requires in
-    let next : c.apply_event-answer.new.members ≡ state_after c.self.inside.setup ms c.args.event.now = c.apply_event-answer.ensures.after ∙ ap (λ xs. state_after c.self.inside.setup xs c.args.event.now) c.as_mut_slice.ensures.value in
-    let back = put_back c.self.inside.members.len c.apply_event-answer.new.members ms (ap length next ∙ (event_laws c.self.inside.setup c.args.event.now).many ms ∙ sym c.self.inside.members.ok.0) (sym c.self.inside.members.ok.0) ∙ next in
     let raised = (event_laws c.self.inside.setup c.args.event.now).generations c.self.inside.events ms (record { all = world_fits c.self.inside.setup c.self.inside.events ms c.self.invariant.0; kept = c.self.invariant.0.kept }) free in
-    λ i. subst (λ s. (at_node (empty_state 0) (take c.self.inside.members.len (c.apply_event-answer.new.members ++ drop (length c.apply_event-answer.new.members) ms)) i).generation ≡ (state_at s i).generation + (if raises (world_of s) c.args.event.now i then 1 else 0)) c.self.view_is
-    (subst (λ xs. (at_node (empty_state 0) xs i).generation ≡ (at_node (empty_state 0) ms i).generation + (if raises (members_of ms) c.args.event.now i then 1 else 0)) (sym back) (raised i))
-
-pub returns-clause-tags : goal.returns-clause-tags
-returns-clause-tags c =
-    let ms = c.self.inside.members.items in
-    let next : c.apply_event-answer.new.members ≡ state_after c.self.inside.setup ms c.args.event.now = c.apply_event-answer.ensures.after ∙ ap (λ xs. state_after c.self.inside.setup xs c.args.event.now) c.as_mut_slice.ensures.value in
-    let back = put_back c.self.inside.members.len c.apply_event-answer.new.members ms (ap length next ∙ (event_laws c.self.inside.setup c.args.event.now).many ms ∙ sym c.self.inside.members.ok.0) (sym c.self.inside.members.ok.0) ∙ next in
-    λ i other. subst (λ s. tag_in (at_node (empty_state 0) (take c.self.inside.members.len (c.apply_event-answer.new.members ++ drop (length c.apply_event-answer.new.members) ms)) i) ≡ tag_in (state_at s i)) c.self.view_is
-    (subst (λ xs. tag_in (at_node (empty_state 0) xs i) ≡ tag_in (at_node (empty_state 0) ms i)) (sym back) ((event_laws c.self.inside.setup c.args.event.now).tags ms i other))
-
-pub returns-clause-room : goal.returns-clause-room
-returns-clause-room c =
-    let w = c.args.self.now in
-    room_of w.setup (world_of w) w.events c.args.event.now c.requires
+    record {
+      applied = record {
+        step = subst (λ s. Step s.setup (world_of s) c.args.event.now (members_of (take c.self.inside.members.len (c.apply_event-answer.new.members ++ drop (length c.apply_event-answer.new.members) ms))) c.apply_event-answer.result) c.self.view_is
+            (subst (λ a. Step c.self.inside.setup (members_of ms) c.args.event.now (members_of (take c.self.inside.members.len (c.apply_event-answer.new.members ++ drop (length c.apply_event-answer.new.members) ms))) a) (sym answer)
+            (subst (λ xs. Step c.self.inside.setup (members_of ms) c.args.event.now (members_of xs) (answer_after ms c.args.event.now)) (sym back) step));
+        room = room_of w.setup (world_of w) w.events c.args.event.now c.requires;
+        counted = ap (λ (s : WorldState). s.events + 1) c.self.view_is;
+        generations = λ i. subst (λ s. (at_node (empty_state 0) (take c.self.inside.members.len (c.apply_event-answer.new.members ++ drop (length c.apply_event-answer.new.members) ms)) i).generation ≡ (state_at s i).generation + (if raises (world_of s) c.args.event.now i then 1 else 0)) c.self.view_is
+            (subst (λ xs. (at_node (empty_state 0) xs i).generation ≡ (at_node (empty_state 0) ms i).generation + (if raises (members_of ms) c.args.event.now i then 1 else 0)) (sym back) (raised i));
+        tags = λ i other. subst (λ s. tag_in (at_node (empty_state 0) (take c.self.inside.members.len (c.apply_event-answer.new.members ++ drop (length c.apply_event-answer.new.members) ms)) i) ≡ tag_in (state_at s i)) c.self.view_is
+            (subst (λ xs. tag_in (at_node (empty_state 0) xs i) ≡ tag_in (at_node (empty_state 0) ms i)) (sym back) ((event_laws c.self.inside.setup c.args.event.now).tags ms i other));
+        setup = ap (λ (s : WorldState). s.setup) c.self.view_is;
+      };
+    }

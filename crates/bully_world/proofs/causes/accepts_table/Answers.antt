@@ -5,7 +5,7 @@ use Rattle.bully_base.specs.NodeSet.{with_node}
 use Rattle.bully_steps.proofs.PlanLemmas.{node_and_up}
 use Rattle.bully_table.specs.Balance.{is_balanced}
 use Rattle.bully_world.proofs.CauseAt.{balanced-test}
-use Rattle.bully_world.proofs.causes.suits.Goals as goal
+use Rattle.bully_world.proofs.causes.accepts_table.Goals as goal
 
 pub is_balanced_in-requires-clause-length : goal.is_balanced_in-requires-clause-length
 is_balanced_in-requires-clause-length c = grind (arith, nat_tests, c.if-is_whole.true, c.from.ensures, c.partitions.ensures.partitions, c.len.ensures)

@@ -3,7 +3,7 @@ use Rattle.std.proofs.Common.{◌≡◌, refl, sym, ◌∙◌, ap, subst}
 use Rattle.bully_events.specs.Events.{node_of}
 use Rattle.bully_node.specs.Agent.{AgentState, IsAgentOf}
 use Rattle.bully_node.proofs.AgentLemmas.{taken_is}
-use Rattle.bully_node.proofs.agent.Agent.take.Goals as goal
+use Rattle.bully_node.proofs.agent.Agent.take_event.Goals as goal
 
 pub take_alone-requires : goal.take_alone-requires
 take_alone-requires c =

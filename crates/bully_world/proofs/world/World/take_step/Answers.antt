@@ -3,10 +3,10 @@ use Rattle.std.proofs.Common.{◌≡◌, ◌<◌, None, arith, rules, ◌∙◌,
 use Rattle.std.proofs.lemmas.Bool.Decides.{nat_tests}
 use Rattle.bully_steps.specs.Procedure.{state_of}
 use Rattle.bully_world.specs.State.{cause_in}
-use Rattle.bully_world.specs.Turn.{event_of, is_in_step}
+use Rattle.bully_world.specs.Turn.{step_event, is_in_step}
 use Rattle.bully_world.proofs.ProcedureAfter.{identity_after}
 use Rattle.bully_world.proofs.TurnTaken.{free_if_offered, table_if_planned, applied_goes_on, can_go_on, gone_on}
-use Rattle.bully_world.proofs.world.World.take.Goals as goal
+use Rattle.bully_world.proofs.world.World.take_step.Goals as goal
 
 pub take_event-event-requires : goal.take_event-event-requires
 take_event-event-requires c e = table_if_planned c.args.self.now (state_of c.args.procedure.now) c.args.kind c.requires.offered e
@@ -14,27 +14,27 @@ take_event-event-requires c e = table_if_planned c.args.self.now (state_of c.arg
 pub apply_allowed-answer-requires : goal.apply_allowed-answer-requires
 apply_allowed-answer-requires c =
     let room : c.args.self.now.events < c.args.self.now.setup.events_max = grind (arith, nat_tests, c.if-events-events_max.false, c.events.ensures.events, c.events_max.ensures.events_max, c.setup.ensures.setup) in
-    let free : cause_in c.args.self.now (event_of c.args.kind (state_of c.args.procedure.now)) ≡ None =
+    let free : cause_in c.args.self.now (step_event c.args.kind (state_of c.args.procedure.now)) ≡ None =
     free_if_offered c.args.self.now (state_of c.args.procedure.now) c.args.kind c.events.ensures.reached c.take_event-event.ensures.state c.requires.setup c.requires.offered room in
     ap (cause_in c.args.self.now) c.take_event-event.ensures.event ∙ free
 
-pub go_on-requires : goal.go_on-requires
-go_on-requires c = can_go_on c.args.kind c.apply_allowed-answer.result (state_of c.args.procedure.now) (state_of c.take_event-event.new.procedure) c.take_event-event.ensures.left
-    (applied_goes_on c.args.self.now c.apply_allowed-answer.new.self (state_of c.args.procedure.now) c.args.kind c.take_event-event.result c.apply_allowed-answer.result c.events.ensures.reached c.requires.setup c.requires.offered c.take_event-event.ensures.event c.apply_allowed-answer.ensures.setup c.apply_allowed-answer.ensures.step c.apply_allowed-answer.ensures.generations).1
+pub advance_after-requires : goal.advance_after-requires
+advance_after-requires c = can_go_on c.args.kind c.apply_allowed-answer.result (state_of c.args.procedure.now) (state_of c.take_event-event.new.procedure) c.take_event-event.ensures.left
+    (applied_goes_on c.args.self.now c.apply_allowed-answer.new.self (state_of c.args.procedure.now) c.args.kind c.take_event-event.result c.apply_allowed-answer.result c.events.ensures.reached c.requires.setup c.requires.offered c.take_event-event.ensures.event c.apply_allowed-answer.ensures.applied.setup c.apply_allowed-answer.ensures.applied.step c.apply_allowed-answer.ensures.applied.generations).1
 
 pub returns-clause-procedure : goal.returns-clause-procedure
-returns-clause-procedure c = c.go_on.ensures ∙ gone_on c.args.kind c.apply_allowed-answer.result (state_of c.args.procedure.now) (state_of c.take_event-event.new.procedure) c.take_event-event.ensures.left
+returns-clause-procedure c = c.advance_after.ensures ∙ gone_on c.args.kind c.apply_allowed-answer.result (state_of c.args.procedure.now) (state_of c.take_event-event.new.procedure) c.take_event-event.ensures.left
 
 pub returns-clause-in_step : goal.returns-clause-in_step
 returns-clause-in_step c =
-    let goes = c.go_on.ensures ∙ gone_on c.args.kind c.apply_allowed-answer.result (state_of c.args.procedure.now) (state_of c.take_event-event.new.procedure) c.take_event-event.ensures.left in
+    let goes = c.advance_after.ensures ∙ gone_on c.args.kind c.apply_allowed-answer.result (state_of c.args.procedure.now) (state_of c.take_event-event.new.procedure) c.take_event-event.ensures.left in
     ap (is_in_step c.apply_allowed-answer.new.self) goes
-    ∙ (applied_goes_on c.args.self.now c.apply_allowed-answer.new.self (state_of c.args.procedure.now) c.args.kind c.take_event-event.result c.apply_allowed-answer.result c.events.ensures.reached c.requires.setup c.requires.offered c.take_event-event.ensures.event c.apply_allowed-answer.ensures.setup c.apply_allowed-answer.ensures.step c.apply_allowed-answer.ensures.generations).0
+    ∙ (applied_goes_on c.args.self.now c.apply_allowed-answer.new.self (state_of c.args.procedure.now) c.args.kind c.take_event-event.result c.apply_allowed-answer.result c.events.ensures.reached c.requires.setup c.requires.offered c.take_event-event.ensures.event c.apply_allowed-answer.ensures.applied.setup c.apply_allowed-answer.ensures.applied.step c.apply_allowed-answer.ensures.applied.generations).0
 
 pub returns-clause-same_node : goal.returns-clause-same_node
 returns-clause-same_node c =
     let owner = identity_after c.args.kind c.apply_allowed-answer.result (state_of c.args.procedure.now) in
-    let goes = c.go_on.ensures ∙ gone_on c.args.kind c.apply_allowed-answer.result (state_of c.args.procedure.now) (state_of c.take_event-event.new.procedure) c.take_event-event.ensures.left in
+    let goes = c.advance_after.ensures ∙ gone_on c.args.kind c.apply_allowed-answer.result (state_of c.args.procedure.now) (state_of c.take_event-event.new.procedure) c.take_event-event.ensures.left in
     record { setup = grind (arith, goes, owner.0); node = grind (arith, goes, owner.1) }
 
 pub returns-clause-step : goal.returns-clause-step

@@ -4,8 +4,8 @@ use Rattle.bully_steps.specs.declared.point.Point.{Point}
 use Rattle.bully_steps.specs.ProcedureState.{IsProcedureState, resumed}
 use Rattle.bully_steps.specs.States.{halting}
 use Rattle.bully_steps.proofs.ResumeLemmas.{joined_is, resumed_is_state}
-use Rattle.bully_steps.proofs.states.halting.Halting.go_on.Goals as goal
-use Rattle.bully_steps.proofs.states.halting.Halting.go_on.Goals.{then-eq, else-eq}
+use Rattle.bully_steps.proofs.states.halting.Halting.halt_next.Goals as goal
+use Rattle.bully_steps.proofs.states.halting.Halting.halt_next.Goals.{then-eq, else-eq}
 
 pub invariant_of-self : goal.invariant_of-self
 invariant_of-self c =

@@ -1,9 +1,9 @@
 use Rattle.std.proofs.Common.{◌≡◌, ◌<◌, ◌+◌, ◌++◌, ◌∷◌, [], arith, rules}
-use Rattle.bully_film.specs.declared.scene.Sight.{Sight}
+use Rattle.bully_film.specs.declared.sight.Sight.{Sight}
 use Rattle.bully_film.specs.Scene.{sight}
 use Rattle.bully_world.specs.State.{world_of}
 use Rattle.bully_film.proofs.LaneLemmas.{sights-more}
-use Rattle.bully_film.proofs.scene.push_sights.Goals as goal
+use Rattle.bully_film.proofs.sight.push_sights.Goals as goal
 
 pub loop-before-preserved : goal.loop-before-preserved
 loop-before-preserved c =

@@ -6,7 +6,7 @@ use Rattle.bully_lines.specs.Texts.{reply_text}
 use Rattle.bully_messages.specs.declared.message.Reply.{Reply}
 use Rattle.bully_c.specs.Exports.{IsRequestLine, RefusesRequestLine, answer_line}
 use Rattle.bully_c.proofs.ReplyLemmas.{copied-as}
-use Rattle.bully_c.proofs.agents.served.Goals as goal
+use Rattle.bully_c.proofs.requests.served.Goals as goal
 
 pub returns-in-Err : goal.returns-in-Err
 returns-in-Err c =

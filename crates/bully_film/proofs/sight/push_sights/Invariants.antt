@@ -1,7 +1,7 @@
 use Rattle.std.proofs.Common.{◌≡◌, ◌≤◌, ◌+◌, ◌-◌, ◌++◌, vec_capacity, vec_len}
 use Rattle.bully_world.specs.State.{world_of}
 use Rattle.bully_film.specs.Scene.{sights_of}
-use Rattle.bully_film.proofs.scene.push_sights.Given as goal
+use Rattle.bully_film.proofs.sight.push_sights.Given as goal
 
 abbrev pub invariant-loop-before : goal.invariant-loop-before
 invariant-loop-before l = record {

@@ -2,7 +2,7 @@
 use Rattle.std.proofs.Common.{◌<◌, ◌∙◌, ap, arith, sym}
 use Rattle.bully_film.specs.Scene.{seen_of}
 use Rattle.bully_film.proofs.BehindLemmas.{beyond-empty}
-use Rattle.bully_film.proofs.scene.sight_of.Goals as goal
+use Rattle.bully_film.proofs.sight.sight_of.Goals as goal
 
 pub returns-then-number-nodes : goal.returns-then-number-nodes
 returns-then-number-nodes c =

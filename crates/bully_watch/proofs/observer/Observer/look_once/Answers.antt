@@ -7,7 +7,7 @@ use Rattle.bully_watch.specs.declared.knowledge.Knowledge.{Knowledge}
 use Rattle.bully_watch.specs.declared.knowledge.PublisherId.{PublisherId}
 use Rattle.bully_watch.specs.declared.page.Page.{Page}
 use Rattle.bully_watch.proofs.StepLemmas.{looks as turns, look_shows}
-use Rattle.bully_watch.proofs.observer.Observer.looked.Goals as goal
+use Rattle.bully_watch.proofs.observer.Observer.look_once.Goals as goal
 
 pub enter_as-requires : goal.enter_as-requires
 enter_as-requires c = turns _ _
