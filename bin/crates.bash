@@ -195,11 +195,12 @@ waiting_libraries() {
     done | sort -rn | cut -d ' ' -f 2
 }
 
-# Whether a proof that was begun is of a longer chain than that of this library, less the time that it has had.
+# Whether a proof that was begun is of a chain that is longer than that of this library by more than so many seconds, less the time that
+# it has had.
 is_behind() {
     local name
     for name in "${libraries[@]}"; do
-        [[ ${state[$name]} != begun || $((${chain[$name]} - SECONDS + begun_at[$name])) -le ${chain[$1]} ]] || return 0
+        [[ ${state[$name]} != begun || $((${chain[$name]} - SECONDS + begun_at[$name])) -le $((${chain[$1]} + $2)) ]] || return 0
     done
     return 1
 }
@@ -209,7 +210,7 @@ is_behind() {
 jobs_for() {
     local free least=1
     free=$(($(nproc) - processes - $2))
-    is_behind "$1" || least=2
+    is_behind "$1" 0 || least=2
     free=$((free < least ? least : free))
     echo $((free > 3 ? 3 : free))
 }
@@ -228,22 +229,26 @@ begin_all() {
     done
 }
 
-# Begins the proof of a library by so many processes. The longest chain comes first where there are more of them than cores.
+# Begins the proof of a library by so many processes. Where there are more of them than cores, those come first whose chain is the longest
+# or shorter by a minute at most.
 begin_proof() {
     local less=0
-    ! is_behind "$1" || less=10
+    ! is_behind "$1" 60 || less=10
     state[$1]=begun begun=$((begun + 1)) begun_at[$1]=$SECONDS
     jobs[$1]=$2 processes=$((processes + $2))
     prove_library "$1" "$2" "$less" &
 }
 
-# Proves a library by so many processes, which are so much nicer, and builds it. `room` has what was said, and how that ended.
+# Proves a library by so many processes, which are so much nicer, and builds it. `room` has what was said, and how that ended. The first
+# time only its statements are built, by which the crates above it are proved sooner, and nothing is kept; from the second time on what
+# was proved is kept for the next one.
 prove_library() {
-    local words out=$root/crates/$1/out
+    local words out=$root/crates/$1/out keep=(--statements)
     renice -n "$3" "$BASHPID" >/dev/null
     find_words "$1" src/lib.rt
+    [[ ! -e $out/incremental && ! -e $out/built/$1.rlib ]] || keep=(--incremental out/incremental)
     mkdir -p "$out/built" && rm -f "$out/built/made_of"
-    if cd "$root/crates/$1" && "$kit/bin/rattle" build "${words[@]}" --jobs "$2" --incremental out/incremental -o "out/built/$1.rlib"; then
+    if cd "$root/crates/$1" && "$kit/bin/rattle" build "${words[@]}" --jobs "$2" "${keep[@]}" -o "out/built/$1.rlib"; then
         printf '%s\n' "${made_of[$1]}" >"$out/built/made_of"
     fi &>"$room/$1.said" </dev/null
     touch "$room/$1.ended"

@@ -1,5 +1,5 @@
 //! Agents behind their handles.
-ghost use Rattle.std.specs.Prelude.{◌≡◌, [], IfErr, IfOk, IfSome, length, None, unwrap_or, reverse};
+ghost use Rattle.std.specs.Prelude.{◌≡◌, ◌≤◌, [], IfErr, IfOk, IfSome, length, None, unwrap_or, reverse};
 ghost use Rattle.std.specs.Option.{option_copied};
 ghost use Rattle.bully_node.specs.Agent.{new_agent};
 ghost use Rattle.bully_rows.specs.TraceText.{line_of, row_fields, rows_text};
