@@ -107,9 +107,9 @@ all_jobs() {
 # and then what the command behind it proves and builds. The files of the folder `room` tell what was said.
 prove_below() {
     # (of each crate: empty while no proof was begun, `begun` or `proved`; what it is made of; the seconds of its chain; when its proof was
-    # begun, and by how many processes. And how many were proved, are to be, and were begun, and the processes of these)
-    local -A state=() made_of=() chain=() begun_at=() jobs=()
-    local proved=0 all=0 begun=0 processes=0 libraries
+    # begun. And how many were proved, are to be, and are under way)
+    local -A state=() made_of=() chain=() begun_at=()
+    local proved=0 all=0 begun=0 libraries
     read -ra libraries <<<"${below[$1]}"
     find_states
     find_chains "$1"
@@ -205,25 +205,23 @@ is_behind() {
     return 1
 }
 
-# How many processes prove a library, where so many other proofs wait: two prove sooner than one, but with a third more work, and more than
-# three hardly sooner. So it has the cores that neither the proofs under way nor those that wait need, and that of the longest chain two.
+# How many processes prove a library, where so many other proofs wait. Several do a third more work than one, and four no more than two. So it
+# has one where that leaves one core idle at most, a core for each proof under way and for each that waits, and else as many as there are cores.
 jobs_for() {
-    local free least=1
-    free=$(($(nproc) - processes - $2))
-    is_behind "$1" 0 || least=2
-    free=$((free < least ? least : free))
-    echo $((free > 3 ? 3 : free))
+    local cores
+    cores=$(nproc)
+    echo $((cores - begun - $1 > 1 ? cores : 1))
 }
 
-# Begins each proof that nothing keeps waiting, as long as there are cores, and one more.
+# Begins each proof that nothing keeps waiting, as long as there are cores.
 begin_all() {
     local name waiting wanted left
     mapfile -t waiting < <(waiting_libraries)
     left=${#waiting[@]}
     for name in "${waiting[@]}"; do
-        [[ $begun -le $(nproc) ]] || return 0
+        [[ $begun -lt $(nproc) ]] || return 0
         left=$((left - 1))
-        wanted=$(jobs_within_memory "$(jobs_for "$name" "$left")")
+        wanted=$(jobs_within_memory "$(jobs_for "$left")")
         [[ $wanted -ge 1 || $begun == 0 ]] || return 0
         begin_proof "$name" $((wanted < 1 ? 1 : wanted))
     done
@@ -235,18 +233,26 @@ begin_proof() {
     local less=0
     ! is_behind "$1" 60 || less=10
     state[$1]=begun begun=$((begun + 1)) begun_at[$1]=$SECONDS
-    jobs[$1]=$2 processes=$((processes + $2))
     prove_library "$1" "$2" "$less" &
 }
 
+# Whether another one of the libraries stands on this one.
+is_below_another() {
+    local name
+    for name in "${libraries[@]}"; do
+        [[ " ${below[$name]} " != *" $1 "* ]] || return 0
+    done
+    return 1
+}
+
 # Proves a library by so many processes, which are so much nicer, and builds it. `room` has what was said, and how that ended. The first
-# time only its statements are built, by which the crates above it are proved sooner, and nothing is kept; from the second time on what
-# was proved is kept for the next one.
+# time only the statements are built of a library that others stand on, by which those are proved sooner, and nothing is kept; else what was
+# proved is kept for the next time.
 prove_library() {
-    local words out=$root/crates/$1/out keep=(--statements)
+    local words out=$root/crates/$1/out keep=(--incremental out/incremental)
     renice -n "$3" "$BASHPID" >/dev/null
     find_words "$1" src/lib.rt
-    [[ ! -e $out/incremental && ! -e $out/built/$1.rlib ]] || keep=(--incremental out/incremental)
+    [[ -e $out/incremental || -e $out/built/$1.rlib ]] || ! is_below_another "$1" || keep=(--statements)
     mkdir -p "$out/built" && rm -f "$out/built/made_of"
     if cd "$root/crates/$1" && "$kit/bin/rattle" build "${words[@]}" --jobs "$2" "${keep[@]}" -o "out/built/$1.rlib"; then
         printf '%s\n' "${made_of[$1]}" >"$out/built/made_of"
@@ -264,7 +270,7 @@ gather() {
             say "$name was not built"
             return 1
         fi
-        state[$name]=proved begun=$((begun - 1)) processes=$((processes - jobs[$name]))
+        state[$name]=proved begun=$((begun - 1))
         tell_proved "$name"
     done
 }
