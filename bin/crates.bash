@@ -107,9 +107,9 @@ all_jobs() {
 # and then what the command behind it proves and builds. The files of the folder `room` tell what was said.
 prove_below() {
     # (of each crate: empty while no proof was begun, `begun` or `proved`; what it is made of; the seconds of its chain; when its proof was
-    # begun. And how many were proved, are to be, and are under way)
-    local -A state=() made_of=() chain=() begun_at=()
-    local proved=0 all=0 begun=0 libraries
+    # begun, and by how many processes. And how many were proved, are to be, and are under way, and the processes of these)
+    local -A state=() made_of=() chain=() begun_at=() jobs=()
+    local proved=0 all=0 begun=0 processes=0 libraries
     read -ra libraries <<<"${below[$1]}"
     find_states
     find_chains "$1"
@@ -195,45 +195,46 @@ waiting_libraries() {
     done | sort -rn | cut -d ' ' -f 2
 }
 
-# Whether a proof that was begun is of a chain that is longer than that of this library by more than so many seconds, less the time that
-# it has had.
+# Whether a proof that was begun is of a longer chain than that of this library, less the time that it has had.
 is_behind() {
     local name
     for name in "${libraries[@]}"; do
-        [[ ${state[$name]} != begun || $((${chain[$name]} - SECONDS + begun_at[$name])) -le $((${chain[$1]} + $2)) ]] || return 0
+        [[ ${state[$name]} != begun || $((${chain[$name]} - SECONDS + begun_at[$name])) -le ${chain[$1]} ]] || return 0
     done
     return 1
 }
 
-# How many processes prove a library, where so many other proofs wait. Several do a third more work than one, and four no more than two. So it
-# has one where that leaves one core idle at most, a core for each proof under way and for each that waits, and else as many as there are cores.
+# How many processes prove a library, where so many other proofs wait. Several prove sooner than one, but with a third more work, and more
+# than three hardly sooner. So it has the cores that neither the proofs under way nor those that wait need, and that of the longest chain all
+# but one; and three at most.
 jobs_for() {
-    local cores
+    local cores wanted
     cores=$(nproc)
-    echo $((cores - begun - $1 > 1 ? cores : 1))
+    wanted=$((cores - processes - $2))
+    is_behind "$1" || wanted=$((wanted < cores - 1 ? cores - 1 : wanted))
+    wanted=$((wanted < 1 ? 1 : wanted))
+    echo $((wanted > 3 ? 3 : wanted))
 }
 
-# Begins each proof that nothing keeps waiting, as long as there are cores.
+# Begins each proof that nothing keeps waiting, as long as there are cores: where more processes run than that, all of them take longer.
 begin_all() {
     local name waiting wanted left
     mapfile -t waiting < <(waiting_libraries)
     left=${#waiting[@]}
     for name in "${waiting[@]}"; do
-        [[ $begun -lt $(nproc) ]] || return 0
+        [[ $processes -lt $(nproc) ]] || return 0
         left=$((left - 1))
-        wanted=$(jobs_within_memory "$(jobs_for "$left")")
+        wanted=$(jobs_within_memory "$(jobs_for "$name" "$left")")
         [[ $wanted -ge 1 || $begun == 0 ]] || return 0
         begin_proof "$name" $((wanted < 1 ? 1 : wanted))
     done
 }
 
-# Begins the proof of a library by so many processes. Where there are more of them than cores, those come first whose chain is the longest
-# or shorter by a minute at most.
+# Begins the proof of a library by so many processes.
 begin_proof() {
-    local less=0
-    ! is_behind "$1" 60 || less=10
     state[$1]=begun begun=$((begun + 1)) begun_at[$1]=$SECONDS
-    prove_library "$1" "$2" "$less" &
+    jobs[$1]=$2 processes=$((processes + $2))
+    prove_library "$1" "$2" &
 }
 
 # Whether another one of the libraries stands on this one.
@@ -245,14 +246,15 @@ is_below_another() {
     return 1
 }
 
-# Proves a library by so many processes, which are so much nicer, and builds it. `room` has what was said, and how that ended. The first
-# time only the statements are built of a library that others stand on, by which those are proved sooner, and nothing is kept; else what was
-# proved is kept for the next time.
+# Proves a library by so many processes, and builds it. `room` has what was said, and how that ended. The first time only its statements are
+# built, by which the crates above it are proved sooner, and nothing is kept; from the second time on what was proved is kept for the next
+# one. It is kept the first time, too, where one process proves a library that no other stands on: that takes less than to tell its statements.
 prove_library() {
     local words out=$root/crates/$1/out keep=(--incremental out/incremental)
-    renice -n "$3" "$BASHPID" >/dev/null
     find_words "$1" src/lib.rt
-    [[ -e $out/incremental || -e $out/built/$1.rlib ]] || ! is_below_another "$1" || keep=(--statements)
+    if [[ ! -e $out/incremental && ! -e $out/built/$1.rlib ]] && { [[ $2 -gt 1 ]] || is_below_another "$1"; }; then
+        keep=(--statements)
+    fi
     mkdir -p "$out/built" && rm -f "$out/built/made_of"
     if cd "$root/crates/$1" && "$kit/bin/rattle" build "${words[@]}" --jobs "$2" "${keep[@]}" -o "out/built/$1.rlib"; then
         printf '%s\n' "${made_of[$1]}" >"$out/built/made_of"
@@ -270,7 +272,7 @@ gather() {
             say "$name was not built"
             return 1
         fi
-        state[$name]=proved begun=$((begun - 1))
+        state[$name]=proved begun=$((begun - 1)) processes=$((processes - jobs[$name]))
         tell_proved "$name"
     done
 }

@@ -14,7 +14,6 @@ use Rattle.bully_table.specs.declared.planning.PlanFault.{PlanFault}
 use Rattle.bully_table.specs.declared.planning.TablePlan.{TablePlan}
 use Rattle.bully_table.specs.declared.table.TableFault.{TableFault}
 use Rattle.bully_rows.specs.TraceText.{trace_text}
-use Rattle.bully_words.specs.Words.{planning}
 use Rattle.bully_events.specs.declared.event.Event.{Event}
 use Rattle.bully.specs.Answer.{KnownBytes, Tells, stop_line}
 use Rattle.bully.specs.ConfigAnswer.{IsNotDone, IsPlayAnswer, IsRefused, IsRunAnswer, IsStopped, IsTableAnswer, nodes_line}
@@ -186,11 +185,3 @@ table-answered written told bytes names old plan output output' errors errors' s
     inl (wanted, plan, wants, is, text, keeps-same _ _ (ap told same), done)
 table-answered written told bytes names old plan output output' errors errors' status planned (inr stopped) =
     inr (inr (stopped-from written told output output' errors errors' status stopped))
-
--- the words name the same members and the same old table
-pub table-named : (bytes : List ℕ) (path path' : List ℕ) (names names' : List (List ℕ)) (old old' : Option (List ℕ)) (output output' errors errors' : KnownBytes) (status : ℕ)
-    → planning path names old ≡ planning path' names' old'
-    → IsTableAnswer bytes names old output output' errors errors' status → IsTableAnswer bytes names' old' output output' errors errors' status
-table-named bytes path path' names names' old old' output output' errors errors' status same answer =
-    subst (λ l. IsTableAnswer bytes l old' output output' errors errors' status) (grind (arith, same))
-    (subst (λ o. IsTableAnswer bytes names o output output' errors errors' status) (grind (arith, same)) answer)

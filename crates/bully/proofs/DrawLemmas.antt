@@ -1,14 +1,13 @@
 -- From what a film and a picture of it ensure to what the program answers to `draw`.
-use Rattle.std.proofs.Common.{◌≡◌, ◌⊎◌, inl, inr, ℕ, List, Option, Some, None, refl, ap, subst, arith}
+use Rattle.std.proofs.Common.{◌≡◌, ◌⊎◌, inl, inr, ℕ, List, Option, Some, None, refl, ap, arith}
 use Rattle.std.specs.Prelude.{IfSome, IsSome}
-use Rattle.std.specs.Io.KnownBytes.{Appends, Keeps}
+use Rattle.std.specs.Io.KnownBytes.{Appends}
 use Rattle.bully_rows.specs.Rows.{OfTrace}
 use Rattle.bully_trace.specs.VerdictText.{verdict_head}
 use Rattle.bully_film.specs.declared.film.Reel.{Reel}
 use Rattle.bully_film.specs.Film.{IsReelOf}
 use Rattle.bully_film.specs.Window.{WindowState}
 use Rattle.bully_picture.specs.Title.{Has}
-use Rattle.bully_words.specs.Words.{drawing}
 use Rattle.bully.specs.Answer.{IsUntaken, KnownBytes, Tells, stop_line, verdict_status}
 use Rattle.bully.specs.ConfigAnswer.{IsNotDone}
 use Rattle.bully.specs.DrawAnswer.{IsDrawAnswer, IsNoWindow, IsPictureAnswer}
@@ -58,14 +57,3 @@ pub no-window : (remaining : KnownBytes) (rows names : Option (List ℕ)) (outpu
     → IfSome remaining (λ bytes. IsDrawAnswer bytes rows names output output' errors errors' status)
 no-window None rows names output output' errors errors' status some told = tt
 no-window (Some bytes) rows names output output' errors errors' status some told = inr (inl (some, told))
-
--- the words are these
-pub draw-asked : (remaining : KnownBytes) (rows text names rows' text' names' : Option (List ℕ)) (output output' errors errors' : KnownBytes) (status : ℕ)
-    → drawing rows text names ≡ drawing rows' text' names'
-    → IfSome remaining (λ bytes. IsDrawAnswer bytes rows names output output' errors errors' status)
-    → IfSome remaining (λ bytes. IsDrawAnswer bytes rows' names' output output' errors errors' status)
-draw-asked remaining rows text names rows' text' names' output output' errors errors' status same answered =
-    let one : rows ≡ rows' = grind (arith, same) in
-    let other : names ≡ names' = grind (arith, same) in
-    subst (λ n. IfSome remaining (λ bytes. IsDrawAnswer bytes rows' n output output' errors errors' status)) other
-    (subst (λ r. IfSome remaining (λ bytes. IsDrawAnswer bytes r names output output' errors errors' status)) one answered)

@@ -5,3 +5,4 @@ pub mod ExplainLemmas
 mod MemberLemmas
 mod ConfigLemmas
 mod DrawLemmas
+mod AskedLemmas

@@ -6,3 +6,4 @@ pub mod RefusalText
 pub mod Wanted
 pub mod ConfigAnswer
 pub mod DrawAnswer
+pub mod AskedAnswer

@@ -1,8 +1,9 @@
 ghost use Rattle.std.specs.Prelude.{◌≡◌, ◌≤◌, ◌⊎◌, ◌∷◌, ℕ, List, [], None, Some, true, false, codes, map, IfSome};
 ghost use Rattle.clap.specs.Words.{kind_of};
-ghost use Rattle.bully_words.specs.Words.{annotating, checking, drawing, explaining, planning, playing, running, texts_of, upgrading, ParsesAsAnnotate, ParsesAsCheck, ParsesAsDraw, ParsesAsExplain, ParsesAsPlay, ParsesAsRun, ParsesAsTable, ParsesAsUpgrade, is_help, is_mistake, asks_for_help};
+ghost use Rattle.bully_words.specs.Words.{texts_of, ParsesAsAnnotate, ParsesAsCheck, ParsesAsDraw, ParsesAsExplain, ParsesAsPlay, ParsesAsRun, ParsesAsTable, ParsesAsUpgrade, is_help, is_mistake, asks_for_help};
 ghost use Rattle.bully.specs.Answer.{IsAnswer, IsUpgradeAnswer, Tells, stop_line};
 ghost use Rattle.bully.specs.AnnotateAnswer.{IsAnnotateAnswer};
+ghost use Rattle.bully.specs.AskedAnswer.{IsAnswerTo};
 ghost use Rattle.bully.specs.DrawAnswer.{IsDrawAnswer};
 ghost use Rattle.bully.specs.ExplainAnswer.{IsConfigExplainAnswer, IsExplainAnswer};
 ghost use Rattle.bully.specs.ConfigAnswer.{IsPlayAnswer, IsRunAnswer, IsTableAnswer};
@@ -71,15 +72,7 @@ fn act<H: Files + AllocGlobal + Threads + Wait + Sync, R: Read + Drop, W: Write,
     output: &mut W,
     errors: &mut E,
 ) -> u8
-    ensures check { texts_of action.now ≡ checking → IfSome (R.remaining input) (λ bytes. IsAnswer bytes (W.contents output.old) (W.contents output.new) (E.contents errors.old) (E.contents errors.new) result) }
-    ensures explain { texts_of action.now ≡ explaining None → IfSome (R.remaining input) (λ bytes. IsExplainAnswer bytes (W.contents output.old) (W.contents output.new) (E.contents errors.old) (E.contents errors.new) result) }
-    ensures explain_config { (path : _) → texts_of action.now ≡ explaining (Some path) → (bytes : List ℕ) × IsConfigExplainAnswer bytes (W.contents output.old) (W.contents output.new) (E.contents errors.old) (E.contents errors.new) result }
-    ensures upgrade { texts_of action.now ≡ upgrading → IfSome (R.remaining input) (λ bytes. IsUpgradeAnswer bytes (W.contents output.old) (W.contents output.new) (E.contents errors.old) (E.contents errors.new) result) }
-    ensures annotate { texts_of action.now ≡ annotating → IfSome (R.remaining input) (λ bytes. IsAnnotateAnswer bytes (W.contents output.old) (W.contents output.new) (E.contents errors.old) (E.contents errors.new) result) }
-    ensures draw { (rows : _) (text : _) (names : _) → texts_of action.now ≡ drawing rows text names → IfSome (R.remaining input) (λ bytes. IsDrawAnswer bytes rows names (W.contents output.old) (W.contents output.new) (E.contents errors.old) (E.contents errors.new) result) }
-    ensures play { (path : _) → texts_of action.now ≡ playing path → (bytes : List ℕ) × IsPlayAnswer bytes (W.contents output.old) (W.contents output.new) (E.contents errors.old) (E.contents errors.new) result }
-    ensures run { (path : _) → texts_of action.now ≡ running path → (bytes : List ℕ) × IsRunAnswer bytes (W.contents output.old) (W.contents output.new) (E.contents errors.old) (E.contents errors.new) result }
-    ensures table { (path : _) (members : _) (old : _) → texts_of action.now ≡ planning path members old → (bytes : List ℕ) × IsTableAnswer bytes members old (W.contents output.old) (W.contents output.new) (E.contents errors.old) (E.contents errors.new) result }
+    ensures answer { IsAnswerTo (texts_of action.now) (R.remaining input) (W.contents output.old) (W.contents output.new) (E.contents errors.old) (E.contents errors.new) result }
     ensures silent { (result ≡ 2) ⊎ (result ≡ 3) → output.new ≡ output.old }
     ensures status { result ≤ 4 }
 {

@@ -1,50 +1,20 @@
 -- A procedure that goes on by an outcome, or by a plan, keeps what holds of its node.
-use Rattle.std.proofs.Common.{◌≡◌, ◌≢◌, ℕ, zero, suc, List, [], ◌∷◌, length, Option, Some, None, arith, refl, inl, inr, ◌⊎◌}
+use Rattle.std.proofs.Common.{◌≡◌, ◌≢◌, ℕ, List, length, Option, Some, None, arith, refl, inr}
 use Rattle.bully_base.specs.declared.node.Status.TheVariants.{Down}
 use Rattle.bully_base.specs.NodeSet.{IsFallingBelow}
 use Rattle.bully_base.specs.Setup.{Setup, IsNode}
-use Rattle.bully_base.proofs.NodeSetLemmas.{with_node-falling, IsFallingBelow-more}
+use Rattle.bully_base.proofs.NodeSetLemmas.{with_node-falling}
 use Rattle.bully_calls.specs.declared.call.Outcome.{Outcome}
 use Rattle.bully_handlers.specs.Vector.{Vector}
 use Rattle.bully_steps.specs.declared.point.Point.{Point}
-use Rattle.bully_steps.specs.declared.point.Point.TheVariants.{Idle, Asking, Halting, Announcing, Planning, Readying, Checking, Inquiring}
-use Rattle.bully_steps.specs.NextPoint.{next_point, next_vector, election}
+use Rattle.bully_steps.specs.declared.point.Point.TheVariants.{Planning, Readying}
+use Rattle.bully_steps.specs.NextPoint.{next_point, next_vector}
 use Rattle.bully_steps.specs.Point.{IsPointOf}
+use Rattle.bully_steps.proofs.ResumeLemmas.{point_follows}
 use Rattle.bully_world.specs.NodeInvariant.{NodeInvariant, WorldInvariant, SuitsSetup, SuitsPoint}
 use Rattle.bully_world.specs.World.{World, Member, member}
 use Rattle.bully_world.specs.Step.{IsUp, Proceeds}
 use Rattle.bully_world.proofs.MemberLemmas.{node_of_fits, node_of_up, written_fits}
-
-rest_falls : (b k : ℕ) (rest : List ℕ) → IsFallingBelow b (k ∷ rest) → IsFallingBelow b rest
-rest_falls b k rest h = IsFallingBelow-more k b rest (omega (arith, h.1)) h.2
-
--- the point that follows is one of node i's
-point_follows : (setup : Setup) (i : ℕ) (up : List ℕ) (p : Point) (o : Outcome) (q : Point) → IsNode setup i → IsFallingBelow i up → IsPointOf setup i p → next_point setup i up p o ≡ Some q → IsPointOf setup i q
-point_follows setup i up Idle o q node falls at next = absurd (grind (arith, next))
-point_follows setup i up (Asking k) o q node falls at next = grind (arith, next, node, at)
-point_follows setup i up (Halting zero) o q node falls at next =
-    let h : Announcing up ≡ q = grind (arith, next) in
-    rw (← h) falls
-point_follows setup i up (Halting (suc k)) o q node falls at next = grind (arith, next, node, at)
-point_follows setup i up (Announcing []) o q node falls at next = grind (arith, next)
-point_follows setup i up (Announcing (k ∷ rest)) o q node falls at next = by_case (grind (arith, next))
-  where
-    by_case : (q ≡ Announcing (k ∷ rest)) ⊎ ((q ≡ Announcing rest) ⊎ (q ≡ election i)) → IsPointOf setup i q
-    by_case (inl e) = rw e at
-    by_case (inr (inl e)) = rw e (rest_falls i k rest at)
-    by_case (inr (inr e)) = rw e (omega arith, omega (arith, node.1))
-point_follows setup i up Planning o q node falls at next =
-    let h : Readying up ≡ q = grind (arith, next) in
-    rw (← h) falls
-point_follows setup i up (Readying []) o q node falls at next = grind (arith, next)
-point_follows setup i up (Readying (k ∷ rest)) o q node falls at next = by_case (grind (arith, next))
-  where
-    by_case : (q ≡ Readying (k ∷ rest)) ⊎ ((q ≡ Readying rest) ⊎ (q ≡ election i)) → IsPointOf setup i q
-    by_case (inl e) = rw e at
-    by_case (inr (inl e)) = rw e (rest_falls i k rest at)
-    by_case (inr (inr e)) = rw e (omega arith, omega (arith, node.1))
-point_follows setup i up (Checking k) o q node falls at next = grind (arith, next, node, at)
-point_follows setup i up Inquiring o q node falls at next = grind (arith, next, node)
 
 module _ (setup : Setup) (i : ℕ) (v : Vector) (p : Point) (o : Outcome) (q : Point) (node : IsNode setup i) (up : v.status ≢ Down) (is_point : IsPointOf setup i p) (by_setup : SuitsSetup setup i v) (by_point : SuitsPoint i v p) (next : next_point setup i v.up p o ≡ Some q) where
   next_is_point : IsPointOf setup i q

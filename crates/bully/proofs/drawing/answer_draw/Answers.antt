@@ -1,4 +1,4 @@
-use Rattle.std.proofs.Common.{option_map, refl}
+use Rattle.std.proofs.Common.{refl}
 use Rattle.bully.proofs.DrawLemmas.{no-window}
 use Rattle.bully.proofs.KnownBytesLemmas.{keeps-refl}
 use Rattle.bully.proofs.drawing.answer_draw.Goals as goal

@@ -1,4 +1,3 @@
-use Rattle.std.proofs.Common.{ap}
 use Rattle.bully.proofs.AnswerLemmas.{fault-answer}
 use Rattle.bully.proofs.DrawLemmas.{drawn-answer, none-drawn}
 use Rattle.bully.proofs.KnownBytesLemmas.{keeps-refl}
