@@ -195,23 +195,27 @@ waiting_libraries() {
     done | sort -rn | cut -d ' ' -f 2
 }
 
-# Whether a proof that was begun is of a longer chain than that of this library, less the time that it has had.
-is_behind() {
+# Whether the chain of this library is longer by half a minute than that of each other one that is under way, less the time that it has had,
+# and of each that waits.
+leads() {
     local name
     for name in "${libraries[@]}"; do
-        [[ ${state[$name]} != begun || $((${chain[$name]} - SECONDS + begun_at[$name])) -le ${chain[$1]} ]] || return 0
+        if [[ ${state[$name]} == begun ]]; then
+            [[ $((${chain[$name]} - SECONDS + begun_at[$name] + 30)) -lt ${chain[$1]} ]] || return
+        elif [[ $name != "$1" ]] && is_ready "$name"; then
+            [[ $((${chain[$name]} + 30)) -lt ${chain[$1]} ]] || return
+        fi
     done
-    return 1
 }
 
 # How many processes prove a library, where so many other proofs wait. Several prove sooner than one, but with a third more work, and more
-# than three hardly sooner. So it has the cores that neither the proofs under way nor those that wait need, and that of the longest chain all
-# but one; and three at most.
+# than three hardly sooner. So it has the cores that neither the proofs under way nor those that wait need, and all but one where it leads; and
+# three at most.
 jobs_for() {
     local cores wanted
     cores=$(nproc)
     wanted=$((cores - processes - $2))
-    is_behind "$1" || wanted=$((wanted < cores - 1 ? cores - 1 : wanted))
+    ! leads "$1" || wanted=$((wanted < cores - 1 ? cores - 1 : wanted))
     wanted=$((wanted < 1 ? 1 : wanted))
     echo $((wanted > 3 ? 3 : wanted))
 }
