@@ -241,24 +241,13 @@ begin_proof() {
     prove_library "$1" "$2" &
 }
 
-# Whether another one of the libraries stands on this one.
-is_below_another() {
-    local name
-    for name in "${libraries[@]}"; do
-        [[ " ${below[$name]} " != *" $1 "* ]] || return 0
-    done
-    return 1
-}
-
 # Proves a library by so many processes, and builds it. `room` has what was said, and how that ended. The first time only its statements are
 # built, by which the crates above it are proved sooner, and nothing is kept; from the second time on what was proved is kept for the next
-# one. It is kept the first time, too, where one process proves a library that no other stands on: that takes less than to tell its statements.
+# one. Of bully_nodes that is kept the first time, too: its statements take a fourth of its proof to write, and only the program reads them.
 prove_library() {
-    local words out=$root/crates/$1/out keep=(--incremental out/incremental)
+    local words out=$root/crates/$1/out keep=(--statements)
     find_words "$1" src/lib.rt
-    if [[ ! -e $out/incremental && ! -e $out/built/$1.rlib ]] && { [[ $2 -gt 1 ]] || is_below_another "$1"; }; then
-        keep=(--statements)
-    fi
+    [[ $1 != bully_nodes && ! -e $out/incremental && ! -e $out/built/$1.rlib ]] || keep=(--incremental out/incremental)
     mkdir -p "$out/built" && rm -f "$out/built/made_of"
     if cd "$root/crates/$1" && "$kit/bin/rattle" build "${words[@]}" --jobs "$2" "${keep[@]}" -o "out/built/$1.rlib"; then
         printf '%s\n' "${made_of[$1]}" >"$out/built/made_of"
