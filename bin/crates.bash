@@ -106,10 +106,11 @@ all_jobs() {
 # Proves each library that this crate stands on and that isn't built of what it is made of now, each as soon as those below it are,
 # and then what the command behind it proves and builds. The files of the folder `room` tell what was said.
 prove_below() {
-    # (of each crate: empty while no proof was begun, `begun` or `proved`; what it is made of; the seconds of its chain; when its proof was
-    # begun, and by how many processes. And how many were proved, are to be, and are under way, and the processes of these)
-    local -A state=() made_of=() chain=() begun_at=() jobs=()
-    local proved=0 all=0 begun=0 processes=0 libraries
+    # (of each crate: empty while no proof was begun, `begun` or `proved`; what it is made of; the seconds that its proof takes, and those
+    # of its chain; when its proof was begun, and how many cores it keeps busy. And how many were proved, are to be, and are under way, and
+    # the cores of these)
+    local -A state=() made_of=() seconds=() chain=() begun_at=() cores_of=()
+    local proved=0 all=0 begun=0 busy=0 libraries
     read -ra libraries <<<"${below[$1]}"
     find_states
     find_chains "$1"
@@ -170,7 +171,6 @@ is_ready() {
 # tenth of its lines where that has no row of it.
 find_chains() {
     local name lower lines place all=("${libraries[@]}" "$1")
-    local -A seconds=()
     while read -r name lines; do
         seconds[$name]=$lines
     done < <(sed -nE 's/^\| (bully[a-z_]*) \| ([0-9]+) \|.*/\1 \2/p' "$root/docs/GATE.md")
@@ -195,50 +195,58 @@ waiting_libraries() {
     done | sort -rn | cut -d ' ' -f 2
 }
 
-# Whether the chain of this library is longer by half a minute than that of each other one that is under way, less the time that it has had,
-# and of each that waits.
-leads() {
-    local name
+# By how many seconds the chain of this library is longer than the longest other one that is under way, less the time that it has had, or
+# that waits. Below 0 where it is shorter.
+lead_of() {
+    local name left longest=0
     for name in "${libraries[@]}"; do
+        [[ $name != "$1" ]] || continue
         if [[ ${state[$name]} == begun ]]; then
-            [[ $((${chain[$name]} - SECONDS + begun_at[$name] + 30)) -lt ${chain[$1]} ]] || return
-        elif [[ $name != "$1" ]] && is_ready "$name"; then
-            [[ $((${chain[$name]} + 30)) -lt ${chain[$1]} ]] || return
+            left=$((chain[$name] - SECONDS + begun_at[$name]))
+        elif is_ready "$name"; then
+            left=${chain[$name]}
+        else
+            continue
         fi
+        longest=$((left > longest ? left : longest))
     done
+    echo $((chain[$1] - longest))
 }
 
-# How many processes prove a library, where so many other proofs wait. Several prove sooner than one, but with a third more work, and more
-# than three hardly sooner. So it has the cores that neither the proofs under way nor those that wait need, and all but one where it leads; and
-# three at most.
-jobs_for() {
-    local cores wanted
-    cores=$(nproc)
-    wanted=$((cores - processes - $2))
-    ! leads "$1" || wanted=$((wanted < cores - 1 ? cores - 1 : wanted))
-    wanted=$((wanted < 1 ? 1 : wanted))
-    echo $((wanted > 3 ? 3 : wanted))
+# How many cores the proof of a library keeps busy, where so many other proofs wait. One process does a third less work than several, and
+# three keep no more than two cores busy: each proof begins and ends in one. So it has two where its chain is the longest by half a minute,
+# or not shorter by more than one minute where neither the proofs under way nor those that wait need these cores; and one where it takes
+# less than 40 s in any case.
+cores_for() {
+    local left lead
+    left=$(($(nproc) - busy - $2)) lead=$(lead_of "$1")
+    if [[ $(nproc) -gt 1 && ${seconds[$1]} -ge 40 ]] && [[ $lead -gt 30 || ($left -ge 2 && $lead -ge -60) ]]; then
+        echo 2
+    else
+        echo 1
+    fi
 }
 
 # Begins each proof that nothing keeps waiting, as long as there are cores: where more processes run than that, all of them take longer.
 begin_all() {
-    local name waiting wanted left
+    local name waiting left
     mapfile -t waiting < <(waiting_libraries)
     left=${#waiting[@]}
     for name in "${waiting[@]}"; do
-        [[ $processes -lt $(nproc) ]] || return 0
+        [[ $busy -lt $(nproc) ]] || return 0
         left=$((left - 1))
-        wanted=$(jobs_within_memory "$(jobs_for "$name" "$left")")
-        [[ $wanted -ge 1 || $begun == 0 ]] || return 0
-        begin_proof "$name" $((wanted < 1 ? 1 : wanted))
+        [[ $(jobs_within_memory 1) -ge 1 || $begun == 0 ]] || return 0
+        begin_proof "$name" "$(cores_for "$name" "$left")"
     done
 }
 
-# Begins the proof of a library by so many processes.
+# Begins the proof of a library that keeps one core busy, or two, by one process or three.
 begin_proof() {
+    local processes=1
+    [[ $2 == 1 ]] || processes=$(jobs_within_memory 3)
     state[$1]=begun begun=$((begun + 1)) begun_at[$1]=$SECONDS
-    jobs[$1]=$2 processes=$((processes + $2))
-    prove_library "$1" "$2" &
+    cores_of[$1]=$2 busy=$((busy + $2))
+    prove_library "$1" $((processes < 1 ? 1 : processes)) &
 }
 
 # Proves a library by so many processes, and builds it. `room` has what was said, and how that ended. The first time only its statements are
@@ -265,7 +273,7 @@ gather() {
             say "$name was not built"
             return 1
         fi
-        state[$name]=proved begun=$((begun - 1)) processes=$((processes - jobs[$name]))
+        state[$name]=proved begun=$((begun - 1)) busy=$((busy - cores_of[$name]))
         tell_proved "$name"
     done
 }
