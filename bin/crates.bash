@@ -145,17 +145,17 @@ find_states() {
 # Tells how many crates are to be proved, and how long that takes on four cores: for each 40 s from nothing, 10 s over the work that an
 # earlier build kept, and two minutes more for what is linked and compiled.
 tell_plan() {
-    local name seconds=120 new=0
+    local name due=120 new=0
     for name in "${libraries[@]}" "$1"; do
         [[ ${state[$name]-} == proved ]] && continue
         all=$((all + 1))
         if [[ -d $root/crates/$name/out/incremental ]]; then
-            seconds=$((seconds + 10))
+            due=$((due + 10))
         else
-            seconds=$((seconds + 40)) new=$((new + 1))
+            due=$((due + 40)) new=$((new + 1))
         fi
     done
-    say "proves and builds $1: $all of $((${#libraries[@]} + 1)) crates, $new of them from nothing; on four cores about $(((seconds + 59) / 60)) min"
+    say "proves and builds $1: $all of $((${#libraries[@]} + 1)) crates, $new of them from nothing; on four cores about $(((due + 59) / 60)) min"
 }
 
 # Whether no proof of the library was begun, and all that it stands on is proved.
