@@ -21,6 +21,11 @@ read_crates() {
     done <"$root/crates.txt"
 }
 
+# The libraries that most others wait for: several processes prove each, though they do a third more work than one. And those that little
+# waits for: each has what the others leave of the cores. Of the plans that were tried with the times of docs/GATE.md this took the shortest.
+several='bully_base bully_table bully_calls bully_handlers bully_steps bully_world bully_agree bully_trace'
+later='bully_words bully_config bully_play bully_annotate'
+
 # Finds the folder of the kit, `kit`.
 find_kit() {
     kit=$(rt doc 2>/dev/null) && kit=${kit%/*}
@@ -107,9 +112,9 @@ all_jobs() {
 # and then what the command behind it proves and builds. The files of the folder `room` tell what was said.
 prove_below() {
     # (of each crate: empty while no proof was begun, `begun` or `proved`; what it is made of; the seconds that its proof takes, and those
-    # of its chain; when its proof was begun, and how many cores it keeps busy. And how many were proved, are to be, and are under way, and
-    # the cores of these)
-    local -A state=() made_of=() seconds=() chain=() begun_at=() cores_of=()
+    # of its chain; and by how many processes it is proved. And how many were proved, are to be, and are under way, and the processes of
+    # these)
+    local -A state=() made_of=() seconds=() chain=() processes_of=()
     local proved=0 all=0 begun=0 busy=0 libraries
     read -ra libraries <<<"${below[$1]}"
     find_states
@@ -187,77 +192,64 @@ find_chains() {
     done
 }
 
-# Those libraries whose proof nothing keeps waiting, that of the longest chain first.
+# Those libraries whose proof nothing keeps waiting, that of the longest chain first, and those of `later` behind the others.
 waiting_libraries() {
-    local name
+    local name rank
     for name in "${libraries[@]}"; do
-        ! is_ready "$name" || printf '%s %s\n' "${chain[$name]}" "$name"
-    done | sort -rn | cut -d ' ' -f 2
+        rank=1
+        [[ " $later " != *" $name "* ]] || rank=0
+        ! is_ready "$name" || printf '%s %s %s\n' "$rank" "${chain[$name]}" "$name"
+    done | sort -k 1,1rn -k 2,2rn | cut -d ' ' -f 3
 }
 
-# By how many seconds the chain of this library is longer than the longest other one that is under way, less the time that it has had, or
-# that waits. Below 0 where it is shorter.
-lead_of() {
-    local name left longest=0
-    for name in "${libraries[@]}"; do
-        [[ $name != "$1" ]] || continue
-        if [[ ${state[$name]} == begun ]]; then
-            left=$((chain[$name] - SECONDS + begun_at[$name]))
-        elif is_ready "$name"; then
-            left=${chain[$name]}
-        else
-            continue
+# Begins each proof that nothing keeps waiting, one more than there are cores at most, while there is memory: first those that have their
+# turn, by as many processes as there are cores and one more, then those of `later`. Each has 3 GB free to begin with, or is the only one.
+begin_all() {
+    local name left most
+    most=$(($(nproc) + 1))
+    for name in $(waiting_libraries); do
+        [[ $begun -lt $most ]] || return 0
+        [[ $(jobs_within_memory 1) -ge 1 || $begun == 0 ]] || return 0
+        left=$((most - busy))
+        if [[ " $later " == *" $name "* ]]; then
+            begin_proof "$name" 0
+        elif [[ $left -ge 1 ]]; then
+            begin_proof "$name" "$(processes_for "$name" "$left")"
         fi
-        longest=$((left > longest ? left : longest))
     done
-    echo $((chain[$1] - longest))
 }
 
-# How many cores the proof of a library keeps busy, where so many other proofs wait. One process does a third less work than several, and
-# three keep no more than two cores busy: each proof begins and ends in one. So it has two where its chain is the longest by half a minute,
-# or not shorter by more than one minute where neither the proofs under way nor those that wait need these cores; and one where it takes
-# less than 40 s in any case.
-cores_for() {
-    local left lead
-    left=$(($(nproc) - busy - $2)) lead=$(lead_of "$1")
-    if [[ $(nproc) -gt 1 && ${seconds[$1]} -ge 40 ]] && [[ $lead -gt 30 || ($left -ge 2 && $lead -ge -60) ]]; then
-        echo 2
+# How many processes prove a library where so many may begin: up to three for one of `several`, and else one.
+processes_for() {
+    local processes=1
+    if [[ " $several " == *" $1 "* ]]; then
+        processes=$(($(nproc) < 3 ? $(nproc) : 3))
+        processes=$(jobs_within_memory "$((processes < $2 ? processes : $2))")
+    fi
+    echo $((processes < 1 ? 1 : processes))
+}
+
+# Begins the proof of a library by so many processes; by one that has what the others leave, where these are none.
+begin_proof() {
+    state[$1]=begun begun=$((begun + 1))
+    processes_of[$1]=$2 busy=$((busy + $2))
+    if [[ $2 == 0 ]]; then
+        prove_library "$1" 1 nice -n 19 &
     else
-        echo 1
+        prove_library "$1" "$2" &
     fi
 }
 
-# Begins each proof that nothing keeps waiting, as long as there are cores: where more processes run than that, all of them take longer.
-begin_all() {
-    local name waiting left
-    mapfile -t waiting < <(waiting_libraries)
-    left=${#waiting[@]}
-    for name in "${waiting[@]}"; do
-        [[ $busy -lt $(nproc) ]] || return 0
-        left=$((left - 1))
-        [[ $(jobs_within_memory 1) -ge 1 || $begun == 0 ]] || return 0
-        begin_proof "$name" "$(cores_for "$name" "$left")"
-    done
-}
-
-# Begins the proof of a library that keeps one core busy, or two, by one process or three.
-begin_proof() {
-    local processes=1
-    [[ $2 == 1 ]] || processes=$(jobs_within_memory 3)
-    state[$1]=begun begun=$((begun + 1)) begun_at[$1]=$SECONDS
-    cores_of[$1]=$2 busy=$((busy + $2))
-    prove_library "$1" $((processes < 1 ? 1 : processes)) &
-}
-
-# Proves a library by so many processes, and builds it. `room` has what was said, and how that ended. The first time only its statements are
-# built, by which the crates above it are proved sooner, and nothing is kept; from the second time on what was proved is kept for the next
-# one. Of bully_nodes that is kept the first time, too: its statements take a fourth of its proof to write, and only the program reads them.
+# Proves a library by so many processes, and builds it, by the command that the words behind these begin with. `room` has what was said, and
+# how that ended. The first time only its statements are built, by which the crates above it are proved sooner, and nothing is kept; from the
+# second time on what was proved is kept for the next one. Of bully_nodes that is kept the first time, too: its statements take a fourth of its
+# proof to write, and only the program reads them.
 prove_library() {
     local words out=$root/crates/$1/out keep=(--statements)
     find_words "$1" src/lib.rt
     [[ $1 != bully_nodes && ! -e $out/incremental && ! -e $out/built/$1.rlib ]] || keep=(--incremental out/incremental)
     mkdir -p "$out/built" && rm -f "$out/built/made_of"
-    if cd "$root/crates/$1" && "$kit/bin/rattle" build "${words[@]}" --jobs "$2" "${keep[@]}" -o "out/built/$1.rlib"; then
+    if cd "$root/crates/$1" && "${@:3}" "$kit/bin/rattle" build "${words[@]}" --jobs "$2" "${keep[@]}" -o "out/built/$1.rlib"; then
         printf '%s\n' "${made_of[$1]}" >"$out/built/made_of"
     fi &>"$room/$1.said" </dev/null
     touch "$room/$1.ended"
@@ -273,7 +265,7 @@ gather() {
             say "$name was not built"
             return 1
         fi
-        state[$name]=proved begun=$((begun - 1)) busy=$((busy - cores_of[$name]))
+        state[$name]=proved begun=$((begun - 1)) busy=$((busy - processes_of[$name]))
         tell_proved "$name"
     done
 }

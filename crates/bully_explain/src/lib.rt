@@ -18,10 +18,7 @@ mod sheet_text;
 mod sides;
 mod words;
 
-pub use bully_account::{
-    Account, Deed, Lines, Memory, NodeSheet, Note, ROWS_KEPT, Shown, ShownCall, Stop, What,
-    node_sheet, possible_now, shown_of,
-};
+pub use bully_account::{Deed, NodeSheet, Shown, ShownCall};
 pub use config::{ConfigSheet, explain_config};
 pub use explaining::{Sheet, explain};
 pub use sheet_text::reason;

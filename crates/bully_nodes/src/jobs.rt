@@ -51,7 +51,8 @@ pub(crate) fn pair_jobs<L: Scheduled>(
     ensures { IfOk result (λ jobs. All (λ j. (j.seat.actor ≤ L.setup.nodes) × (j.seat.log ≡ []) × (j.pass ≡ 0)) jobs.items) }
 {
     let mut jobs = Vec::new(alloc);
-    while let (Some(seat), Some(pass)) = (seats.pop(), passes.pop()) {
+    while let Some(seat) = seats.pop() {
+        let Some(pass) = passes.pop() else { break };
         jobs.push(Job { seat, pass })?;
     }
     Ok(jobs)

@@ -13,7 +13,7 @@ use std::marker::Brand;
 use std::sync::Wait;
 use std::sync::ledger::Blank;
 use std::thread;
-use std::thread::Threads;
+use std::thread::{PromisedHandle, Scope, Threads};
 
 /// What surrounds each turn of each thread. Both calls come outside of the lock, with the actor, 0 for the operator and
 /// else the number of the node, and the turn, from 1 to the configuration's turns.
@@ -165,27 +165,84 @@ fn in_threads<L: Scheduled + Send + Sync, R: Threads + Wait + Sync, G: Gate>(
             requires jobs { All (λ j. (j.seat.actor ≤ L.setup.nodes) × (j.seat.log ≡ []) × (j.pass ≡ 0)) jobs.items }
             ensures due { IfOk result (λ done. All (λ r. IfOk r (λ job. HasDueLog L.faults job.seat)) done.items) }
             ensures fault { IfErr result IsNodesFault }
-        {
-            let mut handles = Vec::new(alloc);
-            for job in jobs {
-                let actor = job.seat.actor();
-                let thread = move || -> Result<Job<L>, OutOfMemory>
-                    requires setup { config.now.setup ≡ L.setup }
-                    requires faults { config.now.faults ≡ L.faults }
-                    requires new { (job.seat.actor ≤ L.setup.nodes) × (job.seat.log ≡ []) × (job.pass ≡ 0) }
-                    ensures { IfOk result (λ back. IsGivenBack L.faults job.seat.actor (record { seat = back.seat; counted = back.pass })) }
-                { do_job(rt, alloc, group, config, gate, job) };
-                let Ok(handle) = scope.spawn_with(SeatOf(actor), thread) else {
-                    return Err(NodesFault::Spawn);
-                };
-                if handles.push(handle).is_err() {
-                    return Err(NodesFault::OutOfMemory);
-                }
-            }
-            match thread::join_promised(rt, handles) {
-                Ok(done) => Ok(done),
-                Err(_) => Err(NodesFault::OutOfMemory),
-            }
-        },
+        { in_scope(scope, rt, alloc, group, config, gate, jobs) },
     )
+}
+
+// Starts the threads, and waits for them.
+fn in_scope<'s, E, L: Scheduled + Send + Sync, R: Threads + Wait + Sync, G: Gate>(
+    scope: &Scope<'s, E>,
+    rt: &'s R,
+    alloc: Global,
+    group: &'s Group<L>,
+    config: &'s Config,
+    gate: &'s G,
+    jobs: Vec<Job<L>>,
+) -> Result<Vec<Result<Job<L>, OutOfMemory>>, NodesFault>
+    requires setup { config.now.setup ≡ L.setup }
+    requires faults { config.now.faults ≡ L.faults }
+    requires jobs { All (λ j. (j.seat.actor ≤ L.setup.nodes) × (j.seat.log ≡ []) × (j.pass ≡ 0)) jobs.items }
+    ensures due { IfOk result (λ done. All (λ r. IfOk r (λ job. HasDueLog L.faults job.seat)) done.items) }
+    ensures fault { IfErr result IsNodesFault }
+{
+    let mut handles = Vec::new(alloc);
+    start_jobs(scope, rt, alloc, group, config, gate, jobs, &mut handles)?;
+    match thread::join_promised(rt, handles) {
+        Ok(done) => Ok(done),
+        Err(_) => Err(NodesFault::OutOfMemory),
+    }
+}
+
+// Starts a thread for each job.
+fn start_jobs<'s, E, L: Scheduled + Send + Sync, R: Threads + Wait + Sync, G: Gate>(
+    scope: &Scope<'s, E>,
+    rt: &'s R,
+    alloc: Global,
+    group: &'s Group<L>,
+    config: &'s Config,
+    gate: &'s G,
+    jobs: Vec<Job<L>>,
+    handles: &mut Vec<PromisedHandle<Result<Job<L>, OutOfMemory>, SeatOf>>,
+) -> Result<(), NodesFault>
+    requires setup { config.now.setup ≡ L.setup }
+    requires faults { config.now.faults ≡ L.faults }
+    requires jobs { All (λ j. (j.seat.actor ≤ L.setup.nodes) × (j.seat.log ≡ []) × (j.pass ≡ 0)) jobs.items }
+    ensures fault { IfErr result IsNodesFault }
+{
+    for job in jobs {
+        let Some(handle) = start_job(scope, rt, alloc, group, config, gate, job) else {
+            return Err(NodesFault::Spawn);
+        };
+        if handles.push(handle).is_err() {
+            return Err(NodesFault::OutOfMemory);
+        }
+    }
+    Ok(())
+}
+
+// Starts a thread for the job, where the system makes one.
+fn start_job<'s, E, L: Scheduled + Send + Sync, R: Threads + Wait + Sync, G: Gate>(
+    scope: &Scope<'s, E>,
+    rt: &'s R,
+    alloc: Global,
+    group: &'s Group<L>,
+    config: &'s Config,
+    gate: &'s G,
+    job: Job<L>,
+) -> Option<PromisedHandle<Result<Job<L>, OutOfMemory>, SeatOf>>
+    requires setup { config.now.setup ≡ L.setup }
+    requires faults { config.now.faults ≡ L.faults }
+    requires new { (job.seat.actor ≤ L.setup.nodes) × (job.seat.log ≡ []) × (job.pass ≡ 0) }
+{
+    let actor = job.seat.actor();
+    let thread = move || -> Result<Job<L>, OutOfMemory>
+        requires setup { config.now.setup ≡ L.setup }
+        requires faults { config.now.faults ≡ L.faults }
+        requires new { (job.seat.actor ≤ L.setup.nodes) × (job.seat.log ≡ []) × (job.pass ≡ 0) }
+        ensures { IfOk result (λ back. IsGivenBack L.faults job.seat.actor (record { seat = back.seat; counted = back.pass })) }
+    { do_job(rt, alloc, group, config, gate, job) };
+    match scope.spawn_with(SeatOf(actor), thread) {
+        Ok(handle) => Some(handle),
+        Err(_) => None,
+    }
 }

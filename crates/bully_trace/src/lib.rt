@@ -23,11 +23,11 @@ mod verdict_text;
 pub use bully_rows::{
     CHECK, CRASH, Claim, DROP, Detail, DetailedEvent, EventKind, FIRST_NODES_MAX,
     FIRST_PARTITIONS_MAX, Header, LOSE, MOVE, NodeEvent, PLAN, RECOVER, RETURN, ROWS_MAX, RUN, Row,
-    RowReader, Rows, SAW, START, TIMEOUT, Trace, TraceCause, TraceFault, Version, WholeClaim,
-    answer_word, call_named, call_word, cause_word, is_word, kind_named, limits, no_header,
-    not_written, number_within, outcome_named, push_detailed, push_event, push_header, push_node,
-    push_row, push_set, push_task, push_vector, read_coordinator, read_node, read_set, read_trace,
-    read_weights, reply_named, status_named, status_word, write_trace,
+    Rows, SAW, START, TIMEOUT, Trace, TraceCause, TraceFault, Version, WholeClaim, answer_word,
+    call_named, call_word, cause_word, is_word, kind_named, limits, number_within, outcome_named,
+    push_detailed, push_event, push_header, push_node, push_row, push_set, push_task, push_vector,
+    read_coordinator, read_node, read_set, read_trace, read_weights, reply_named, status_named,
+    status_word, write_trace,
 };
 pub use checking::check;
 pub use details::{call_at, offer_of, reached, said_of, same_task};

@@ -115,12 +115,9 @@ impl<L: Naming> Locked<L> {
         if let Some(cause) = self.world.cause(event) {
             return Err(StepFault::Refused(cause));
         }
-        let Ok((event, logged)) = two_copies(event) else {
+        let Ok((event, logged)) = copies_with_room(event, &mut self.history, &mut seat.log) else {
             return Err(StepFault::OutOfMemory);
         };
-        if reserve_entry(&mut self.history, &mut seat.log).is_err() {
-            return Err(StepFault::OutOfMemory);
-        }
         let answer = self.world.apply_allowed(&event);
         pass.count(&mut self.book);
         let entry = Entry {
@@ -222,9 +219,19 @@ pub(crate) fn record_entry(
     log.push_reserved((index, logged));
 }
 
-// Both copies, or neither.
-fn two_copies(event: &Event) -> Result<(Event, Event), OutOfMemory>
-    ensures { IfOk result (λ copies. (copies.0 ≡ event.now) × (copies.1 ≡ event.now)) }
+// Both copies, and room for one entry more in the history and in the log, which have the entries that they had.
+fn copies_with_room(
+    event: &Event,
+    history: &mut Vec<Entry>,
+    log: &mut Vec<(usize, Entry)>,
+) -> Result<(Event, Event), OutOfMemory>
+    ensures copies { IfOk result (λ copies. (copies.0 ≡ event.now) × (copies.1 ≡ event.now)) }
+    ensures history { history.new.items ≡ history.old.items }
+    ensures log { log.new.items ≡ log.old.items }
+    ensures room { OnOk result (vec_len history.new < vec_capacity history.new) }
+    ensures log_room { OnOk result (vec_len log.new < vec_capacity log.new) }
 {
-    Ok((event.copy()?, event.copy()?))
+    let copies = (event.copy()?, event.copy()?);
+    reserve_entry(history, log)?;
+    Ok(copies)
 }

@@ -1,4 +1,4 @@
-ghost use Rattle.std.specs.Prelude.{◌≡◌, ◌+◌, IfOk, IfErr, OnOk, is_ok, true, false, if◌then◌else◌};
+ghost use Rattle.std.specs.Prelude.{◌≡◌, ◌+◌, ◌<◌, IfOk, IfErr, OnOk, is_ok, true, false, vec_len, vec_capacity, if◌then◌else◌};
 ghost use Rattle.bully_group.specs.NodeTurns.{LeavesInStep, TurnsBy, adds_entry};
 ghost use Rattle.bully_group.specs.Turns.{handed_back, IfWent, IfWaiting, IfResynced, IfFault, is_went, MayTurn, Goes, Waits, Resyncs, Fails, IsTurnFault, EndsInStep};
 ghost use Rattle.bully_steps.specs.Procedure.{state_of};
@@ -133,12 +133,9 @@ impl<L: Naming> Locked<L> {
         if self.world.events() >= self.world.setup().events_max() {
             return Err(StepFault::Refused(Refused::Full));
         }
-        let Ok(logged) = offered_event(kind, procedure) else {
+        let Ok(logged) = event_with_room(kind, procedure, &mut self.history, &mut seat.log) else {
             return Err(StepFault::OutOfMemory);
         };
-        if reserve_entry(&mut self.history, &mut seat.log).is_err() {
-            return Err(StepFault::OutOfMemory);
-        }
         let Ok(TakenStep { event, answer }) = self.world.take_step(kind, procedure) else {
             unreachable!()
         };
@@ -153,14 +150,25 @@ impl<L: Naming> Locked<L> {
     }
 }
 
-// A copy of the event of the procedure's step, a plan's with the procedure's table.
-fn offered_event(kind: StepKind, procedure: &Procedure) -> Result<Event, OutOfMemory>
+// A copy of the event of the procedure's step, a plan's with the procedure's table, and room for one entry more in the
+// history and in the log, which have the entries that they had.
+fn event_with_room(
+    kind: StepKind,
+    procedure: &Procedure,
+    history: &mut Vec<Entry>,
+    log: &mut Vec<(usize, Entry)>,
+) -> Result<Event, OutOfMemory>
     requires { kind ≡ StepKind.Plan → has_table (state_of procedure.now) ≡ true }
-    ensures { IfOk result (λ event. event ≡ step_event kind (state_of procedure.now)) }
+    ensures event { IfOk result (λ event. event ≡ step_event kind (state_of procedure.now)) }
+    ensures history { history.new.items ≡ history.old.items }
+    ensures log { log.new.items ≡ log.old.items }
+    ensures room { OnOk result (vec_len history.new < vec_capacity history.new) }
+    ensures log_room { OnOk result (vec_len log.new < vec_capacity log.new) }
 {
     let table = match kind {
         StepKind::Plan => Some(procedure.table().unwrap().copy()?),
         _ => None,
     };
+    reserve_entry(history, log)?;
     Ok(kind.event(procedure.node(), table))
 }

@@ -14,8 +14,8 @@ use Rattle.bully_group.proofs.LockedLemmas.{locked_more}
 use Rattle.bully_group.proofs.WorldLemmas.{whose_turn, no_turn_raises}
 use Rattle.bully_group.proofs.locked.Locked.take_offered.Goals as goal
 
-pub offered_event-requires : goal.offered_event-requires
-offered_event-requires g c e = table_if_planned c.args.self.now.world (state_of c.args.procedure.now) c.args.kind c.requires.offered e
+pub event_with_room-requires : goal.event_with_room-requires
+event_with_room-requires g c e = table_if_planned c.args.self.now.world (state_of c.args.procedure.now) c.args.kind c.requires.offered e
 
 pub invariant_of-self-2 : goal.invariant_of-self-2
 invariant_of-self-2 g c =
