@@ -21,8 +21,8 @@ read_crates() {
     done <"$root/crates.txt"
 }
 
-# The libraries that most others wait for: several processes prove each, though they do a third more work than one. And those that little
-# waits for: each has what the others leave of the cores. Of the plans that were tried with the times of docs/GATE.md this took the shortest.
+# The libraries that most others wait for: three processes prove each, though they do a third more work than one. And those that little
+# waits for, which come last. Of the plans that were tried with the times of docs/GATE.md this took the shortest.
 several='bully_base bully_table bully_calls bully_handlers bully_steps bully_world bully_agree bully_trace'
 later='bully_words bully_config bully_play bully_annotate'
 
@@ -202,54 +202,36 @@ waiting_libraries() {
     done | sort -k 1,1rn -k 2,2rn | cut -d ' ' -f 3
 }
 
-# Begins each proof that nothing keeps waiting, one more than there are cores at most, while there is memory: first those that have their
-# turn, by as many processes as there are cores and one more, then those of `later`. Each has 3 GB free to begin with, or is the only one.
+# Begins each proof that nothing keeps waiting, while there are cores and memory: where more processes run than that, all take longer. Each
+# has 3 GB free to begin with, or is the only one.
 begin_all() {
-    local name left most
-    most=$(($(nproc) + 1))
+    local name left processes
     for name in $(waiting_libraries); do
-        [[ $begun -lt $most ]] || return 0
+        left=$(($(nproc) - busy))
+        [[ $left -ge 1 ]] || return 0
         [[ $(jobs_within_memory 1) -ge 1 || $begun == 0 ]] || return 0
-        left=$((most - busy))
-        if [[ " $later " == *" $name "* ]]; then
-            begin_proof "$name" 0
-        elif [[ $left -ge 1 ]]; then
-            begin_proof "$name" "$(processes_for "$name" "$left")"
-        fi
+        processes=1
+        [[ " $several " != *" $name "* ]] || processes=$(jobs_within_memory $((left < 3 ? left : 3)))
+        begin_proof "$name" $((processes < 1 ? 1 : processes))
     done
 }
 
-# How many processes prove a library where so many may begin: up to three for one of `several`, and else one.
-processes_for() {
-    local processes=1
-    if [[ " $several " == *" $1 "* ]]; then
-        processes=$(($(nproc) < 3 ? $(nproc) : 3))
-        processes=$(jobs_within_memory "$((processes < $2 ? processes : $2))")
-    fi
-    echo $((processes < 1 ? 1 : processes))
-}
-
-# Begins the proof of a library by so many processes; by one that has what the others leave, where these are none.
+# Begins the proof of a library by so many processes.
 begin_proof() {
     state[$1]=begun begun=$((begun + 1))
     processes_of[$1]=$2 busy=$((busy + $2))
-    if [[ $2 == 0 ]]; then
-        prove_library "$1" 1 nice -n 19 &
-    else
-        prove_library "$1" "$2" &
-    fi
+    prove_library "$1" "$2" &
 }
 
-# Proves a library by so many processes, and builds it, by the command that the words behind these begin with. `room` has what was said, and
-# how that ended. The first time only its statements are built, by which the crates above it are proved sooner, and nothing is kept; from the
-# second time on what was proved is kept for the next one. Of bully_nodes that is kept the first time, too: its statements take a fourth of its
-# proof to write, and only the program reads them.
+# Proves a library by so many processes, and builds it. `room` has what was said, and how that ended. The first time only its statements are
+# built, by which the crates above it are proved sooner, and nothing is kept; from the second time on what was proved is kept for the next
+# one. Of bully_nodes that is kept the first time, too: its statements take a fourth of its proof to write, and only the program reads them.
 prove_library() {
     local words out=$root/crates/$1/out keep=(--statements)
     find_words "$1" src/lib.rt
     [[ $1 != bully_nodes && ! -e $out/incremental && ! -e $out/built/$1.rlib ]] || keep=(--incremental out/incremental)
     mkdir -p "$out/built" && rm -f "$out/built/made_of"
-    if cd "$root/crates/$1" && "${@:3}" "$kit/bin/rattle" build "${words[@]}" --jobs "$2" "${keep[@]}" -o "out/built/$1.rlib"; then
+    if cd "$root/crates/$1" && "$kit/bin/rattle" build "${words[@]}" --jobs "$2" "${keep[@]}" -o "out/built/$1.rlib"; then
         printf '%s\n' "${made_of[$1]}" >"$out/built/made_of"
     fi &>"$room/$1.said" </dev/null
     touch "$room/$1.ended"
