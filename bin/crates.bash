@@ -202,15 +202,15 @@ waiting_libraries() {
     done | sort -k 1,1rn -k 2,2rn | cut -d ' ' -f 3
 }
 
-# Begins each proof that nothing keeps waiting, while there is memory, by one process more than there are cores at most: with more, all take
-# longer. Those of `later` have none but the cores. Each has 3 GB free to begin with, or is the only one.
+# Begins each proof that nothing keeps waiting, while there are cores and memory: where more processes run than that, all take longer. Each
+# has 3 GB free to begin with, or is the only one.
 begin_all() {
     local name left processes
     for name in $(waiting_libraries); do
-        left=$(($(nproc) + 1 - busy)) processes=1
-        [[ " $later " != *" $name "* ]] || left=$((left - 1))
+        left=$(($(nproc) - busy))
         [[ $left -ge 1 ]] || return 0
         [[ $(jobs_within_memory 1) -ge 1 || $begun == 0 ]] || return 0
+        processes=1
         [[ " $several " != *" $name "* ]] || processes=$(jobs_within_memory $((left < 3 ? left : 3)))
         begin_proof "$name" $((processes < 1 ? 1 : processes))
     done
