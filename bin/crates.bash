@@ -22,7 +22,7 @@ read_crates() {
 }
 
 # The libraries that most others wait for: three processes prove each, though they do a third more work than one. And those that little
-# waits for, which come last. Of the plans that were tried with the times of docs/GATE.md this took the shortest.
+# waits for, which come last. docs/DECISIONS.md says how these lists came about.
 several='bully_base bully_table bully_calls bully_handlers bully_steps bully_world bully_agree bully_trace'
 later='bully_words bully_config bully_play bully_annotate'
 
