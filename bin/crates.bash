@@ -21,10 +21,9 @@ read_crates() {
     done <"$root/crates.txt"
 }
 
-# The libraries that most others wait for: three processes prove each, though they do a third more work than one. And those that little
-# waits for, which come last. docs/DECISIONS.md says how these lists came about.
+# The libraries that most others wait for: three processes prove each, in half the time of one, though they do a third more work.
+# docs/DECISIONS.md says how this list came about.
 several='bully_base bully_table bully_calls bully_handlers bully_steps bully_world bully_agree bully_trace'
-later='bully_words bully_config bully_play bully_annotate'
 
 # Finds the folder of the kit, `kit`.
 find_kit() {
@@ -173,7 +172,7 @@ is_ready() {
 }
 
 # Of each crate how many seconds the longest chain of proofs takes from it on up to the one that is to be built: by docs/GATE.md, and a
-# tenth of its lines where that has no row of it.
+# tenth of its lines where that has no row of it; half of that where several processes prove it.
 find_chains() {
     local name lower lines place all=("${libraries[@]}" "$1")
     while read -r name lines; do
@@ -185,6 +184,7 @@ find_chains() {
             lines=$(find "$root/crates/$name"/{src,specs,proofs} -type f -exec cat {} + 2>/dev/null | wc -l)
             seconds[$name]=$((lines / 10))
         fi
+        [[ " $several " != *" $name "* ]] || seconds[$name]=$((seconds[$name] / 2))
         chain[$name]=$((${chain[$name]-0} + seconds[$name]))
         for lower in ${below[$name]}; do
             [[ ${chain[$lower]-0} -gt ${chain[$name]} ]] || chain[$lower]=${chain[$name]}
@@ -192,14 +192,12 @@ find_chains() {
     done
 }
 
-# Those libraries whose proof nothing keeps waiting, that of the longest chain first, and those of `later` behind the others.
+# Those libraries whose proof nothing keeps waiting, that of the longest chain first.
 waiting_libraries() {
-    local name rank
+    local name
     for name in "${libraries[@]}"; do
-        rank=1
-        [[ " $later " != *" $name "* ]] || rank=0
-        ! is_ready "$name" || printf '%s %s %s\n' "$rank" "${chain[$name]}" "$name"
-    done | sort -k 1,1rn -k 2,2rn | cut -d ' ' -f 3
+        ! is_ready "$name" || printf '%s %s\n' "${chain[$name]}" "$name"
+    done | sort -rn | cut -d ' ' -f 2
 }
 
 # Begins each proof that nothing keeps waiting, while there are cores and memory: where more processes run than that, all take longer. Each

@@ -9,12 +9,12 @@ use Rattle.bully_rows.specs.declared.header.Header.{Header}
 use Rattle.bully_rows.specs.declared.trace.Row.{Row}
 use Rattle.bully_trace.specs.declared.verdict.Verdict.{Verdict}
 use Rattle.bully_rows.specs.Headers.{Record, header_with}
-use Rattle.bully_trace.specs.Judging.{AreAllJudged, AreJudged, Begins, HasJudged, IsJudgedSoFar, IsNoRow, IsNoStart, JudgeState, TakesRow}
+use Rattle.bully_trace.specs.Judging.{AreAllJudged, AreJudged, Begins, HasJudged, IsJudgedSoFar, IsJudgedToEnd, IsNoRow, IsNoStart, JudgeState, TakesRow}
 use Rattle.bully_rows.specs.RecordsLeft.{EndsReading, HasRead, IsUnread, ReadSoFar, Takes, rows_left}
 use Rattle.bully_rows.specs.Rows.{HasNoFault, OfTrace}
 use Rattle.bully_rows.specs.Trace.{Trace}
 use Rattle.bully_rows.specs.declared.trace.TraceFault.{TraceFault}
-use Rattle.bully_rows.proofs.TraceLemmas.{header-bad, header-read, memory-ends, read-bad, read-end, read-more}
+use Rattle.bully_rows.proofs.TraceLemmas.{header-bad, header-missing, header-read, memory-ends, read-bad, read-end, read-more}
 use Rattle.bully_trace.specs.Verdict.{IsJudged, IsVerdict}
 use Rattle.bully_trace.specs.VerdictText.{IsJudgedAs, verdict_text}
 
@@ -74,11 +74,17 @@ judged-bad known reader now state judge found fault takes is counted at_judge (i
 judged-bad known reader now state judge found fault takes is counted at_judge (inr same) so_far = rw same (memory-ends known)
 
 -- behind the last row
-pub judged-end : (known : Option (List ℕ)) (reader : ReadSoFar) (after : Option (List Record)) (found : Bool) (fields : Record) (judge : JudgeState)
+judged-end : (known : Option (List ℕ)) (reader : ReadSoFar) (after : Option (List Record)) (found : Bool) (fields : Record) (judge : JudgeState)
     → Takes reader.records after found fields → found ≡ false → AreJudged known reader judge
     → AreAllJudged known judge.world.setup judge
 judged-end known reader after found fields judge takes is (rows, read, judged) =
     (judge.version, rows, read-end known rows (rows_left (header_with judge.version judge.world.setup) reader) after found fields read takes is, judged)
+
+-- the same, or where there was no row
+pub judged-to-end : (known : Option (List ℕ)) (reader : ReadSoFar) (after : Option (List Record)) (found : Bool) (fields : Record) (judge : Option JudgeState)
+    → Takes reader.records after found fields → found ≡ false → IsJudgedSoFar known reader judge → IsJudgedToEnd known judge
+judged-to-end known reader after found fields None takes is unread = header-missing known reader.records after found fields unread.records takes is
+judged-to-end known reader after found fields (Some judge) takes is judged = judged-end known reader after found fields judge takes is judged
 
 -- a fault of the reader
 pub judged-fault : (known : Option (List ℕ)) (reader : ReadSoFar) (judge : Option JudgeState) (fault : TraceFault)

@@ -1,5 +1,5 @@
 use Rattle.std.proofs.Common.{◌≡◌, Err, arith, rules}
-use Rattle.bully_trace.proofs.CheckLemmas.{judged-bad, judged-row, judged-start, judged-unbegun}
+use Rattle.bully_trace.proofs.CheckLemmas.{judged-bad, judged-row, judged-start, judged-to-end, judged-unbegun}
 use Rattle.bully_account.proofs.reading.read_each.Goals as goal
 
 pub loop-account-preserved-in-Continue-branch-2 : goal.loop-account-preserved-in-Continue-branch-2
@@ -25,3 +25,8 @@ returns-in_err-begin-clause-fault g c = λ known unread.
     let fails : c.from_residual-in_err-begin.result ≡ Err c.in_err-begin.field-0.0 = grind (arith, c.from_residual-in_err-begin.ensures, c.in_err-begin.is) in
     rw fails (judged-unbegun known c.loop-account.rows c.advance.new.self c.loop-account.account c.in_ok-advance.field-0 c.in_err-begin.field-0.0
     c.in_ok-advance.ensures.takes (search rules) (search rules) c.in_err-begin.ensures.fault (c.loop-account.invariant known unread))
+
+pub returns-clause-judged : goal.returns-clause-judged
+returns-clause-judged g c = λ known unread.
+    judged-to-end known c.loop-account.rows c.advance.new.self.records c.in_ok-advance.field-0 c.advance.new.self.fields c.loop-account.account
+    c.in_ok-advance.ensures.takes (search rules) (c.loop-account.invariant known unread)
