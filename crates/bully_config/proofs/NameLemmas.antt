@@ -1,10 +1,10 @@
 -- Names: the set that keeps them, and the places that they have.
-use Rattle.std.proofs.Common.{◌≡◌, ℕ, zero, suc, ◌+◌, ◌<◌, Bool, true, false, ◌||◌, List, [], ◌∷◌, ◌++◌, length, take, get_or, map, refl, sym, ap, arith, ◌∙◌, String, Global, string_bytes, Option, Some, None, option_map, cond}
+use Rattle.std.proofs.Common.{◌≡◌, ℕ, zero, suc, ◌+◌, ◌<◌, Bool, true, false, ◌||◌, List, [], ◌∷◌, length, take, get_or, map, refl, sym, ap, arith, ◌∙◌, String, Global, string_bytes, Option, Some, None, option_map, cond}
 use Rattle.std.specs.Prelude.{slice_index_or, slice_get, position}
 use Rattle.std.specs.List.{list_any, position_from}
 use Rattle.std.specs.Str.{bytes_eq}
 use Rattle.std.specs.String.{string_eq}
-use Rattle.std.proofs.lemmas.List.{take_more, length-map}
+use Rattle.std.proofs.lemmas.List.{length-map, map-append, take_more}
 use Rattle.std.specs.Option.{SomeIff}
 use Rattle.std.proofs.lemmas.Option.{same_Some}
 use Rattle.std.proofs.lemmas.Iterator.Adapters.{position_from-zero}
@@ -39,17 +39,13 @@ fresh_name (name ∷ names) (suc i) d h =
     let more = fresh_name names i (grind (arith, common_steps, d)) (omega (arith, h)) in
     rw (differs_back name names i none (omega (arith, h)), more) refl
 
-pub map_append : {X Y : Type 0} (f : X → Y) (xs ys : List X) → map f (xs ++ ys) ≡ map f xs ++ map f ys
-map_append f [] ys = refl
-map_append f (x ∷ xs) ys = ap (λ zs. f x ∷ zs) (map_append f xs ys)
-
 -- the set of the names so far, and the next one
 pub names_step : (keys : List (String Global)) (name : String Global) (names : List (List ℕ)) (i : ℕ) → has_double names ≡ false → i < length names
     → map (λ k. string_bytes k) keys ≡ take i names → string_bytes name ≡ get_or names i []
     → map (λ k. string_bytes k) (insert_key string_eq keys name) ≡ take (i + 1) names
 names_step keys name names i d h so_far e =
     let fresh : list_any (string_eq name) keys ≡ false = string_eq_bytes name keys ∙ rw (so_far, e) (fresh_name names i d h) in
-    rw fresh (map_append (λ k. string_bytes k) keys (name ∷ []) ∙ rw (so_far, e) (sym (take_more names i [] h)))
+    rw fresh (map-append (λ k. string_bytes k) keys (name ∷ []) ∙ rw (so_far, e) (sym (take_more names i [] h)))
 
 -- the name that an item of the document tells
 pub name_told : (vs : List Value) (i : ℕ) (x : Value) → i < length vs → x ≡ slice_index_or vs i x → get_or (names_of (map view vs)) i [] ≡ text_of (view x)

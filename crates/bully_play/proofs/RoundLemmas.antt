@@ -1,9 +1,11 @@
 -- Round by round, and in a round node by node.
-use Rattle.std.proofs.Common.{◌≡◌, ℕ, zero, suc, ◌+◌, ◌≤◌, List, [], ◌++◌, length, map, take, drop, arith, refl, sym, subst}
+use Rattle.std.proofs.Common.{◌≡◌, ℕ, zero, suc, ◌+◌, ◌≤◌, List, [], ◌∷◌, ◌++◌, ◌∙◌, length, map, take, drop, arith, refl, sym, ap, subst}
+use Rattle.std.proofs.lemmas.List.{map-append}
 use Rattle.std.proofs.lemmas.Grind.{common_steps}
+use Rattle.bully_base.specs.Setup.{Setup}
 use Rattle.bully_config.specs.declared.config.Fault.{Fault}
 use Rattle.bully_play.specs.Recording.{RecordingState}
-use Rattle.bully_play.specs.Turns.{TakeTurns, IsRound, Rounds}
+use Rattle.bully_play.specs.Turns.{TakeTurns, IsRound, Rounds, idle_at, idle_first}
 use Rattle.bully_steps.specs.declared.procedure.Procedure.{Procedure}
 use Rattle.bully_steps.specs.ProcedureState.{ProcedureState}
 use Rattle.bully_steps.specs.Procedure.{state_of}
@@ -32,6 +34,14 @@ pub rounds_next : (faults : List Fault) (period so_far : ℕ) (start before afte
 rounds_next faults period so_far start before after hs mids hs' rounds round =
     let more : suc so_far ≡ so_far + 1 = omega arith in
     subst (λ (n : ℕ). Rounds faults period n 1 start hs after hs') more (rounds_more faults period so_far 1 (so_far + 1) start before after hs mids hs' (omega arith) rounds round)
+
+-- one more procedure that a node holds at first
+pub idle_more : (setup : Setup) (n : ℕ) (ps : List Procedure) (p : Procedure) → map state_of ps ≡ idle_first setup n → state_of p ≡ idle_at setup (n + 1)
+    → map state_of (ps ++ p ∷ []) ≡ idle_first setup (n + 1)
+idle_more setup n ps p all one =
+    let more : suc n ≡ n + 1 = omega arith in
+    subst (λ (m : ℕ). map state_of (ps ++ p ∷ []) ≡ idle_first setup m) more
+    (map-append state_of ps (p ∷ []) ∙ ap (λ hs. hs ++ state_of p ∷ []) all ∙ ap (λ h. idle_first setup n ++ h ∷ []) one)
 
 -- a whole list, put back into the memory that it was lent from
 pub put_back : (len : ℕ) (xs ys : List Procedure) → length xs ≡ length ys → length ys ≡ len → take len (xs ++ drop (length xs) ys) ≡ xs

@@ -1,8 +1,8 @@
 //! The checker of traces, and what upgrades them.
 //!
-//! It stands on bully_rows, which reads and writes them and whose names are here, too, on bully_agree, and on the crates below
-//! these. The crates above rely on the verdict being that of the rows that the text means, on the nodes agreeing after each row of a
-//! lawful trace, and on an upgraded trace having the same setup and the same rows. What judges row by row is public too
+//! It stands on bully_rows, which reads and writes them and most of whose names are here, too, on bully_agree, and on the crates
+//! below these. The crates above rely on the verdict being that of the rows that the text means, on the nodes agreeing after each
+//! row of a lawful trace, and on an upgraded trace having the same setup and the same rows. What judges row by row is public too
 //! ([`Judge`]), so that whoever explains a verdict has it by the same rules.
 #![tactic(auto)]
 
