@@ -231,7 +231,6 @@ fn copies_with_room(
     ensures room { OnOk result (vec_len history.new < vec_capacity history.new) }
     ensures log_room { OnOk result (vec_len log.new < vec_capacity log.new) }
 {
-    let copies = (event.copy()?, event.copy()?);
     reserve_entry(history, log)?;
-    Ok(copies)
+    Ok((event.copy()?, event.copy()?))
 }

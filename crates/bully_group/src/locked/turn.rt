@@ -165,10 +165,10 @@ fn event_with_room(
     ensures room { OnOk result (vec_len history.new < vec_capacity history.new) }
     ensures log_room { OnOk result (vec_len log.new < vec_capacity log.new) }
 {
+    reserve_entry(history, log)?;
     let table = match kind {
         StepKind::Plan => Some(procedure.table().unwrap().copy()?),
         _ => None,
     };
-    reserve_entry(history, log)?;
     Ok(kind.event(procedure.node(), table))
 }
