@@ -146,7 +146,7 @@ find_states() {
     done
 }
 
-# Tells how many crates are to be proved, and how long that takes on four cores: for each 40 s from nothing, 10 s over the work that an
+# Tells how many crates are to be proved, and how long that takes on four cores: for each 35 s from nothing, 10 s over the work that an
 # earlier build kept, and two minutes more for what is linked and compiled.
 tell_plan() {
     local name due=120 new=0
@@ -156,7 +156,7 @@ tell_plan() {
         if [[ -d $root/crates/$name/out/incremental ]]; then
             due=$((due + 10))
         else
-            due=$((due + 40)) new=$((new + 1))
+            due=$((due + 35)) new=$((new + 1))
         fi
     done
     say "proves and builds $1: $all of $((${#libraries[@]} + 1)) crates, $new of them from nothing; on four cores about $(((due + 59) / 60)) min"
