@@ -33,7 +33,7 @@ pub use checking::check;
 pub use details::{call_at, offer_of, reached, said_of, same_task};
 pub use judging::Judge;
 pub use upgrading::upgrade;
-pub use verdict::Verdict;
+pub use verdict::{Verdict, Violation};
 pub use verdict_text::push_verdict_head;
 
 /// The law of upgraded traces. The verdict on one, and the world that its rows were taken to, are those of the trace that
