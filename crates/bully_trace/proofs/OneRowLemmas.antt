@@ -1,6 +1,6 @@
 -- What a judge makes of one row more is what the rows come to.
 use Rattle.std.proofs.Common.{◌≡◌, ◌+◌, ◌++◌, ℕ, Bool, true, false, List, [], ◌∷◌, Option, Some, None, MatchOption, length, option_map, refl, sym, ap, subst, arith, ◌∙◌, if◌then◌else◌}
-use Rattle.std.specs.Prelude.{IfSome}
+use Rattle.std.specs.Prelude.{IfSome, option_and_then}
 use Rattle.std.specs.Bool.{MatchBool}
 use Rattle.std.proofs.lemmas.List.{append_assoc}
 use Rattle.bully_base.specs.Setup.{Setup}
@@ -8,10 +8,11 @@ use Rattle.bully_calls.specs.declared.call.Answer.{Answer}
 use Rattle.bully_events.specs.declared.event.Event.{Event}
 use Rattle.bully_events.specs.declared.event.Refused.{Refused}
 use Rattle.bully_rows.specs.EventsTold.{event_of_detailed}
+use Rattle.bully_rows.specs.declared.header.Version.{Version}
 use Rattle.bully_rows.specs.declared.trace.Row.{Row}
 use Rattle.bully_trace.specs.Details.{is_so, is_true, is_whole}
 use Rattle.bully_trace.specs.Judging.{HasJudged, IsJudgedOn, JudgeState}
-use Rattle.bully_trace.specs.OneRow.{IsRowTaken, IsTakenBy, differs_unless, refused_or, verdict_at, violation_of}
+use Rattle.bully_trace.specs.OneRow.{IsRowTaken, IsTakenBy, differs_unless, refused_or, verdict_at, violation_in, violation_of}
 use Rattle.bully_trace.specs.Verdict.{IsJudged}
 use Rattle.bully_trace.specs.declared.verdict.Verdict.{Verdict}
 use Rattle.bully_trace.specs.declared.verdict.Violation.{Violation}
@@ -118,15 +119,28 @@ taken_judged number row before after taken setup rows at judged = by_stop before
         (λ more verdict w. row-judged before.world after.world number row after.stopped more verdict w (taken.decides is) (taken.taken is) taken.stays)
         judged
 
--- an event that no row tells is taken as one that does
-pub applied_judged : (e : Event) (version : Rattle.bully_rows.specs.declared.header.Version.Version) (before after : WorldState) (a : Answer) → cause_in before e ≡ None → IsApplied before e after a
+-- behind one more row with which nothing is wrong
+pub row_judged_more : (row : Row) (version : Version) (before after : WorldState) → violation_of before row ≡ None → IsRowTaken before row after
     → (setup : Setup) (rows : List Row) → HasJudged setup rows (record { version = version; world = before; stopped = None })
-    → HasJudged setup (rows ++ Row.Event e ∷ []) (record { version = version; world = after; stopped = None })
-applied_judged e version before after a none applied setup rows judged =
-    taken_judged (length rows + 2) (Row.Event e) (record { version = version; world = before; stopped = None }) (record { version = version; world = after; stopped = None })
+    → HasJudged setup (rows ++ row ∷ []) (record { version = version; world = after; stopped = None })
+row_judged_more row version before after right taken setup rows judged =
+    taken_judged (length rows + 2) row (record { version = version; world = before; stopped = None }) (record { version = version; world = after; stopped = None })
     (record {
       decided = tt;
-      decides = λ is. rw none refl;
-      taken = λ is going. (a, applied);
+      decides = λ is. rw right refl;
+      taken = λ is going. taken;
       stays = tt;
     }) setup rows refl judged
+
+-- what a judge is told to pass over is what is wrong with the row
+pub told_violation : (number : ℕ) (row : Row) (before mid : JudgeState) → before.stopped ≡ None → IsTakenBy number row before mid → option_and_then violation_in mid.stopped ≡ violation_of before.world row
+told_violation number row before mid going taken = by_told (violation_of before.world row) (taken.decides going)
+  where
+    by_told : (q : Option Violation) → mid.stopped ≡ option_map (verdict_at number) q → option_and_then violation_in mid.stopped ≡ q
+    by_told None is = rw is refl
+    by_told (Some (Violation.Refused why)) is = rw is refl
+    by_told (Some Violation.Differs) is = rw is refl
+
+-- where nothing is, it was taken
+pub taken_if_right : (number : ℕ) (row : Row) (before mid : JudgeState) → before.stopped ≡ None → IsTakenBy number row before mid → violation_of before.world row ≡ None → IsRowTaken before.world row mid.world
+taken_if_right number row before mid going taken right = taken.taken going (taken.decides going ∙ ap (option_map (verdict_at number)) right)

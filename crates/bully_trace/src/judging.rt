@@ -157,8 +157,33 @@ impl Judge {
         }
     }
 
-    /// What is wrong with the row that decided, if one did. From then on it is as if that row hadn't been there.
-    pub fn pass_over(&mut self) -> Option<Violation>
+    /// Takes the next row, where nothing is wrong with it; no row decided before. What is wrong with it else is told, and then nothing
+    /// changes: it decides nothing.
+    pub fn try_row(&mut self, row: &Row) -> Option<Violation>
+        requires { self.old.stopped ≡ None }
+        ensures violation { result ≡ violation_of self.old.world row.now }
+        ensures taken { result ≡ None → IsRowTaken self.old.world row.now self.new.world }
+        ensures unchanged { IfSome result (λ _. self.new ≡ self.old) }
+        ensures going { (self.new.stopped ≡ None) × (self.new.version ≡ self.old.version) }
+    {
+        self.take_row(0, row);
+        self.pass_over()
+    }
+
+    /// The same of a row that tells this event.
+    pub fn try_node_event(&mut self, event: NodeEvent) -> Option<Violation>
+        requires { self.old.stopped ≡ None }
+        ensures violation { result ≡ violation_of self.old.world (Row.Event (event_at event.kind event.node)) }
+        ensures taken { result ≡ None → IsRowTaken self.old.world (Row.Event (event_at event.kind event.node)) self.new.world }
+        ensures unchanged { IfSome result (λ _. self.new ≡ self.old) }
+        ensures going { (self.new.stopped ≡ None) × (self.new.version ≡ self.old.version) }
+    {
+        self.take_node_event(0, event);
+        self.pass_over()
+    }
+
+    // What is wrong with the row that decided, if one did. From then on it is as if that row hadn't been there.
+    fn pass_over(&mut self) -> Option<Violation>
         ensures violation { result ≡ option_and_then violation_in self.old.stopped }
         ensures going { self.new ≡ record self.old { stopped = None } }
     {

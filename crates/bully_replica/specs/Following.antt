@@ -1,0 +1,43 @@
+-- A log that is followed row by row, as its text has them.
+use Rattle.std.specs.Prelude.{◌≡◌, ◌⊎◌, ◌+◌, ℕ, Option, None, Some, true}
+use Rattle.bully_rows.specs.Headers.{Record}
+use Rattle.bully_rows.specs.RecordsLeft.{ReadSoFar, Takes}
+use Rattle.bully_rows.specs.Rows.{row_of}
+use Rattle.bully_rows.specs.declared.TheConstants.{ROWS_MAX}
+use Rattle.bully_rows.specs.declared.trace.Row.{Row}
+use Rattle.bully_rows.specs.declared.trace.TraceCause.{TraceCause}
+use Rattle.bully_replica.specs.Replica.{Learns, ReplicaState}
+use Rattle.bully_replica.specs.declared.follower.FollowFault.{FollowFault}
+use Rattle.bully_trace.specs.OneRow.{violation_of}
+
+-- the replica, and how many rows it learned
+pub record FollowerState : Type 0 where
+  pub replica : ReplicaState
+  pub rows : ℕ
+
+-- what these fields mean in a row of the replica's log
+abbrev pub row_in : ReplicaState → Record → Option Row
+row_in r fields = row_of r.version r.world.setup fields
+
+-- the row that these fields mean was learned
+abbrev pub LearnsFields : Record → ReplicaState → ReplicaState → Type 0
+LearnsFields fields before after = (row : Row) × (row_in before fields ≡ Some row) × Learns row before after
+
+-- and counted
+abbrev pub Follows : Record → FollowerState → FollowerState → Type 0
+Follows fields before after = LearnsFields fields before.replica after.replica × (after.rows ≡ before.rows + 1)
+
+-- why these fields aren't learned: they mean no row, or something is wrong with the row; or there is no memory
+abbrev pub FailsOn : Record → ReplicaState → FollowFault → Type 0
+FailsOn fields r (FollowFault.Form cause) = (cause ≡ TraceCause.OutOfMemory) ⊎ ((cause ≡ TraceCause.BadRow) × (row_in r fields ≡ None))
+FailsOn fields r (FollowFault.Violation violation) = (row : Row) × (row_in r fields ≡ Some row) × (violation_of r.world row ≡ Some violation)
+
+-- why no row can be had: the reader fails, or there is no memory; or a trace has no more rows
+abbrev pub FailsOutside : ReadSoFar → FollowerState → FollowFault → Type 0
+FailsOutside reader f fault =
+    (fault ≡ FollowFault.Form TraceCause.Read) ⊎ (fault ≡ FollowFault.Form TraceCause.OutOfMemory)
+    ⊎ ((fault ≡ FollowFault.Form TraceCause.TooManyRows) × ((f.rows ≡ ROWS_MAX) ⊎ (reader.number ≡ ROWS_MAX + 1)))
+
+-- why the next row isn't learned
+abbrev pub FailsAt : ReadSoFar → ReadSoFar → FollowerState → FollowFault → Type 0
+FailsAt before after f fault = FailsOutside before f fault ⊎ (Takes before.records after.records true after.fields × FailsOn after.fields f.replica fault)
