@@ -26,14 +26,14 @@ fn constants_are_those_of_the_header() {
 #[test]
 fn structs_are_those_of_the_header() {
     let declared = structs_of_raw();
-    assert_eq!(declared.len(), 4);
+    assert_eq!(declared.len(), 6);
     assert_eq!(declared, structs_of_header());
 }
 
 #[test]
 fn functions_are_those_of_the_header() {
     let declared = functions_of_raw();
-    assert_eq!(declared.len(), 23);
+    assert_eq!(declared.len(), 35);
     assert_eq!(declared, functions_of_header());
 }
 
@@ -49,11 +49,11 @@ fn structs_are_laid_out_as_in_c() {
 #[test]
 fn statuses_are_named_as_in_the_header() {
     let statuses: Vec<(String, u64)> = statuses_of_header();
-    assert_eq!(statuses.len(), 35);
+    assert_eq!(statuses.len(), 38);
     for (name, value) in statuses {
         assert_eq!(Some(status_name(value as u32)), name.strip_prefix("BULLY_"));
     }
-    for no_status in [13, 19, 32, 39, 47, 49, 53, u32::MAX] {
+    for no_status in [13, 19, 33, 39, 47, 49, 55, u32::MAX] {
         assert_eq!(status_name(no_status), "?");
     }
 }
@@ -90,7 +90,7 @@ fn constants_of_line(line: &str) -> Vec<(String, u64)> {
         let parts: Vec<&str> = defined.split_whitespace().collect();
         return match parts.as_slice() {
             [name, value] => vec![constant(name, value)],
-            _ => Vec::new(), // the guard of the header, and BULLY_AGENT_CLOSED
+            _ => Vec::new(), // the guard of the header, and the closed handles
         };
     }
     let inner = line.strip_prefix("enum {").unwrap_or(line);
@@ -168,8 +168,8 @@ fn functions_of_header() -> Vec<Declared> {
         let (parameters, _) = rest.split_once(')').expect("their end");
         let head = head.lines().last().expect("a head");
         let (name, gives) = c_variable(head);
-        let parameters = parameters.split(',').map(c_variable).collect();
-        (name, parameters, gives)
+        let parameters = parameters.split(',').filter(|&one| one != "void");
+        (name, parameters.map(c_variable).collect(), gives)
     });
     functions.collect()
 }
@@ -276,6 +276,19 @@ fn layout_in_rust() -> Vec<String> {
             coordinator,
             halter,
             callee
+        }
+    );
+    layout!(lines, bully_replica { held });
+    layout!(
+        lines,
+        bully_group {
+            rows,
+            events,
+            token,
+            planner,
+            nodes,
+            partitions,
+            keeps
         }
     );
     lines
