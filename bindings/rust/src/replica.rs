@@ -8,9 +8,9 @@ use std::fmt;
 
 /// What a process knows of a group whose history is a log in a store that many processes share.
 ///
-/// The log begins with a header, as [`Setup::header`](crate::Setup::header) has one; then come rows, as `docs/FORMATS.md` has them. Here
-/// rows have no line end. A process learns all rows of the log in their order, by [`Replica::learn`]. It appends a row that
-/// [`Replica::next`] or [`Replica::event`] gave, behind exactly the rows that it has learned: if another row came first, it appends
+/// The log begins with a header, as [`Setup::header`](crate::Setup::header) has one. Then come rows, as `docs/FORMATS.md` has them.
+/// Here rows have no line end. A process learns all rows of the log in their order, by [`Replica::learn`]. It appends a row that
+/// [`Replica::next`] or [`Replica::event`] gave, behind exactly the rows that it has learned. If another row came first, it appends
 /// nothing, and learns that one. So the log is lawful, whatever its processes do, and agreement holds of all that they read.
 ///
 /// [`Replica::learn`] alone takes `&mut self`. The calls that take `&self` change nothing.
@@ -144,7 +144,7 @@ impl fmt::Display for ReplicaEvent {
     }
 }
 
-// All the rows as one text, each with its line end.
+// All the rows as one text, each with its line end; or the first that isn't one row.
 fn text_of<R: AsRef<str>>(rows: impl IntoIterator<Item = R>) -> Result<String, LearnFault> {
     let mut text = String::new();
     for (place, row) in rows.into_iter().enumerate() {

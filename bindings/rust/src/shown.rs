@@ -19,8 +19,8 @@ coded! {
 }
 
 coded! {
-    /// What a node wants to do next. An agent does it by the call that is named here. Of a replica, [`Replica::next`](crate::Replica::next)
-    /// has the row.
+    /// What a node wants to do next. An agent does it by the call that is named here, and a replica has its row by
+    /// [`Replica::next`](crate::Replica::next).
     Want {
         /// Nothing.
         Nothing = BULLY_WANTS_NOTHING, "nothing";

@@ -224,17 +224,22 @@ fn without_comments(text: &str) -> String {
 
 // ---- Layouts ----
 
-macro_rules! layout {
-    ($lines:ident, $kind:ident { $($field:ident),* }) => {
-        $lines.push(format!("{} {} {}", stringify!($kind), size_of::<raw::$kind>(), align_of::<raw::$kind>()));
-        $($lines.push(format!(
-            "{}.{} {} {}",
-            stringify!($kind),
-            stringify!($field),
-            offset_of!(raw::$kind, $field),
-            size_of_field(|held: &raw::$kind| &raw const held.$field),
-        ));)*
-    };
+macro_rules! layouts {
+    ($($kind:ident: $($field:ident)*;)*) => {{
+        let mut lines = Vec::new();
+        $(
+            let (size, alignment) = (size_of::<raw::$kind>(), align_of::<raw::$kind>());
+            lines.push(format!("{} {size} {alignment}", stringify!($kind)));
+            $(
+                let (place, size) = (
+                    offset_of!(raw::$kind, $field),
+                    size_of_field(|held: &raw::$kind| &raw const held.$field),
+                );
+                lines.push(format!("{}.{} {place} {size}", stringify!($kind), stringify!($field)));
+            )*
+        )*
+        lines
+    }};
 }
 
 fn size_of_field<S, F>(_field: fn(&S) -> *const F) -> usize {
@@ -242,56 +247,15 @@ fn size_of_field<S, F>(_field: fn(&S) -> *const F) -> usize {
 }
 
 fn layout_in_rust() -> Vec<String> {
-    let mut lines = Vec::new();
-    layout!(lines, bully_status {});
-    layout!(
-        lines,
-        bully_setup {
-            nodes,
-            partitions,
-            events_max,
-            keeps
-        }
-    );
-    layout!(
-        lines,
-        bully_verdict {
-            kind,
-            number,
-            cause
-        }
-    );
-    layout!(lines, bully_agent { held });
-    layout!(
-        lines,
-        bully_state {
-            status,
-            wants,
-            events,
-            generation,
-            call,
-            orphan,
-            number,
-            node,
-            coordinator,
-            halter,
-            callee
-        }
-    );
-    layout!(lines, bully_replica { held });
-    layout!(
-        lines,
-        bully_group {
-            rows,
-            events,
-            token,
-            planner,
-            nodes,
-            partitions,
-            keeps
-        }
-    );
-    lines
+    layouts! {
+        bully_status:;
+        bully_setup: nodes partitions events_max keeps;
+        bully_verdict: kind number cause;
+        bully_agent: held;
+        bully_state: status wants events generation call orphan number node coordinator halter callee;
+        bully_replica: held;
+        bully_group: rows events token planner nodes partitions keeps;
+    }
 }
 
 // What the program beside this file prints. The machine's C compiler is `cc`, unless CC says another.

@@ -243,7 +243,7 @@ fn refused_tables_of_replicas() {
     assert!(tried.iter().all(|&count| count > 0), "{tried:?}");
 }
 
-/// Where memory ends, all rows before are learned, and the others are once there is some.
+/// If memory ends in mid-way, the rows before that are learned. The others are once there is some.
 #[test]
 fn refused_in_mid_way() {
     let whole = learned(ROWS.len()).shown();

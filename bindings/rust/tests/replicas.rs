@@ -637,50 +637,52 @@ fn too_many_rows() {
 
 // ---- Headers ----
 
+fn even(nodes: u16, partitions: u16) -> Setup {
+    Setup::new(nodes, partitions, 1_000_000)
+}
+
+// The setup has this header, and a replica behind it shows the setup, of which each node is Down.
+fn assert_header(setup: &Setup, header: &str) {
+    assert_eq!(setup.header().as_deref(), Ok(header));
+    let replica = opened(header);
+    let group = Group {
+        rows: 0,
+        events: 0,
+        token: None,
+        planner: None,
+        nodes: setup.nodes,
+        partitions: setup.partitions,
+        keeps: setup.keeps,
+    };
+    assert_eq!((replica.group(), replica.planned()), (group, None));
+    for node in 1..=setup.nodes {
+        assert_eq!(line_in(&replica, node), format!("{node} down - - -"));
+    }
+}
+
 #[test]
 fn headers_of_setups() {
-    let ones = |nodes| vec!["1"; nodes].join(" ");
-    let even = |nodes, partitions| Setup::new(nodes, partitions, 1_000_000);
-    let headers = [
-        (even(3, 7), String::from("bully,1,3,7")),
-        (even(64, 256), String::from("bully,1,64,256")),
-        (even(65, 256), format!("bully,2,65,256,{},clear", ones(65))),
-        (even(64, 257), format!("bully,2,64,257,{},clear", ones(64))),
-        (
-            even(3, 7).with_weights([1, 1, 1]),
-            String::from("bully,1,3,7"),
-        ),
-        (
-            even(3, 7).with_weights([1, 2, 1]),
-            String::from("bully,2,3,7,1 2 1,clear"),
-        ),
-        (
-            even(3, 7).with_weights([2, 2, 2]),
-            String::from("bully,2,3,7,2 2 2,clear"),
-        ),
-        (even(3, 7).keeping(), String::from("bully,2,3,7,1 1 1,keep")),
-        (
-            even(2, 3).with_weights([1000, 1]).keeping(),
-            String::from("bully,2,2,3,1000 1,keep"),
-        ),
-    ];
-    for (setup, header) in headers {
-        assert_eq!(setup.header().as_deref(), Ok(header.as_str()));
-        let group = Group {
-            rows: 0,
-            events: 0,
-            token: None,
-            planner: None,
-            nodes: setup.nodes,
-            partitions: setup.partitions,
-            keeps: setup.keeps,
-        };
-        let replica = opened(&header);
-        assert_eq!((replica.group(), replica.planned()), (group, None));
-        assert_eq!(
-            line_in(&replica, setup.nodes),
-            format!("{} down - - -", setup.nodes)
-        );
+    let weighing = |weights: [u16; 3]| even(3, 7).with_weights(weights);
+    assert_header(&even(3, 7), "bully,1,3,7");
+    assert_header(&weighing([1, 1, 1]), "bully,1,3,7");
+    assert_header(&weighing([1, 2, 1]), "bully,2,3,7,1 2 1,clear");
+    assert_header(&weighing([2, 2, 2]), "bully,2,3,7,2 2 2,clear");
+    assert_header(&even(3, 7).keeping(), "bully,2,3,7,1 1 1,keep");
+    let both = weighing([1000, 1, 20]).keeping();
+    assert_header(&both, "bully,2,3,7,1000 1 20,keep");
+}
+
+/// Version 1 tells of 64 nodes and 256 partitions at most.
+#[test]
+fn headers_of_large_setups() {
+    let version_2 = |nodes: u16, partitions: u16| {
+        let ones = vec!["1"; usize::from(nodes)].join(" ");
+        format!("bully,2,{nodes},{partitions},{ones},clear")
+    };
+    assert_header(&even(64, 256), "bully,1,64,256");
+    for (nodes, partitions) in [(65, 256), (64, 257), (1024, 4096)] {
+        let header = version_2(nodes, partitions);
+        assert_header(&even(nodes, partitions), &header);
     }
 }
 
