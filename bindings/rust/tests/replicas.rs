@@ -697,11 +697,11 @@ fn headers_without_the_bound() {
     assert_eq!(replica.learn(["recover,1", "crash,1"]), Ok(2));
 }
 
+/// Three numbers, parted by full stops.
 #[test]
 fn the_version() {
-    let first = bully::version().lines().next().expect("a line");
-    let numbers: Vec<&str> = first.split('.').collect();
-    assert_eq!(numbers.len(), 3, "{first}");
+    let numbers: Vec<&str> = bully::version().split('.').collect();
+    assert_eq!(numbers.len(), 3, "{numbers:?}");
     assert!(numbers.iter().all(|number| number.parse::<u32>().is_ok()));
 }
 
