@@ -1,12 +1,12 @@
 -- A log that is followed row by row, as its text has them.
-use Rattle.std.specs.Prelude.{◌≡◌, ◌⊎◌, ◌+◌, ℕ, Option, None, Some, true}
+use Rattle.std.specs.Prelude.{◌≡◌, ◌⊎◌, ◌<◌, ◌+◌, ◌++◌, ◌∷◌, ℕ, List, Option, None, Some, true, length, map}
 use Rattle.bully_rows.specs.Headers.{Record}
 use Rattle.bully_rows.specs.RecordsLeft.{ReadSoFar, Takes}
 use Rattle.bully_rows.specs.Rows.{row_of}
 use Rattle.bully_rows.specs.declared.TheConstants.{ROWS_MAX}
 use Rattle.bully_rows.specs.declared.trace.Row.{Row}
 use Rattle.bully_rows.specs.declared.trace.TraceCause.{TraceCause}
-use Rattle.bully_replica.specs.Replica.{Learns, ReplicaState}
+use Rattle.bully_replica.specs.Replica.{HasLearned, Learns, ReplicaState}
 use Rattle.bully_replica.specs.declared.follower.FollowFault.{FollowFault}
 use Rattle.bully_trace.specs.OneRow.{violation_of}
 
@@ -23,9 +23,9 @@ row_in r fields = row_of r.version r.world.setup fields
 abbrev pub LearnsFields : Record → ReplicaState → ReplicaState → Type 0
 LearnsFields fields before after = (row : Row) × (row_in before fields ≡ Some row) × Learns row before after
 
--- and counted
+-- and counted; there was room for it
 abbrev pub Follows : Record → FollowerState → FollowerState → Type 0
-Follows fields before after = LearnsFields fields before.replica after.replica × (after.rows ≡ before.rows + 1)
+Follows fields before after = LearnsFields fields before.replica after.replica × (before.rows < ROWS_MAX) × (after.rows ≡ before.rows + 1)
 
 -- why these fields aren't learned: they mean no row, or something is wrong with the row; or there is no memory
 abbrev pub FailsOn : Record → ReplicaState → FollowFault → Type 0
@@ -41,3 +41,22 @@ FailsOutside reader f fault =
 -- why the next row isn't learned
 abbrev pub FailsAt : ReadSoFar → ReadSoFar → FollowerState → FollowFault → Type 0
 FailsAt before after f fault = FailsOutside before f fault ⊎ (Takes before.records after.records true after.fields × FailsOn after.fields f.replica fault)
+
+-- of these records the first were learned, as the rows that they mean, behind those before; and the others are left
+pub record FollowsUpTo (records : List Record) (before after : FollowerState) (left : List Record) : Type 0 where
+  pub rows : List Row
+  pub read : List Record
+  pub parts : records ≡ read ++ left
+  pub mean : map (row_in before.replica) read ≡ map Some rows
+  pub counted : after.rows ≡ before.rows + length rows
+  pub version : after.replica.version ≡ before.replica.version
+  pub setup : after.replica.world.setup ≡ before.replica.world.setup
+  pub learned : (earlier : List Row) → HasLearned before.replica earlier → HasLearned after.replica (earlier ++ rows)
+
+-- why the first of those that are left isn't learned
+abbrev pub StopsAt : List Record → FollowerState → FollowFault → Type 0
+StopsAt left f (FollowFault.Form cause) =
+    (cause ≡ TraceCause.Read) ⊎ (cause ≡ TraceCause.OutOfMemory) ⊎ (cause ≡ TraceCause.TooManyRows)
+    ⊎ ((cause ≡ TraceCause.BadRow) × (fields : Record) × (rest : List Record) × (left ≡ fields ∷ rest) × (row_in f.replica fields ≡ None))
+StopsAt left f (FollowFault.Violation violation) =
+    (fields : Record) × (rest : List Record) × (left ≡ fields ∷ rest) × (row : Row) × (row_in f.replica fields ≡ Some row) × (violation_of f.replica.world row ≡ Some violation)

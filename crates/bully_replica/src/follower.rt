@@ -1,6 +1,7 @@
-ghost use Rattle.std.specs.Prelude.{◌≡◌, ◌≤◌, IfErr, IfOk, OnOk, None, false, length, true};
-ghost use Rattle.bully_replica.specs.Following.{FailsAt, FailsOn, Follows, LearnsFields};
+ghost use Rattle.std.specs.Prelude.{◌≡◌, ◌≤◌, [], List, IfErr, IfOk, OnOk, None, Some, false, length, true};
+ghost use Rattle.bully_replica.specs.Following.{FailsAt, FailsOn, Follows, FollowsUpTo, LearnsFields, StopsAt};
 ghost use Rattle.bully_replica.specs.Replica.{first_replica};
+ghost use Rattle.bully_rows.specs.Headers.{Record};
 ghost use Rattle.bully_rows.specs.RecordsLeft.{Takes};
 ghost use Rattle.bully_rows.specs.Rows.{row_of};
 
@@ -100,6 +101,22 @@ impl Follower {
         learn_next(alloc, &mut self.replica, reader)?;
         self.rows += 1;
         Ok(true)
+    }
+
+    /// Learns the rows that the reader still gives, in their order, up to the first that [`Follower::take_next`] refuses; what was
+    /// learned before it stays.
+    pub fn take_all<R: Read + Drop>(
+        &mut self,
+        alloc: Global,
+        reader: &mut RowReader<R>,
+    ) -> Result<(), FollowFault>
+        ensures all { OnOk result ((records : List Record) → reader.old.records ≡ Some records → FollowsUpTo records self.old self.new []) }
+        ensures part { IfErr result (λ fault. (records : List Record) → reader.old.records ≡ Some records
+            → (left : List Record) × FollowsUpTo records self.old self.new left × StopsAt left self.new fault) }
+        ensures counted { self.old.rows ≤ self.new.rows }
+    {
+        while self.take_next(alloc, reader)? {}
+        Ok(())
     }
 }
 
