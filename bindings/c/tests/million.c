@@ -153,6 +153,7 @@ int main(void) {
     use_up(100, &grown);
     open_often();
     learn_a_million();
+    learn_a_million();
     before = memory_in_use();
     for (round = 0; round < 2; round++) {
         long calls = use_up(BULLY_EVENTS_MAX, &grown);

@@ -138,6 +138,64 @@ static void try_elections_of_two(void) {
     close_shared(&shared);
 }
 
+/* ---- An election of five nodes ---- */
+
+/* Until all nodes rest: each appends its next row, from the lowest to the highest and again. */
+static void settle(struct shared *shared) {
+    int goes_on = 1;
+    while (goes_on) {
+        uint16_t node;
+        goes_on = 0;
+        for (node = 1; node <= shared->nodes; node++) {
+            char row[ROOM] = "";
+            size_t length = 0;
+            ANSWERS(OK, bully_replica_next(&shared->replicas[node - 1], node, row, sizeof row - 1, &length));
+            if (length > 0) {
+                append(shared, 1, row);
+                goes_on = 1;
+            }
+        }
+    }
+}
+
+/* Nodes 1 to the leader are Normal under it, and have this task, which is the last plan. */
+static void expect_normal(bully_replica *replica, uint16_t leader, const char *task) {
+    bully_group group = {77, 77, 77, 77, 77, 77, 77};
+    bully_state state;
+    uint16_t node;
+    for (node = 1; node <= leader; node++) {
+        ANSWERS(OK, bully_replica_show(replica, node, &state));
+        EXPECT(state.status == BULLY_NORMAL && state.coordinator == leader && state.halter == leader && state.node == node);
+        EXPECT(state.wants == BULLY_WANTS_NOTHING && state.callee == 0 && has_task(replica, node, task));
+    }
+    ANSWERS(OK, bully_replica_group(replica, &group));
+    EXPECT(group.planner == leader && group.token > 0 && group.token < group.events && has_planned(replica, task));
+}
+
+/* All come up; then the highest crashes, each of the others hears nothing of it, and its partition goes to the lowest. */
+static void try_five(void) {
+    static const char *const recoveries[] = {"recover,1\n", "recover,2\n", "recover,3\n", "recover,4\n", "recover,5\n"};
+    static const char *const timeouts[] = {"timeout,1\n", "timeout,2\n", "timeout,3\n", "timeout,4\n"};
+    static struct shared shared;
+    uint16_t node;
+    open_shared(&shared, 5, "bully,1,5,5\n");
+    for (node = 1; node <= 5; node++) {
+        append_event(&shared, node, BULLY_EVENT_RECOVER, recoveries[node - 1]);
+    }
+    settle(&shared);
+    expect_normal(&shared.replicas[0], 5, "1 2 3 4 5");
+    EXPECT(has_up(&shared.replicas[0], 5, "1 2 3 4"));
+    append_event(&shared, 5, BULLY_EVENT_CRASH, "crash,5\n");
+    for (node = 1; node <= 4; node++) {
+        append_event(&shared, node, BULLY_EVENT_TIMEOUT, timeouts[node - 1]);
+    }
+    settle(&shared);
+    expect_normal(&shared.replicas[0], 4, "1 2 3 4 1");
+    EXPECT(has_up(&shared.replicas[0], 4, "1 2 3"));
+    judge_shared(&shared);
+    close_shared(&shared);
+}
+
 /* ---- Whose turn it is ---- */
 
 /* Nodes 1 and 2 ask node 3, which node 2 did first. */
@@ -319,6 +377,7 @@ static void try_refusals(void) {
 
 void try_replicas(void) {
     try_elections_of_two();
+    try_five();
     try_callers();
     try_callers_of_a_dead();
     try_up_set();

@@ -4,7 +4,7 @@
 
 #include "testing.h"
 
-#define MOST_REPLICAS 3
+#define MOST_REPLICAS 5
 #define MOST_OWNERS 8
 #define MOST_SHARED 4096
 
