@@ -2,6 +2,7 @@
 """Tests of the binding. What is wanted comes from `docs/FORMATS.md`, `docs/ALGORITHM.md`, `docs/NODE.md`, `include/bully.h` and the
 files of `examples/`, and never from what the library answered. `try` runs them."""
 import copy
+import itertools
 import os
 import pickle
 import random
@@ -1422,6 +1423,20 @@ class Loading(unittest.TestCase):
                 ran = self.run_with(library, 'import bully; bully.status_name(0)')
                 self.assertEqual(ran.returncode, 1)
                 self.assertIn('OSError', ran.stderr)
+
+
+class Pages(unittest.TestCase):
+    """What `docs/NODE.md` shows in Python."""
+
+    def test_node_page(self) -> None:
+        """The group of two nodes whose log is a list, whose last lines assert what it comes to."""
+        page = (ROOT / 'docs' / 'NODE.md').read_text(encoding='utf-8')
+        lines = page[page.index('    from bully import Replica, Setup\n') :].splitlines()
+        shown = list(itertools.takewhile(lambda line: not line or line.startswith('    '), lines))
+        self.assertIn('assert ', shown[-2] + shown[-1])
+        known: Dict[str, Any] = {}
+        exec(compile(textwrap.dedent('\n'.join(shown)), 'NODE.md', 'exec'), known)
+        self.assertEqual(len(known['log']), known['replica'].rows)
 
 
 class CountingResult(unittest.TextTestResult):
