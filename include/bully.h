@@ -269,8 +269,8 @@ bully_status bully_replica_open(bully_replica *replica, const char *header, size
 /* Closes the handle, and gives back all that was kept. BULLY_NULL, BULLY_CLOSED. */
 bully_status bully_replica_close(bully_replica *replica);
 
-/* Learns the rows that stand next in the log, each with its line end, in their order and as `bully_check` takes them: up to the
- * first that isn't a row or is refused. `taken` gets how many were learned, also if the status isn't BULLY_OK: that says why the
+/* Learns the rows that stand next in the log, each with its line end, a line feed, in their order and as `bully_check` takes them: up
+ * to the first that isn't a row or is refused. `taken` gets how many were learned, also if the status isn't BULLY_OK: that says why the
  * next one wasn't, and what was learned before it stays.
  * BULLY_NULL, BULLY_CLOSED: `taken` is as before; BULLY_ROW_END: none was learned. Then of the first that isn't learned:
  * BULLY_OUT_OF_MEMORY; BULLY_TOO_MANY_ROWS; BULLY_BAD_ROW; BULLY_FULL to BULLY_NOT_ORPHAN: its event is refused; BULLY_ROW_DIFFERS. */
@@ -278,9 +278,10 @@ bully_status bully_replica_learn(bully_replica *replica, const char *rows, size_
 
 /* The row that the node appends next by itself, with its line end; a length of 0: it rests. If it isn't Down, it first runs the
  * call of the lowest caller that waits for it. Else its procedure takes a step, and a table is planned from that of the last plan.
- * The replica doesn't learn the row: append it to the log first, behind exactly the rows that were learned.
- * BULLY_NULL, BULLY_CLOSED, BULLY_BAD_NODE, BULLY_OUT_OF_MEMORY; BULLY_FULL: the log has no room for it; BULLY_SHORT, with the
- * length. */
+ * The row says no more than its event, also in a log of version 3. The replica doesn't learn it: append it to the log first, behind
+ * exactly the rows that were learned.
+ * BULLY_NULL, BULLY_CLOSED, BULLY_BAD_NODE, BULLY_OUT_OF_MEMORY; BULLY_FULL: the log has as many rows or events as a trace has at
+ * most; BULLY_SHORT, with the length. */
 bully_status bully_replica_next(bully_replica *replica, uint16_t node, char *row, size_t room, size_t *length);
 
 /* The events that no step of a procedure is. */

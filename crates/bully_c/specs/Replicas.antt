@@ -15,14 +15,16 @@ use Rattle.bully_rows.specs.Headers.{Record, version_for}
 use Rattle.bully_rows.specs.Rows.{records_of, trace_of}
 use Rattle.bully_rows.specs.Trace.{headed}
 use Rattle.bully_rows.specs.TraceText.{event_fields, header_fields, line_of}
+use Rattle.bully_rows.specs.declared.TheConstants.{ROWS_MAX}
 use Rattle.bully_rows.specs.declared.header.Header.{Header}
+use Rattle.bully_rows.specs.declared.trace.TraceCause.{TraceCause}
 use Rattle.bully_world.specs.State.{WorldState, cause_in, state_at}
 use Rattle.bully_c.specs.Arguments.{IsCopied, IsSetupRefusal}
 use Rattle.bully_c.specs.Exports.{AtOpenOf, ShowsOf, number_or_none}
-use Rattle.bully_c.specs.Numbers.{event_numbered, follow_number, refusal_number}
+use Rattle.bully_c.specs.Numbers.{event_numbered, follow_number, refusal_number, trace_number}
 use Rattle.bully_c.specs.declared.logs.HeldLog.{HeldLog}
 use Rattle.bully_c.specs.declared.replicas.CGroup.{CGroup}
-use Rattle.bully_c.specs.declared.status.TheConstants.{BAD_EVENT, BAD_HEADER, BAD_NODE, BAD_ROW, OK, OPEN, OUT_OF_MEMORY, ROW_END}
+use Rattle.bully_c.specs.declared.status.TheConstants.{BAD_EVENT, BAD_HEADER, BAD_NODE, OK, OPEN, OUT_OF_MEMORY, ROW_END}
 
 -- ---- handles
 
@@ -67,42 +69,54 @@ has_end (byte ∷ bytes) = ends_with same_byte (byte ∷ bytes) (10 ∷ [])
 abbrev pub EndsLearning : List Record → FollowerState → ℕ → Type 0
 EndsLearning left f status = ((status ≡ OK) × (left ≡ [])) ⊎ ((fault : FollowFault) × (status ≡ follow_number fault) × StopsAt left f fault)
 
+-- a text that begins with a mark begins with no row, or with one that is too many
+abbrev pub mark_number : FollowerState → ℕ
+mark_number f = if f.rows == ROWS_MAX then trace_number TraceCause.TooManyRows else trace_number TraceCause.BadRow
+
 -- the rows of the text were learned up to that one, so many of them; nothing of a text that begins with a mark, or without its end
 abbrev pub IsLearning : List ℕ → ℕ → HeldLog → ℕ → HeldLog → Type 0
 IsLearning text taken held status after =
     ((has_end text ≡ false) × (status ≡ ROW_END) × (taken ≡ 0) × (after ≡ held))
-    ⊎ ((has_end text ≡ true) × (has_mark text ≡ true) × (status ≡ BAD_ROW) × (taken ≡ 0) × (after ≡ held))
+    ⊎ ((has_end text ≡ true) × (has_mark text ≡ true) × (status ≡ mark_number held.follower) × (taken ≡ 0) × (after ≡ held))
     ⊎ ((has_end text ≡ true) × (has_mark text ≡ false) × (left : List Record) × FollowsUpTo (records_of text) held.follower after.follower left
     × (after.follower.rows ≡ held.follower.rows + taken) × EndsLearning left after.follower status)
 
 -- ---- rows to be appended
 
+-- why the event isn't appended, if it isn't: the log has as many rows as a trace has at most, or the event is refused
+abbrev pub append_cause : FollowerState → Event → Option Refused
+append_cause f e = if f.rows == ROWS_MAX then Some Refused.Full else cause_in f.replica.world e
+
 -- nothing refuses the event, and this is its line
-abbrev pub IsAllowedRow : WorldState → Event → List ℕ → Type 0
-IsAllowedRow w e text = (cause_in w e ≡ None) × (text ≡ line_of (event_fields e))
+abbrev pub IsAllowedRow : FollowerState → Event → List ℕ → Type 0
+IsAllowedRow f e text = (append_cause f e ≡ None) × (text ≡ line_of (event_fields e))
 
 -- why there is no such row
-abbrev pub RefusesRow : WorldState → Event → ℕ → Type 0
-RefusesRow w e status = ((why : Refused) × (cause_in w e ≡ Some why) × (status ≡ refusal_number why)) ⊎ (status ≡ OUT_OF_MEMORY)
+abbrev pub RefusesRow : FollowerState → Event → ℕ → Type 0
+RefusesRow f e status = ((why : Refused) × (append_cause f e ≡ Some why) × (status ≡ refusal_number why)) ⊎ (status ≡ OUT_OF_MEMORY)
+
+-- the group has the node of this number
+abbrev pub HasNode : FollowerState → ℕ → Type 0
+HasNode f node = IsNode f.replica.world.setup node
 
 -- the row of what the node appends next, or nothing where it rests
-abbrev pub IsNextRow : ReplicaState → ℕ → List ℕ → Type 0
-IsNextRow r node text = IsNode r.world.setup node × (next : Option Event) × IsNext r node next × MatchOption next (text ≡ []) (λ e. IsAllowedRow r.world e text)
+abbrev pub IsNextRow : FollowerState → ℕ → List ℕ → Type 0
+IsNextRow f node text = HasNode f node × (next : Option Event) × IsNext f.replica node next × MatchOption next (text ≡ []) (λ e. IsAllowedRow f e text)
 
-abbrev pub RefusesNext : ReplicaState → ℕ → ℕ → Type 0
-RefusesNext r node status =
-    ((status ≡ BAD_NODE) × ¬ IsNode r.world.setup node)
-    ⊎ (IsNode r.world.setup node × ((status ≡ OUT_OF_MEMORY) ⊎ ((next : Event) × IsNext r node (Some next) × RefusesRow r.world next status)))
+abbrev pub RefusesNext : FollowerState → ℕ → ℕ → Type 0
+RefusesNext f node status =
+    ((status ≡ BAD_NODE) × ¬ HasNode f node)
+    ⊎ (HasNode f node × ((status ≡ OUT_OF_MEMORY) ⊎ ((next : Event) × IsNext f.replica node (Some next) × RefusesRow f next status)))
 
 -- the row of an event by its number
-abbrev pub IsEventRow : WorldState → ℕ → ℕ → List ℕ → Type 0
-IsEventRow w node number text = IsNode w.setup node × (e : Event) × (event_numbered number node ≡ Some e) × IsAllowedRow w e text
+abbrev pub IsEventRow : FollowerState → ℕ → ℕ → List ℕ → Type 0
+IsEventRow f node number text = HasNode f node × (e : Event) × (event_numbered number node ≡ Some e) × IsAllowedRow f e text
 
-abbrev pub RefusesEvent : WorldState → ℕ → ℕ → ℕ → Type 0
-RefusesEvent w node number status =
-    ((status ≡ BAD_NODE) × ¬ IsNode w.setup node)
-    ⊎ (IsNode w.setup node × (event_numbered number node ≡ None) × (status ≡ BAD_EVENT))
-    ⊎ (IsNode w.setup node × (e : Event) × (event_numbered number node ≡ Some e) × RefusesRow w e status)
+abbrev pub RefusesEvent : FollowerState → ℕ → ℕ → ℕ → Type 0
+RefusesEvent f node number status =
+    ((status ≡ BAD_NODE) × ¬ HasNode f node)
+    ⊎ (HasNode f node × (event_numbered number node ≡ None) × (status ≡ BAD_EVENT))
+    ⊎ (HasNode f node × (e : Event) × (event_numbered number node ≡ Some e) × RefusesRow f e status)
 
 -- a text is written into the room, or it is told why there is none, and nothing is
 abbrev pub IsWritten : (List ℕ → Type 0) → (ℕ → Type 0) → List ℕ → ℕ → ℕ → List ℕ → ℕ → Type 0

@@ -1,19 +1,19 @@
 //! What is kept of a log behind a handle, and what is learned of it and told of it.
 ghost use Rattle.std.specs.Prelude.{◌≡◌, ◌≤◌, IfErr, IfOk, List, string_bytes};
 ghost use Rattle.bully_c.specs.Numbers.{header_number};
-ghost use Rattle.bully_c.specs.Replicas.{EndsLearning, IsAllowedRow, IsEventRow, IsHeaderAlone, IsLearning, IsNextRow, IsWritten, RefusesEvent, RefusesHeader, RefusesNext, RefusesRow, has_end, has_mark, opened_log};
+ghost use Rattle.bully_c.specs.Replicas.{EndsLearning, IsAllowedRow, IsEventRow, IsHeaderAlone, IsLearning, IsNextRow, IsWritten, RefusesEvent, RefusesHeader, RefusesNext, RefusesRow, append_cause, has_end, has_mark, mark_number, opened_log};
 ghost use Rattle.bully_replica.specs.Following.{FollowsUpTo};
 ghost use Rattle.bully_rows.specs.Headers.{Record};
 ghost use Rattle.bully_rows.specs.Rows.{records_of};
 ghost use Rattle.bully_rows.specs.declared.header.Header.{Header as HeaderState};
 
 use crate::shown::copy_text;
-use crate::status::{self, BAD_EVENT, BAD_HEADER, BAD_ROW, OK, OUT_OF_MEMORY, ROW_END};
+use crate::status::{self, BAD_EVENT, BAD_HEADER, OK, OUT_OF_MEMORY, ROW_END};
 use crate::tables::node_of;
 use bully_base::OutOfMemory;
-use bully_replica::{Follower, Replica};
-use bully_rows::{Header, RowReader, TraceCause, push_event, read_trace};
-use bully_world::{Event, World};
+use bully_replica::Follower;
+use bully_rows::{Header, ROWS_MAX, RowReader, TraceCause, push_event, read_trace};
+use bully_world::{Event, Refused};
 use std::alloc::Global;
 
 /// The replica of a log, and how many rows it learned.
@@ -79,7 +79,7 @@ pub fn learn(alloc: Global, held: &mut HeldLog, text: &[u8], taken: &mut usize) 
         return ROW_END;
     }
     if has_mark(text) {
-        return BAD_ROW;
+        return of_mark(&held.follower);
     }
     let before = held.follower.rows();
     let status = learn_rows(alloc, &mut held.follower, text);
@@ -99,6 +99,18 @@ fn learn_rows(alloc: Global, follower: &mut Follower, text: &[u8]) -> u32
     }
 }
 
+// Why no row is learned of a text that begins with a byte-order mark.
+fn of_mark(follower: &Follower) -> u32
+    ensures { result ≡ mark_number follower.now }
+{
+    let cause = if follower.rows() == ROWS_MAX {
+        TraceCause::TooManyRows
+    } else {
+        TraceCause::BadRow
+    };
+    status::of_trace(cause)
+}
+
 // Whether the text is empty, or its last line has a line end.
 fn has_end(text: &[u8]) -> bool
     ensures { result ≡ has_end text.now }
@@ -116,27 +128,28 @@ fn has_mark(text: &[u8]) -> bool
 /// Writes the row of what the node of this number appends next by itself, or nothing where it rests; or tells why there is none.
 pub fn write_next(
     alloc: Global,
-    replica: &Replica,
+    follower: &Follower,
     node: u16,
     row: &mut [u8],
     length: &mut usize,
 ) -> u32
-    ensures { IsWritten (IsNextRow replica.now node) (RefusesNext replica.now node) row.old length.old result row.new length.new }
+    ensures { IsWritten (IsNextRow follower.now node) (RefusesNext follower.now node) row.old length.old result row.new length.new }
 {
-    match next_row(alloc, replica, node) {
+    match next_row(alloc, follower, node) {
         Ok(text) => copy_text(&text, row, length),
         Err(status) => status,
     }
 }
 
 // The row of what the node of this number appends next by itself, or nothing where it rests.
-fn next_row(alloc: Global, replica: &Replica, node: u16) -> Result<String, u32>
-    ensures ok { IfOk result (λ text. IsNextRow replica.now node (string_bytes text)) }
-    ensures err { IfErr result (RefusesNext replica.now node) }
+fn next_row(alloc: Global, follower: &Follower, node: u16) -> Result<String, u32>
+    ensures ok { IfOk result (λ text. IsNextRow follower.now node (string_bytes text)) }
+    ensures err { IfErr result (RefusesNext follower.now node) }
 {
+    let replica = follower.replica();
     let node = node_of(replica.world().setup(), node)?;
     match replica.next(alloc, node) {
-        Ok(Some(event)) => allowed_row(alloc, replica.world(), &event),
+        Ok(Some(event)) => allowed_row(alloc, follower, &event),
         Ok(None) => Ok(String::new(alloc)),
         Err(_) => Err(OUT_OF_MEMORY),
     }
@@ -145,38 +158,38 @@ fn next_row(alloc: Global, replica: &Replica, node: u16) -> Result<String, u32>
 /// Writes the row of the event of this number of the node of this number, or tells why there is none.
 pub fn write_event(
     alloc: Global,
-    world: &World,
+    follower: &Follower,
     node: u16,
     number: u32,
     row: &mut [u8],
     length: &mut usize,
 ) -> u32
-    ensures { IsWritten (IsEventRow world.now node number) (RefusesEvent world.now node number) row.old length.old result row.new length.new }
+    ensures { IsWritten (IsEventRow follower.now node number) (RefusesEvent follower.now node number) row.old length.old result row.new length.new }
 {
-    match event_row(alloc, world, node, number) {
+    match event_row(alloc, follower, node, number) {
         Ok(text) => copy_text(&text, row, length),
         Err(status) => status,
     }
 }
 
 // The row of the event of this number of the node of this number, or why there is none.
-fn event_row(alloc: Global, world: &World, node: u16, number: u32) -> Result<String, u32>
-    ensures ok { IfOk result (λ text. IsEventRow world.now node number (string_bytes text)) }
-    ensures err { IfErr result (RefusesEvent world.now node number) }
+fn event_row(alloc: Global, follower: &Follower, node: u16, number: u32) -> Result<String, u32>
+    ensures ok { IfOk result (λ text. IsEventRow follower.now node number (string_bytes text)) }
+    ensures err { IfErr result (RefusesEvent follower.now node number) }
 {
-    let node = node_of(world.setup(), node)?;
+    let node = node_of(follower.replica().world().setup(), node)?;
     match status::event_of(number, node) {
-        Some(event) => allowed_row(alloc, world, &event),
+        Some(event) => allowed_row(alloc, follower, &event),
         None => Err(BAD_EVENT),
     }
 }
 
 // The row of the event, where nothing refuses it.
-fn allowed_row(alloc: Global, world: &World, event: &Event) -> Result<String, u32>
-    ensures ok { IfOk result (λ text. IsAllowedRow world.now event.now (string_bytes text)) }
-    ensures err { IfErr result (RefusesRow world.now event.now) }
+fn allowed_row(alloc: Global, follower: &Follower, event: &Event) -> Result<String, u32>
+    ensures ok { IfOk result (λ text. IsAllowedRow follower.now event.now (string_bytes text)) }
+    ensures err { IfErr result (RefusesRow follower.now event.now) }
 {
-    if let Some(why) = world.cause(event) {
+    if let Some(why) = append_cause(follower, event) {
         return Err(status::of_refusal(why));
     }
     let mut text = String::new(alloc);
@@ -184,4 +197,14 @@ fn allowed_row(alloc: Global, world: &World, event: &Event) -> Result<String, u3
         Ok(()) => Ok(text),
         Err(_) => Err(OUT_OF_MEMORY),
     }
+}
+
+// Why the event isn't appended, if it isn't.
+fn append_cause(follower: &Follower, event: &Event) -> Option<Refused>
+    ensures { result ≡ append_cause follower.now event.now }
+{
+    if follower.rows() == ROWS_MAX {
+        return Some(Refused::Full);
+    }
+    follower.replica().world().cause(event)
 }

@@ -120,13 +120,13 @@ pub extern "C" fn bully_c_replica_next(
     row: &mut [u8],
     length: &mut usize,
 ) -> u32
-    ensures open { AtLog (ShowsLog (λ held status. IsWritten (IsNextRow held.follower.replica node) (RefusesNext held.follower.replica node) row.old length.old status row.new length.new)) replica.old.value result replica.new.value }
+    ensures open { AtLog (ShowsLog (λ held status. IsWritten (IsNextRow held.follower node) (RefusesNext held.follower node) row.old length.old status row.new length.new)) replica.old.value result replica.new.value }
     ensures closed { replica.old.value ≡ None → (row.new ≡ row.old) × (length.new ≡ length.old) }
 {
     let Some(held) = replica.take(alloc) else {
         return CLOSED;
     };
-    let status = write_next(alloc, held.follower.replica(), node, row, length);
+    let status = write_next(alloc, &held.follower, node, row, length);
     replica.put(alloc, held);
     status
 }
@@ -141,14 +141,13 @@ pub extern "C" fn bully_c_replica_event(
     row: &mut [u8],
     length: &mut usize,
 ) -> u32
-    ensures open { AtLog (ShowsLog (λ held status. IsWritten (IsEventRow held.follower.replica.world node event) (RefusesEvent held.follower.replica.world node event) row.old length.old status row.new length.new)) replica.old.value result replica.new.value }
+    ensures open { AtLog (ShowsLog (λ held status. IsWritten (IsEventRow held.follower node event) (RefusesEvent held.follower node event) row.old length.old status row.new length.new)) replica.old.value result replica.new.value }
     ensures closed { replica.old.value ≡ None → (row.new ≡ row.old) × (length.new ≡ length.old) }
 {
     let Some(held) = replica.take(alloc) else {
         return CLOSED;
     };
-    let world = held.follower.replica().world();
-    let status = write_event(alloc, world, node, event, row, length);
+    let status = write_event(alloc, &held.follower, node, event, row, length);
     replica.put(alloc, held);
     status
 }
