@@ -115,6 +115,7 @@ static void try_full_log(bully_replica *replica) {
     ANSWERS(TOO_MANY_ROWS, bully_replica_learn(replica, "move,2\n", 7, &length));
     ANSWERS(TOO_MANY_ROWS, bully_replica_learn(replica, "?\n", 2, &length));
     ANSWERS(TOO_MANY_ROWS, bully_replica_learn(replica, "saw,1,down,-\n", 13, &length));
+    ANSWERS(TOO_MANY_ROWS, bully_replica_learn(replica, "\xef\xbb\xbfmove,2\n", 10, &length));
     ANSWERS(ROW_END, bully_replica_learn(replica, "move,2", 6, &length));
     ANSWERS(OK, bully_replica_learn(replica, "\n", 1, &length));
     EXPECT(length == 0);
