@@ -1,5 +1,5 @@
-/* Tries each function of bully.h: calls FOLDER VERSION, where the folder has the examples, and the version is the one that the
- * program tells as its own. The last line is 'N passed, M failed'. */
+/* Tries each function of bully.h: calls FOLDER VERSION. The folder has the examples, and the version is the one that the program
+ * tells as its own. The last line is 'N passed, M failed'. */
 #include "testing.h"
 
 #include <stdio.h>

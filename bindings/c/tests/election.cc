@@ -162,7 +162,7 @@ void plan() {
     EXPECT((owners == Owners{2, 2, 1} && moves == 1));
 }
 
-// A replica that is closed where it ends.
+// A replica that is closed when it ends.
 class Replica {
 public:
     explicit Replica(const std::string &header) {
@@ -204,7 +204,8 @@ public:
         return shown;
     }
 
-    using Listed = bully_status (*)(bully_replica *replica, std::uint16_t node, std::uint16_t *items, std::size_t room, std::size_t *count);
+    using Listed = bully_status (*)(bully_replica *replica, std::uint16_t node, std::uint16_t *items, std::size_t room,
+                                    std::size_t *count);
 
     Owners listed(std::uint16_t node, Listed call) {
         return list_of([&](std::uint16_t *items, std::size_t room, std::size_t *count) {

@@ -174,7 +174,8 @@ static void try_last_plan(void) {
 /* Where the last line has no line end, nothing is learned, whatever stands before it. */
 static void try_ends(void) {
     static const char *const cut[] = {"recover,1", "recover,1\nrecover,2", "recover,1\r\nrecover,2", "crash,1\nrecover,1",
-                                      "?\nrecover,1", "r", "\nrecover,1", "recover,1\n ", "recover,1\n\"recover\""};
+                                      "?\nrecover,1", "r", "\nrecover,1", "recover,1\n ", "recover,1\n\"recover\"",
+                                      "recover,1\r", "recover,1\n\r", "\r"};
     bully_replica replica = open_replica(VERSION_1);
     size_t at;
     for (at = 0; at < COUNT(cut); at++) {

@@ -170,7 +170,7 @@ static int is_same_sight(const struct sight *one, const struct sight *other) {
            is_same_seen(&one->seen, &other->seen);
 }
 
-/* What the calls write: nothing, where they are refused, but for the number of a verdict, and of the rows that were learned. */
+/* What the calls write: nothing, if they are refused, but for the number of a verdict, and of the rows that were learned. */
 #define SPOILED 0x4d4d4d4d
 
 static void spoil(void) {

@@ -18,7 +18,7 @@ static void try_null_of_header(void) {
     ANSWERS(NULL, bully_header(&setup, NULL, 0, NULL, 1, &length));
     ANSWERS(NULL, bully_header(&setup, NULL, 0, row, TOO_MANY_BYTES, &length));
     ANSWERS(NULL, bully_header(&setup, NULL, 0, row, sizeof row, NULL));
-    /* (also where the setup is wrong) */
+    /* (also of a wrong setup) */
     setup.nodes = 0;
     ANSWERS(NULL, bully_header(&setup, NULL, 0, NULL, 1, &length));
     EXPECT(length == 77 && strcmp(row, "as it was") == 0);
@@ -74,7 +74,7 @@ static void try_null_of_sights(bully_replica *replica) {
     EXPECT(count == 77);
 }
 
-/* What is written where the replica isn't open: nothing, whatever node is meant. */
+/* What is written if the replica isn't open: nothing, whatever node is meant. */
 static void try_closed_replica(bully_replica *replica, uint16_t node) {
     bully_state state;
     bully_group group;

@@ -243,6 +243,28 @@ static void try_up_set(void) {
     close_shared(&shared);
 }
 
+/* A row says no more than its event, also in a log of version 3, whose rows may. */
+static void try_version_3(void) {
+    static struct shared shared;
+    open_shared(&shared, 3, "bully,3,3,3,1 1 1,clear\n");
+    append_event(&shared, 2, BULLY_EVENT_RECOVER, "recover,2\n");
+    append_event(&shared, 3, BULLY_EVENT_RECOVER, "recover,3\n");
+    append_next(&shared, 2, "start,2\n");
+    append_next(&shared, 3, "run,2\n");
+    append_next(&shared, 2, "return,2\n");
+    append_next(&shared, 3, "move,3\n");
+    append_event(&shared, 2, BULLY_EVENT_TIMEOUT, "timeout,2\n");
+    append_next(&shared, 2, "start,2\n");
+    append(&shared, 1, "start,3,halt,2\n");
+    append_next(&shared, 2, "run,3\n");
+    append_event(&shared, 2, BULLY_EVENT_DROP, "drop,2\n");
+    append_next(&shared, 3, "return,3\n");
+    append_next(&shared, 3, "start,3\n");
+    append_next(&shared, 3, "lose,3\n");
+    judge_shared(&shared);
+    close_shared(&shared);
+}
+
 /* ---- The table of the last plan ---- */
 
 /* docs/ALGORITHM.md, under tables: over three nodes of the weights 1, 2 and 1, without a table before it. */
@@ -381,6 +403,7 @@ void try_replicas(void) {
     try_callers();
     try_callers_of_a_dead();
     try_up_set();
+    try_version_3();
     try_weights();
     try_weights_anew();
     try_last_table("bully,1,2,2\n", "");

@@ -24,7 +24,7 @@ int tell_counts(void);
 /* Room for any line and any row of the tests' groups. */
 #define ROOM 400
 
-/* Whether a text of this length is that one, which ends with a zero byte. The second prints both where it isn't. */
+/* Whether a text of this length is that one, which ends with a zero byte. The second prints both if it isn't. */
 int is_text(const char *text, size_t length, const char *wanted);
 int is_shown(const char *what, const char *text, size_t length, const char *wanted);
 

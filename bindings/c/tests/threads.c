@@ -55,7 +55,7 @@ struct reading {
     int held;
 };
 
-/* Learns a row that was told; answers 0 where there is none, or it isn't learned. */
+/* Learns a row that was told; answers 0 if there is none, or it isn't learned. */
 static int learn(bully_replica *replica, bully_status status, const char *row, size_t length) {
     size_t taken = 0;
     return status == BULLY_OK && length > 0 && bully_replica_learn(replica, row, length, &taken) == BULLY_OK && taken == 1;
