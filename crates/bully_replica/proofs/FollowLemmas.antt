@@ -1,18 +1,15 @@
 -- A log that is followed by one row more, and why it isn't.
-use Rattle.std.proofs.Common.{◌≡◌, ◌⊎◌, ◌+◌, ◌++◌, Bool, true, false, ℕ, List, [], ◌∷◌, Option, Some, None, inl, inr, length, map, length-append, append_assoc, append-nil, refl, sym, ap, subst, arith, ◌∙◌}
+use Rattle.std.proofs.Common.{◌≡◌, ◌++◌, Bool, true, false, List, [], ◌∷◌, Some, None, inl, inr, map, length-append, append_assoc, append-nil, refl, sym, ap, subst, arith, ◌∙◌}
 use Rattle.std.proofs.lemmas.List.{map-append}
 use Rattle.bully_base.specs.Setup.{Setup}
-use Rattle.bully_replica.specs.Following.{FailsAt, FailsOn, FailsOutside, Follows, FollowerState, FollowsUpTo, StopsAt, row_in}
-use Rattle.bully_replica.specs.Replica.{HasLearned, Learns, ReplicaState}
+use Rattle.bully_replica.specs.Following.{FailsAt, FailsOn, Follows, FollowerState, FollowsUpTo, StopsAt, row_in}
+use Rattle.bully_replica.specs.Replica.{HasLearned, ReplicaState}
 use Rattle.bully_replica.specs.declared.follower.FollowFault.{FollowFault}
 use Rattle.bully_replica.proofs.LogLemmas.{taken_setup}
 use Rattle.bully_rows.specs.Headers.{Record}
 use Rattle.bully_rows.specs.RecordsLeft.{ReadSoFar, Takes}
 use Rattle.bully_rows.specs.Rows.{row_of}
 use Rattle.bully_rows.specs.declared.header.Version.{Version}
-use Rattle.bully_rows.specs.declared.trace.Row.{Row}
-use Rattle.bully_rows.specs.declared.trace.TraceCause.{TraceCause}
-use Rattle.bully_trace.specs.declared.verdict.Violation.{Violation}
 
 -- before any of the records
 pub follows_none : (records : List Record) (f : FollowerState) → FollowsUpTo records f f records

@@ -71,11 +71,10 @@ fn replica_of(alloc: Global, text: &str) -> Option<Replica> {
 // Whether each event of the log is what its node appends next, and these are its events, the token of its last plan and its planner.
 fn is_grown(alloc: Global, text: &str, events: u32, token: u32, planner: u16) -> bool {
     match replica_of(alloc, text) {
-        Some(replica) =>
-            replica.events() == events
-                && replica.token() == token
-                && replica.planner() == Node::new(planner)
-                && replica.last_table().is_some(),
+        Some(replica) => replica.events() == events
+            && replica.token() == token
+            && replica.planner() == Node::new(planner)
+            && replica.last_table().is_some(),
         None => false,
     }
 }

@@ -10,5 +10,5 @@ pub returns-clause-open : goal.returns-clause-open
 returns-clause-open c =
     let held = c.in-Some.held.value in
     let written = subst (λ (f : FollowerState). IsWritten (IsEventRow f c.args.node c.args.event) (RefusesEvent f c.args.node c.args.event) c.args.row.now c.args.length.now c.write_event-status.result c.write_event-status.new.row c.write_event-status.new.length)
-        (ap (λ (h : HeldLog). h.follower) c.deref.ensures) c.write_event-status.ensures in
+    (ap (λ (h : HeldLog). h.follower) c.deref.ensures) c.write_event-status.ensures in
     at-open-of HeldLog _ _ _ held held held c.write_event-status.result c.in-Some.ensures.taken refl c.put.ensures (written, refl)

@@ -10,5 +10,5 @@ pub returns-clause-open : goal.returns-clause-open
 returns-clause-open c =
     let held = c.in-Some.held.value in
     let written = subst (λ (f : FollowerState). IsWritten (IsNextRow f c.args.node) (RefusesNext f c.args.node) c.args.row.now c.args.length.now c.write_next-status.result c.write_next-status.new.row c.write_next-status.new.length)
-        (ap (λ (h : HeldLog). h.follower) c.deref.ensures) c.write_next-status.ensures in
+    (ap (λ (h : HeldLog). h.follower) c.deref.ensures) c.write_next-status.ensures in
     at-open-of HeldLog _ _ _ held held held c.write_next-status.result c.in-Some.ensures.taken refl c.put.ensures (written, refl)

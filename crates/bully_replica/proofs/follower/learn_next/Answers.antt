@@ -1,4 +1,3 @@
-use Rattle.std.proofs.Common.{rules}
 use Rattle.bully_rows.specs.Kinds.{event_at}
 use Rattle.bully_rows.specs.declared.trace.Row.{Row}
 use Rattle.bully_replica.proofs.follower.learn_next.Goals as goal

@@ -1,4 +1,4 @@
-use Rattle.std.proofs.Common.{◌≤◌, arith, rules}
+use Rattle.std.proofs.Common.{arith, rules}
 use Rattle.bully_replica.specs.Following.{Follows}
 use Rattle.bully_replica.proofs.FollowLemmas.{followed_more, follows_none}
 use Rattle.bully_replica.proofs.follower.Follower.take_all.Goals as goal
@@ -10,6 +10,6 @@ pub loop-preserved : goal.loop-preserved
 loop-preserved g c =
     let follows : Follows c.take_next.new.reader.fields c.loop.self c.take_next.new.self = c.in_ok-take_next.ensures.follows (search rules) in (
       followed_more c.args.reader.now c.loop.reader c.take_next.new.reader c.args.self.now c.loop.self c.take_next.new.self c.in_ok-take_next.field-0 (search rules)
-      c.in_ok-take_next.ensures.takes follows c.loop.invariant.0,
+          c.in_ok-take_next.ensures.takes follows c.loop.invariant.0,
       omega (arith, c.loop.invariant.1, follows.2),
     )

@@ -1,7 +1,7 @@
-use Rattle.std.proofs.Common.{◌≡◌, None, Some, ap, sym, rules, ◌∙◌}
+use Rattle.std.proofs.Common.{◌≡◌, ap, sym, ◌∙◌}
 use Rattle.bully_rows.specs.Kinds.{event_at}
 use Rattle.bully_rows.specs.declared.trace.Row.{Row}
-use Rattle.bully_trace.specs.OneRow.{IsRowTaken, violation_of}
+use Rattle.bully_trace.specs.OneRow.{violation_of}
 use Rattle.bully_trace.specs.Judging.{JudgeState}
 use Rattle.bully_trace.proofs.OneRowLemmas.{taken_if_right, told_violation}
 use Rattle.bully_trace.proofs.judging.Judge.try_node_event.Goals as goal
