@@ -1,5 +1,5 @@
 -- The row of what a node appends next, or why there is none.
-use Rattle.std.proofs.Common.{◌≡◌, ℕ, List, [], Option, Some, None, Result, Ok, Err, inr, subst}
+use Rattle.std.proofs.Common.{◌≡◌, ℕ, List, Option, Some, Result, Ok, Err, inr, subst}
 use Rattle.std.specs.Prelude.{IfErr, IfOk}
 use Rattle.bully_events.specs.declared.event.Event.{Event}
 use Rattle.bully_replica.specs.Following.{FollowerState}

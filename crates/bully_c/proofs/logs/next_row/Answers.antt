@@ -1,4 +1,4 @@
-use Rattle.std.proofs.Common.{◌≡◌, None, Some, rules}
+use Rattle.std.proofs.Common.{None, Some, rules}
 use Rattle.std.specs.Prelude.{string_bytes}
 use Rattle.bully_replica.specs.Next.{IsNext}
 use Rattle.bully_c.specs.Replicas.{HasNode}
