@@ -4,6 +4,7 @@ ghost use Rattle.bully_replica.specs.Replica.{HasLearned, first_replica};
 ghost use Rattle.bully_rows.specs.Headers.{Record};
 ghost use Rattle.bully_rows.specs.RecordsLeft.{Takes};
 ghost use Rattle.bully_rows.specs.Rows.{row_of};
+ghost use Rattle.bully_rows.specs.declared.TheConstants.{ROWS_MAX};
 
 use crate::Replica;
 use bully_base::OutOfMemory;
@@ -93,11 +94,13 @@ impl Follower {
         ensures ended { IfOk result (λ found. found ≡ false → self.new ≡ self.old) }
         ensures fault { IfErr result (FailsAt reader.old reader.new self.old) }
         ensures unchanged { IfErr result (λ _. self.new ≡ self.old) }
+        ensures within { self.new.rows ≤ ROWS_MAX }
     {
+        let is_full = self.rows == ROWS_MAX;
         if !reader.advance()? {
             return Ok(false);
         }
-        if self.rows == ROWS_MAX {
+        if is_full {
             return Err(FollowFault::Form(TraceCause::TooManyRows));
         }
         learn_next(alloc, &mut self.replica, reader)?;
@@ -116,6 +119,7 @@ impl Follower {
         ensures part { IfErr result (λ fault. (records : List Record) → reader.old.records ≡ Some records
             → (left : List Record) × FollowsUpTo records self.old self.new left × Stops reader.old self.old left self.new fault) }
         ensures counted { self.old.rows ≤ self.new.rows }
+        ensures within { self.new.rows ≤ ROWS_MAX }
     {
         while self.take_next(alloc, reader)? {}
         Ok(())
