@@ -1,10 +1,11 @@
-/* bully.h: one node of a group, from C and from whatever calls C.
+/* bully.h: one node of a group, or what a process knows of a group, from C and from whatever calls C.
  *
  * The node elects a coordinator with its group by Garcia-Molina's Bully algorithm and has the group's task, as `docs/NODE.md`
- * says: that page has the loop of a process, what the program has to keep, and why. This library leaves sockets, clocks, threads
- * and files to the program; it makes no thread, takes no lock and prints nothing. `bin/library` builds it.
+ * says: that page has the two ways to embed a node, what the program has to keep, and why. An agent is one node that sends calls to
+ * the others. A replica is what a process knows of a group whose history is a log in a store outside. This library leaves sockets,
+ * stores, clocks, threads and files to the program; it makes no thread, takes no lock and prints nothing. `bin/library` builds it.
  *
- * Each function answers a status. Where that isn't BULLY_OK nothing has changed, and nothing was written but what the
+ * Each function answers a status. If that isn't BULLY_OK, nothing has changed and nothing was written but what the
  * function's comment says. Each tests its arguments, in the order in which the statuses stand in its comment:
  *
  * - BULLY_NULL: a pointer is null that must not be, or a length is above PTRDIFF_MAX bytes. A pointer to no items may be null.
@@ -74,6 +75,7 @@ enum {
     BULLY_TABLE_LENGTH = 29,   /* a table has another number of owners than there are partitions */
     BULLY_TABLE_OWNER = 30,    /* an owner is no node of the setup */
     BULLY_NO_MEMBER = 31,      /* a table over no members */
+    BULLY_BAD_EVENT = 32,      /* no number of a kind of event */
 
     /* The first fault of a line, from its left, as `docs/NODE.md` lists them. */
     BULLY_LINE_WORD = 40,   /* it doesn't begin with `ask`, or with `tell`, or isn't UTF-8 */
@@ -87,11 +89,18 @@ enum {
     /* The first fault of a trace's form, as `docs/FORMATS.md` lists them. */
     BULLY_BAD_HEADER = 50,
     BULLY_BAD_ROW = 51,
-    BULLY_TOO_MANY_ROWS = 52
+    BULLY_TOO_MANY_ROWS = 52,
+
+    /* Of a row of a log that is learned. */
+    BULLY_ROW_DIFFERS = 53, /* what it says beside its event, or claims, isn't so */
+    BULLY_ROW_END = 54      /* the last line has no line end */
 };
 
 /* The status's name, as BULLY_OK is named "OK"; "?" of a number that is none. It never fails, and the text is never freed. */
 const char *bully_status_name(bully_status status);
+
+/* The version of the library, as `bully --version` tells it. It never fails, and the text is never freed. */
+const char *bully_version(void);
 
 /* ---- Setups ---- */
 
@@ -118,6 +127,13 @@ typedef struct bully_verdict {
  * where an allocation failed.
  * BULLY_NULL; BULLY_OUT_OF_MEMORY; BULLY_BAD_HEADER, BULLY_BAD_ROW, BULLY_TOO_MANY_ROWS: the first in the trace. */
 bully_status bully_check(const uint8_t *trace, size_t length, bully_verdict *verdict);
+
+/* The header of a trace of this setup, with its line end: of version 1 if that can tell it, and else of version 2, as
+ * `docs/FORMATS.md` says. A header doesn't tell events_max: the bound of a trace is BULLY_EVENTS_MAX.
+ * BULLY_NULL, BULLY_BAD_NODES, BULLY_BAD_PARTITIONS, BULLY_BAD_LIMIT, BULLY_BAD_WEIGHTS, BULLY_OUT_OF_MEMORY; BULLY_SHORT, with the
+ * length. */
+bully_status bully_header(const bully_setup *setup, const uint16_t *weights, size_t weight_count, char *row, size_t room,
+                          size_t *length);
 
 /* ---- Tables ---- */
 
@@ -197,7 +213,7 @@ bully_status bully_agent_failed(bully_agent *agent, uint32_t number, uint32_t *a
 /* What a call that returned brought. */
 enum { BULLY_DONE = 0, BULLY_YES = 1, BULLY_NO = 2, BULLY_FAILED = 3, BULLY_DISCARDED = 4 };
 
-/* ---- What an agent shows. No event. ---- */
+/* ---- What an agent or a replica shows of a node. No event. ---- */
 
 enum { BULLY_DOWN = 0, BULLY_ELECTION = 1, BULLY_REORGANIZATION = 2, BULLY_NORMAL = 3 };
 enum { BULLY_WANTS_NOTHING = 0, BULLY_WANTS_START = 1, BULLY_WANTS_MOVE = 2, BULLY_WANTS_PLAN = 3, BULLY_WANTS_AWAIT = 4 };
@@ -213,11 +229,11 @@ enum {
 typedef struct bully_state {
     uint32_t status;      /* BULLY_DOWN, BULLY_ELECTION, BULLY_REORGANIZATION or BULLY_NORMAL */
     uint32_t wants;       /* what it wants to do next: BULLY_WANTS_.. */
-    uint32_t events;      /* how many it told, with those before it was opened */
-    uint32_t generation;  /* how often it was stopped or crashed since it was opened */
+    uint32_t events;      /* of an agent: how many it told, with those before it was opened; of a replica: those of its log */
+    uint32_t generation;  /* how often it was stopped or crashed: of an agent since it was opened, of a replica in its log */
     uint32_t call;        /* the kind of the call in its slot */
     uint32_t orphan;      /* 1: that call is an orphan; else 0 */
-    uint32_t number;      /* of its last call */
+    uint32_t number;      /* of an agent: of its last call; of a replica: 0 */
     uint16_t node;        /* its own number */
     uint16_t coordinator; /* 0: none */
     uint16_t halter;      /* who halted it; 0: nobody */
@@ -236,6 +252,74 @@ bully_status bully_agent_rows(bully_agent *agent, char *rows, size_t room, size_
 /* The row that says all of its vector, with its line end.
  * BULLY_NULL, BULLY_CLOSED, BULLY_OUT_OF_MEMORY; BULLY_SHORT, with the length. */
 bully_status bully_agent_claim(bully_agent *agent, char *row, size_t room, size_t *length);
+
+/* ---- A group whose history is a log outside ---- */
+
+/* A handle of a replica: what the library keeps of a group whose rows it learned. Closed if it is zeroed. */
+typedef struct bully_replica {
+    void *held;
+} bully_replica;
+
+#define BULLY_REPLICA_CLOSED { NULL }
+
+/* Opens the handle: the replica of a log that begins with this header, a row with its line end or without, before any other row.
+ * BULLY_NULL, BULLY_OPEN; BULLY_BAD_HEADER: it is none, or rows stand behind it; BULLY_OUT_OF_MEMORY. */
+bully_status bully_replica_open(bully_replica *replica, const char *header, size_t length);
+
+/* Closes the handle, and gives back all that was kept. BULLY_NULL, BULLY_CLOSED. */
+bully_status bully_replica_close(bully_replica *replica);
+
+/* Learns the rows that stand next in the log, each with its line end, a line feed, in their order and as `bully_check` takes them: up
+ * to the first that isn't a row, is refused or says what isn't so. A blank line is no row, and isn't counted. `taken` gets how many were learned, also if the status isn't BULLY_OK: that says why the
+ * next one wasn't, and what was learned before it stays.
+ * BULLY_NULL, BULLY_CLOSED: `taken` is as before; BULLY_ROW_END: none was learned. Then of the first that isn't learned:
+ * BULLY_OUT_OF_MEMORY; BULLY_TOO_MANY_ROWS; BULLY_BAD_ROW, also for a byte-order mark in front; BULLY_FULL to BULLY_NOT_ORPHAN: its event is refused; BULLY_ROW_DIFFERS. */
+bully_status bully_replica_learn(bully_replica *replica, const char *rows, size_t length, size_t *taken);
+
+/* The row that the node appends next by itself, with its line end; a length of 0: it rests. If it isn't Down, it first runs the
+ * call of the lowest caller that waits for it. Else its procedure takes a step, and a table is planned from that of the last plan.
+ * The row says no more than its event, also in a log of version 3. The replica doesn't learn it: append it to the log first, behind
+ * exactly the rows that were learned.
+ * BULLY_NULL, BULLY_CLOSED, BULLY_BAD_NODE, BULLY_OUT_OF_MEMORY; BULLY_FULL: the log has as many rows or events as a trace has at
+ * most; BULLY_SHORT, with the length. */
+bully_status bully_replica_next(bully_replica *replica, uint16_t node, char *row, size_t room, size_t *length);
+
+/* Events that a process appends for reasons of its own. (`bully_replica_next` drops an orphan by itself.) */
+enum {
+    BULLY_EVENT_CRASH = 1,
+    BULLY_EVENT_RECOVER = 2,
+    BULLY_EVENT_CHECK = 3,
+    BULLY_EVENT_TIMEOUT = 4,
+    BULLY_EVENT_DROP = 5
+};
+
+/* The row of this event of the node, with its line end, to be appended as `bully_replica_next` says; or why it is refused.
+ * BULLY_NULL, BULLY_CLOSED, BULLY_BAD_NODE, BULLY_BAD_EVENT; BULLY_FULL, BULLY_IS_DOWN, BULLY_IS_UP, BULLY_BUSY, BULLY_NO_CALL,
+ * BULLY_NOT_ORPHAN; BULLY_OUT_OF_MEMORY; BULLY_SHORT, with the length. */
+bully_status bully_replica_event(bully_replica *replica, uint16_t node, uint32_t event, char *row, size_t room, size_t *length);
+
+/* How the node stands. BULLY_NULL, BULLY_CLOSED, BULLY_BAD_NODE. */
+bully_status bully_replica_show(bully_replica *replica, uint16_t node, bully_state *state);
+/* The nodes of the node's up set, rising. BULLY_NULL, BULLY_CLOSED, BULLY_BAD_NODE; BULLY_SHORT, with the count. */
+bully_status bully_replica_up(bully_replica *replica, uint16_t node, uint16_t *nodes, size_t room, size_t *count);
+/* The owners of the node's task; a count of 0: it has none. BULLY_NULL, BULLY_CLOSED, BULLY_BAD_NODE; BULLY_SHORT, with the count. */
+bully_status bully_replica_task(bully_replica *replica, uint16_t node, uint16_t *owners, size_t room, size_t *count);
+
+typedef struct bully_group {
+    uint32_t rows;       /* how many rows were learned, claims too */
+    uint32_t events;     /* how many events they told */
+    uint32_t token;      /* of the last plan: how many events there are up to it and with it; 0: there is none */
+    uint16_t planner;    /* whose the last plan is; 0: there is none */
+    uint16_t nodes;      /* what the header tells */
+    uint16_t partitions;
+    uint16_t keeps;      /* 1: a node keeps its task over a crash; else 0 */
+} bully_group;
+
+/* How the group stands. Each node that is Normal has the last plan's planner as coordinator, and its table as task.
+ * BULLY_NULL, BULLY_CLOSED. */
+bully_status bully_replica_group(bully_replica *replica, bully_group *group);
+/* The owners of the last plan's table; a count of 0: there is none. BULLY_NULL, BULLY_CLOSED; BULLY_SHORT, with the count. */
+bully_status bully_replica_planned(bully_replica *replica, uint16_t *owners, size_t room, size_t *count);
 
 #ifdef __cplusplus
 }

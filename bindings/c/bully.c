@@ -2,7 +2,8 @@
  *
  * The functions of crates/bully_c are proved, but for references and slices: none of these can be null, and C can pass a null
  * pointer. So each function of bully.h tests its pointers and lengths here, as that header says, and then calls the proved
- * function that has its name with `bully_c_` in the place of `bully_`, and its parameters. Nothing else is decided here.
+ * function that has its name with `bully_c_` in the place of `bully_`, and its parameters. Nothing else is decided here, and only
+ * the texts of bully_status_name and bully_version stand here.
  */
 #include "bully.h"
 
@@ -12,6 +13,8 @@ bully_status bully_c_check(const uint8_t *trace, size_t length, bully_verdict *v
 bully_status bully_c_table(const bully_setup *setup, const uint16_t *weights, size_t weight_count, const uint16_t *members,
                            size_t member_count, const uint16_t *old, size_t old_count, uint16_t *owners, size_t owner_count,
                            uint16_t *moves);
+bully_status bully_c_header(const bully_setup *setup, const uint16_t *weights, size_t weight_count, char *row, size_t room,
+                            size_t *length);
 bully_status bully_c_agent_open(bully_agent *agent, const bully_setup *setup, const uint16_t *weights, size_t weight_count,
                                 uint16_t node, uint32_t events, const uint16_t *task, size_t task_count);
 bully_status bully_c_agent_close(bully_agent *agent);
@@ -33,6 +36,16 @@ bully_status bully_c_agent_up(bully_agent *agent, uint16_t *nodes, size_t room, 
 bully_status bully_c_agent_task(bully_agent *agent, uint16_t *owners, size_t room, size_t *count);
 bully_status bully_c_agent_rows(bully_agent *agent, char *rows, size_t room, size_t *length);
 bully_status bully_c_agent_claim(bully_agent *agent, char *row, size_t room, size_t *length);
+bully_status bully_c_replica_open(bully_replica *replica, const char *header, size_t length);
+bully_status bully_c_replica_close(bully_replica *replica);
+bully_status bully_c_replica_learn(bully_replica *replica, const char *rows, size_t length, size_t *taken);
+bully_status bully_c_replica_next(bully_replica *replica, uint16_t node, char *row, size_t room, size_t *length);
+bully_status bully_c_replica_event(bully_replica *replica, uint16_t node, uint32_t event, char *row, size_t room, size_t *length);
+bully_status bully_c_replica_show(bully_replica *replica, uint16_t node, bully_state *state);
+bully_status bully_c_replica_up(bully_replica *replica, uint16_t node, uint16_t *nodes, size_t room, size_t *count);
+bully_status bully_c_replica_task(bully_replica *replica, uint16_t node, uint16_t *owners, size_t room, size_t *count);
+bully_status bully_c_replica_group(bully_replica *replica, bully_group *group);
+bully_status bully_c_replica_planned(bully_replica *replica, uint16_t *owners, size_t room, size_t *count);
 
 /* ---- The tests ---- */
 
@@ -61,6 +74,14 @@ bully_status bully_check(const uint8_t *trace, size_t length, bully_verdict *ver
         return BULLY_NULL;
     }
     return bully_c_check(source(trace, length), length, verdict);
+}
+
+bully_status bully_header(const bully_setup *setup, const uint16_t *weights, size_t weight_count, char *row, size_t room,
+                          size_t *length) {
+    if (setup == NULL || !can_lie(weights, weight_count, sizeof *weights) || !can_lie(row, room, 1) || length == NULL) {
+        return BULLY_NULL;
+    }
+    return bully_c_header(setup, source(weights, weight_count), weight_count, target(row, room), room, length);
 }
 
 bully_status bully_table(const bully_setup *setup, const uint16_t *weights, size_t weight_count, const uint16_t *members,
@@ -197,6 +218,69 @@ bully_status bully_agent_claim(bully_agent *agent, char *row, size_t room, size_
     return bully_c_agent_claim(agent, target(row, room), room, length);
 }
 
+/* ---- A group whose history is a log outside ---- */
+
+bully_status bully_replica_open(bully_replica *replica, const char *header, size_t length) {
+    if (replica == NULL || !can_lie(header, length, 1)) {
+        return BULLY_NULL;
+    }
+    return bully_c_replica_open(replica, source(header, length), length);
+}
+
+bully_status bully_replica_close(bully_replica *replica) {
+    return replica == NULL ? BULLY_NULL : bully_c_replica_close(replica);
+}
+
+bully_status bully_replica_learn(bully_replica *replica, const char *rows, size_t length, size_t *taken) {
+    if (replica == NULL || !can_lie(rows, length, 1) || taken == NULL) {
+        return BULLY_NULL;
+    }
+    return bully_c_replica_learn(replica, source(rows, length), length, taken);
+}
+
+bully_status bully_replica_next(bully_replica *replica, uint16_t node, char *row, size_t room, size_t *length) {
+    if (replica == NULL || !can_lie(row, room, 1) || length == NULL) {
+        return BULLY_NULL;
+    }
+    return bully_c_replica_next(replica, node, target(row, room), room, length);
+}
+
+bully_status bully_replica_event(bully_replica *replica, uint16_t node, uint32_t event, char *row, size_t room, size_t *length) {
+    if (replica == NULL || !can_lie(row, room, 1) || length == NULL) {
+        return BULLY_NULL;
+    }
+    return bully_c_replica_event(replica, node, event, target(row, room), room, length);
+}
+
+bully_status bully_replica_show(bully_replica *replica, uint16_t node, bully_state *state) {
+    return replica == NULL || state == NULL ? BULLY_NULL : bully_c_replica_show(replica, node, state);
+}
+
+bully_status bully_replica_up(bully_replica *replica, uint16_t node, uint16_t *nodes, size_t room, size_t *count) {
+    if (replica == NULL || !can_lie(nodes, room, sizeof *nodes) || count == NULL) {
+        return BULLY_NULL;
+    }
+    return bully_c_replica_up(replica, node, target(nodes, room), room, count);
+}
+
+bully_status bully_replica_task(bully_replica *replica, uint16_t node, uint16_t *owners, size_t room, size_t *count) {
+    if (replica == NULL || !can_lie(owners, room, sizeof *owners) || count == NULL) {
+        return BULLY_NULL;
+    }
+    return bully_c_replica_task(replica, node, target(owners, room), room, count);
+}
+
+bully_status bully_replica_group(bully_replica *replica, bully_group *group) {
+    return replica == NULL || group == NULL ? BULLY_NULL : bully_c_replica_group(replica, group);
+}
+
+bully_status bully_replica_planned(bully_replica *replica, uint16_t *owners, size_t room, size_t *count) {
+    if (replica == NULL || !can_lie(owners, room, sizeof *owners) || count == NULL) {
+        return BULLY_NULL;
+    }
+    return bully_c_replica_planned(replica, target(owners, room), room, count);
+}
+
 /* ---- Names ---- */
 
 #define NAME(status) [BULLY_##status] = #status
@@ -208,14 +292,26 @@ static const char *const names[] = {
     NAME(CALLEE_DOWN), NAME(CALLEE_UP), NAME(BAD_TABLE), NAME(NOT_ORPHAN),
     /* of arguments */
     NAME(NULL), NAME(CLOSED), NAME(OPEN), NAME(OUT_OF_MEMORY), NAME(SHORT), NAME(BAD_NODES), NAME(BAD_PARTITIONS),
-    NAME(BAD_LIMIT), NAME(BAD_WEIGHTS), NAME(TABLE_LENGTH), NAME(TABLE_OWNER), NAME(NO_MEMBER),
+    NAME(BAD_LIMIT), NAME(BAD_WEIGHTS), NAME(TABLE_LENGTH), NAME(TABLE_OWNER), NAME(NO_MEMBER), NAME(BAD_EVENT),
     /* of lines */
     NAME(LINE_WORD), NAME(LINE_CALLER), NAME(LINE_NUMBER), NAME(LINE_CALLEE), NAME(LINE_KIND), NAME(LINE_TABLE),
     NAME(LINE_ANSWER),
     /* of traces */
     NAME(BAD_HEADER), NAME(BAD_ROW), NAME(TOO_MANY_ROWS),
+    /* of rows of a log that are learned */
+    NAME(ROW_DIFFERS), NAME(ROW_END),
 };
 
 const char *bully_status_name(bully_status status) {
     return status < sizeof names / sizeof *names && names[status] != NULL ? names[status] : "?";
+}
+
+/* ---- The version ---- */
+
+#ifndef BULLY_VERSION
+#error "BULLY_VERSION has to be the version, as bin/library takes it from crates/bully_words"
+#endif
+
+const char *bully_version(void) {
+    return BULLY_VERSION;
 }

@@ -1,7 +1,8 @@
-"""One node of a group that elects a coordinator by the Bully algorithm, in Python.
+"""A group that elects a coordinator by the Bully algorithm, in Python: one node of it, or what its log tells.
 
-This is the binding of `include/bully.h` by ctypes. It needs Python 3.8 or later and its standard library alone. `docs/NODE.md`
-says what a node on its own is, which calls it wants when, and what the program has to keep.
+This is the binding of `include/bully.h` by ctypes. It needs Python 3.8 or later and its standard library alone. There are two
+ways to build on it. An `Agent` is one node on its own, which sends calls to the others: `docs/NODE.md` says which calls it wants
+when, and what the program has to keep. A `Replica` is what a process knows of a group whose history is a log in a store outside.
 
 `bin/library FOLDER` of the repository builds the library. This module finds it by
 
@@ -18,7 +19,16 @@ One call of a node, which a program sends from process to process:
         reply = callee.serve(caller.request())
         assert caller.replied(reply) is Answer.YES
 
+One row of a log, which a process appends behind all that it read, and then learns:
+
+    header, log = Setup(nodes=2, partitions=3).header(), []
+    with Replica(header) as replica:
+        log.append(replica.recover(1))      # this alone changes nothing
+        replica.learn(log[replica.rows:])   # the rows of other processes, too
+        assert replica.next(1) == 'start,1'
+
 Each status of the library that isn't OK is an exception, a class of its own below `BullyError`, and nothing has changed then.
+`Replica.learn` alone takes what comes before a row that it refuses, and raises NotLearned, whose `cause` is such a class.
 What isn't even a number of the kind that the library takes, as 70000 partitions, is a ValueError.
 """
 from __future__ import annotations
@@ -29,7 +39,9 @@ import operator
 import os
 from dataclasses import dataclass
 from types import TracebackType
-from typing import Any, Callable, Dict, Iterable, Iterator, List, NamedTuple, Optional, Sequence, Tuple, Type, Union
+from typing import (
+    Any, Callable, Dict, Iterable, Iterator, List, NamedTuple, NoReturn, Optional, Sequence, Tuple, Type, TypeVar, Union,
+)  # fmt: skip
 
 NODES_MAX = 1024
 PARTITIONS_MAX = 4096
@@ -37,6 +49,7 @@ WEIGHT_MAX = 1000
 EVENTS_MAX = 1_000_000
 
 _REPLY_MAX = 32
+_ROOM_MIN = 256
 _UINT16_MAX = 0xFFFF
 _UINT32_MAX = 0xFFFF_FFFF
 
@@ -47,7 +60,7 @@ Line = Union[str, bytes]
 
 
 class BullyError(Exception):
-    """A call that the library refused, for the cause that its status names. Nothing has changed."""
+    """A call that the library refused, for the cause that its status names. Nothing has changed, but as NotLearned says."""
 
     status: int = 0
 
@@ -71,6 +84,16 @@ class TraceFault(BullyError):
     """A text that has not the form of a trace, by its first fault. `row` is where that stands, counted from 1."""
 
     row: int = 0
+
+
+class NotLearned(BullyError):
+    """A row of a log isn't learned, nor are those behind it. `cause` is the exception that names why: one below Refused, if the
+    row's event is refused; RowDiffers; BadRow or TooManyRows; or OutOfMemory. `taken` is how many rows were learned before it, and
+    stay so; `row` is its number in the log, whose header is row 1. The status is that of the cause."""
+
+    taken: int = 0
+    row: int = 0
+    cause: Type[BullyError] = BullyError
 
 
 class Full(Refused):
@@ -152,7 +175,7 @@ class Null(BadArgument):
 
 
 class Closed(BadArgument):
-    """The agent is closed."""
+    """The agent or the replica is closed."""
 
     status = 21
 
@@ -217,6 +240,12 @@ class NoMember(BadArgument):
     status = 31
 
 
+class BadEvent(BadArgument):
+    """No number of a kind of event. This module hands none on."""
+
+    status = 32
+
+
 class LineWord(LineFault):
     """The line doesn't begin with `ask`, or with `tell`, or isn't UTF-8."""
 
@@ -277,6 +306,18 @@ class TooManyRows(TraceFault):
     status = 52
 
 
+class RowDiffers(BullyError):
+    """What the row says beside its event, or claims, isn't so."""
+
+    status = 53
+
+
+class RowEnd(BadArgument):
+    """The last line has no line end. This module ends each row."""
+
+    status = 54
+
+
 def _classes_below(base: Type[BullyError]) -> Iterator[Type[BullyError]]:
     for each in base.__subclasses__():
         yield each
@@ -293,6 +334,15 @@ def _fault(status: int) -> BullyError:
     unknown = BullyError(f'the library answered status {status}, which this module does not know')
     unknown.status = status
     return unknown
+
+
+def _fault_at(row: int, status: int) -> BullyError:
+    """The same; one of a trace's form tells this row."""
+    fault = _fault(status)
+    if isinstance(fault, TraceFault):
+        fault.row = row
+        fault.args = (f'row {row}: {fault.args[0]}',)
+    return fault
 
 
 def _expect_ok(status: int) -> None:
@@ -361,6 +411,13 @@ class Setup:
     weights: Tuple[int, ...] = ()
     keeps: bool = False
 
+    def header(self) -> str:
+        """The header of a log of this setup, without its line end: of version 1 if that can tell it, and else of version 2, as
+        `docs/FORMATS.md` says. It doesn't tell `events_max`: the bound of a log is always EVENTS_MAX.
+
+        Raises BadNodes, BadPartitions, BadLimit, BadWeights, OutOfMemory."""
+        return _Room().row(_library().bully_header, *_setup_parts(self))
+
 
 @dataclass(frozen=True)
 class Verdict:
@@ -394,6 +451,30 @@ class Call(NamedTuple):
     kind: CallKind
     callee: int
     is_orphan: bool
+
+
+class State(NamedTuple):
+    """How a node stands: its number and status; its coordinator, if it has one; the node that halted it last, if any; what it
+    wants to do next; the call that it has under way, if any; and how often it was stopped or crashed, of an agent since it was
+    opened, and of a replica in its log."""
+
+    node: int
+    status: Status
+    coordinator: Optional[int]
+    halter: Optional[int]
+    wants: Want
+    call: Optional[Call]
+    generation: int
+
+
+class _Event(enum.IntEnum):
+    """Events that a process appends for reasons of its own."""
+
+    CRASH = 1
+    RECOVER = 2
+    CHECK = 3
+    TIMEOUT = 4
+    DROP = 5
 
 
 # ---- The library
@@ -432,11 +513,24 @@ class _State(ctypes.Structure):
     ]
 
 
+class _Group(ctypes.Structure):
+    _fields_ = [
+        ('rows', ctypes.c_uint32),
+        ('events', ctypes.c_uint32),
+        ('token', ctypes.c_uint32),
+        ('planner', ctypes.c_uint16),
+        ('nodes', ctypes.c_uint16),
+        ('partitions', ctypes.c_uint16),
+        ('keeps', ctypes.c_uint16),
+    ]
+
+
 _SIZE = ctypes.c_size_t
 _SIZE_OUT = ctypes.POINTER(ctypes.c_size_t)
 _UINT32_OUT = ctypes.POINTER(ctypes.c_uint32)
 _NUMBERS = ctypes.POINTER(ctypes.c_uint16)
-_AGENT = ctypes.POINTER(_Handle)
+_AGENT = _REPLICA = ctypes.POINTER(_Handle)
+_NODE = ctypes.c_uint16
 _SETUP = (ctypes.POINTER(_Setup), _NUMBERS, _SIZE)
 _LINE = (ctypes.c_char_p, _SIZE)
 _TEXT_OUT = (ctypes.c_char_p, _SIZE, _SIZE_OUT)
@@ -444,8 +538,9 @@ _NUMBERS_OUT = (_NUMBERS, _SIZE, _SIZE_OUT)
 
 _PARAMETERS: Dict[str, Tuple[Any, ...]] = {
     'bully_check': (*_LINE, ctypes.POINTER(_Verdict)),
+    'bully_header': (*_SETUP, *_TEXT_OUT),
     'bully_table': (*_SETUP, _NUMBERS, _SIZE, _NUMBERS, _SIZE, _NUMBERS, _SIZE, _NUMBERS),
-    'bully_agent_open': (_AGENT, *_SETUP, ctypes.c_uint16, ctypes.c_uint32, _NUMBERS, _SIZE),
+    'bully_agent_open': (_AGENT, *_SETUP, _NODE, ctypes.c_uint32, _NUMBERS, _SIZE),
     'bully_agent_close': (_AGENT,),
     'bully_agent_recover': (_AGENT,),
     'bully_agent_crash': (_AGENT,),
@@ -465,6 +560,16 @@ _PARAMETERS: Dict[str, Tuple[Any, ...]] = {
     'bully_agent_task': (_AGENT, *_NUMBERS_OUT),
     'bully_agent_rows': (_AGENT, *_TEXT_OUT),
     'bully_agent_claim': (_AGENT, *_TEXT_OUT),
+    'bully_replica_open': (_REPLICA, *_LINE),
+    'bully_replica_close': (_REPLICA,),
+    'bully_replica_learn': (_REPLICA, *_LINE, _SIZE_OUT),
+    'bully_replica_next': (_REPLICA, _NODE, *_TEXT_OUT),
+    'bully_replica_event': (_REPLICA, _NODE, ctypes.c_uint32, *_TEXT_OUT),
+    'bully_replica_show': (_REPLICA, _NODE, ctypes.POINTER(_State)),
+    'bully_replica_up': (_REPLICA, _NODE, *_NUMBERS_OUT),
+    'bully_replica_task': (_REPLICA, _NODE, *_NUMBERS_OUT),
+    'bully_replica_group': (_REPLICA, ctypes.POINTER(_Group)),
+    'bully_replica_planned': (_REPLICA, *_NUMBERS_OUT),
 }
 
 _loaded: Optional[ctypes.CDLL] = None
@@ -475,6 +580,8 @@ def _declared(library: ctypes.CDLL) -> ctypes.CDLL:
     """The library, with the types of its functions told to ctypes."""
     library.bully_status_name.argtypes = (ctypes.c_uint32,)
     library.bully_status_name.restype = ctypes.c_char_p
+    library.bully_version.argtypes = ()
+    library.bully_version.restype = ctypes.c_char_p
     for name, parameters in _PARAMETERS.items():
         function = getattr(library, name)
         function.argtypes = parameters
@@ -490,7 +597,7 @@ def load(path: Union[str, 'os.PathLike[str]', None] = None) -> None:
     if os.path.isdir(place):
         place = os.path.join(place, 'libbully.so')
     try:
-        # Short calls keep Python's lock, so that no two threads are in one agent; a check of a long trace gives it away.
+        # Calls of a handle keep Python's lock, so that no two threads are in one; a check of a long trace gives it away.
         _loaded, _loaded_for_long = _declared(ctypes.PyDLL(place)), _declared(ctypes.CDLL(place))
     except AttributeError as missing:
         raise OSError(f'{place} is not the library of bully.h: {missing}') from missing
@@ -518,6 +625,10 @@ def _number(what: str, value: int, most: int) -> int:
     if not 0 <= number <= most:
         raise ValueError(f'{what} is {number}, and has to be from 0 to {most}')
     return number
+
+
+def _node(value: int) -> int:
+    return _number('node', value, _UINT16_MAX)
 
 
 def _numbers(what: str, values: Iterable[int]) -> 'ctypes.Array[ctypes.c_uint16]':
@@ -553,7 +664,70 @@ def _line_bytes(line: Line) -> bytes:
     raise TypeError(f'a line is str or bytes, and not {type(line).__name__}')
 
 
+def _row_bytes(line: Line) -> bytes:
+    """The row, with its line end."""
+    told = _line_bytes(line)
+    row = told[:-1] if told.endswith(b'\n') else told
+    if not row or b'\n' in row or b'\r' in row:
+        raise ValueError(f'{line!r} is not one row')
+    return row + b'\n'
+
+
+# ---- Answers
+
+
+class _Room:
+    """Room for the texts that the library writes, which grows by what it says that it wants."""
+
+    def __init__(self) -> None:
+        self._size = _ROOM_MIN
+
+    def text(self, function: Callable[..., int], *arguments: Any) -> str:
+        """What the function writes, called with these arguments and the room behind them."""
+        length = ctypes.c_size_t()
+        while True:
+            text = ctypes.create_string_buffer(self._size)
+            status = function(*arguments, text, self._size, ctypes.byref(length))
+            if status != Short.status:
+                _expect_ok(status)
+                return ctypes.string_at(text, length.value).decode('ascii')
+            self._grow(length.value)
+
+    def row(self, function: Callable[..., int], *arguments: Any) -> str:
+        """The same of a row, without its line end."""
+        return self.text(function, *arguments).rstrip('\n')
+
+    def _grow(self, length: int) -> None:
+        """Twice the room, as often as it takes to hold this length."""
+        while self._size < length:
+            self._size *= 2
+
+
+def _list(room: int, function: Callable[..., int], *arguments: Any) -> Tuple[int, ...]:
+    """The numbers that the function writes, called with these arguments and so much room behind them, which holds them all."""
+    numbers, count = (ctypes.c_uint16 * room)(), ctypes.c_size_t()
+    _expect_ok(function(*arguments, numbers, room, ctypes.byref(count)))
+    return tuple(numbers[: count.value])
+
+
+def _call(told: _State) -> Optional[Call]:
+    """The call that the library tells of a node, if any."""
+    return Call(CallKind(told.call), told.callee, bool(told.orphan)) if told.callee else None
+
+
+def _state(told: _State) -> State:
+    """All that the library tells of a node."""
+    status, wants = Status(told.status), Want(told.wants)
+    return State(told.node, status, told.coordinator or None, told.halter or None, wants, _call(told), told.generation)
+
+
 # ---- Traces and tables
+
+
+def version() -> str:
+    """The version of the library, as `bully --version` tells it."""
+    told: bytes = _library().bully_version()
+    return told.decode('ascii')
 
 
 def status_name(status: int) -> str:
@@ -572,11 +746,7 @@ def check(trace: bytes) -> Verdict:
     told = _Verdict()
     status = _library_for_long().bully_check(text, len(text), ctypes.byref(told))
     if status:
-        fault = _fault(status)
-        if isinstance(fault, TraceFault):
-            fault.row = told.number
-            fault.args = (f'row {told.number}: {fault.args[0]}',)
-        raise fault
+        raise _fault_at(told.number, status)
     return Verdict(VerdictKind(told.kind), told.number, _FAULTS[told.cause] if told.cause else None)
 
 
@@ -596,40 +766,41 @@ def plan_table(setup: Setup, members: Iterable[int], old: Optional[Sequence[int]
     return TablePlan(tuple(owners), moves.value)
 
 
-# ---- One node
+# ---- Handles
 
 
-class Agent:
-    """One node on its own: what a process keeps of it. It has no socket, clock, thread or file: `docs/NODE.md` has the loop of a
-    process, and what the program has to keep.
+_Self = TypeVar('_Self', bound='_Opened')
 
-    Each call that changes it is refused, by an exception, and changes nothing; or it is an event of the group, two where a call
-    failed, and `rows` has them for the log. An agent holds memory of the library until it is closed: `with` closes it."""
 
-    def __init__(self, setup: Setup, node: int, events: int = 0, task: Optional[Sequence[int]] = None) -> None:
-        """The agent of a node that is Down, whose log has so many events, and that has kept this task, if any.
+class _Opened:
+    """A handle of the library, which holds memory of it until it is closed."""
 
-        Raises BadNodes, BadPartitions, BadLimit, BadWeights, BadNode, TableLength, TableOwner, OutOfMemory."""
+    _closing = ''  # the function that closes it
+    _single = ''  # why it isn't copied
+
+    def __init__(self) -> None:
         self._library = _library()
         self._handle = _Handle()
-        self._agent = ctypes.byref(self._handle)
-        self._setup = setup
-        self._room = 256
-        kept = _owners(task)
-        parts = _setup_parts(setup)
-        number, told = _number('node', node, _UINT16_MAX), _number('events', events, _UINT32_MAX)
-        _expect_ok(self._library.bully_agent_open(self._agent, *parts, number, told, kept, len(kept)))
+        self._held = ctypes.byref(self._handle)
+        self._room = _Room()
 
     def close(self) -> None:
-        """Gives back what the library keeps of the node. Every later call raises Closed."""
-        _expect_ok(self._library.bully_agent_close(self._agent))
+        """Gives back what the library keeps. Every later call raises Closed."""
+        _expect_ok(self._close())
 
     @property
     def is_closed(self) -> bool:
-        """Whether the agent was closed."""
+        """Whether it was closed."""
         return not self._handle.held
 
-    def __enter__(self) -> 'Agent':
+    def _close(self) -> int:
+        return int(getattr(self._library, self._closing)(self._held))
+
+    def _words(self) -> str:
+        """What it is of, while it is open."""
+        raise NotImplementedError
+
+    def __enter__(self: _Self) -> _Self:
         return self
 
     def __exit__(
@@ -641,63 +812,89 @@ class Agent:
     def __del__(self) -> None:
         handle = getattr(self, '_handle', None)
         if handle is not None and handle.held:
-            self._library.bully_agent_close(self._agent)
+            self._close()
 
-    def __copy__(self) -> 'Agent':
-        raise TypeError('an agent is not copied: two of them would be two agents of one node')
+    def __copy__(self) -> NoReturn:
+        raise TypeError(self._single)
 
-    def __deepcopy__(self, memo: Dict[int, Any]) -> 'Agent':
-        return self.__copy__()
+    def __deepcopy__(self, memo: Dict[int, Any]) -> NoReturn:
+        raise TypeError(self._single)
 
     def __reduce__(self) -> str:
-        raise TypeError('an agent is not pickled: it is the memory of this process')
+        raise TypeError(f'{type(self).__name__} is not pickled: it is the memory of this process')
 
     def __repr__(self) -> str:
-        if self.is_closed:
-            return '<Agent closed>'
+        return f'<{type(self).__name__} {"closed" if self.is_closed else self._words()}>'
+
+
+# ---- One node
+
+
+class Agent(_Opened):
+    """One node on its own: what a process keeps of it. It has no socket, clock, thread or file: `docs/NODE.md` has the loop of a
+    process, and what the program has to keep.
+
+    Each call that changes it is refused, by an exception, and changes nothing; or it is an event of the group, two where a call
+    failed, and `rows` has them for the log. An agent holds memory of the library until it is closed: `with` closes it."""
+
+    _closing = 'bully_agent_close'
+    _single = 'an agent is not copied: two of them would be two agents of one node'
+
+    def __init__(self, setup: Setup, node: int, events: int = 0, task: Optional[Sequence[int]] = None) -> None:
+        """The agent of a node that is Down, whose log has so many events, and that has kept this task, if any.
+
+        Raises BadNodes, BadPartitions, BadLimit, BadWeights, BadNode, TableLength, TableOwner, OutOfMemory."""
+        super().__init__()
+        self._setup = setup
+        kept = _owners(task)
+        parts = _setup_parts(setup)
+        number, told = _node(node), _number('events', events, _UINT32_MAX)
+        _expect_ok(self._library.bully_agent_open(self._held, *parts, number, told, kept, len(kept)))
+
+    def _words(self) -> str:
         state = self._show()
-        return f'<Agent of node {state.node}, {Status(state.status).name.lower()}, {state.events} events>'
+        return f'of node {state.node}, {Status(state.status).name.lower()}, {state.events} events'
 
     # What the node does by itself. Each is one event.
 
     def recover(self) -> None:
         """The node recovers, and stands for election. Raises Closed, Full, IsUp."""
-        _expect_ok(self._library.bully_agent_recover(self._agent))
+        _expect_ok(self._library.bully_agent_recover(self._held))
 
     def crash(self) -> None:
         """The node crashes, or has to stop. Raises Closed, Full, IsDown."""
-        _expect_ok(self._library.bully_agent_crash(self._agent))
+        _expect_ok(self._library.bully_agent_crash(self._held))
 
     def check(self) -> None:
         """The idle node begins to check the others, where it is their coordinator. Raises Closed, Full, IsDown, Busy."""
-        _expect_ok(self._library.bully_agent_check(self._agent))
+        _expect_ok(self._library.bully_agent_check(self._held))
 
     def timeout(self) -> None:
         """The idle node heard nothing for too long. Raises Closed, Full, IsDown, Busy."""
-        _expect_ok(self._library.bully_agent_timeout(self._agent))
+        _expect_ok(self._library.bully_agent_timeout(self._held))
 
     def start(self) -> None:
         """The node starts the call that it wants to start; `request` then has what is to be sent.
 
         Raises Closed, Full, IsDown, NoStep, SlotBusy."""
-        _expect_ok(self._library.bully_agent_start(self._agent))
+        _expect_ok(self._library.bully_agent_start(self._held))
 
     def advance(self) -> None:
         """The node moves on without a call. Raises Closed, Full, IsDown, NoStep, SlotBusy."""
-        _expect_ok(self._library.bully_agent_advance(self._agent))
+        _expect_ok(self._library.bully_agent_advance(self._held))
 
     def plan(self, owners: Sequence[int]) -> None:
         """The node has planned this table, as `prepare` makes one.
 
         Raises Closed, TableLength, TableOwner, OutOfMemory, Full, IsDown, NoStep, SlotBusy, BadTable."""
         told = _numbers('an owner', owners)
-        _expect_ok(self._library.bully_agent_plan(self._agent, told, len(told)))
+        _expect_ok(self._library.bully_agent_plan(self._held, told, len(told)))
 
     def drop_orphan(self) -> None:
         """The node's call, an orphan, is given up. Raises Closed, Full, IsDown, NoCall, NotOrphan.
 
         Premise: its request won't run any more."""
-        _expect_ok(self._library.bully_agent_drop_orphan(self._agent))
+        _expect_ok(self._library.bully_agent_drop_orphan(self._held))
 
     def prepare(self, old: Optional[Sequence[int]] = None) -> Tuple[int, ...]:
         """The table that the node should plan, from this old one, mostly its `task`. No event.
@@ -706,7 +903,7 @@ class Agent:
         before = _owners(old)
         count = self._setup.partitions
         owners = (ctypes.c_uint16 * count)()
-        _expect_ok(self._library.bully_agent_prepare(self._agent, before, len(before), owners, count))
+        _expect_ok(self._library.bully_agent_prepare(self._held, before, len(before), owners, count))
         return tuple(owners)
 
     # What comes from other nodes, or goes to them. Lines have no line end.
@@ -715,7 +912,7 @@ class Agent:
         """The line of the request of the node's call, while that is under way; to be sent to its callee, once. No event.
 
         Raises Closed, OutOfMemory."""
-        return self._text(self._library.bully_agent_request) or None
+        return self._room.text(self._library.bully_agent_request, self._held) or None
 
     def serve(self, line: Line) -> str:
         """The request of this line runs at the node. One event. The line of the reply, for its caller.
@@ -725,7 +922,7 @@ class Agent:
         request = _line_bytes(line)
         reply, length = ctypes.create_string_buffer(_REPLY_MAX), ctypes.c_size_t()
         status = self._library.bully_agent_serve(
-            self._agent, request, len(request), reply, _REPLY_MAX, ctypes.byref(length)
+            self._held, request, len(request), reply, _REPLY_MAX, ctypes.byref(length)
         )
         _expect_ok(status)
         return ctypes.string_at(reply, length.value).decode('ascii')
@@ -736,7 +933,7 @@ class Agent:
         Raises Closed, the LineFaults, Full; NoCall, where it is no reply to the call under way. Premise: the call ran at its
         callee, and was answered so."""
         reply, answer = _line_bytes(line), ctypes.c_uint32()
-        _expect_ok(self._library.bully_agent_replied(self._agent, reply, len(reply), ctypes.byref(answer)))
+        _expect_ok(self._library.bully_agent_replied(self._held, reply, len(reply), ctypes.byref(answer)))
         return Answer(answer.value)
 
     def failed(self, number: int) -> Answer:
@@ -745,7 +942,7 @@ class Agent:
         Raises Closed, Full, NoCall. Premise: the callee is Down."""
         answer = ctypes.c_uint32()
         told = _number('number', number, _UINT32_MAX)
-        _expect_ok(self._library.bully_agent_failed(self._agent, told, ctypes.byref(answer)))
+        _expect_ok(self._library.bully_agent_failed(self._held, told, ctypes.byref(answer)))
         return Answer(answer.value)
 
     # What the node shows. No event.
@@ -754,6 +951,11 @@ class Agent:
     def setup(self) -> Setup:
         """What the group is set up with."""
         return self._setup
+
+    @property
+    def state(self) -> State:
+        """How the node stands."""
+        return _state(self._show())
 
     @property
     def node(self) -> int:
@@ -778,12 +980,12 @@ class Agent:
     @property
     def up(self) -> Tuple[int, ...]:
         """The lower nodes that answered its halts, rising."""
-        return self._list(self._library.bully_agent_up, self._setup.nodes)
+        return _list(self._setup.nodes, self._library.bully_agent_up, self._held)
 
     @property
     def task(self) -> Optional[Tuple[int, ...]]:
         """The owner of each partition in the node's task, if it has one."""
-        return self._list(self._library.bully_agent_task, self._setup.partitions) or None
+        return _list(self._setup.partitions, self._library.bully_agent_task, self._held) or None
 
     @property
     def wants(self) -> Want:
@@ -793,8 +995,7 @@ class Agent:
     @property
     def call(self) -> Optional[Call]:
         """The call that the node has under way, if any."""
-        state = self._show()
-        return Call(CallKind(state.call), state.callee, bool(state.orphan)) if state.callee else None
+        return _call(self._show())
 
     @property
     def number(self) -> int:
@@ -815,37 +1016,205 @@ class Agent:
         """The rows of the node's last step, for the log, without their line ends, as `docs/FORMATS.md` has them of version 3.
 
         Raises Closed, OutOfMemory."""
-        return self._text(self._library.bully_agent_rows).splitlines()
+        return self._room.text(self._library.bully_agent_rows, self._held).splitlines()
 
     def claim(self) -> str:
         """The row that says all of the node's vector, without its line end. Raises Closed, OutOfMemory."""
-        return self._text(self._library.bully_agent_claim).rstrip('\n')
+        return self._room.row(self._library.bully_agent_claim, self._held)
 
     def _show(self) -> _State:
         state = _State()
-        _expect_ok(self._library.bully_agent_show(self._agent, ctypes.byref(state)))
+        _expect_ok(self._library.bully_agent_show(self._held, ctypes.byref(state)))
         return state
 
-    def _text(self, function: Callable[..., int]) -> str:
-        """What the function writes, in room that grows by what it says that it wants."""
-        length = ctypes.c_size_t()
-        while True:
-            text = ctypes.create_string_buffer(self._room)
-            status = function(self._agent, text, self._room, ctypes.byref(length))
-            if status != Short.status:
-                _expect_ok(status)
-                return ctypes.string_at(text, length.value).decode('ascii')
-            self._room = _room_for(length.value, self._room)
 
-    def _list(self, function: Callable[..., int], room: int) -> Tuple[int, ...]:
-        """The numbers that the function writes, which so much room holds."""
-        numbers, count = (ctypes.c_uint16 * room)(), ctypes.c_size_t()
-        _expect_ok(function(self._agent, numbers, room, ctypes.byref(count)))
-        return tuple(numbers[: count.value])
+# ---- A group whose history is a log outside
 
 
-def _room_for(length: int, room: int) -> int:
-    """Twice the room, as often as it takes to hold this length."""
-    while room < length:
-        room *= 2
-    return room
+class Replica(_Opened):
+    """What a process knows of a group whose history is a log: rows in a store outside, which many processes read, and in which a
+    row is appended behind all the rows that were read, or not at all.
+
+    A process learns the rows in their order. `next`, `crash`, `recover`, `check`, `timeout` and `drop` give a row that it may
+    append, or are refused by an exception. They change nothing: the row has to be appended to the log first, behind exactly the
+    rows that were learned, and is learned like any other once it stands there. If another row came to stand there first, the
+    process learns that one, and asks again. A log to which each row is appended so is lawful.
+
+    A replica holds memory of the library until it is closed: `with` closes it."""
+
+    _closing = 'bully_replica_close'
+    _single = 'a replica is not copied: open one more of the same header, and have it learn the rows'
+
+    def __init__(self, header: Line) -> None:
+        """The replica of a log that begins with this header, with its line end or without, before any other row. `Setup.header`
+        makes one.
+
+        Raises BadHeader, also if rows stand behind it; OutOfMemory."""
+        super().__init__()
+        text = _line_bytes(header)
+        status = self._library.bully_replica_open(self._held, text, len(text))
+        if status:
+            raise _fault_at(1, status)
+        group = self._group()
+        self._nodes, self._partitions = group.nodes, group.partitions
+
+    def _words(self) -> str:
+        group = self._group()
+        return f'of {group.nodes} nodes, {group.rows} rows'
+
+    # What the log tells.
+
+    def learn(self, rows: Iterable[Line]) -> int:
+        """Learns the rows that stand next in the log, in their order and as `check` takes them. How many these were. A row has no
+        line end, as a store keeps it, or one line feed at its end.
+
+        Raises NotLearned, which tells the first row that isn't learned, and why: what was learned before it stays. Else nothing
+        was learned: a ValueError tells a row that is blank or has a line end inside, so that it isn't exactly one row; a
+        TypeError one that is no line, or that `rows` is a single line; and it raises Closed."""
+        if isinstance(rows, (str, bytes)):
+            raise TypeError('the rows to learn are several lines, and not one')
+        text, taken = b''.join([_row_bytes(row) for row in rows]), ctypes.c_size_t()
+        status = self._library.bully_replica_learn(self._held, text, len(text), ctypes.byref(taken))
+        if status:
+            raise self._not_learned(status, taken.value)
+        return taken.value
+
+    def _not_learned(self, status: int, taken: int) -> BullyError:
+        """The exception that tells that so many rows were learned, and the next one wasn't, for this status."""
+        why = _fault(status)
+        if isinstance(why, BadArgument):
+            return why
+        row = self.rows + 2
+        refused = NotLearned(f'row {row}: {why}')
+        refused.status, refused.taken, refused.row, refused.cause = status, taken, row, type(why)
+        refused.__cause__ = _fault_at(row, status)
+        return refused
+
+    # Rows to append. Nothing changes by these.
+
+    def next(self, node: int) -> Optional[str]:
+        """The row that the node appends next by itself, without its line end; none if it rests. If it isn't Down, it first runs
+        the call of the lowest caller that waits for it. Else its procedure takes a step, and a table is planned with the fewest
+        moves from that of the last plan.
+
+        Raises Closed, BadNode, OutOfMemory; Full, if the log has no room for the row."""
+        return self._room.row(self._library.bully_replica_next, self._held, _node(node)) or None
+
+    def crash(self, node: int) -> str:
+        """The row by which the node crashes, or has to stop. Raises Closed, BadNode, Full, IsDown, OutOfMemory."""
+        return self._event(node, _Event.CRASH)
+
+    def recover(self, node: int) -> str:
+        """The row by which the node recovers, and stands for election. Raises Closed, BadNode, Full, IsUp, OutOfMemory."""
+        return self._event(node, _Event.RECOVER)
+
+    def check(self, node: int) -> str:
+        """The row by which the idle node begins to check the others, if it is their coordinator.
+
+        Raises Closed, BadNode, Full, IsDown, Busy, OutOfMemory."""
+        return self._event(node, _Event.CHECK)
+
+    def timeout(self, node: int) -> str:
+        """The row by which the idle node heard nothing for too long. Raises Closed, BadNode, Full, IsDown, Busy, OutOfMemory."""
+        return self._event(node, _Event.TIMEOUT)
+
+    def drop(self, node: int) -> str:
+        """The row by which the node's call, an orphan, is given up.
+
+        Raises Closed, BadNode, Full, IsDown, NoCall, NotOrphan, OutOfMemory."""
+        return self._event(node, _Event.DROP)
+
+    def _event(self, node: int, event: _Event) -> str:
+        return self._room.row(self._library.bully_replica_event, self._held, _node(node), event)
+
+    # How a node stands, behind the rows that were learned. Each raises Closed and BadNode.
+
+    def state(self, node: int) -> State:
+        """How the node stands, by one look."""
+        return _state(self._show(node))
+
+    def status(self, node: int) -> Status:
+        """The node's status."""
+        return Status(self._show(node).status)
+
+    def coordinator(self, node: int) -> Optional[int]:
+        """The node's coordinator, if it has one."""
+        return self._show(node).coordinator or None
+
+    def halter(self, node: int) -> Optional[int]:
+        """The node that halted it last, if any."""
+        return self._show(node).halter or None
+
+    def up(self, node: int) -> Tuple[int, ...]:
+        """The lower nodes that answered the node's halts, rising."""
+        return _list(self._nodes, self._library.bully_replica_up, self._held, _node(node))
+
+    def task(self, node: int) -> Optional[Tuple[int, ...]]:
+        """The owner of each partition in the node's task, if it has one."""
+        return _list(self._partitions, self._library.bully_replica_task, self._held, _node(node)) or None
+
+    def wants(self, node: int) -> Want:
+        """What the node's procedure wants to do next."""
+        return Want(self._show(node).wants)
+
+    def call(self, node: int) -> Optional[Call]:
+        """The call that the node has under way, if any."""
+        return _call(self._show(node))
+
+    def generation(self, node: int) -> int:
+        """How often the node was stopped or crashed in the log."""
+        return int(self._show(node).generation)
+
+    def _show(self, node: int) -> _State:
+        state = _State()
+        _expect_ok(self._library.bully_replica_show(self._held, _node(node), ctypes.byref(state)))
+        return state
+
+    # How the group stands, behind the rows that were learned. Each raises Closed.
+
+    @property
+    def rows(self) -> int:
+        """How many rows were learned, claims too: so the next one of a list of them, without the header, has this index."""
+        return int(self._group().rows)
+
+    @property
+    def events(self) -> int:
+        """How many events these rows told."""
+        return int(self._group().events)
+
+    @property
+    def token(self) -> Optional[int]:
+        """The token of the last plan, if there is one: how many events there are up to it and with it, which is at least 1. So a
+        later plan has a higher token. Each node that is Normal goes by the last plan: it has its planner as coordinator, and its
+        table as task."""
+        return self._group().token or None
+
+    @property
+    def planner(self) -> Optional[int]:
+        """Whose the last plan is, if there is one."""
+        return self._group().planner or None
+
+    @property
+    def last_table(self) -> Optional[Tuple[int, ...]]:
+        """The owner of each partition in the last plan's table, if there is a plan."""
+        return _list(self._partitions, self._library.bully_replica_planned, self._held) or None
+
+    @property
+    def nodes(self) -> int:
+        """How many nodes the header tells."""
+        return int(self._group().nodes)
+
+    @property
+    def partitions(self) -> int:
+        """How many partitions the header tells."""
+        return int(self._group().partitions)
+
+    @property
+    def keeps(self) -> bool:
+        """Whether a node keeps its task over a crash, as the header tells."""
+        return bool(self._group().keeps)
+
+    def _group(self) -> _Group:
+        group = _Group()
+        _expect_ok(self._library.bully_replica_group(self._held, ctypes.byref(group)))
+        return group

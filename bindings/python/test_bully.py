@@ -2,8 +2,10 @@
 """Tests of the binding. What is wanted comes from `docs/FORMATS.md`, `docs/ALGORITHM.md`, `docs/NODE.md`, `include/bully.h` and the
 files of `examples/`, and never from what the library answered. `try` runs them."""
 import copy
+import itertools
 import os
 import pickle
+import random
 import re
 import subprocess
 import sys
@@ -11,15 +13,47 @@ import textwrap
 import threading
 import unittest
 from pathlib import Path
-from typing import Callable, Dict, List, Optional, Tuple
+from typing import Any, Callable, Dict, Iterable, List, Optional, Sequence, Tuple, Type, Union
 
 import bully
-from bully import Agent, Answer, Call, CallKind, Setup, Status, Verdict, VerdictKind, Want, check, plan_table
+import shared_log
+from bully import Agent, Answer, Call, CallKind, NotLearned, Refused, Replica, Setup, State, Status, Verdict, VerdictKind, Want
+from bully import check, plan_table
 
 ROOT = Path(__file__).resolve().parents[2]
 EXAMPLES = sorted((ROOT / 'examples').glob('*.csv'))
 TWO = Setup(2, 3)
 LARGEST = Setup(bully.NODES_MAX, bully.PARTITIONS_MAX, keeps=True)
+
+# What `docs/FORMATS.md` says of these texts.
+ONE, THREE = 'bully,1,2,2\n', 'bully,3,2,2,1 1,clear\n'
+VERDICTS = [
+    ('bully,2,1,1,1,clear\n', 'lawful 0'),
+    (ONE + 'recover,3', 'refused 2 BadNode'),
+    (ONE + 'saw,3,down,-', 'differs 2'),
+    (ONE + 'saw,2,down,-', 'lawful 0'),
+    (ONE + 'crash,1', 'refused 2 IsDown'),
+    (ONE + 'plan,1,1 1', 'refused 2 IsDown'),
+    ('bully,2,2,1,1 1,clear\nrecover,1024', 'refused 2 BadNode'),
+    (THREE + 'recover,1\nstart,1,are-you-up,2\n', 'lawful 2'),
+    (THREE + 'recover,1\nstart,1,halt,2\n', 'differs 3'),
+    (THREE + 'recover,1\nstart,1,are-you-up,1024\n', 'differs 3'),
+    (THREE + 'run,1,halt,2,no\n', 'refused 2 IsDown'),
+    (THREE + 'saw,1,down,-,-,-,-\n', 'lawful 0'),
+    (THREE + 'saw,1,down,-,-,1 2,-\n', 'differs 2'),
+    (THREE + 'saw,1,down,-,-,-,1 1\n', 'differs 2'),
+]
+BAD_HEADERS = [
+    '', 'bully,2,1,1', 'bully,1,0,1', 'bully,1,65,1', 'bully,1,1,257', 'bully,1,1', 'Bully,1,1,1',
+    'bully,2,2,2,1 0,keep', 'bully,2,2,2,1,keep', 'bully,2,1,1,1,yes', '\n', 'bully,1,1,1\x00',
+]  # fmt: skip
+BAD_ROWS = [
+    (ONE + 'recover,01', 2), (ONE + 'recover,0', 2), (ONE + 'recover,65', 2), (ONE + 'halt,1', 2),
+    (ONE + 'crash,1\nstop,1', 3), (ONE + 'plan,1,1 3', 2), ('bully,2,2,1,1 1,clear\nrecover,1025', 2),
+    (THREE + 'recover,1\nstart,1,are-you-up', 3), (THREE + 'recover,1\nstart,1,AreYouUp,2', 3),
+    (THREE + 'run,1,halt,2,failed', 2), (THREE + 'saw,1,down,-,-,2 1,-', 2), (THREE + 'saw,1,down,-,-,-,1 3', 2),
+    ('bully,2,2,2,1 1,clear\nsaw,1,down,-,-,-,-', 2), (ONE + 'recover,\xff', 2), (ONE + 'recover,1\x00', 2),
+]  # fmt: skip
 
 
 def resident_bytes() -> int:
@@ -46,17 +80,26 @@ def led(agent: Agent) -> None:
             agent.plan(agent.prepare(agent.task))
 
 
+def end_of(state: State, task: Optional[Sequence[int]]) -> str:
+    """The line of a verdict's node."""
+    owners = ','.join(map(str, task or ())) or '-'
+    return f'{state.node} {state.status.name.lower()} {state.coordinator or "-"} {state.halter or "-"} {owners}'
+
+
 class Head(unittest.TestCase):
     """What stands at the head of the module."""
 
-    def test_example(self) -> None:
-        program = re.search(r'\n    setup = .*?\n\n', bully.__doc__ or '', re.DOTALL)
-        assert program is not None
-        exec(textwrap.dedent(program.group()), vars(bully).copy())
+    def test_examples(self) -> None:
+        for first in ('setup = ', 'header, log = '):
+            with self.subTest(first=first):
+                program = re.search(rf'\n    {first}.*?\n\n', bully.__doc__ or '', re.DOTALL)
+                assert program is not None
+                exec(textwrap.dedent(program.group()), vars(bully).copy())
 
     def test_docstrings(self) -> None:
         """Everything public says what it is."""
-        owners = [bully, *(each for each in vars(bully).values() if isinstance(each, type) and each.__module__ == 'bully')]
+        classes = [each for each in vars(bully).values() if isinstance(each, type) and each.__module__ == 'bully']
+        owners: List[Any] = [bully, *classes]
         for owner in owners:
             for name, each in vars(owner).items():
                 if name[0] != '_' and getattr(each, '__module__', 'bully') == 'bully' and (callable(each) or isinstance(each, property)):
@@ -80,11 +123,11 @@ class Headers(unittest.TestCase):
                 name = re.sub(r'(?<!^)(?=[A-Z])', '_', fault.__name__).upper()
                 self.assertEqual(named[name], number)
                 self.assertEqual(bully.status_name(number), name)
-        self.assertEqual(len(bully._FAULTS), 34)
+        self.assertEqual(len(bully._FAULTS), 37)
 
     def test_other_names(self) -> None:
         self.assertEqual(bully.status_name(0), 'OK')
-        for number in (13, 19, 32, 47, 53, 0xFFFF_FFFF):
+        for number in (13, 19, 33, 39, 47, 49, 55, 0xFFFF_FFFF):
             self.assertEqual(bully.status_name(number), '?')
 
     def test_limits(self) -> None:
@@ -94,10 +137,17 @@ class Headers(unittest.TestCase):
 
     def test_enumerations(self) -> None:
         named = self.numbers()
-        for kind, prefix in ((Status, ''), (Want, 'WANTS_'), (CallKind, ''), (Answer, ''), (VerdictKind, '')):
+        prefixes = {Status: '', Want: 'WANTS_', CallKind: '', Answer: '', VerdictKind: '', bully._Event: 'EVENT_'}
+        for kind, prefix in prefixes.items():
             for member in kind:
                 with self.subTest(member=member):
                     self.assertEqual(named[prefix + member.name], member.value)
+
+    def test_version(self) -> None:
+        program = (ROOT / 'crates' / 'bully_words' / 'src' / 'help.rt').read_text()
+        told = re.search(r'VERSION: &str = "([0-9]+\.[0-9]+\.[0-9]+)', program)
+        assert told is not None
+        self.assertEqual(bully.version(), told.group(1))
 
 
 class Traces(unittest.TestCase):
@@ -111,24 +161,7 @@ class Traces(unittest.TestCase):
                 self.assertEqual(str(check(path.read_bytes())), wanted)
 
     def test_verdicts(self) -> None:
-        one, three = 'bully,1,2,2\n', 'bully,3,2,2,1 1,clear\n'
-        wanted = [
-            ('bully,2,1,1,1,clear\n', 'lawful 0'),
-            (one + 'recover,3', 'refused 2 BadNode'),
-            (one + 'saw,3,down,-', 'differs 2'),
-            (one + 'saw,2,down,-', 'lawful 0'),
-            (one + 'crash,1', 'refused 2 IsDown'),
-            (one + 'plan,1,1 1', 'refused 2 IsDown'),
-            ('bully,2,2,1,1 1,clear\nrecover,1024', 'refused 2 BadNode'),
-            (three + 'recover,1\nstart,1,are-you-up,2\n', 'lawful 2'),
-            (three + 'recover,1\nstart,1,halt,2\n', 'differs 3'),
-            (three + 'recover,1\nstart,1,are-you-up,1024\n', 'differs 3'),
-            (three + 'run,1,halt,2,no\n', 'refused 2 IsDown'),
-            (three + 'saw,1,down,-,-,-,-\n', 'lawful 0'),
-            (three + 'saw,1,down,-,-,1 2,-\n', 'differs 2'),
-            (three + 'saw,1,down,-,-,-,1 1\n', 'differs 2'),
-        ]
-        for trace, verdict in wanted:
+        for trace, verdict in VERDICTS:
             with self.subTest(trace=trace):
                 self.assertEqual(str(check(trace.encode())), verdict)
 
@@ -139,25 +172,13 @@ class Traces(unittest.TestCase):
         self.assertTrue(check(b'bully,1,2,2\n').is_lawful)
 
     def test_bad_headers(self) -> None:
-        headers = [
-            '', 'bully,2,1,1', 'bully,1,0,1', 'bully,1,65,1', 'bully,1,1,257', 'bully,1,1', 'Bully,1,1,1',
-            'bully,2,2,2,1 0,keep', 'bully,2,2,2,1,keep', 'bully,2,1,1,1,yes', '\n', 'bully,1,1,1\x00',
-        ]  # fmt: skip
-        for header in headers:
+        for header in BAD_HEADERS:
             with self.subTest(header=header), self.assertRaises(bully.BadHeader) as caught:
                 check(header.encode())
             self.assertEqual((caught.exception.row, caught.exception.status), (1, 50))
 
     def test_bad_rows(self) -> None:
-        one, three = 'bully,1,2,2\n', 'bully,3,2,2,1 1,clear\n'
-        wanted = [
-            (one + 'recover,01', 2), (one + 'recover,0', 2), (one + 'recover,65', 2), (one + 'halt,1', 2),
-            (one + 'crash,1\nstop,1', 3), (one + 'plan,1,1 3', 2), ('bully,2,2,1,1 1,clear\nrecover,1025', 2),
-            (three + 'recover,1\nstart,1,are-you-up', 3), (three + 'recover,1\nstart,1,AreYouUp,2', 3),
-            (three + 'run,1,halt,2,failed', 2), (three + 'saw,1,down,-,-,2 1,-', 2), (three + 'saw,1,down,-,-,-,1 3', 2),
-            ('bully,2,2,2,1 1,clear\nsaw,1,down,-,-,-,-', 2), (one + 'recover,\xff', 2), (one + 'recover,1\x00', 2),
-        ]  # fmt: skip
-        for trace, row in wanted:
+        for trace, row in BAD_ROWS:
             with self.subTest(trace=trace), self.assertRaises(bully.BadRow) as caught:
                 check(trace.encode('latin-1'))
             self.assertEqual(caught.exception.row, row)
@@ -263,7 +284,7 @@ class Tables(unittest.TestCase):
             lambda: plan_table(Setup(3, 7), ['1']),  # type: ignore[list-item]
             lambda: plan_table(Setup(3, 7), 1),  # type: ignore[arg-type]
             lambda: plan_table(Setup(3, 7), [None]),  # type: ignore[list-item]
-            lambda: plan_table(Setup(3, 7), [1], '1111111'),
+            lambda: plan_table(Setup(3, 7), [1], '1111111'),  # type: ignore[arg-type]
         ]
         for place, call in enumerate(wanted):
             with self.subTest(place=place), self.assertRaises(TypeError):
@@ -324,11 +345,7 @@ class Follower:
 
     def ends(self) -> List[str]:
         """The lines of a verdict's nodes."""
-        return [self.end(agent) for agent in self.agents]
-
-    def end(self, agent: Agent) -> str:
-        owners = ','.join(map(str, agent.task or ())) or '-'
-        return f'{agent.node} {agent.status.name.lower()} {agent.coordinator or "-"} {agent.halter or "-"} {owners}'
+        return [end_of(agent.state, agent.task) for agent in self.agents]
 
 
 class Following(unittest.TestCase):
@@ -407,6 +424,7 @@ class Agents(unittest.TestCase):
             self.assertEqual(agent.serve('ask,2,7,1,halt'), 'tell,2,7,yes')
             self.assertEqual(agent.call, Call(CallKind.ARE_YOU_UP, 2, True))
             self.assertEqual((agent.generation, agent.halter, agent.status), (1, 2, Status.ELECTION))
+            self.assertEqual(agent.state, State(1, Status.ELECTION, None, 2, Want.AWAIT, agent.call, 1))
             self.assertIs(agent.replied('tell,1,1,yes'), Answer.DISCARDED)
             self.assertEqual(agent.rows(), ['return,1,are-you-up,2,discarded'])
 
@@ -575,7 +593,7 @@ class AgentFaults(unittest.TestCase):
 
     def test_requests(self) -> None:
         with recovered(TWO, 1) as agent:
-            wrong = {
+            wrong: Dict[type, List[Union[str, bytes]]] = {
                 bully.LineWord: ['', 'tell,2,0,yes', 'asks,2,0,1,halt', ' ask,2,0,1,halt', '\u00e9', '\ud800', b'ask\xff'],
                 bully.LineCaller: ['ask', 'ask,', 'ask,3,0,1,halt', 'ask,0,0,1,halt', 'ask,02,0,1,halt', 'ask,x,0,1,halt'],
                 bully.LineNumber: ['ask,2', 'ask,2,,1,halt', 'ask,2,00,1,halt', 'ask,2,1000000,1,halt', 'ask,2,-1,1,halt'],
@@ -597,7 +615,7 @@ class AgentFaults(unittest.TestCase):
 
     def test_replies(self) -> None:
         with recovered(TWO, 1) as agent:
-            wrong = {
+            wrong: Dict[type, List[Union[str, bytes]]] = {
                 bully.LineWord: ['', 'ask,1,1,2,are-you-up', 'tell!', '\u00e9', b'tell\xfe'],
                 bully.LineCaller: ['tell', 'tell,3,1,yes', 'tell,0,1,yes'],
                 bully.LineNumber: ['tell,1', 'tell,1,01,yes', 'tell,1,1000000,yes'],
@@ -627,11 +645,711 @@ class AgentFaults(unittest.TestCase):
         self.expect(agent, bully.Closed, *own, agent.close, agent.request, agent.rows, agent.claim, agent.prepare)
         self.expect(agent, bully.Closed, lambda: agent.plan([1, 1, 1]), lambda: agent.serve('ask,2,0,1,halt'))
         self.expect(agent, bully.Closed, lambda: agent.replied('tell,1,1,yes'), lambda: agent.failed(1))
-        for name in ('status', 'coordinator', 'halter', 'up', 'task', 'wants', 'call', 'number', 'events', 'generation', 'node'):
+        shows = ('state', 'status', 'coordinator', 'halter', 'up', 'task', 'wants', 'call', 'number', 'events', 'generation', 'node')
+        for name in shows:
             self.expect(agent, bully.Closed, lambda: getattr(agent, name))
         with self.assertRaises(bully.Closed):
             with agent:
                 agent.recover()
+
+
+class HeaderRows(unittest.TestCase):
+    """`Setup.header` is the header of `docs/FORMATS.md`: of version 1 if that can tell the setup, and else of version 2."""
+
+    wanted = [
+        (TWO, 'bully,1,2,3'),
+        (Setup(2, 3, 5), 'bully,1,2,3'),
+        (Setup(2, 3, weights=(1, 1)), 'bully,1,2,3'),
+        (Setup(64, 256), 'bully,1,64,256'),
+        (Setup(65, 256), f'bully,2,65,256,{"1 " * 64}1,clear'),
+        (Setup(2, 257), 'bully,2,2,257,1 1,clear'),
+        (Setup(3, 7, weights=(1, 2, 1)), 'bully,2,3,7,1 2 1,clear'),
+        (Setup(2, 2, keeps=True), 'bully,2,2,2,1 1,keep'),
+        (Setup(2, 2, weights=(1000, 10), keeps=True), 'bully,2,2,2,1000 10,keep'),
+        (Setup(1024, 4096, weights=(1000,) * 1024), f'bully,2,1024,4096,{"1000 " * 1023}1000,clear'),
+    ]
+
+    def test_headers(self) -> None:
+        for setup, header in self.wanted:
+            with self.subTest(header=header[:40]):
+                self.assertEqual(setup.header(), header)
+                self.assertEqual(str(check(header.encode())), 'lawful 0')
+
+    def test_replicas(self) -> None:
+        """A replica of the header has what the setup has."""
+        for setup, header in self.wanted:
+            with self.subTest(header=header[:40]), Replica(setup.header()) as replica:
+                told = (replica.nodes, replica.partitions, replica.keeps)
+                self.assertEqual(told, (setup.nodes, setup.partitions, setup.keeps))
+                self.assertIs(type(replica.keeps), bool)
+
+    def test_faults(self) -> None:
+        wanted: List[Tuple[type, Setup]] = [
+            (bully.BadNodes, Setup(0, 3)),
+            (bully.BadNodes, Setup(1025, 3)),
+            (bully.BadPartitions, Setup(2, 0)),
+            (bully.BadPartitions, Setup(2, 4097)),
+            (bully.BadLimit, Setup(2, 3, 0)),
+            (bully.BadLimit, Setup(2, 3, 1_000_001)),
+            (bully.BadWeights, Setup(2, 3, weights=(1,))),
+            (bully.BadWeights, Setup(2, 3, weights=(1, 0))),
+            (bully.BadWeights, Setup(2, 3, weights=(1, 1001))),
+            (ValueError, Setup(65_538, 3)),
+            (ValueError, Setup(2, -1)),
+            (ValueError, Setup(2, 3, 2**32)),
+            (ValueError, Setup(2, 3, weights=(1, 65_537))),
+            (TypeError, Setup('2', 3)),  # type: ignore[arg-type]
+        ]
+        for fault, setup in wanted:
+            with self.subTest(setup=setup), self.assertRaises(fault):
+                setup.header()
+
+
+def log_of(*steps: str) -> List[str]:
+    """Rows of a log. `call,i` stands for those of a call of node i that runs, and `fail,i` for those of one that is lost."""
+    whole = {'call': ('start', 'run', 'return'), 'fail': ('start', 'lose', 'return')}
+    rows: List[str] = []
+    for step in steps:
+        word, rest = step.split(',', 1)
+        rows += [f'{each},{rest}' for each in whole.get(word, (word,))]
+    return rows
+
+
+# What the nodes of even groups of 3 and of 7 partitions append, if all of them recover and then have turns in rising order.
+ELECTION_OF_TWO = log_of(
+    'recover,1', 'recover,2', 'call,1', 'move,2', 'call,2', 'move,2', 'call,2', 'move,2', 'plan,2,1 1 2', 'call,2', 'move,2',
+)  # fmt: skip
+ELECTION_OF_THREE = log_of(
+    'recover,1', 'recover,2', 'recover,3', 'start,1', 'run,1', 'move,3', 'return,1', 'call,2', 'call,3', 'call,3', 'move,3',
+    'call,3', 'call,3', 'move,3', 'plan,3,1 1 1 2 2 3 3', 'call,3', 'call,3', 'move,3',
+)  # fmt: skip
+
+
+def text_of(header: str, rows: Iterable[str]) -> bytes:
+    return '\n'.join([header, *rows, '']).encode()
+
+
+def shown(replica: Replica) -> List[object]:
+    """All that a replica shows."""
+    group = [replica.rows, replica.events, replica.token, replica.planner, replica.last_table]
+    setup = [replica.nodes, replica.partitions, replica.keeps]
+    nodes = range(1, replica.nodes + 1)
+    return [*group, *setup, *((replica.state(node), replica.up(node), replica.task(node)) for node in nodes)]
+
+
+class Member:
+    """A process of one node, with its replica of a log, to which it appends a row behind all rows that it read, or not at all."""
+
+    def __init__(self, header: str, log: List[str], node: int) -> None:
+        self.replica, self.log, self.node = Replica(header), log, node
+
+    def read(self) -> Replica:
+        """The replica, once it learned the rows that are new."""
+        self.replica.learn(self.log[self.replica.rows :])
+        return self.replica
+
+    def append(self, *rows: str) -> bool:
+        """Whether these rows stand in the log now: they don't if another row stands behind what was read."""
+        if self.replica.rows != len(self.log):
+            return False
+        self.log += rows
+        return True
+
+    def turn(self) -> bool:
+        """Whether the node has something to do by itself, which stands in the log then."""
+        row = self.read().next(self.node)
+        return row is not None and self.append(row)
+
+
+def go_to_rest(*members: Member) -> None:
+    """The members have turns, each one row, in their order, until all of them rest."""
+    while any([member.turn() for member in members]):
+        pass
+
+
+class Elections(unittest.TestCase):
+    """Groups of replicas over a list of rows: what they append is what `docs/ALGORITHM.md` has them do, row by row."""
+
+    def group(self, header: str, nodes: int) -> List[Member]:
+        """A member for each node, which recovers and has turns until all rest."""
+        log: List[str] = []
+        members = [Member(header, log, node + 1) for node in range(nodes)]
+        for member in members:
+            self.assertTrue(member.append(member.read().recover(member.node)))
+        go_to_rest(*members)
+        return members
+
+    def expect(self, member: Member, rows: List[str], token: int, planner: int, table: Sequence[int], up: Sequence[int]) -> None:
+        """The log has these rows and is lawful; each of these nodes is Normal by this plan, and the others are Down."""
+        self.assertEqual(member.log, rows)
+        replica = member.read()
+        header = Setup(replica.nodes, replica.partitions).header()
+        self.assertEqual(str(check(text_of(header, rows))), f'lawful {len(rows)}')
+        self.assertEqual((replica.rows, replica.events), (len(rows), len(rows)))
+        self.assertEqual((replica.token, replica.planner, replica.last_table), (token, planner, table))
+        self.assertTrue(rows[token - 1].startswith(f'plan,{planner},'))
+        for node in range(1, replica.nodes + 1):
+            seen = (replica.status(node), replica.coordinator(node), replica.task(node))
+            self.assertEqual(seen, (Status.NORMAL, planner, table) if node in up else (Status.DOWN, None, None))
+
+    def test_alone(self) -> None:
+        (member,) = self.group('bully,1,1,2', 1)
+        self.expect(member, (ROOT / 'examples' / 'alone.csv').read_text().splitlines()[1:], 5, 1, (1, 1), [1])
+
+    def test_two(self) -> None:
+        for member in self.group('bully,1,2,3', 2):
+            self.expect(member, ELECTION_OF_TWO, 15, 2, (1, 1, 2), [1, 2])
+
+    def test_three(self) -> None:
+        for member in self.group('bully,1,3,7', 3):
+            self.expect(member, ELECTION_OF_THREE, 25, 3, (1, 1, 1, 2, 2, 3, 3), [1, 2, 3])
+
+    def test_dead_coordinator(self) -> None:
+        """It leads, dies and comes back; only the dead node's partitions move, and then as many go back as it takes."""
+        first, second, _ = self.group('bully,1,3,7', 3)
+        second.append(second.read().crash(3))
+        second.append(second.read().timeout(2))
+        go_to_rest(first, second)
+        rows = ELECTION_OF_THREE + log_of(
+            'crash,3', 'timeout,2', 'fail,2', 'fail,2', 'move,2', 'call,2', 'move,2', 'call,2', 'move,2', 'plan,2,1 1 1 2 2 1 2',
+            'call,2', 'move,2',
+        )  # fmt: skip
+        self.expect(first, rows, 50, 2, (1, 1, 1, 2, 2, 1, 2), [1, 2])
+        third = Member('bully,1,3,7', first.log, 3)
+        third.append(third.read().recover(3))
+        go_to_rest(first, second, third)
+        rows += log_of(
+            'recover,3', 'move,3', 'call,3', 'call,3', 'move,3', 'call,3', 'call,3', 'move,3', 'plan,3,1 1 1 2 2 3 3',
+            'call,3', 'call,3', 'move,3',
+        )  # fmt: skip
+        self.expect(second, rows, 71, 3, (1, 1, 1, 2, 2, 3, 3), [1, 2, 3])
+
+    def test_last_of_two(self) -> None:
+        """The coordinator of two dies."""
+        first, _ = self.group('bully,1,2,3', 2)
+        first.append(first.read().crash(2))
+        first.append(first.read().timeout(1))
+        go_to_rest(first)
+        dies = log_of('crash,2', 'timeout,1', 'fail,1', 'fail,1', 'move,1', 'move,1', 'move,1', 'plan,1,1 1 1', 'move,1')
+        self.expect(first, ELECTION_OF_TWO + dies, 31, 1, (1, 1, 1), [1])
+
+    def test_forgotten_task(self) -> None:
+        """A coordinator that comes back without its task plans from the last plan's table: nothing moves. Without that table it
+        would be 1 1 2."""
+        log: List[str] = []
+        first, second = (Member('bully,1,2,3', log, node) for node in (1, 2))
+        second.append(second.read().recover(2))
+        go_to_rest(second)
+        alone = log_of('recover,2', 'move,2', 'fail,2', 'move,2', 'move,2', 'plan,2,2 2 2', 'move,2')
+        self.expect(second, alone, 8, 2, (2, 2, 2), [2])
+        first.append(first.read().recover(1))
+        go_to_rest(first, second)
+        second.append(second.read().check(2))
+        go_to_rest(first, second)
+        elects = ('move,2', 'call,2', 'move,2', 'call,2', 'move,2', 'plan,2,2 2 1', 'call,2', 'move,2')
+        joined = alone + log_of('recover,1', 'call,1', 'check,2', 'call,2', *elects)
+        self.expect(first, joined, 27, 2, (2, 2, 1), [1, 2])
+        second.append(second.read().crash(2), 'recover,2')
+        go_to_rest(first, second)
+        self.expect(second, joined + log_of('crash,2', 'recover,2', *elects), 43, 2, (2, 2, 1), [1, 2])
+
+    def test_behind_others(self) -> None:
+        """A row that was made before another one came to stand in the log isn't appended, and is made anew."""
+        log: List[str] = []
+        first, second = (Member('bully,1,2,3', log, node) for node in (1, 2))
+        stale = first.read().recover(1)
+        self.assertTrue(second.append(second.read().recover(2)))
+        self.assertFalse(first.append(stale))
+        self.assertTrue(first.append(first.read().recover(1)))
+        go_to_rest(first, second)
+        self.assertEqual(str(check(text_of('bully,1,2,3', log))), f'lawful {len(log)}')
+
+
+class Replicas(unittest.TestCase):
+    """What a replica learns and shows."""
+
+    def test_new(self) -> None:
+        with Replica(TWO.header()) as replica:
+            self.assertEqual(repr(replica), '<Replica of 2 nodes, 0 rows>')
+            self.assertEqual(shown(replica)[:8], [0, 0, None, None, None, 2, 3, False])
+            for node in (1, 2):
+                self.assertEqual(replica.state(node), State(node, Status.DOWN, None, None, Want.NOTHING, None, 0))
+                self.assertEqual((replica.up(node), replica.task(node), replica.next(node)), ((), None, None))
+        self.assertTrue(replica.is_closed)
+        self.assertEqual(repr(replica), '<Replica closed>')
+
+    def test_state(self) -> None:
+        """What a node shows at places of the election of two."""
+        with Replica('bully,1,2,3') as replica:
+            self.assertEqual(replica.learn(ELECTION_OF_TWO[:3]), 3)
+            asking = Call(CallKind.ARE_YOU_UP, 2, False)
+            self.assertEqual(replica.state(1), State(1, Status.ELECTION, None, None, Want.AWAIT, asking, 0))
+            self.assertEqual((replica.next(1), replica.next(2)), (None, 'run,1'))
+            replica.learn(ELECTION_OF_TWO[3:13])
+            self.assertEqual(replica.state(1), State(1, Status.REORGANIZATION, 2, 2, Want.NOTHING, None, 1))
+            self.assertEqual((replica.up(1), replica.up(2)), ((), (1,)))
+            seen = (replica.status(2), replica.coordinator(2), replica.halter(2), replica.wants(2), replica.call(2))
+            self.assertEqual(seen, (Status.REORGANIZATION, 2, 2, Want.MOVE, None))
+            replica.learn(ELECTION_OF_TWO[13:14])
+            self.assertEqual((replica.wants(2), replica.next(2), replica.token), (Want.PLAN, 'plan,2,1 1 2', None))
+            replica.learn(ELECTION_OF_TWO[14:15])
+            self.assertEqual((replica.token, replica.planner, replica.last_table), (15, 2, (1, 1, 2)))
+            self.assertEqual((replica.task(1), replica.task(2)), (None, (1, 1, 2)))
+            self.assertEqual((replica.generation(1), replica.generation(2)), (1, 0))
+
+    def test_orphan(self) -> None:
+        """A node that is halted while its call is under way has an orphan. A dropped one is a row like any other."""
+        with Replica('bully,1,2,3') as replica:
+            replica.learn(log_of('recover,1', 'recover,2', 'move,2', 'start,1', 'start,2', 'run,2'))
+            self.assertEqual(replica.call(1), Call(CallKind.ARE_YOU_UP, 2, True))
+            self.assertEqual(replica.drop(1), 'drop,1')
+            self.assertEqual(replica.learn(['drop,1']), 1)
+            self.assertIsNone(replica.call(1))
+
+    def test_claims(self) -> None:
+        """Claims are rows and no events, and a token counts events."""
+        claimed = ['saw,1,reorganization,1', 'plan,1,1 1', 'move,1']
+        with Replica('bully,1,1,2') as replica:
+            replica.learn(['recover,1', 'saw,1,election,-', 'move,1', 'move,1', 'move,1', *claimed])
+            self.assertEqual((replica.rows, replica.events, replica.token), (8, 6, 5))
+
+    def test_kept(self) -> None:
+        """A node that is Down has its task if tasks are kept. The last plan stays as it is, whoever crashes."""
+        for keeps, task in ((True, (1, 1)), (False, None)):
+            with self.subTest(keeps=keeps), Replica(Setup(1, 2, weights=(2,), keeps=keeps).header()) as replica:
+                replica.learn(log_of('recover,1', 'move,1', 'move,1', 'move,1', 'plan,1,1 1', 'move,1', 'crash,1'))
+                self.assertEqual((replica.status(1), replica.task(1), replica.generation(1)), (Status.DOWN, task, 1))
+                self.assertEqual((replica.token, replica.planner, replica.last_table), (5, 1, (1, 1)))
+
+    def test_rows_of_version_3(self) -> None:
+        """Rows that say more are learned, whether what is offered says more or not."""
+        with Replica('bully,3,2,2,1 1,clear') as replica:
+            replica.learn(['recover,1', 'saw,1,election,-,-,-,-'])
+            row = replica.next(1)
+            self.assertIn(row, ('start,1', 'start,1,are-you-up,2'))
+            self.assertEqual(replica.learn(['start,1,are-you-up,2']), 1)
+
+    def test_offers(self) -> None:
+        """Rows to append change nothing."""
+        with Replica('bully,1,2,3') as replica:
+            replica.learn(ELECTION_OF_TWO)
+            before = shown(replica)
+            self.assertEqual((replica.crash(1), replica.check(2), replica.timeout(1)), ('crash,1', 'check,2', 'timeout,1'))
+            self.assertEqual((replica.next(1), replica.next(2)), (None, None))
+            self.assertEqual(shown(replica), before)
+            replica.learn(['crash,1'])
+            self.assertEqual(replica.recover(1), 'recover,1')
+
+    def test_ways_to_tell_rows(self) -> None:
+        ways: List[Iterable[Union[str, bytes]]] = [
+            ELECTION_OF_TWO,
+            tuple(row.encode() for row in ELECTION_OF_TWO),
+            (row + '\n' for row in ELECTION_OF_TWO),
+            [b'recover,1\n', 'recover,2\n', b'start,1', *ELECTION_OF_TWO[3:]],
+        ]
+        for place, rows in enumerate(ways):
+            with self.subTest(place=place), Replica(b'bully,1,2,3') as replica:
+                self.assertEqual((replica.learn(rows), replica.learn([]), replica.token), (19, 0, 15))
+
+    def test_ways_to_tell_headers(self) -> None:
+        headers: List[Union[str, bytes]] = ['bully,1,2,3', 'bully,1,2,3\n', b'bully,1,2,3', b'bully,1,2,3\n']
+        for header in headers:
+            with self.subTest(header=header), Replica(header) as replica:
+                self.assertEqual((replica.nodes, replica.partitions, replica.keeps), (2, 3, False))
+
+    def test_largest(self) -> None:
+        """Room grows by what the library says that it wants."""
+        with Replica(LARGEST.header()) as replica:
+            replica.learn([replica.recover(1024)])
+            while replica.token is None:
+                replica.learn([replica.next(1024) or ''])
+            self.assertEqual(replica.rows, 1 + 1 + 3 * 1023 + 1 + 1 + 1)
+            self.assertEqual((replica.token, replica.last_table), (replica.rows, (1024,) * 4096))
+            replica.learn(log_of('recover,1023', 'move,1024', 'call,1023', 'check,1024'))
+            while replica.wants(1024) is not Want.PLAN:
+                replica.learn([replica.next(1023) or replica.next(1024) or ''])
+            self.assertEqual(replica.up(1024), (1023,))
+            self.assertEqual(replica.next(1024), f'plan,1024,{" ".join(["1024"] * 2048 + ["1023"] * 2048)}')
+            self.assertEqual(replica.task(1024), (1024,) * 4096)
+
+    def test_full(self) -> None:
+        """A log has room for 1,000,000 events."""
+        with Replica('bully,1,2,1') as replica:
+            replica.learn(['recover,1', 'crash,1'] * 499_999 + ['recover,2', 'move,2'])
+            self.assertEqual((replica.events, replica.next(1)), (1_000_000, None))
+            for offer in (replica.next, replica.crash, replica.recover, replica.check, replica.timeout, replica.drop):
+                with self.subTest(offer=offer.__name__), self.assertRaises(bully.Full):
+                    offer(2)
+
+    def test_too_many_rows(self) -> None:
+        """A log has 1,000,000 rows at most, claims too."""
+        with Replica('bully,1,1,1') as replica:
+            replica.learn(['recover,1'] + ['saw,1,election,-'] * 999_999)
+            self.assertEqual((replica.rows, replica.events), (1_000_000, 1))
+            with self.assertRaises(NotLearned) as caught:
+                replica.learn(['anything', 'else'])
+            refused = caught.exception
+            self.assertEqual((refused.cause, refused.taken, refused.row), (bully.TooManyRows, 0, 1_000_002))
+
+    def test_no_room(self) -> None:
+        """No row is offered that the log has no room for, also if its rows aren't all events."""
+        with Replica('bully,1,1,1') as replica:
+            replica.learn(['recover,1'] + ['saw,1,election,-'] * 999_999)
+            with self.assertRaises(bully.Full):
+                replica.next(1)
+
+
+def judged(header: Union[str, bytes], rows: Iterable[Union[str, bytes]]) -> str:
+    """What becomes of rows that are learned one by one, in the words of a verdict."""
+    with Replica(header) as replica:
+        for row in rows:
+            try:
+                replica.learn([row])
+            except NotLearned as refused:
+                differs = refused.cause is bully.RowDiffers
+                return f'differs {refused.row}' if differs else f'refused {refused.row} {refused.cause.__name__}'
+        return f'lawful {replica.events}'
+
+
+class Learning(unittest.TestCase):
+    """A row is learned if `check` takes it, and else it is told why not."""
+
+    def expect(self, replica: Replica, rows: Sequence[Union[str, bytes]], taken: int, cause: Type[bully.BullyError]) -> None:
+        """So many of the rows are learned, and the next one isn't, for this cause, however often it is told."""
+        before = replica.rows
+        with self.assertRaises(NotLearned) as caught:
+            replica.learn(rows)
+        refused = caught.exception
+        self.assertEqual((refused.taken, refused.cause, refused.status), (taken, cause, cause.status))
+        self.assertEqual((refused.row, replica.rows), (before + taken + 2, before + taken))
+        self.assertIs(type(refused.__cause__), cause)
+        self.assertIn(f'row {refused.row}: ', str(refused))
+        seen = shown(replica)
+        for again in (rows[taken:], rows[taken : taken + 1]):
+            with self.assertRaises(NotLearned) as caught:
+                replica.learn(again)
+            self.assertEqual((caught.exception.taken, caught.exception.cause), (0, cause))
+        self.assertEqual(shown(replica), seen)
+
+    def test_goes_on(self) -> None:
+        """What comes before a refused row is learned, and nothing behind it; then others are learned in its place."""
+        with Replica('bully,1,2,3') as replica:
+            rows = ['recover,1', 'start,1', 'run,1', 'recover,2', 'run,1']
+            self.expect(replica, rows, 2, bully.CalleeDown)
+            self.assertIs(replica.status(2), Status.DOWN)
+            self.assertEqual(replica.learn(['recover,2', 'run,1']), 2)
+            self.expect(replica, ['run,1'], 0, bully.NoCall)
+            self.assertEqual((replica.learn(['return,1']), replica.rows), (1, 5))
+
+    def test_causes(self) -> None:
+        plans = log_of('recover,2', 'move,2', 'fail,2', 'move,2', 'move,2')
+        wanted: List[Tuple[Type[bully.BullyError], List[str], str]] = [
+            (bully.BadNode, [], 'recover,3'),
+            (bully.IsDown, [], 'crash,1'),
+            (bully.IsUp, ['recover,1'], 'recover,1'),
+            (bully.Busy, ['recover,1'], 'check,1'),
+            (bully.NoStep, ['recover,1'], 'move,1'),
+            (bully.SlotBusy, ['recover,1', 'start,1'], 'start,1'),
+            (bully.NoCall, ['recover,1'], 'return,1'),
+            (bully.CalleeDown, ['recover,1', 'start,1'], 'run,1'),
+            (bully.CalleeUp, ['recover,1', 'recover,2', 'start,1'], 'lose,1'),
+            (bully.BadTable, plans, 'plan,2,1 2 2'),
+            (bully.NotOrphan, ['recover,1', 'start,1'], 'drop,1'),
+            (bully.RowDiffers, ['recover,1'], 'saw,1,down,-'),
+            (bully.BadRow, ['recover,1'], 'halt,1'),
+        ]
+        for cause, before, row in wanted:
+            with self.subTest(cause=cause.__name__), Replica('bully,1,2,3') as replica:
+                self.expect(replica, [*before, row, 'recover,1'], len(before), cause)
+                self.assertEqual(issubclass(cause, Refused), cause not in (bully.RowDiffers, bully.BadRow))
+
+    def test_bad_rows(self) -> None:
+        """What is no row, also where it is the first of those that are told."""
+        wrong: List[Union[str, bytes]] = [
+            ' ', 'saw', 'recover', 'recover,', 'recover,1,', ' recover,1', 'recover,1 ', 'Recover,1', 'recover;1', 'recover,+1',
+            'bully,1,2,3', 'plan,1,1 1', 'plan,1,1 1 3', 'start,1,are-you-up,2', '\u00e9', '\ud800', b'\xff', b'recover,1\x00',
+            '"recover,1', '"', '""', 'recover,1"', '\ufeffrecover,1', b'\xef\xbb\xbfrecover,1', 'recover,1\x0b', 'recover\u20281',
+        ]  # fmt: skip
+        for row in wrong:
+            with self.subTest(row=row), Replica('bully,1,2,3') as replica:
+                self.expect(replica, [row, 'recover,1'], 0, bully.BadRow)
+                self.expect(replica, ['recover,2', row, 'recover,1'], 1, bully.BadRow)
+
+    def test_quotes(self) -> None:
+        """As `csv` reads them."""
+        with Replica('"bully",1,"2",3') as replica:
+            self.assertEqual(replica.learn(['"recover",1', '"re"cover,"2"']), 2)
+
+    def test_no_rows(self) -> None:
+        """What isn't exactly one row is refused before anything is learned."""
+        with Replica('bully,1,2,3') as replica:
+            wrong_rows: List[Union[str, bytes]] = [
+                '', '\n', 'recover,2\n\n', 'recover,2\r\n', 'recover,2\r', '\nrecover,2', 'recover,2\nstart,2', b'a\rb', b'',
+            ]  # fmt: skip
+            for row in wrong_rows:
+                for rows in ([row], ['recover,1', row], [row, 'recover,1']):
+                    with self.subTest(rows=rows), self.assertRaisesRegex(ValueError, 'is not one row$'):
+                        replica.learn(rows)
+            for wrong in ('recover,1', b'recover,1', None, 7, ['recover,1', None], ['recover,1', 7], [['recover,1']]):
+                with self.subTest(wrong=wrong), self.assertRaises(TypeError):
+                    replica.learn(wrong)  # type: ignore[arg-type]
+            self.assertEqual(replica.rows, 0)
+
+    def test_examples(self) -> None:
+        for path in EXAMPLES:
+            wanted = path.with_suffix('.out').read_text().splitlines()
+            header, *rows = path.read_text().splitlines()
+            with self.subTest(path=path.name), Replica(header) as replica:
+                self.assertEqual(judged(header, rows), wanted[0])
+                self.assertEqual(judged(header, rows), str(check(path.read_bytes())))
+                if wanted[0].startswith('lawful'):
+                    self.assertEqual(replica.learn(rows), len(rows))
+                    nodes = range(1, replica.nodes + 1)
+                    self.assertEqual([end_of(replica.state(node), replica.task(node)) for node in nodes], wanted[1:])
+
+    def test_tables_of_formats(self) -> None:
+        for trace, verdict in VERDICTS:
+            with self.subTest(trace=trace):
+                header, *rows = trace.splitlines()
+                self.assertEqual(judged(header, rows), verdict)
+        for trace, number in BAD_ROWS:
+            header, *rows = trace.split('\n')
+            wanted = 'refused 2 IsDown' if 'crash' in trace else f'refused {number} BadRow'
+            with self.subTest(trace=trace):
+                self.assertEqual(judged(header, [row.encode('latin-1') for row in rows]), wanted)
+
+    def test_spoiled(self) -> None:
+        """A lawful log with another byte somewhere is learned as far as `check` takes it."""
+        log = (ROOT / 'examples' / 'told.csv').read_bytes().splitlines()
+        for seed in range(500):
+            choice = random.Random(seed)
+            place = choice.randrange(1, len(log))
+            byte = choice.randrange(len(log[place]))
+            other = choice.choice(b'0123456789,- "abcdefghijklmnopqrstuvwxyz\x00\xff')
+            spoiled = [*log]
+            spoiled[place] = log[place][:byte] + bytes([other]) + log[place][byte + 1 :]
+            with self.subTest(seed=seed):
+                self.agree(spoiled)
+
+    def agree(self, log: List[bytes]) -> None:
+        """A replica takes the log as `check` does, whose faults of form come before any verdict."""
+        seen = judged(log[0], log[1:])
+        try:
+            self.assertEqual(str(check(b'\n'.join([*log, b'']))), seen)
+        except bully.TraceFault as fault:
+            number, name = int(seen.split()[1]), type(fault).__name__
+            self.assertTrue(seen == f'refused {fault.row} {name}' or number < fault.row and not seen.startswith('lawful'), seen)
+
+
+class ReplicaFaults(unittest.TestCase):
+    """Each exception of a replica's other calls, which change nothing then."""
+
+    def expect(self, replica: Replica, fault: type, *calls: Callable[[], object]) -> None:
+        for place, call in enumerate(calls):
+            before = None if replica.is_closed else shown(replica)
+            with self.subTest(fault=fault.__name__, place=place), self.assertRaises(fault):
+                call()
+            self.assertEqual(None if replica.is_closed else shown(replica), before)
+
+    def of_node(self, replica: Replica) -> List[Callable[[Any], object]]:
+        """All calls that take a node."""
+        offers = [replica.next, replica.crash, replica.recover, replica.check, replica.timeout, replica.drop]
+        parts = [replica.status, replica.coordinator, replica.halter, replica.wants, replica.call, replica.generation]
+        return [*offers, *parts, replica.state, replica.up, replica.task]
+
+    def test_open(self) -> None:
+        for header in [*BAD_HEADERS, 'bully,1,2,3\nrecover,1', 'bully,1,2,3\nrecover,1\n', 'recover,1', '\u00e9', '"bully,1,2,3']:
+            with self.subTest(header=header), self.assertRaises(bully.BadHeader) as caught:
+                Replica(header)
+            self.assertEqual((caught.exception.row, caught.exception.status), (1, 50))
+        for wrong in (None, 7, TWO, ['bully,1,2,3']):
+            with self.subTest(wrong=wrong), self.assertRaises(TypeError):
+                Replica(wrong)  # type: ignore[arg-type]
+
+    def test_garbage(self) -> None:
+        """Bytes at random are no header, and no rows."""
+        choice = random.Random(1)
+        with Replica('bully,1,2,3') as replica:
+            for _ in range(1000):
+                garbage = bytes(choice.randrange(256) for _ in range(choice.randrange(40)))
+                with self.assertRaises(bully.BadHeader):
+                    Replica(garbage)
+                with self.assertRaises((NotLearned, ValueError)):
+                    replica.learn([garbage])
+            self.assertEqual(replica.rows, 0)
+
+    def test_nodes(self) -> None:
+        with Replica('bully,1,2,3') as replica:
+            replica.learn(ELECTION_OF_TWO)
+            for call in self.of_node(replica):
+                self.expect(replica, bully.BadNode, *[lambda node=node: call(node) for node in (0, 3, 1024, 65_535)])
+                self.expect(replica, ValueError, *[lambda node=node: call(node) for node in (-1, 65_537, 2**32 + 1, 10**30)])
+                self.expect(replica, TypeError, *[lambda node=node: call(node) for node in ('1', 1.0, None, [1])])
+
+    def test_events(self) -> None:
+        with Replica('bully,1,2,3') as replica:
+            own = (replica.crash, replica.check, replica.timeout, replica.drop)
+            self.expect(replica, bully.IsDown, *[lambda offer=offer: offer(1) for offer in own])
+            replica.learn(['recover,1', 'start,1'])
+            self.expect(replica, bully.IsUp, lambda: replica.recover(1))
+            self.expect(replica, bully.Busy, lambda: replica.check(1), lambda: replica.timeout(1))
+            self.expect(replica, bully.NotOrphan, lambda: replica.drop(1))
+            replica.learn(['recover,2'])
+            self.expect(replica, bully.NoCall, lambda: replica.drop(2))
+
+    def test_wrong_kinds(self) -> None:
+        with Replica('bully,1,2,3') as replica:
+            self.expect(replica, TypeError, lambda: copy.copy(replica), lambda: copy.deepcopy(replica))
+            self.expect(replica, TypeError, lambda: pickle.dumps(replica))
+
+    def test_closed(self) -> None:
+        replica = Replica('bully,1,2,3')
+        replica.close()
+        for call in self.of_node(replica):
+            self.expect(replica, bully.Closed, lambda: call(1))
+        self.expect(replica, bully.Closed, replica.close, lambda: replica.learn(['recover,1']), lambda: replica.learn([]))
+        for name in ('rows', 'events', 'token', 'planner', 'last_table', 'nodes', 'partitions', 'keeps'):
+            self.expect(replica, bully.Closed, lambda: getattr(replica, name))
+        with self.assertRaises(bully.Closed):
+            with replica:
+                replica.recover(1)
+
+    def test_exception(self) -> None:
+        """It goes from process to process as it is."""
+        with Replica('bully,1,2,3') as replica, self.assertRaises(NotLearned) as caught:
+            replica.learn(['recover,1', 'recover,1'])
+        refused = pickle.loads(pickle.dumps(caught.exception))
+        self.assertEqual((refused.taken, refused.row, refused.cause, refused.status), (1, 3, bully.IsUp, 4))
+        self.assertEqual(str(refused), "row 3: The node recovers and isn't Down")
+
+
+class Walk:
+    """Members that append at random what their replicas offer, and a replica that watches the log."""
+
+    def __init__(self, seed: int) -> None:
+        self.choice = random.Random(seed)
+        nodes = self.choice.randint(1, 6)
+        weights = tuple(self.choice.randint(1, 3) for _ in range(nodes)) if seed % 2 else ()
+        self.header = Setup(nodes, self.choice.randint(1, 9), weights=weights, keeps=seed % 4 == 3).header()
+        if seed % 3 == 0:
+            self.header = self.header.replace('bully,2', 'bully,3')
+        self.log: List[str] = []
+        self.members = [Member(self.header, self.log, node + 1) for node in range(nodes)]
+        self.crashes = self.choice.choice([20, 100, 500])
+        self.watcher = Replica(self.header)
+        self.tokens = [0]
+        self.normal = 0
+
+    def step(self) -> None:
+        """One member does something; at times it hasn't read all, and then nothing comes of it."""
+        member = self.choice.choice(self.members)
+        if self.choice.randrange(10):
+            member.read()
+        try:
+            row = self.row(member.replica, member.node)
+        except Refused:
+            return
+        if row is not None and member.append(row):
+            self.watch()
+
+    def row(self, replica: Replica, node: int) -> Optional[str]:
+        """The row that the member of this node would append."""
+        if self.choice.randrange(self.crashes) == 0:
+            return replica.crash(self.choice.randint(1, replica.nodes))
+        if replica.status(node) is Status.DOWN:
+            return replica.recover(node) if self.choice.randrange(3) == 0 else None
+        offers = {0: replica.check, 1: replica.timeout, 2: replica.drop}
+        return offers.get(self.choice.randrange(12), replica.next)(node)
+
+    def watch(self) -> None:
+        """The row that is new is learned. Then each node that is Normal goes by the last plan, and no token falls."""
+        self.watcher.learn(self.log[-1:])
+        plan, token = (self.watcher.planner, self.watcher.last_table), self.watcher.token or 0
+        assert token >= self.tokens[-1]
+        self.tokens.append(token)
+        for node in range(1, self.watcher.nodes + 1):
+            if self.watcher.status(node) is Status.NORMAL:
+                assert (self.watcher.coordinator(node), self.watcher.task(node)) == plan
+                self.normal += 1
+
+    def last_plan(self) -> Tuple[Optional[int], Optional[int], Optional[Tuple[int, ...]]]:
+        """The token, the planner and the table of the last plan, as the rows have them."""
+        plans = [(place, row.split(',')) for place, row in enumerate(self.log) if row.startswith('plan')]
+        if not plans:
+            return None, None, None
+        place, (_, planner, owners) = plans[-1]
+        return place + 1, int(planner), tuple(map(int, owners.split()))
+
+    def learned_in_parts(self) -> Replica:
+        """One more replica, which learned the rows in parts of any size."""
+        replica, place = Replica(self.header), 0
+        while place < len(self.log):
+            part = self.log[place : place + self.choice.randint(1, 30)]
+            place += replica.learn(part)
+        return replica
+
+
+class Walks(unittest.TestCase):
+    """Whatever replicas append is lawful, and shows what `include/bully.h` says of the last plan."""
+
+    def test_walks(self) -> None:
+        plans = normal = drops = 0
+        for seed in range(300):
+            walk = Walk(seed)
+            with self.subTest(seed=seed):
+                for _ in range(300):
+                    walk.step()
+                self.expect(walk)
+            plans += len(set(walk.tokens) - {0})
+            normal += walk.normal
+            drops += sum(row.startswith('drop') for row in walk.log)
+        self.assertGreater(min(plans, normal, drops), 20)
+
+    def expect(self, walk: Walk) -> None:
+        self.assertEqual(str(check(text_of(walk.header, walk.log))), f'lawful {len(walk.log)}')
+        watcher = walk.watcher
+        self.assertEqual((watcher.token, watcher.planner, watcher.last_table), walk.last_plan())
+        self.assertEqual(shown(walk.learned_in_parts()), shown(watcher))
+        for member in walk.members:
+            self.assertEqual(shown(member.read()), shown(watcher))
+
+
+class SharedLogs(unittest.TestCase):
+    """Groups that live by the rules of `docs/NODE.md`."""
+
+    def test_groups_come_to_rest(self) -> None:
+        over = refused = 0
+        for seed in range(300):
+            group = shared_log.Group(2 + seed % 5, seed)
+            with self.subTest(seed=seed):
+                group.live(300)
+                self.assertIsNotNone(group.rest(1000))
+                self.expect(group)
+            over += group.over
+            refused += group.store.refused
+        self.assertGreater(min(over, refused), 300)
+
+    def test_a_leader_left_in_reorganization(self) -> None:
+        """Node 2 lost node 1 in its reorganization and node 3 behind its back: nothing is left to do, and it isn't Normal."""
+        store = shared_log.Store(Setup(3, 12).header())
+        store.append(0, (
+            'recover,1 recover,2 start,2 lose,2 return,2 move,2 start,2 run,2 return,2 move,2 start,2 crash,1 lose,2 return,2 start,2 '
+            'recover,3 run,2 return,2 crash,3').split())
+        life = shared_log.Life(store, 2, {1, 3})
+        life.has_begun = True
+        life.read()
+        self.assertEqual((life.replica.status(2), life.replica.coordinator(2)), (Status.REORGANIZATION, 2))
+        self.assertEqual(life.wish(), ['crash,2', 'recover,2'])
+
+    def expect(self, group: shared_log.Group) -> None:
+        """All that live are Normal under the highest, own all that there is, and no old life is left."""
+        self.assertTrue(group.store.is_lawful())
+        self.assertEqual(group.old, [])
+        highest = max(group.lives)
+        for node, life in group.lives.items():
+            state = life.replica.state(node)
+            self.assertEqual((state.status, state.coordinator), (Status.NORMAL, highest))
+            self.assertLessEqual(set(life.replica.task(node) or ()), set(group.lives))
 
 
 class Memory(unittest.TestCase):
@@ -679,6 +1397,33 @@ class Memory(unittest.TestCase):
 
         self.is_steady(calls, 300)
 
+    def test_replicas(self) -> None:
+        """Replicas that are closed, and replicas that are let go."""
+
+        def calls(count: int) -> None:
+            header = LARGEST.header()
+            for _ in range(count):
+                Replica(header).close()
+                Replica(header).learn(['recover,1024', 'move,1024'])
+
+        self.is_steady(calls, 300)
+
+    def test_learning(self) -> None:
+        """What a replica learns, refuses and offers."""
+
+        def calls(count: int) -> None:
+            with Replica('bully,1,2,3') as replica:
+                for _ in range(count // 10):
+                    replica.learn(['recover,2', 'move,2', 'crash,2'])
+                for _ in range(count):
+                    replica.recover(2)
+                    replica.next(2)
+                    with self.assertRaises(NotLearned):
+                        replica.learn(['crash,2'])
+                    TWO.header()
+
+        self.is_steady(calls, 50_000)
+
     def test_tables_and_traces(self) -> None:
         def calls(count: int) -> None:
             for _ in range(count):
@@ -717,6 +1462,20 @@ class Loading(unittest.TestCase):
                 ran = self.run_with(library, 'import bully; bully.status_name(0)')
                 self.assertEqual(ran.returncode, 1)
                 self.assertIn('OSError', ran.stderr)
+
+
+class Pages(unittest.TestCase):
+    """What `docs/NODE.md` shows in Python."""
+
+    def test_node_page(self) -> None:
+        """The group of two nodes whose log is a list, whose last lines assert what it comes to."""
+        page = (ROOT / 'docs' / 'NODE.md').read_text(encoding='utf-8')
+        lines = page[page.index('    from bully import Replica, Setup\n') :].splitlines()
+        shown = list(itertools.takewhile(lambda line: not line or line.startswith('    '), lines))
+        self.assertIn('assert ', shown[-2] + shown[-1])
+        known: Dict[str, Any] = {}
+        exec(compile(textwrap.dedent('\n'.join(shown)), 'NODE.md', 'exec'), known)
+        self.assertEqual(len(known['log']), known['replica'].rows)
 
 
 class CountingResult(unittest.TextTestResult):

@@ -1,20 +1,25 @@
-/* Tries each function of bully.h: calls FOLDER, where the folder has the examples. The last line is 'N passed, M failed'. */
+/* Tries each function of bully.h: calls FOLDER VERSION. The folder has the examples, and the version is the one that the program
+ * tells as its own. The last line is 'N passed, M failed'. */
 #include "testing.h"
 
 #include <stdio.h>
 
 int main(int count, char **words) {
-    if (count != 2) {
-        fprintf(stderr, "usage: calls EXAMPLES_FOLDER\n");
+    if (count != 3) {
+        fprintf(stderr, "usage: calls EXAMPLES_FOLDER VERSION\n");
         return 2;
     }
-    try_names();
+    try_names(words[2]);
     try_arguments();
+    try_headers();
     try_traces(words[1]);
     try_tables();
     try_agents();
     try_lines();
     try_examples(words[1]);
     try_elections();
+    try_replicas();
+    try_replica_arguments();
+    try_learning(words[1]);
     return tell_counts();
 }

@@ -1,5 +1,5 @@
-// Two nodes in C++, with handles that close themselves, and lines as strings. Each function of bully.h is called. The last line is
-// 'N passed, M failed'.
+// Two nodes in C++, with handles that close themselves, and lines and rows as strings. Each function of bully.h is called. The last
+// line is 'N passed, M failed'.
 #include "bully.h"
 
 #include <cstddef>
@@ -26,6 +26,26 @@ void expect(bool held, int line) {
 using Owners = std::vector<std::uint16_t>;
 
 const bully_setup group = {2, 3, 1000, 1};
+
+// Text of a length that is asked for first.
+template <typename Call> std::string text_of(Call call) {
+    std::size_t length = 0;
+    bully_status status = call(nullptr, std::size_t(0), &length);
+    EXPECT(status == (length == 0 ? BULLY_OK : BULLY_SHORT));
+    std::string text(length, ' ');
+    EXPECT(call(length == 0 ? nullptr : &text[0], length, &length) == BULLY_OK);
+    return text;
+}
+
+// The same of nodes.
+template <typename Call> Owners list_of(Call call) {
+    std::size_t count = 0;
+    bully_status status = call(nullptr, std::size_t(0), &count);
+    EXPECT(status == (count == 0 ? BULLY_OK : BULLY_SHORT));
+    Owners items(count);
+    EXPECT(call(items.data(), count, &count) == BULLY_OK);
+    return items;
+}
 
 // A handle that is closed where it ends.
 class Agent {
@@ -54,23 +74,12 @@ public:
     using Told = bully_status (*)(bully_agent *agent, char *text, std::size_t room, std::size_t *length);
     using Listed = bully_status (*)(bully_agent *agent, std::uint16_t *items, std::size_t room, std::size_t *count);
 
-    // Text of a length that is asked for first.
     std::string told(Told call) {
-        std::size_t length = 0;
-        bully_status status = call(&handle, nullptr, 0, &length);
-        EXPECT(status == (length == 0 ? BULLY_OK : BULLY_SHORT));
-        std::string text(length, ' ');
-        EXPECT(call(&handle, length == 0 ? nullptr : &text[0], length, &length) == BULLY_OK);
-        return text;
+        return text_of([&](char *text, std::size_t room, std::size_t *length) { return call(&handle, text, room, length); });
     }
 
     Owners listed(Listed call) {
-        std::size_t count = 0;
-        bully_status status = call(&handle, nullptr, 0, &count);
-        EXPECT(status == (count == 0 ? BULLY_OK : BULLY_SHORT));
-        Owners items(count);
-        EXPECT(call(&handle, items.data(), count, &count) == BULLY_OK);
-        return items;
+        return list_of([&](std::uint16_t *items, std::size_t room, std::size_t *count) { return call(&handle, items, room, count); });
     }
 
 private:
@@ -132,12 +141,17 @@ void go_on(Agent &first, Agent &second) {
     EXPECT(bully_agent_serve(*second, "ask,1,0,2,are-you-up", 20, reply, sizeof reply, &length) == BULLY_CALLEE_DOWN);
 }
 
-void judge() {
-    std::string trace = "bully,3,2,3,1 1,keep\n" + logged;
+// The trace is lawful, and these are its events.
+void judge(const std::string &trace, std::uint32_t events) {
     bully_verdict verdict = {9, 9, 9};
     EXPECT(bully_check(reinterpret_cast<const std::uint8_t *>(trace.data()), trace.size(), &verdict) == BULLY_OK);
-    EXPECT(verdict.kind == BULLY_LAWFUL && verdict.cause == BULLY_OK);
+    EXPECT(verdict.kind == BULLY_LAWFUL && verdict.number == events && verdict.cause == BULLY_OK);
+}
+
+void tell() {
     EXPECT(std::string(bully_status_name(BULLY_CALLEE_DOWN)) == "CALLEE_DOWN");
+    EXPECT(std::string(bully_status_name(BULLY_ROW_END)) == "ROW_END");
+    EXPECT(!std::string(bully_version()).empty());
 }
 
 void plan() {
@@ -148,6 +162,115 @@ void plan() {
     EXPECT((owners == Owners{2, 2, 1} && moves == 1));
 }
 
+// A replica that is closed when it ends.
+class Replica {
+public:
+    explicit Replica(const std::string &header) {
+        EXPECT(bully_replica_open(&handle, header.data(), header.size()) == BULLY_OK);
+    }
+
+    Replica(const Replica &) = delete;
+    Replica &operator=(const Replica &) = delete;
+
+    ~Replica() {
+        EXPECT(bully_replica_close(&handle) == BULLY_OK);
+    }
+
+    bully_replica *operator*() {
+        return &handle;
+    }
+
+    std::string next(std::uint16_t node) {
+        return text_of([&](char *row, std::size_t room, std::size_t *length) {
+            return bully_replica_next(&handle, node, row, room, length);
+        });
+    }
+
+    std::string event(std::uint16_t node, std::uint32_t event) {
+        return text_of([&](char *row, std::size_t room, std::size_t *length) {
+            return bully_replica_event(&handle, node, event, row, room, length);
+        });
+    }
+
+    bully_state show(std::uint16_t node) {
+        bully_state state = {};
+        EXPECT(bully_replica_show(&handle, node, &state) == BULLY_OK);
+        return state;
+    }
+
+    bully_group show_group() {
+        bully_group shown = {};
+        EXPECT(bully_replica_group(&handle, &shown) == BULLY_OK);
+        return shown;
+    }
+
+    using Listed = bully_status (*)(bully_replica *replica, std::uint16_t node, std::uint16_t *items, std::size_t room,
+                                    std::size_t *count);
+
+    Owners listed(std::uint16_t node, Listed call) {
+        return list_of([&](std::uint16_t *items, std::size_t room, std::size_t *count) {
+            return call(&handle, node, items, room, count);
+        });
+    }
+
+    Owners planned() {
+        return list_of([&](std::uint16_t *items, std::size_t room, std::size_t *count) {
+            return bully_replica_planned(&handle, items, room, count);
+        });
+    }
+
+private:
+    bully_replica handle = BULLY_REPLICA_CLOSED;
+};
+
+// A log that two processes share, each with a replica.
+struct Log {
+    std::string text;
+    Replica first, second;
+
+    explicit Log(const std::string &header) : text(header), first(header), second(header) {}
+
+    void append(const std::string &row) {
+        std::size_t taken = 0;
+        text += row;
+        EXPECT(bully_replica_learn(*first, row.data(), row.size(), &taken) == BULLY_OK && taken == 1);
+        EXPECT(bully_replica_learn(*second, row.data(), row.size(), &taken) == BULLY_OK && taken == 1);
+    }
+
+    // Each node appends what it wants, until both rest.
+    void settle() {
+        for (;;) {
+            std::string row = second.next(2);
+            if (row.empty()) {
+                row = first.next(1);
+            }
+            if (row.empty()) {
+                return;
+            }
+            append(row);
+        }
+    }
+};
+
+// Both nodes come up, and node 2 leads node 1: 16 events, of which the plan is the twelfth. Then node 2 crashes, and keeps its task.
+void share() {
+    std::size_t length = 77;
+    Log log(text_of([](char *row, std::size_t room, std::size_t *told) { return bully_header(&group, nullptr, 0, row, room, told); }));
+    EXPECT(log.text == "bully,2,2,3,1 1,keep\n");
+    log.append(log.first.event(1, BULLY_EVENT_RECOVER));
+    log.append(log.second.event(2, BULLY_EVENT_RECOVER));
+    log.settle();
+    judge(log.text, 16);
+    EXPECT(log.first.show(1).status == BULLY_NORMAL && log.second.show(2).status == BULLY_NORMAL && log.first.show(2).events == 16);
+    EXPECT(log.first.show_group().token == 12 && log.second.show_group().planner == 2);
+    EXPECT((log.first.planned() == Owners{1, 1, 2} && log.first.listed(1, bully_replica_task) == Owners{1, 1, 2}));
+    EXPECT(log.first.listed(2, bully_replica_up) == Owners{1});
+    log.append(log.first.event(2, BULLY_EVENT_CRASH));
+    EXPECT((log.second.listed(2, bully_replica_task) == Owners{1, 1, 2} && log.second.listed(2, bully_replica_up).empty()));
+    EXPECT(bully_replica_event(*log.second, 2, BULLY_EVENT_CRASH, nullptr, 0, &length) == BULLY_IS_DOWN && length == 77);
+    judge(log.text, 17);
+}
+
 } // namespace
 
 int main() {
@@ -155,11 +278,13 @@ int main() {
         Agent first(1), second(2);
         elect(first, second);
         go_on(first, second);
-        judge();
+        judge("bully,3,2,3,1 1,keep\n" + logged, first.show().events + second.show().events);
     }
     Agent kept(1, Owners{1, 1, 2});
     EXPECT(kept.told(bully_agent_claim) == "saw,1,down,-,-,-,1 1 2\n");
     plan();
+    share();
+    tell();
     std::printf("%d passed, %d failed\n", passed, failed);
     return failed == 0 ? 0 : 1;
 }

@@ -216,10 +216,8 @@ static void follow_example(const char *folder, const char *name) {
 }
 
 void try_examples(const char *folder) {
-    static const char *const names[] = {"all_up", "alone", "announced_too_late", "dropped", "kept", "late_failure",
-                                        "orphan_halt", "orphan_ready", "others_down", "reply_lost", "told", "weighted"};
     size_t at;
-    for (at = 0; at < COUNT(names); at++) {
-        follow_example(folder, names[at]);
+    for (at = 0; at < EXAMPLES; at++) {
+        follow_example(folder, example_names[at]);
     }
 }

@@ -73,6 +73,41 @@ void log_step(struct group *group, uint16_t node, uint32_t events) {
     add(group, text, length);
 }
 
+/* Whether a replica shows the node as its agent does, but for what it counts of the log, and for the number of a call. */
+static int is_shown_alike(struct group *group, bully_replica *replica, uint16_t node) {
+    bully_state state, shown;
+    uint16_t items[MOST_NODES], shown_items[MOST_NODES];
+    size_t count = 0, shown_count = 77;
+    int alike;
+    ANSWERS(OK, bully_agent_show(&group->agents[node], &state));
+    ANSWERS(OK, bully_replica_show(replica, node, &shown));
+    state.events = group->events;
+    state.number = 0;
+    alike = is_same_state(&state, &shown);
+    ANSWERS(OK, bully_agent_up(&group->agents[node], items, MOST_NODES, &count));
+    ANSWERS(OK, bully_replica_up(replica, node, shown_items, MOST_NODES, &shown_count));
+    alike = alike && count == shown_count && memcmp(items, shown_items, count * sizeof *items) == 0;
+    ANSWERS(OK, bully_agent_task(&group->agents[node], items, MOST_NODES, &count));
+    ANSWERS(OK, bully_replica_task(replica, node, shown_items, MOST_NODES, &shown_count));
+    return alike && count == shown_count && memcmp(items, shown_items, count * sizeof *items) == 0;
+}
+
+/* A replica learns the log, and shows each node so. */
+static void learn_log(struct group *group) {
+    bully_replica replica = BULLY_REPLICA_CLOSED;
+    bully_group shown = {77, 77, 77, 77, 77, 77, 77};
+    size_t header_length = strcspn(group->log, "\n") + 1, taken = 77;
+    uint16_t node;
+    ANSWERS(OK, bully_replica_open(&replica, group->log, header_length));
+    ANSWERS(OK, bully_replica_learn(&replica, group->log + header_length, group->log_length - header_length, &taken));
+    ANSWERS(OK, bully_replica_group(&replica, &shown));
+    EXPECT(shown.rows == taken && shown.events == group->events);
+    for (node = 1; node <= group->setup.nodes; node++) {
+        EXPECT(is_shown_alike(group, &replica, node));
+    }
+    ANSWERS(OK, bully_replica_close(&replica));
+}
+
 void judge_log(struct group *group) {
     bully_verdict verdict = {77, 77, 77};
     ANSWERS(OK, bully_check((const uint8_t *)group->log, group->log_length, &verdict));
@@ -80,4 +115,5 @@ void judge_log(struct group *group) {
     if (verdict.kind != BULLY_LAWFUL) {
         printf("row %u of this log:\n%.*s", verdict.number, (int)group->log_length, group->log);
     }
+    learn_log(group);
 }

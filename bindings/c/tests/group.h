@@ -31,7 +31,7 @@ void return_call(struct group *group, uint16_t caller);
 
 /* Logs the last step of the node, which is so many events, with what it claims then. */
 void log_step(struct group *group, uint16_t node, uint32_t events);
-/* The log is lawful, and has so many events. */
+/* The log is lawful, and has so many events; and a replica that learns it shows each node as its agent does. */
 void judge_log(struct group *group);
 
 #endif

@@ -1,7 +1,7 @@
 /* Refuses each call that allocates each of its requests in turn, the first, the second and so on, until one meets no refusal:
  * it answers BULLY_OUT_OF_MEMORY, nothing has changed, and all memory is given back. The program is linked with --wrap for malloc,
  * realloc and free. The last line is 'N passed, M failed'. */
-#include "testing.h"
+#include "shared.h"
 
 #include <stdio.h>
 #include <stdlib.h>
@@ -104,9 +104,73 @@ static bully_status claim(void) {
     return bully_agent_claim(&pair.second, text, sizeof text, &length);
 }
 
+/* ---- The calls of a replica ---- */
+
+#define VERSION_3 "bully,3,2,2,1 1,clear\n"
+
+/* Two nodes, of which node 2 leads; behind the first rows it has announced itself, and behind the second wants to plan. */
+#define ANNOUNCED "recover,1\nrecover,2\nmove,2\nstart,2\nrun,2\nreturn,2\nmove,2\nstart,2\nrun,2\nreturn,2\n"
+#define MOVE "move,2\n"
+#define PLAN "plan,2,1 2\n"
+
+static bully_replica replica, opened_replica;
+
+static bully_status header(void) {
+    static const bully_setup setup = {2, 2, 100, 0};
+    static const uint16_t weights[2] = {1, 3};
+    return bully_header(&setup, weights, 2, text, sizeof text, &length);
+}
+
+static bully_status open_replica(void) {
+    return bully_replica_open(&opened_replica, VERSION_3, strlen(VERSION_3));
+}
+
+static bully_status next(void) {
+    return bully_replica_next(&replica, 2, text, sizeof text, &length);
+}
+
+static bully_status event(void) {
+    return bully_replica_event(&replica, 2, BULLY_EVENT_CRASH, text, sizeof text, &length);
+}
+
+static bully_status learn_move(void) {
+    return bully_replica_learn(&replica, MOVE, strlen(MOVE), &length);
+}
+
+static bully_status learn_plan(void) {
+    return bully_replica_learn(&replica, PLAN, strlen(PLAN), &length);
+}
+
+static bully_status learn_claim(void) {
+    static const char claim[] = "saw,2,reorganization,2,2,1,1 2\n";
+    return bully_replica_learn(&replica, claim, strlen(claim), &length);
+}
+
 /* ---- Refusing ---- */
 
-/* What the calls write: nothing, where they are refused, but for the number of a verdict. */
+/* All that the pair and the replica show, as far as they are open. */
+struct sight {
+    struct look first, second;
+    struct seen seen;
+};
+
+static void look(struct sight *sight) {
+    memset(sight, 0, sizeof *sight);
+    if (pair.first.held != NULL) {
+        sight->first = look_at(&pair.first);
+        sight->second = look_at(&pair.second);
+    }
+    if (replica.held != NULL) {
+        see(&replica, &sight->seen);
+    }
+}
+
+static int is_same_sight(const struct sight *one, const struct sight *other) {
+    return is_same_look(&one->first, &other->first) && is_same_look(&one->second, &other->second) &&
+           is_same_seen(&one->seen, &other->seen);
+}
+
+/* What the calls write: nothing, if they are refused, but for the number of a verdict, and of the rows that were learned. */
 #define SPOILED 0x4d4d4d4d
 
 static void spoil(void) {
@@ -116,22 +180,23 @@ static void spoil(void) {
     length = 77;
 }
 
-static int is_spoiled(void) {
-    size_t at;
+static int is_spoiled(bully_status (*call)(void)) {
+    size_t at, length_left = call == learn_move || call == learn_plan || call == learn_claim ? 0 : 77;
     for (at = 0; at < sizeof text; at++) {
         if (text[at] != 77) {
             return 0;
         }
     }
-    return owners[0] == 77 && owners[1] == 77 && moves == 77 && length == 77 && verdict.kind == SPOILED &&
-           verdict.cause == SPOILED && opened.held == NULL;
+    return owners[0] == 77 && owners[1] == 77 && moves == 77 && length == length_left && verdict.kind == SPOILED &&
+           verdict.cause == SPOILED && opened.held == NULL && opened_replica.held == NULL;
 }
 
 /* Refuses one request of the call; answers whether it came to that. */
 static int refuse(const char *name, bully_status wanted, bully_status (*call)(void), long number) {
-    struct look first = look_at(&pair.first), second = look_at(&pair.second), behind;
+    static struct sight sight, sight_behind;
     long before = blocks;
     bully_status status;
+    look(&sight);
     spoil();
     is_refused = 0;
     until_refused = number;
@@ -145,13 +210,11 @@ static int refuse(const char *name, bully_status wanted, bully_status (*call)(vo
         printf("%s, request %ld refused:\n", name, number);
     }
     ANSWERS(OUT_OF_MEMORY, status);
-    EXPECT(is_spoiled());
+    EXPECT(is_spoiled(call));
     EXPECT(verdict.number == (call == check || call == check_form ? 0 : SPOILED));
     EXPECT(blocks == before);
-    behind = look_at(&pair.first);
-    EXPECT(is_same_look(&first, &behind));
-    behind = look_at(&pair.second);
-    EXPECT(is_same_look(&second, &behind));
+    look(&sight_behind);
+    EXPECT(is_same_sight(&sight, &sight_behind));
     return 1;
 }
 
@@ -195,6 +258,60 @@ static void refuse_at_rest(void) {
     close_pair(&pair);
 }
 
+static void refuse_of_replica(void) {
+    refuse_each("bully_header", BULLY_OK, header, 0);
+    EXPECT(is_text(text, length, "bully,2,2,2,1 3,clear\n"));
+    refuse_each("bully_replica_open", BULLY_OK, open_replica, 1);
+    replica = opened_replica;
+    opened_replica.held = NULL;
+    ANSWERS(OK, bully_replica_learn(&replica, ANNOUNCED, strlen(ANNOUNCED), &length));
+    refuse_each("bully_replica_learn, move", BULLY_OK, learn_move, 0);
+    refuse_each("bully_replica_next, plan", BULLY_OK, next, 1);
+    EXPECT(is_text(text, length, PLAN));
+    refuse_each("bully_replica_event", BULLY_OK, event, 0);
+    EXPECT(is_text(text, length, "crash,2\n"));
+    refuse_each("bully_replica_learn, plan", BULLY_OK, learn_plan, 1);
+    EXPECT(length == 1 && has_learned(&replica, 12, 12, 12, 2) && has_planned(&replica, "1 2"));
+    refuse_each("bully_replica_next", BULLY_OK, next, 0);
+    EXPECT(is_text(text, length, "start,2\n"));
+    refuse_each("bully_replica_learn, claim", BULLY_OK, learn_claim, 1);
+    EXPECT(length == 1 && has_learned(&replica, 13, 12, 12, 2));
+    ANSWERS(OK, bully_replica_close(&replica));
+}
+
+/* Two rows, of which the first may be learned before a request is refused: it stays then, and the replica goes on behind it. Answers
+ * whether it came to a refusal, and counts those behind the first row. */
+static int refuse_learning(long number, int *behind_first) {
+    static const char rows[] = MOVE PLAN;
+    size_t taken = 77, rest;
+    ANSWERS(OK, bully_replica_open(&replica, VERSION_3, strlen(VERSION_3)));
+    ANSWERS(OK, bully_replica_learn(&replica, ANNOUNCED, strlen(ANNOUNCED), &taken));
+    EXPECT(taken == 10);
+    is_refused = 0;
+    until_refused = number;
+    if (bully_replica_learn(&replica, rows, strlen(rows), &taken) == BULLY_OUT_OF_MEMORY) {
+        until_refused = 0;
+        EXPECT(is_refused && taken < 2 && has_learned(&replica, (uint32_t)taken + 10, (uint32_t)taken + 10, 0, 0));
+        *behind_first += taken == 1;
+        rest = taken == 1 ? strlen(MOVE) : 0;
+        ANSWERS(OK, bully_replica_learn(&replica, rows + rest, strlen(rows + rest), &taken));
+        EXPECT(taken == (rest == 0 ? 2 : 1));
+    }
+    until_refused = 0;
+    EXPECT(has_learned(&replica, 12, 12, 12, 2) && has_planned(&replica, "1 2"));
+    ANSWERS(OK, bully_replica_close(&replica));
+    return is_refused;
+}
+
+static void refuse_while_learning(void) {
+    int behind_first = 0;
+    long number = 1;
+    while (refuse_learning(number, &behind_first)) {
+        number++;
+    }
+    EXPECT(number > 1 && behind_first > 0);
+}
+
 int main(void) {
     /* (what printing keeps is made now) */
     puts("requests for memory are refused");
@@ -202,6 +319,8 @@ int main(void) {
         long before = blocks;
         refuse_while_ready();
         refuse_at_rest();
+        refuse_of_replica();
+        refuse_while_learning();
         EXPECT(blocks == before);
     }
     return tell_counts();

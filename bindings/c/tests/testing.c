@@ -2,11 +2,15 @@
 #include "testing.h"
 
 #include <stdio.h>
+#include <stdlib.h>
 #include <string.h>
 
 static int passed, failed;
 
 const uint16_t two_owners[2] = {1, 2};
+
+const char *const example_names[EXAMPLES] = {"all_up", "alone", "announced_too_late", "dropped", "kept", "late_failure",
+                                             "orphan_halt", "orphan_ready", "others_down", "reply_lost", "told", "weighted"};
 
 void count_test(int held, const char *file, int line, const char *text) {
     if (held) {
@@ -33,6 +37,27 @@ int is_text(const char *text, size_t length, const char *wanted) {
     return length == strlen(wanted) && memcmp(text, wanted, length) == 0;
 }
 
+int is_shown(const char *what, const char *text, size_t length, const char *wanted) {
+    if (!is_text(text, length, wanted)) {
+        printf("%s: '%.*s' is shown, and '%s' is wanted:\n", what, (int)length, text, wanted);
+    }
+    return is_text(text, length, wanted);
+}
+
+char *read_file(const char *folder, const char *name, const char *kind, size_t *length) {
+    char path[4096], *text = (char *)calloc(1, 65536);
+    FILE *file;
+    snprintf(path, sizeof path, "%s/%s.%s", folder, name, kind);
+    file = fopen(path, "rb");
+    EXPECT(file != NULL && text != NULL);
+    if (file == NULL || text == NULL) {
+        abort();
+    }
+    *length = fread(text, 1, 65535, file);
+    fclose(file);
+    return text;
+}
+
 bully_setup setup_of(uint16_t nodes, uint16_t partitions, uint32_t events_max) {
     bully_setup setup = {0, 0, 0, 0};
     setup.nodes = nodes;
@@ -53,7 +78,7 @@ struct look look_at(bully_agent *agent) {
     return look;
 }
 
-static int is_same_state(const bully_state *one, const bully_state *other) {
+int is_same_state(const bully_state *one, const bully_state *other) {
     return one->status == other->status && one->wants == other->wants && one->events == other->events &&
            one->generation == other->generation && one->call == other->call && one->orphan == other->orphan &&
            one->number == other->number && one->node == other->node && one->coordinator == other->coordinator &&
@@ -69,13 +94,6 @@ int is_same_look(const struct look *one, const struct look *other) {
            is_same_text(one->claim, one->claim_length, other->claim, other->claim_length) &&
            is_same_text(one->rows, one->rows_length, other->rows, other->rows_length) &&
            is_same_text(one->request, one->request_length, other->request, other->request_length);
-}
-
-static int is_shown(const char *what, const char *text, size_t length, const char *wanted) {
-    if (!is_text(text, length, wanted)) {
-        printf("%s: '%.*s' is shown, and '%s' is wanted:\n", what, (int)length, text, wanted);
-    }
-    return is_text(text, length, wanted);
 }
 
 int claims(bully_agent *agent, const char *claim) {

@@ -24,8 +24,14 @@ int tell_counts(void);
 /* Room for any line and any row of the tests' groups. */
 #define ROOM 400
 
-/* Whether a text of this length is that one, which ends with a zero byte. */
+/* Whether a text of this length is that one, which ends with a zero byte. The second prints both if it isn't. */
 int is_text(const char *text, size_t length, const char *wanted);
+int is_shown(const char *what, const char *text, size_t length, const char *wanted);
+
+/* The examples; and the text of a file of one, with a zero byte behind it, to be freed. */
+#define EXAMPLES 12
+extern const char *const example_names[EXAMPLES];
+char *read_file(const char *folder, const char *name, const char *kind, size_t *length);
 
 /* A setup that keeps no tasks. */
 bully_setup setup_of(uint16_t nodes, uint16_t partitions, uint32_t events_max);
@@ -38,6 +44,7 @@ struct look {
 };
 struct look look_at(bully_agent *agent);
 int is_same_look(const struct look *one, const struct look *other);
+int is_same_state(const bully_state *one, const bully_state *other);
 /* Whether the agent's claim and the rows of its last step are these. */
 int claims(bully_agent *agent, const char *claim);
 int logged(bully_agent *agent, const char *rows);
@@ -61,14 +68,18 @@ void come_back(bully_agent *caller, bully_agent *callee, uint32_t answer);
 /* The owners that node 2 plans, and that the examples have. */
 extern const uint16_t two_owners[2];
 
-/* The tests of each file. `folder` has the examples. */
-void try_names(void);
+/* The tests of each file. `folder` has the examples, and `version` is the library's. */
+void try_names(const char *version);
 void try_arguments(void);
+void try_headers(void);
 void try_traces(const char *folder);
 void try_tables(void);
 void try_agents(void);
 void try_lines(void);
 void try_examples(const char *folder);
 void try_elections(void);
+void try_replicas(void);
+void try_replica_arguments(void);
+void try_learning(const char *folder);
 
 #endif

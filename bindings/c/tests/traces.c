@@ -132,21 +132,6 @@ static void try_long(void) {
 
 /* ---- The examples ---- */
 
-/* A file's text, with a zero byte behind it. */
-static char *read_file(const char *folder, const char *name, const char *kind, size_t *length) {
-    char path[4096], *text = (char *)calloc(1, 65536);
-    FILE *file;
-    snprintf(path, sizeof path, "%s/%s.%s", folder, name, kind);
-    file = fopen(path, "rb");
-    EXPECT(file != NULL && text != NULL);
-    if (file == NULL || text == NULL) {
-        abort();
-    }
-    *length = fread(text, 1, 65535, file);
-    fclose(file);
-    return text;
-}
-
 /* Whether the first line of the file beside the example says so: `lawful 26`, `refused 12 NoStep`. */
 static int is_said(const bully_verdict *verdict, const char *wanted) {
     char word[32] = "", cause[32] = "";
@@ -173,13 +158,11 @@ static void try_example(const char *folder, const char *name) {
 }
 
 void try_traces(const char *folder) {
-    static const char *const names[] = {"all_up", "alone", "announced_too_late", "dropped", "kept", "late_failure",
-                                        "orphan_halt", "orphan_ready", "others_down", "reply_lost", "told", "weighted"};
     size_t at;
     try_judged();
     try_spoiled();
     try_long();
-    for (at = 0; at < COUNT(names); at++) {
-        try_example(folder, names[at]);
+    for (at = 0; at < EXAMPLES; at++) {
+        try_example(folder, example_names[at]);
     }
 }

@@ -1,6 +1,6 @@
 //! One node of a group.
 
-use crate::calls::{unexpected, Handle};
+use crate::calls::{unexpected, AgentHandle};
 use crate::faults::{
     OpenError, OutOfMemory, PlanError, PrepareError, Refused, ReplyError, ServeError,
 };
@@ -22,7 +22,7 @@ use std::fmt;
 /// shared::<bully::Agent>();
 /// ```
 pub struct Agent {
-    handle: Handle,
+    handle: AgentHandle,
     partitions: u16,
 }
 
@@ -35,7 +35,7 @@ impl Agent {
         events: u32,
         task: Option<&[u16]>,
     ) -> Result<Agent, OpenError> {
-        let handle = Handle::open(setup, node, events, task.unwrap_or_default());
+        let handle = AgentHandle::open(setup, node, events, task.unwrap_or_default());
         Ok(Agent {
             handle: handle.map_err(OpenError::told)?,
             partitions: setup.partitions,

@@ -2,14 +2,18 @@
 //!
 //! What `bully.h` wants of a program and no test can see is kept here:
 //!
-//! - A handle is zeroed at first, and private to a [`Handle`], which can't be copied. So only the library writes it.
-//! - An event takes its handle as `&mut`. What shows something takes it as `&`, but a `Handle` isn't `Sync`, and the library calls
-//!   nothing back: so a handle has one call at a time. It may go to another thread, as `Send` says.
+//! - A handle is zeroed at first, and private to an [`AgentHandle`] or a [`ReplicaHandle`], which can't be copied. So only the
+//!   library writes it.
+//! - What changes something takes its handle as `&mut`. What shows something takes it as `&`, but neither type is `Sync`, and the
+//!   library calls nothing back: so a handle has one call at a time. It may go to another thread, as `Send` says.
 //! - Pointers and lengths are those of slices and of values that live through the call. What is written is a value of the call's
 //!   own, so it overlaps nothing.
 //! - The library takes memory from the C library, whichever allocator the program has, and gives it back itself.
 
-use crate::raw::{self, bully_agent, bully_setup, bully_state, bully_status, bully_verdict};
+use crate::raw::{
+    self, bully_agent, bully_group, bully_replica, bully_setup, bully_state, bully_status,
+    bully_verdict,
+};
 use crate::setup::Setup;
 use std::cell::UnsafeCell;
 use std::ffi::CStr;
@@ -18,17 +22,33 @@ use std::ptr;
 // How many items the room has that is offered first.
 const FIRST_ROOM: usize = 64;
 
-/// A handle that is open. The status of a call that isn't OK is its error.
-pub(crate) struct Handle(UnsafeCell<bully_agent>);
+const NOT_ASCII: &str = "the bully library wrote a text that isn't ASCII";
 
-// SAFETY: the header lets a handle go from thread to thread.
-unsafe impl Send for Handle {}
+macro_rules! handle {
+    ($(#[$about:meta])* $name:ident: $held:ident, $close:ident) => {
+        $(#[$about])*
+        pub(crate) struct $name(UnsafeCell<$held>);
 
-impl Drop for Handle {
-    fn drop(&mut self) {
-        // SAFETY: the handle is this one's alone, and isn't used again. It is open, so nothing can be refused.
-        let _ok = unsafe { raw::bully_agent_close(self.0.get()) };
-    }
+        // SAFETY: the header lets a handle go from thread to thread.
+        unsafe impl Send for $name {}
+
+        impl Drop for $name {
+            fn drop(&mut self) {
+                // SAFETY: the handle is this one's alone, and isn't used again. It is open, so nothing can be refused.
+                let _ok = unsafe { raw::$close(self.0.get()) };
+            }
+        }
+    };
+}
+
+handle! {
+    /// A handle of an agent that is open. The status of a call that isn't OK is its error.
+    AgentHandle: bully_agent, bully_agent_close
+}
+
+handle! {
+    /// The same of a replica.
+    ReplicaHandle: bully_replica, bully_replica_close
 }
 
 macro_rules! events {
@@ -41,11 +61,12 @@ macro_rules! events {
 }
 
 macro_rules! texts {
-    ($($text:ident: $call:ident;)*) => {
-        $(pub(crate) fn $text(&self) -> Result<String, bully_status> {
+    ($($text:ident($($argument:ident: $kind:ty),*): $call:ident;)*) => {
+        $(pub(crate) fn $text(&self, $($argument: $kind),*) -> Result<String, bully_status> {
             let bytes = filled(|room: &mut [u8], length| {
+                let (place, size) = (room.as_mut_ptr().cast(), room.len());
                 // SAFETY: the handle is open, and no other call of it is under way. The room is as long as is said.
-                unsafe { raw::$call(self.0.get(), room.as_mut_ptr().cast(), room.len(), length) }
+                unsafe { raw::$call(self.0.get(), $($argument,)* place, size, length) }
             })?;
             Ok(text_of(bytes))
         })*
@@ -53,23 +74,35 @@ macro_rules! texts {
 }
 
 macro_rules! numbers {
-    ($($numbers:ident: $call:ident;)*) => {
-        $(pub(crate) fn $numbers(&self) -> Result<Vec<u16>, bully_status> {
+    ($($numbers:ident($($argument:ident: $kind:ty),*): $call:ident;)*) => {
+        $(pub(crate) fn $numbers(&self, $($argument: $kind),*) -> Result<Vec<u16>, bully_status> {
             filled(|room: &mut [u16], count| {
+                let (place, size) = (room.as_mut_ptr(), room.len());
                 // SAFETY: the handle is open, and no other call of it is under way. The room is as long as is said.
-                unsafe { raw::$call(self.0.get(), room.as_mut_ptr(), room.len(), count) }
+                unsafe { raw::$call(self.0.get(), $($argument,)* place, size, count) }
             })
         })*
     };
 }
 
-impl Handle {
+macro_rules! structs {
+    ($($shown:ident($($argument:ident: $kind:ty),*): $call:ident, $struct:ident;)*) => {
+        $(pub(crate) fn $shown(&self, $($argument: $kind),*) -> Result<$struct, bully_status> {
+            let mut shown = $struct::default();
+            // SAFETY: the handle is open, and no other call of it is under way.
+            ok(unsafe { raw::$call(self.0.get(), $($argument,)* &mut shown) })?;
+            Ok(shown)
+        })*
+    };
+}
+
+impl AgentHandle {
     pub(crate) fn open(
         setup: &Setup,
         node: u16,
         events: u32,
         task: &[u16],
-    ) -> Result<Handle, bully_status> {
+    ) -> Result<AgentHandle, bully_status> {
         let weights = &setup.weights;
         let mut opened = bully_agent {
             held: ptr::null_mut(),
@@ -87,7 +120,7 @@ impl Handle {
                 task.len(),
             )
         })?;
-        Ok(Handle(UnsafeCell::new(opened)))
+        Ok(AgentHandle(UnsafeCell::new(opened)))
     }
 
     events! {
@@ -101,14 +134,18 @@ impl Handle {
     }
 
     texts! {
-        request: bully_agent_request;
-        rows: bully_agent_rows;
-        claim: bully_agent_claim;
+        request(): bully_agent_request;
+        rows(): bully_agent_rows;
+        claim(): bully_agent_claim;
     }
 
     numbers! {
-        up: bully_agent_up;
-        task: bully_agent_task;
+        up(): bully_agent_up;
+        task(): bully_agent_task;
+    }
+
+    structs! {
+        show(): bully_agent_show, bully_state;
     }
 
     pub(crate) fn plan(&mut self, owners: &[u16]) -> Result<(), bully_status> {
@@ -166,12 +203,44 @@ impl Handle {
         ok(unsafe { raw::bully_agent_failed(self.0.get(), number, &mut answer) })?;
         Ok(answer)
     }
+}
 
-    pub(crate) fn show(&self) -> Result<bully_state, bully_status> {
-        let mut state = bully_state::default();
-        // SAFETY: the handle is open, and no other call of it is under way.
-        ok(unsafe { raw::bully_agent_show(self.0.get(), &mut state) })?;
-        Ok(state)
+impl ReplicaHandle {
+    pub(crate) fn open(header: &str) -> Result<ReplicaHandle, bully_status> {
+        let mut opened = bully_replica {
+            held: ptr::null_mut(),
+        };
+        // SAFETY: the handle is zeroed, and the header is read alone.
+        ok(unsafe { raw::bully_replica_open(&mut opened, header.as_ptr().cast(), header.len()) })?;
+        Ok(ReplicaHandle(UnsafeCell::new(opened)))
+    }
+
+    /// Learns rows, each with its line end, and tells how many. So it does beside the status of the first that isn't learned.
+    pub(crate) fn learn(&mut self, rows: &str) -> Result<usize, (bully_status, usize)> {
+        let (place, mut taken) = (rows.as_ptr().cast(), 0);
+        // SAFETY: the handle is open, and `&mut` lets no other call of it be under way. The rows are read alone.
+        let status =
+            unsafe { raw::bully_replica_learn(self.0.get(), place, rows.len(), &mut taken) };
+        match ok(status) {
+            Ok(()) => Ok(taken),
+            Err(status) => Err((status, taken)),
+        }
+    }
+
+    texts! {
+        next(node: u16): bully_replica_next;
+        event(node: u16, event: u32): bully_replica_event;
+    }
+
+    numbers! {
+        up(node: u16): bully_replica_up;
+        task(node: u16): bully_replica_task;
+        planned(): bully_replica_planned;
+    }
+
+    structs! {
+        show(node: u16): bully_replica_show, bully_state;
+        group(): bully_replica_group, bully_group;
     }
 }
 
@@ -184,6 +253,32 @@ pub(crate) fn check(trace: &[u8]) -> Result<bully_verdict, (bully_status, u32)> 
         Ok(()) => Ok(verdict),
         Err(status) => Err((status, verdict.number)),
     }
+}
+
+/// The header of a trace of this setup, with its line end.
+pub(crate) fn header(setup: &Setup) -> Result<String, bully_status> {
+    let (setup, weights) = (raw_setup(setup), &setup.weights);
+    let bytes = filled(|room: &mut [u8], length| {
+        // SAFETY: each pointer is that of a slice or a value. The room is as long as is said.
+        unsafe {
+            raw::bully_header(
+                &setup,
+                weights.as_ptr(),
+                weights.len(),
+                room.as_mut_ptr().cast(),
+                room.len(),
+                length,
+            )
+        }
+    })?;
+    Ok(text_of(bytes))
+}
+
+/// The version of the library.
+pub(crate) fn version() -> &'static str {
+    // SAFETY: the version is a text with a zero byte at its end, which is never freed.
+    let version = unsafe { CStr::from_ptr(raw::bully_version()) };
+    version.to_str().expect(NOT_ASCII)
 }
 
 /// Plans a table, and counts its moves.
@@ -250,7 +345,14 @@ fn ok(status: bully_status) -> Result<(), bully_status> {
 
 // The text of these bytes, which are ASCII, as `bully.h` has it.
 fn text_of(bytes: Vec<u8>) -> String {
-    String::from_utf8(bytes).expect("the bully library wrote a text that isn't ASCII")
+    String::from_utf8(bytes).expect(NOT_ASCII)
+}
+
+/// The row of this text without its line end, with which the library writes it.
+pub(crate) fn without_end(mut row: String) -> String {
+    let end = row.pop();
+    assert_eq!(end, Some('\n'), "the end of a row of the bully library");
+    row
 }
 
 fn raw_setup(setup: &Setup) -> bully_setup {

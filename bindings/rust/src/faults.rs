@@ -64,7 +64,7 @@ faults! {
 }
 
 coded! {
-    /// What is wrong with a trace's form, as `docs/FORMATS.md` lists the faults.
+    /// What is wrong with the form of a trace or of a log, as `docs/FORMATS.md` lists the faults.
     FormFault {
         /// Row 1 is no header, or there is none.
         BadHeader = BULLY_BAD_HEADER, "BadHeader";
@@ -72,6 +72,13 @@ coded! {
         BadRow = BULLY_BAD_ROW, "BadRow";
         /// A row comes after 1,000,000 rows behind the header.
         TooManyRows = BULLY_TOO_MANY_ROWS, "TooManyRows";
+    }
+}
+
+impl NodeFault {
+    // What this status of a call tells.
+    pub(crate) fn told(status: bully_status) -> NodeFault {
+        NodeFault::of(status).unwrap_or_else(|| calls::unexpected(status))
     }
 }
 
@@ -143,6 +150,103 @@ impl fmt::Display for TraceFault {
 }
 
 impl Error for TraceFault {}
+
+/// Why the next row of a log wasn't learned.
+#[derive(Clone, Copy, Debug, PartialEq, Eq, Hash)]
+pub enum LearnFault {
+    /// Its event is refused.
+    Refused(Refused),
+    /// What it says beside its event, or claims, isn't so.
+    Differs,
+    /// It has none of the forms, or the log has 1,000,000 rows already.
+    Form(FormFault),
+    /// An allocation failed.
+    OutOfMemory,
+    /// One of the texts is no row by itself: it is blank, or has a line feed or a carriage return. Then none was learned.
+    NotOneRow {
+        /// Where that text stands among those that were handed over, from 0.
+        place: usize,
+    },
+}
+
+impl LearnFault {
+    // What this status tells of the row.
+    pub(crate) fn told(status: bully_status) -> LearnFault {
+        let form = FormFault::of(status).map(LearnFault::Form);
+        let memory = OutOfMemory::of(status).map(|OutOfMemory| LearnFault::OutOfMemory);
+        match status {
+            crate::raw::BULLY_ROW_DIFFERS => LearnFault::Differs,
+            _ => form
+                .or(memory)
+                .unwrap_or_else(|| LearnFault::Refused(Refused::told(status))),
+        }
+    }
+}
+
+impl fmt::Display for LearnFault {
+    fn fmt(&self, formatter: &mut fmt::Formatter<'_>) -> fmt::Result {
+        match self {
+            LearnFault::Refused(cause) => fmt::Display::fmt(cause, formatter),
+            LearnFault::Differs => formatter.pad("what the row says or claims isn't so"),
+            LearnFault::Form(fault) => fmt::Display::fmt(fault, formatter),
+            LearnFault::OutOfMemory => fmt::Display::fmt(&OutOfMemory, formatter),
+            LearnFault::NotOneRow { place } => {
+                write!(formatter, "the text at place {place} isn't one row")
+            }
+        }
+    }
+}
+
+impl Error for LearnFault {}
+
+/// Rows of a log of which not all were learned. Those before the fault are, and stay so.
+#[derive(Clone, Copy, Debug, PartialEq, Eq, Hash)]
+pub struct LearnError {
+    /// How many were learned.
+    pub taken: usize,
+    /// Why the next one wasn't.
+    pub fault: LearnFault,
+}
+
+impl fmt::Display for LearnError {
+    fn fmt(&self, formatter: &mut fmt::Formatter<'_>) -> fmt::Result {
+        write!(formatter, "rows learned: {}; {}", self.taken, self.fault)
+    }
+}
+
+impl Error for LearnError {}
+
+errors! {
+    /// Why a setup gave no header.
+    HeaderError {
+        /// The setup is at fault.
+        Setup: SetupFault;
+        /// An allocation failed.
+        Memory: OutOfMemory;
+    }
+}
+
+errors! {
+    /// Why no replica was opened.
+    LogError {
+        /// The text is no header, or rows stand behind it: `BadHeader`.
+        Header: FormFault;
+        /// An allocation failed.
+        Memory: OutOfMemory;
+    }
+}
+
+errors! {
+    /// Why a replica gave no row. Nothing changed.
+    RowError {
+        /// The node is none of the group's.
+        Node: NodeFault;
+        /// An allocation failed.
+        Memory: OutOfMemory;
+        /// The event is refused.
+        Refused: Refused;
+    }
+}
 
 errors! {
     /// Why no agent was opened.

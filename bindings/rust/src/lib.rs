@@ -7,6 +7,7 @@ mod calls;
 mod coded;
 mod faults;
 mod raw;
+mod replica;
 mod setup;
 mod shown;
 mod table;
@@ -14,10 +15,17 @@ mod trace;
 
 pub use agent::Agent;
 pub use faults::{
-    FormFault, LineFault, MembersError, NodeFault, OpenError, OutOfMemory, PlanError, PrepareError,
-    Refused, ReplyError, ServeError, SetupFault, TableFault, TraceFault,
+    FormFault, HeaderError, LearnError, LearnFault, LineFault, LogError, MembersError, NodeFault,
+    OpenError, OutOfMemory, PlanError, PrepareError, Refused, ReplyError, RowError, ServeError,
+    SetupFault, TableFault, TraceFault,
 };
+pub use replica::{Replica, ReplicaEvent};
 pub use setup::{Setup, EVENTS_MAX, NODES_MAX, PARTITIONS_MAX, WEIGHT_MAX};
-pub use shown::{Answer, Call, CallKind, State, Status, Want};
+pub use shown::{Answer, Call, CallKind, Group, State, Status, Want};
 pub use table::{plan_table, PlannedTable};
 pub use trace::{check, Verdict};
+
+/// The version of the library, as `bully --version` tells it.
+pub fn version() -> &'static str {
+    calls::version()
+}

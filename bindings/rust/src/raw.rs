@@ -37,6 +37,7 @@ pub const BULLY_BAD_WEIGHTS: bully_status = 28;
 pub const BULLY_TABLE_LENGTH: bully_status = 29;
 pub const BULLY_TABLE_OWNER: bully_status = 30;
 pub const BULLY_NO_MEMBER: bully_status = 31;
+pub const BULLY_BAD_EVENT: bully_status = 32;
 pub const BULLY_LINE_WORD: bully_status = 40;
 pub const BULLY_LINE_CALLER: bully_status = 41;
 pub const BULLY_LINE_NUMBER: bully_status = 42;
@@ -47,6 +48,8 @@ pub const BULLY_LINE_ANSWER: bully_status = 46;
 pub const BULLY_BAD_HEADER: bully_status = 50;
 pub const BULLY_BAD_ROW: bully_status = 51;
 pub const BULLY_TOO_MANY_ROWS: bully_status = 52;
+pub const BULLY_ROW_DIFFERS: bully_status = 53;
+pub const BULLY_ROW_END: bully_status = 54;
 
 #[repr(C)]
 pub struct bully_setup {
@@ -113,13 +116,45 @@ pub struct bully_state {
     pub callee: u16,
 }
 
+#[repr(C)]
+pub struct bully_replica {
+    pub held: *mut c_void,
+}
+
+pub const BULLY_EVENT_CRASH: u32 = 1;
+pub const BULLY_EVENT_RECOVER: u32 = 2;
+pub const BULLY_EVENT_CHECK: u32 = 3;
+pub const BULLY_EVENT_TIMEOUT: u32 = 4;
+pub const BULLY_EVENT_DROP: u32 = 5;
+
+#[derive(Default)]
+#[repr(C)]
+pub struct bully_group {
+    pub rows: u32,
+    pub events: u32,
+    pub token: u32,
+    pub planner: u16,
+    pub nodes: u16,
+    pub partitions: u16,
+    pub keeps: u16,
+}
+
 extern "C" {
     pub fn bully_status_name(status: bully_status) -> *const c_char;
+    pub fn bully_version() -> *const c_char;
 
     pub fn bully_check(
         trace: *const u8,
         length: usize,
         verdict: *mut bully_verdict,
+    ) -> bully_status;
+    pub fn bully_header(
+        setup: *const bully_setup,
+        weights: *const u16,
+        weight_count: usize,
+        row: *mut c_char,
+        room: usize,
+        length: *mut usize,
     ) -> bully_status;
 
     pub fn bully_table(
@@ -218,5 +253,64 @@ extern "C" {
         row: *mut c_char,
         room: usize,
         length: *mut usize,
+    ) -> bully_status;
+
+    pub fn bully_replica_open(
+        replica: *mut bully_replica,
+        header: *const c_char,
+        length: usize,
+    ) -> bully_status;
+    pub fn bully_replica_close(replica: *mut bully_replica) -> bully_status;
+
+    pub fn bully_replica_learn(
+        replica: *mut bully_replica,
+        rows: *const c_char,
+        length: usize,
+        taken: *mut usize,
+    ) -> bully_status;
+    pub fn bully_replica_next(
+        replica: *mut bully_replica,
+        node: u16,
+        row: *mut c_char,
+        room: usize,
+        length: *mut usize,
+    ) -> bully_status;
+    pub fn bully_replica_event(
+        replica: *mut bully_replica,
+        node: u16,
+        event: u32,
+        row: *mut c_char,
+        room: usize,
+        length: *mut usize,
+    ) -> bully_status;
+
+    pub fn bully_replica_show(
+        replica: *mut bully_replica,
+        node: u16,
+        state: *mut bully_state,
+    ) -> bully_status;
+    pub fn bully_replica_up(
+        replica: *mut bully_replica,
+        node: u16,
+        nodes: *mut u16,
+        room: usize,
+        count: *mut usize,
+    ) -> bully_status;
+    pub fn bully_replica_task(
+        replica: *mut bully_replica,
+        node: u16,
+        owners: *mut u16,
+        room: usize,
+        count: *mut usize,
+    ) -> bully_status;
+    pub fn bully_replica_group(
+        replica: *mut bully_replica,
+        group: *mut bully_group,
+    ) -> bully_status;
+    pub fn bully_replica_planned(
+        replica: *mut bully_replica,
+        owners: *mut u16,
+        room: usize,
+        count: *mut usize,
     ) -> bully_status;
 }

@@ -1,5 +1,8 @@
 //! What a group is set up with.
 
+use crate::calls;
+use crate::faults::HeaderError;
+
 /// The most nodes that a setup may have.
 pub const NODES_MAX: u16 = crate::raw::BULLY_NODES_MAX;
 /// The most partitions that a setup may have.
@@ -56,5 +59,22 @@ impl Setup {
             keeps: true,
             ..self
         }
+    }
+
+    /// The header of a log of this group, a row without its line end: of version 1 if that can tell the setup, and else of version
+    /// 2, as `docs/FORMATS.md` says. A header doesn't tell `events_max`: a log has room for [`EVENTS_MAX`] events, whatever the setup
+    /// bounds.
+    ///
+    /// ```
+    /// use bully::Setup;
+    ///
+    /// let setup = Setup::new(3, 7, 1000);
+    /// assert_eq!(setup.header()?, "bully,1,3,7");
+    /// assert_eq!(setup.with_weights([1, 2, 1]).header()?, "bully,2,3,7,1 2 1,clear");
+    /// # Ok::<(), bully::HeaderError>(())
+    /// ```
+    pub fn header(&self) -> Result<String, HeaderError> {
+        let header = calls::header(self).map_err(HeaderError::told)?;
+        Ok(calls::without_end(header))
     }
 }

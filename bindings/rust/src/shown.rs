@@ -1,8 +1,8 @@
-//! What an agent shows.
+//! What an agent or a replica shows.
 
 use crate::calls::unexpected_number;
 use crate::coded::coded;
-use crate::raw::bully_state;
+use crate::raw::{bully_group, bully_state};
 
 coded! {
     /// The status of a node's vector, as `docs/ALGORITHM.md` has them.
@@ -19,7 +19,8 @@ coded! {
 }
 
 coded! {
-    /// What a node wants to do next.
+    /// What a node wants to do next. An agent does it by the call that is named here, and a replica has its row by
+    /// [`Replica::next`](crate::Replica::next).
     Want {
         /// Nothing.
         Nothing = BULLY_WANTS_NOTHING, "nothing";
@@ -90,11 +91,11 @@ pub struct State {
     pub wants: Want,
     /// The call in its slot, if any.
     pub call: Option<Call>,
-    /// The number of its last call.
+    /// Of an agent: the number of its last call. Of a replica: 0.
     pub number: u32,
-    /// How many events it told, with those before it was opened.
+    /// Of an agent: how many events it told, with those before it was opened. Of a replica: how many its log has.
     pub events: u32,
-    /// How often it was stopped or crashed since it was opened.
+    /// How often it was stopped or crashed: of an agent since it was opened, of a replica in its log.
     pub generation: u32,
 }
 
@@ -119,6 +120,40 @@ impl Answer {
     // What the library says that a call brought.
     pub(crate) fn told(number: u32) -> Answer {
         known(number, Answer::of(number))
+    }
+}
+
+/// How a group stands, as a replica of its log shows it.
+#[derive(Clone, Copy, Debug, PartialEq, Eq, Hash)]
+pub struct Group {
+    /// How many rows were learned, claims too. The header isn't counted.
+    pub rows: u32,
+    /// How many events they told.
+    pub events: u32,
+    /// The token of the last plan, if any: how many events there are up to it and with it.
+    pub token: Option<u32>,
+    /// Whose the last plan is, if any.
+    pub planner: Option<u16>,
+    /// How many nodes the group has.
+    pub nodes: u16,
+    /// How many partitions its task has.
+    pub partitions: u16,
+    /// Whether a node keeps its task over a crash.
+    pub keeps: bool,
+}
+
+impl Group {
+    // What the library shows of the group.
+    pub(crate) fn of(shown: &bully_group) -> Group {
+        Group {
+            rows: shown.rows,
+            events: shown.events,
+            token: (shown.token != 0).then_some(shown.token),
+            planner: node_of(shown.planner),
+            nodes: shown.nodes,
+            partitions: shown.partitions,
+            keeps: shown.keeps != 0,
+        }
     }
 }
 

@@ -2,7 +2,10 @@
 //! stands beside the trace, or one refuses the row that is refused there, for the same cause. Where a row says more, as in version 3,
 //! the agent's own row is that one.
 
+mod shown;
+
 use bully::{check, Agent, PlanError, Refused, ReplyError, ServeError, Setup, Verdict};
+use shown::{line_of, or_dash};
 use std::fs;
 
 /// The agents of a group, and what each of them has under way.
@@ -102,7 +105,10 @@ impl Group {
 
     // Each node's line, as the verdict on a lawful trace has it.
     fn lines(&self) -> Vec<String> {
-        self.agents.iter().map(line_of).collect()
+        let lines = self.agents.iter();
+        lines
+            .map(|agent| line_of(&agent.state(), agent.task()))
+            .collect()
     }
 }
 
@@ -135,10 +141,6 @@ fn numbers(text: &str) -> Vec<u16> {
         .collect()
 }
 
-fn or_dash(node: Option<u16>) -> String {
-    node.map_or(String::from("-"), |number| number.to_string())
-}
-
 // A claim is so: a whole one is the agent's own.
 fn assert_shown(agent: &Agent, fields: &[&str], row: &str) {
     let state = agent.state();
@@ -147,21 +149,6 @@ fn assert_shown(agent: &Agent, fields: &[&str], row: &str) {
     }
     assert_eq!(state.status.to_string(), fields[2]);
     assert_eq!(or_dash(state.coordinator), fields[3]);
-}
-
-fn line_of(agent: &Agent) -> String {
-    let state = agent.state();
-    let owners: Vec<String> = agent.task().iter().flatten().map(u16::to_string).collect();
-    let owners = if owners.is_empty() {
-        String::from("-")
-    } else {
-        owners.join(",")
-    };
-    let (coordinator, halter) = (or_dash(state.coordinator), or_dash(state.halter));
-    format!(
-        "{} {} {coordinator} {halter} {owners}",
-        state.node, state.status
-    )
 }
 
 fn cause_of_plan(fault: PlanError) -> Refused {

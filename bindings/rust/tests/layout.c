@@ -30,5 +30,15 @@ int main(void) {
     FIELD(bully_state, coordinator);
     FIELD(bully_state, halter);
     FIELD(bully_state, callee);
+    TYPE(bully_replica);
+    FIELD(bully_replica, held);
+    TYPE(bully_group);
+    FIELD(bully_group, rows);
+    FIELD(bully_group, events);
+    FIELD(bully_group, token);
+    FIELD(bully_group, planner);
+    FIELD(bully_group, nodes);
+    FIELD(bully_group, partitions);
+    FIELD(bully_group, keeps);
     return 0;
 }

@@ -26,14 +26,14 @@ fn constants_are_those_of_the_header() {
 #[test]
 fn structs_are_those_of_the_header() {
     let declared = structs_of_raw();
-    assert_eq!(declared.len(), 4);
+    assert_eq!(declared.len(), 6);
     assert_eq!(declared, structs_of_header());
 }
 
 #[test]
 fn functions_are_those_of_the_header() {
     let declared = functions_of_raw();
-    assert_eq!(declared.len(), 23);
+    assert_eq!(declared.len(), 35);
     assert_eq!(declared, functions_of_header());
 }
 
@@ -49,11 +49,11 @@ fn structs_are_laid_out_as_in_c() {
 #[test]
 fn statuses_are_named_as_in_the_header() {
     let statuses: Vec<(String, u64)> = statuses_of_header();
-    assert_eq!(statuses.len(), 35);
+    assert_eq!(statuses.len(), 38);
     for (name, value) in statuses {
         assert_eq!(Some(status_name(value as u32)), name.strip_prefix("BULLY_"));
     }
-    for no_status in [13, 19, 32, 39, 47, 49, 53, u32::MAX] {
+    for no_status in [13, 19, 33, 39, 47, 49, 55, u32::MAX] {
         assert_eq!(status_name(no_status), "?");
     }
 }
@@ -90,7 +90,7 @@ fn constants_of_line(line: &str) -> Vec<(String, u64)> {
         let parts: Vec<&str> = defined.split_whitespace().collect();
         return match parts.as_slice() {
             [name, value] => vec![constant(name, value)],
-            _ => Vec::new(), // the guard of the header, and BULLY_AGENT_CLOSED
+            _ => Vec::new(), // the guard of the header, and the closed handles
         };
     }
     let inner = line.strip_prefix("enum {").unwrap_or(line);
@@ -168,8 +168,8 @@ fn functions_of_header() -> Vec<Declared> {
         let (parameters, _) = rest.split_once(')').expect("their end");
         let head = head.lines().last().expect("a head");
         let (name, gives) = c_variable(head);
-        let parameters = parameters.split(',').map(c_variable).collect();
-        (name, parameters, gives)
+        let parameters = parameters.split(',').filter(|&one| one != "void");
+        (name, parameters.map(c_variable).collect(), gives)
     });
     functions.collect()
 }
@@ -224,17 +224,22 @@ fn without_comments(text: &str) -> String {
 
 // ---- Layouts ----
 
-macro_rules! layout {
-    ($lines:ident, $kind:ident { $($field:ident),* }) => {
-        $lines.push(format!("{} {} {}", stringify!($kind), size_of::<raw::$kind>(), align_of::<raw::$kind>()));
-        $($lines.push(format!(
-            "{}.{} {} {}",
-            stringify!($kind),
-            stringify!($field),
-            offset_of!(raw::$kind, $field),
-            size_of_field(|held: &raw::$kind| &raw const held.$field),
-        ));)*
-    };
+macro_rules! layouts {
+    ($($kind:ident: $($field:ident)*;)*) => {{
+        let mut lines = Vec::new();
+        $(
+            let (size, alignment) = (size_of::<raw::$kind>(), align_of::<raw::$kind>());
+            lines.push(format!("{} {size} {alignment}", stringify!($kind)));
+            $(
+                let (place, size) = (
+                    offset_of!(raw::$kind, $field),
+                    size_of_field(|held: &raw::$kind| &raw const held.$field),
+                );
+                lines.push(format!("{}.{} {place} {size}", stringify!($kind), stringify!($field)));
+            )*
+        )*
+        lines
+    }};
 }
 
 fn size_of_field<S, F>(_field: fn(&S) -> *const F) -> usize {
@@ -242,43 +247,15 @@ fn size_of_field<S, F>(_field: fn(&S) -> *const F) -> usize {
 }
 
 fn layout_in_rust() -> Vec<String> {
-    let mut lines = Vec::new();
-    layout!(lines, bully_status {});
-    layout!(
-        lines,
-        bully_setup {
-            nodes,
-            partitions,
-            events_max,
-            keeps
-        }
-    );
-    layout!(
-        lines,
-        bully_verdict {
-            kind,
-            number,
-            cause
-        }
-    );
-    layout!(lines, bully_agent { held });
-    layout!(
-        lines,
-        bully_state {
-            status,
-            wants,
-            events,
-            generation,
-            call,
-            orphan,
-            number,
-            node,
-            coordinator,
-            halter,
-            callee
-        }
-    );
-    lines
+    layouts! {
+        bully_status:;
+        bully_setup: nodes partitions events_max keeps;
+        bully_verdict: kind number cause;
+        bully_agent: held;
+        bully_state: status wants events generation call orphan number node coordinator halter callee;
+        bully_replica: held;
+        bully_group: rows events token planner nodes partitions keeps;
+    }
 }
 
 // What the program beside this file prints. The machine's C compiler is `cc`, unless CC says another.

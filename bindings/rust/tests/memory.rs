@@ -3,7 +3,8 @@
 mod counted;
 
 use bully::{
-    check, plan_table, Agent, OpenError, OutOfMemory, PlanError, PrepareError, ServeError, Setup,
+    check, plan_table, Agent, HeaderError, LearnError, LearnFault, LogError, OpenError,
+    OutOfMemory, PlanError, PrepareError, Replica, ReplicaEvent, RowError, ServeError, Setup,
     TraceFault, Want,
 };
 use counted::{held, refused_behind, Aside};
@@ -16,6 +17,37 @@ const LINES: [&str; 3] = [
     "ask,2,8,1,new-coordinator",
     "ask,2,11,1,ready,1 1 2",
 ];
+
+const HEADER: &str = "bully,3,2,3,1 1,clear";
+
+// The rows of an election up to its plan, and those behind it, in which rows say more and claim all of a vector.
+const ROWS: [&str; 22] = [
+    "recover,1",
+    "recover,2",
+    "start,1,are-you-up,2",
+    "run,1,are-you-up,2,yes",
+    "return,1,are-you-up,2,yes",
+    "move,2",
+    "start,2",
+    "run,2",
+    "return,2",
+    "saw,2,election,-,2,1,-",
+    "move,2",
+    "start,2",
+    "run,2",
+    "return,2",
+    "move,2",
+    "plan,2,1 1 2",
+    "saw,2,reorganization,2,2,1,1 1 2",
+    "start,2,ready,1",
+    "run,2,ready,1,yes",
+    "return,2,ready,1,yes",
+    "move,2",
+    "saw,1,normal,2,2,-,1 1 2",
+];
+
+// Where the plan stands in them.
+const PLAN: usize = 15;
 
 fn setup() -> Setup {
     Setup::new(2, 3, 1000)
@@ -64,7 +96,32 @@ fn waiting() -> Agent {
     agent
 }
 
-/// All calls, with and without faults, leave nothing once the agents are closed.
+// A replica of the first so many rows.
+fn learned(count: usize) -> Replica {
+    let mut replica = Replica::open(HEADER).expect("a header");
+    assert_eq!(replica.learn(&ROWS[..count]), Ok(count));
+    replica
+}
+
+/// What is compared, to see that nothing changed.
+trait Shown {
+    fn shown(&self) -> String;
+}
+
+impl Shown for Agent {
+    fn shown(&self) -> String {
+        format!("{self:?} {:?}", self.claim())
+    }
+}
+
+impl Shown for Replica {
+    fn shown(&self) -> String {
+        let nodes = [1, 2].map(|node| (self.state(node), self.up(node), self.task(node)));
+        format!("{self:?} {nodes:?} {:?}", self.planned())
+    }
+}
+
+/// All calls, with and without faults, leave nothing once the agents and the replicas are closed.
 #[test]
 fn all_calls() {
     let all = || {
@@ -94,6 +151,7 @@ fn all_calls() {
             check(b"bully,1,1,1\nrecover,1\n?"),
         );
         let _fault = Agent::open(&setup(), 1, 0, Some(&[1, 2]));
+        all_of_replicas();
     };
     all();
     let before = held();
@@ -101,22 +159,38 @@ fn all_calls() {
     assert_eq!(held(), before);
 }
 
+fn all_of_replicas() {
+    for count in [PLAN, ROWS.len()] {
+        let mut replica = learned(count);
+        let rows = (replica.next(1), replica.next(2), replica.next(3));
+        let events = (
+            replica.event(1, ReplicaEvent::Crash),
+            replica.event(1, ReplicaEvent::Recover),
+        );
+        let faults = ["plan,2,1 1", "plan,2,1 1 3", "saw,2,down,-,-,1,2 1 1", "?"]
+            .map(|row| replica.learn(["crash,2", "recover,2", row]));
+        let _all = (rows, events, faults, replica.shown());
+    }
+    let _headers = (setup().header(), setup().with_weights([1]).header());
+    let _faults = (Replica::open("bully,1,2"), Replica::open("bully,1,2,3\n?"));
+}
+
 // Takes the call with all its allocations refused but the first none, one, two, .., until none is refused. Before that each call has to
-// tell so, and leaves the agent as it was. Tells how often one was refused.
-fn refusals<T, E: PartialEq + std::fmt::Debug + Copy>(
-    mut agent: Agent,
+// tell so, and leaves the agent or the replica as it was. Tells how often one was refused.
+fn refusals<S: Shown, T, E: PartialEq + std::fmt::Debug + Copy>(
+    mut handle: S,
     out_of_memory: E,
-    call: impl Fn(&mut Agent) -> Result<T, E>,
+    call: impl Fn(&mut S) -> Result<T, E>,
 ) -> u64 {
     for granted in 0..1000 {
-        let before = (held(), format!("{agent:?}"), agent.claim());
-        let (given, was_refused) = refused_behind(granted, || call(&mut agent).map(drop));
+        let before = (held(), handle.shown());
+        let (given, was_refused) = refused_behind(granted, || call(&mut handle).map(drop));
         if !was_refused {
             assert_eq!(given, Ok(()));
             return granted;
         }
         assert_eq!(given, Err(out_of_memory), "behind {granted}");
-        let after = (held(), format!("{agent:?}"), agent.claim());
+        let after = (held(), handle.shown());
         assert_eq!(after, before, "behind {granted}");
     }
     panic!("it takes memory without end");
@@ -147,6 +221,51 @@ fn refused_tables() {
     assert!(tried.iter().all(|&count| count > 0), "{tried:?}");
 }
 
+// What a replica tells that learned none of the rows, for want of memory.
+const NONE_LEARNED: LearnError = LearnError {
+    taken: 0,
+    fault: LearnFault::OutOfMemory,
+};
+
+/// What opens a replica, or makes or copies a table of it.
+#[test]
+fn refused_tables_of_replicas() {
+    let memory = OutOfMemory;
+    let tried = [
+        refusals(open(1), LogError::Memory(memory), |_| Replica::open(HEADER)),
+        refusals(learned(PLAN), RowError::Memory(memory), |replica| {
+            replica.next(2)
+        }),
+        refusals(learned(PLAN), NONE_LEARNED, |replica| {
+            replica.learn([ROWS[PLAN]])
+        }),
+    ];
+    assert!(tried.iter().all(|&count| count > 0), "{tried:?}");
+}
+
+/// If memory ends in mid-way, the rows before that are learned. The others are once there is some.
+#[test]
+fn refused_in_mid_way() {
+    let whole = learned(ROWS.len()).shown();
+    let mut stopped = 0;
+    for granted in 0..1000 {
+        let mut replica = learned(0);
+        let (given, was_refused) = refused_behind(granted, || replica.learn(ROWS));
+        if !was_refused {
+            assert_eq!(given, Ok(ROWS.len()));
+            assert!(stopped > 0);
+            return;
+        }
+        let LearnError { taken, fault } = given.expect_err("it was refused");
+        assert_eq!(fault, LearnFault::OutOfMemory);
+        assert_eq!(replica.shown(), learned(taken).shown());
+        stopped += taken;
+        assert_eq!(replica.learn(&ROWS[taken..]), Ok(ROWS.len() - taken));
+        assert_eq!(replica.shown(), whole);
+    }
+    panic!("it takes memory without end");
+}
+
 /// What reads a trace.
 #[test]
 fn refused_traces() {
@@ -165,6 +284,26 @@ fn refused_texts() {
     refusals(waiting(), ServeError::Memory(memory), |agent| {
         agent.serve(LINES[0])
     });
+    refusals(open(1), HeaderError::Memory(memory), |_| setup().header());
+    for node in [1, 2] {
+        refusals(learned(2), RowError::Memory(memory), |replica| {
+            replica.next(node)
+        });
+        refusals(learned(2), RowError::Memory(memory), |replica| {
+            replica.event(node, ReplicaEvent::Crash)
+        });
+    }
+    for (count, row) in ROWS.iter().enumerate() {
+        refusals(learned(count), NONE_LEARNED, |replica| replica.learn([row]));
+    }
+}
+
+/// What shows a replica takes none: the header has no such status of it.
+#[test]
+fn shows_take_none() {
+    let replica = learned(ROWS.len());
+    let (shown, was_refused) = refused_behind(0, || replica.shown());
+    assert_eq!((shown, was_refused), (replica.shown(), false));
 }
 
 /// No other event takes memory: the header has no such status of them.

@@ -1,7 +1,9 @@
-//! What one agent refuses, by each fault that the header has: nothing changes then. The faults of lines are those of `docs/NODE.md`.
+//! What one agent or one replica refuses, by each fault that the header has: nothing changes then. The faults of lines are those of
+//! `docs/NODE.md`. `replicas.rs` has the faults of rows that are learned.
 
 use bully::{
-    Agent, Answer, LineFault, NodeFault, OpenError, PlanError, PrepareError, Refused, ReplyError,
+    Agent, Answer, FormFault, HeaderError, LearnError, LearnFault, LineFault, LogError, NodeFault,
+    OpenError, PlanError, PrepareError, Refused, Replica, ReplicaEvent, ReplyError, RowError,
     ServeError, Setup, SetupFault, Status, TableFault, Want,
 };
 
@@ -384,6 +386,192 @@ fn long_texts() {
     assert_eq!(claim, format!("saw,1,normal,1024,1024,-,{table}\n"));
 }
 
+// ---- Replicas ----
+
+const EVENTS: [ReplicaEvent; 5] = [
+    ReplicaEvent::Crash,
+    ReplicaEvent::Recover,
+    ReplicaEvent::Check,
+    ReplicaEvent::Timeout,
+    ReplicaEvent::Drop,
+];
+
+// A replica of two nodes and three partitions that learned these rows, parted by spaces.
+fn learned(rows: &str) -> Replica {
+    let mut replica = Replica::open("bully,1,2,3").expect("a header");
+    replica.learn(rows.split_whitespace()).expect("rows");
+    replica
+}
+
+// All that a replica shows, to see that nothing changed.
+fn shown_by(replica: &Replica) -> String {
+    let nodes = [1, 2].map(|node| {
+        let numbers = (replica.up(node), replica.task(node));
+        (replica.state(node), numbers, replica.next(node))
+    });
+    format!("{replica:?} {nodes:?} {:?}", replica.planned())
+}
+
+// What becomes of these events of the node: each is refused for its cause, or gives its row.
+fn assert_events(replica: &Replica, node: u16, wanted: [Option<Refused>; 5]) {
+    let before = shown_by(replica);
+    for (event, cause) in EVENTS.into_iter().zip(wanted) {
+        let wanted = match cause {
+            Some(cause) => Err(RowError::Refused(cause)),
+            None => Ok(format!("{event},{node}")),
+        };
+        assert_eq!(replica.event(node, event), wanted, "{event}");
+    }
+    assert_eq!(shown_by(replica), before);
+}
+
+#[test]
+fn header_refuses() {
+    let setups = [
+        (Setup::new(0, 0, 0), SetupFault::BadNodes),
+        (Setup::new(1025, 1, 1), SetupFault::BadNodes),
+        (Setup::new(3, 0, 0), SetupFault::BadPartitions),
+        (Setup::new(3, 4097, 1), SetupFault::BadPartitions),
+        (Setup::new(3, 3, 0).with_weights([0]), SetupFault::BadLimit),
+        (Setup::new(3, 3, 1_000_001), SetupFault::BadLimit),
+        (setup().with_weights([1, 1]), SetupFault::BadWeights),
+        (setup().with_weights([1, 0, 1]), SetupFault::BadWeights),
+        (setup().with_weights([1, 1001, 1]), SetupFault::BadWeights),
+    ];
+    for (setup, fault) in setups {
+        assert_eq!(setup.header(), Err(HeaderError::Setup(fault)));
+    }
+}
+
+#[test]
+fn open_replica_refuses() {
+    let no_headers = [
+        "",
+        "\n",
+        "bully",
+        "bully,1,2",
+        "bully,1,0,3",
+        "bully,1,65,3",
+        "bully,1,2,257",
+        "bully,2,2,3",
+        "bully,2,2,3,1 0,keep",
+        "bully,2,2,3,1,keep",
+        "bully,2,2,3,1 1,yes",
+        "bully,4,2,3,1 1,keep",
+        "Bully,1,2,3",
+        "recover,1",
+        "bully,1,2,3\nrecover,1",
+        "bully,1,2,3\nrecover,1\n",
+        "bully,1,2,3\nbully,1,2,3\n",
+    ];
+    for text in no_headers {
+        let fault = Replica::open(text).err();
+        let wanted = Some(LogError::Header(FormFault::BadHeader));
+        assert_eq!(fault, wanted, "{text:?}");
+    }
+    for header in ["bully,1,2,3", "bully,1,2,3\n", "bully,3,2,3,1 1,clear"] {
+        let replica = Replica::open(header).expect("a header");
+        assert_eq!(shown_by(&replica), shown_by(&learned("")));
+    }
+}
+
+/// What a new replica shows of each node: it is Down, and rests.
+#[test]
+fn a_new_replica_has_all_nodes_down() {
+    let replica = learned("");
+    for node in [1, 2] {
+        let state = replica.state(node).expect("a node of the group");
+        assert_eq!((state.node, state.status), (node, Status::Down));
+        assert_eq!((state.coordinator, state.halter), (None, None));
+        assert_eq!((state.wants, state.call), (Want::Nothing, None));
+        assert_eq!((state.events, state.generation, state.number), (0, 0, 0));
+        assert_eq!(
+            (replica.up(node), replica.task(node)),
+            (Ok(vec![]), Ok(None))
+        );
+        assert_eq!(replica.next(node), Ok(None));
+    }
+    assert_eq!(replica.planned(), None);
+}
+
+#[test]
+fn replica_refuses_strangers() {
+    let replica = learned("recover,1");
+    let before = shown_by(&replica);
+    for node in [0, 3, 65535] {
+        let fault = NodeFault::BadNode;
+        assert_eq!(replica.next(node), Err(RowError::Node(fault)));
+        for event in EVENTS {
+            assert_eq!(replica.event(node, event), Err(RowError::Node(fault)));
+        }
+        assert_eq!(replica.state(node), Err(fault));
+        assert_eq!(replica.up(node), Err(fault));
+        assert_eq!(replica.task(node), Err(fault));
+    }
+    assert_eq!(shown_by(&replica), before);
+}
+
+/// Each event of a node that is Down, that asks another one, that is idle, or that has an orphan.
+#[test]
+fn replica_refuses_events() {
+    let [is_down, is_up] = [Some(Refused::IsDown), Some(Refused::IsUp)];
+    let [busy, no_call] = [Some(Refused::Busy), Some(Refused::NoCall)];
+    let replica = learned("");
+    assert_events(&replica, 1, [is_down, None, is_down, is_down, is_down]);
+    let replica = learned("recover,1");
+    assert_events(&replica, 1, [None, is_up, busy, busy, no_call]);
+    let replica = learned("recover,1 start,1");
+    let not_orphan = Some(Refused::NotOrphan);
+    assert_events(&replica, 1, [None, is_up, busy, busy, not_orphan]);
+    let replica = learned("recover,1 recover,2 start,1 run,1 return,1");
+    assert_events(&replica, 1, [None, is_up, None, None, no_call]);
+    let replica = learned("recover,1 recover,2 start,1 move,2 start,2 run,2");
+    assert_events(&replica, 1, [None, is_up, None, None, None]);
+}
+
+/// A log with as many events as it has room for. Nothing is appended, also if the node would be refused for another cause.
+#[test]
+fn a_full_log() {
+    let full = Err(RowError::Refused(Refused::Full));
+    let mut replica = Replica::open("bully,1,1,1").expect("a header");
+    let rows = ["recover,1", "crash,1"].into_iter().cycle();
+    assert_eq!(replica.learn(rows.clone().take(999_999)), Ok(999_999));
+    assert_eq!(
+        replica.next(1).as_ref().map(Option::as_deref),
+        Ok(Some("move,1"))
+    );
+    assert_eq!(replica.learn(["move,1"]), Ok(1));
+    assert_eq!(replica.group().events, 1_000_000);
+    assert_eq!(replica.next(1).map(drop), full);
+    for event in EVENTS {
+        assert_eq!(replica.event(1, event).map(drop), full, "{event}");
+    }
+    let fault = LearnFault::Form(FormFault::TooManyRows);
+    assert_eq!(
+        replica.learn(["crash,1"]),
+        Err(LearnError { taken: 0, fault })
+    );
+
+    let mut resting = Replica::open("bully,1,1,1").expect("a header");
+    assert_eq!(resting.learn(rows.take(1_000_000)), Ok(1_000_000));
+    assert_eq!(resting.next(1), Ok(None)); // it is Down
+    assert_eq!(resting.event(1, ReplicaEvent::Crash).map(drop), full);
+}
+
+/// A log that has room for events, but not for a row, since claims are rows, too.
+#[test]
+fn a_log_full_of_claims() {
+    let mut replica = learned("recover,1");
+    let claims = std::iter::repeat_n("saw,1,election,-", 999_999);
+    assert_eq!(replica.learn(claims), Ok(999_999));
+    let group = replica.group();
+    assert_eq!((group.rows, group.events), (1_000_000, 1));
+    let full = Err(RowError::Refused(Refused::Full));
+    assert_eq!(replica.next(1).map(drop), full);
+}
+
+// ---- Errors ----
+
 /// Each error says what is wrong, and may be handed on as one.
 #[test]
 fn errors_tell() {
@@ -397,4 +585,13 @@ fn errors_tell() {
         OpenError::Task(TableFault::Owner)
     );
     assert_eq!(format!("{:>8}", Answer::Yes), "     yes");
+    assert_eq!(format!("{:>8}", ReplicaEvent::Drop), "    drop");
+    let refused = LearnError {
+        taken: 2,
+        fault: LearnFault::Refused(Refused::IsDown),
+    };
+    assert_eq!(refused.to_string(), "rows learned: 2; the node is down");
+    let fault: Box<dyn std::error::Error + Send + Sync> =
+        Box::new(LearnFault::NotOneRow { place: 3 });
+    assert_eq!(fault.to_string(), "the text at place 3 isn't one row");
 }

@@ -12,16 +12,16 @@ use Rattle.bully_world.specs.Step.{IsUp}
 use Rattle.bully_world.specs.World.{World, vector, point, pending, member, with_member}
 use Rattle.bully_agree.proofs.Changes.Shrinks.{shrinks}
 use Rattle.bully_agree.proofs.Fitting.{has_failed, summary_of, written}
-use Rattle.bully_agree.proofs.NodeSummary.{GroupInvariant}
+use Rattle.bully_agree.proofs.NodeSummary.{Origin, GroupInvariant}
 
 -- an idle node has no live call, so none that failed
 unfailed : (setup : Setup) (i : ℕ) (v : Vector) (c : Option Pending) → SuitsPending setup i v Idle c → has_failed c ≡ false
 unfailed setup i v None suits = refl
 unfailed setup i v (Some c) suits = grind (arith, suits.live)
 
-begin_keeps : (setup : Setup) (w : World) (i : ℕ) (q : Point) → WorldInvariant setup w → GroupInvariant (summary_of setup w) → IsUp w i → point w i ≡ Idle → IsBeginning i q
-    → GroupInvariant (summary_of setup (with_member w i (record (member w i) { point = q })))
-begin_keeps setup w i q all kept up idle begins = shrinks (written setup w i _ all (node_of_up setup w i all up)) kept (record {
+begin_keeps : {last : Origin} (setup : Setup) (w : World) (i : ℕ) (q : Point) → WorldInvariant setup w → GroupInvariant last (summary_of setup w) → IsUp w i → point w i ≡ Idle → IsBeginning i q
+    → GroupInvariant last (summary_of setup (with_member w i (record (member w i) { point = q })))
+begin_keeps {last} setup w i q all kept up idle begins = shrinks (written setup w i _ all (node_of_up setup w i all up)) kept (record {
   asked = λ k l a. grind (arith, begins, no_failure);
   passed = λ k l a. grind (arith, idle);
   halts = λ h. grind (arith, begins);
@@ -35,10 +35,10 @@ begin_keeps setup w i q all kept up idle begins = shrinks (written setup w i _ a
     no_failure : has_failed (pending w i) ≡ false
     no_failure = unfailed setup i (vector w i) (pending w i) (rw idle at (all.fits i).by_call)
 
-pub check_keeps : (setup : Setup) (w : World) (i : ℕ) → WorldInvariant setup w → GroupInvariant (summary_of setup w) → IsUp w i → point w i ≡ Idle
-    → GroupInvariant (summary_of setup (with_member w i (record (member w i) { point = checked setup i (vector w i).status (vector w i).coordinator })))
-check_keeps setup w i all kept up idle = begin_keeps setup w i _ all kept up idle (grind arith)
+pub check_keeps : {last : Origin} (setup : Setup) (w : World) (i : ℕ) → WorldInvariant setup w → GroupInvariant last (summary_of setup w) → IsUp w i → point w i ≡ Idle
+    → GroupInvariant last (summary_of setup (with_member w i (record (member w i) { point = checked setup i (vector w i).status (vector w i).coordinator })))
+check_keeps {last} setup w i all kept up idle = begin_keeps setup w i _ all kept up idle (grind arith)
 
-pub timeout_keeps : (setup : Setup) (w : World) (i : ℕ) → WorldInvariant setup w → GroupInvariant (summary_of setup w) → IsUp w i → point w i ≡ Idle
-    → GroupInvariant (summary_of setup (with_member w i (record (member w i) { point = timed_out i (vector w i).status (vector w i).coordinator })))
-timeout_keeps setup w i all kept up idle = begin_keeps setup w i _ all kept up idle (grind arith)
+pub timeout_keeps : {last : Origin} (setup : Setup) (w : World) (i : ℕ) → WorldInvariant setup w → GroupInvariant last (summary_of setup w) → IsUp w i → point w i ≡ Idle
+    → GroupInvariant last (summary_of setup (with_member w i (record (member w i) { point = timed_out i (vector w i).status (vector w i).coordinator })))
+timeout_keeps {last} setup w i all kept up idle = begin_keeps setup w i _ all kept up idle (grind arith)

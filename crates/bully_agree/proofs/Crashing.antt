@@ -9,8 +9,8 @@ use Rattle.bully_world.specs.Step.{IsUp}
 use Rattle.bully_world.specs.World.{World, vector, with_member}
 use Rattle.bully_agree.proofs.Changes.Shrinks.{forgets, shrinks}
 use Rattle.bully_agree.proofs.Fitting.{summary_of, written}
-use Rattle.bully_agree.proofs.NodeSummary.{GroupInvariant}
+use Rattle.bully_agree.proofs.NodeSummary.{Origin, GroupInvariant}
 
-pub crash_keeps : (setup : Setup) (w : World) (i : ℕ) → WorldInvariant setup w → GroupInvariant (summary_of setup w) → IsUp w i
-    → GroupInvariant (summary_of setup (with_member w i (record { vector = crashed setup (vector w i); point = Idle; pending = None })))
-crash_keeps setup w i all kept up = shrinks (written setup w i _ all (node_of_up setup w i all up)) kept (forgets (grind arith) (grind arith) refl refl refl refl refl)
+pub crash_keeps : {last : Origin} (setup : Setup) (w : World) (i : ℕ) → WorldInvariant setup w → GroupInvariant last (summary_of setup w) → IsUp w i
+    → GroupInvariant last (summary_of setup (with_member w i (record { vector = crashed setup (vector w i); point = Idle; pending = None })))
+crash_keeps {last} setup w i all kept up = shrinks (written setup w i _ all (node_of_up setup w i all up)) kept (forgets (grind arith) (grind arith) refl refl refl refl refl)

@@ -11,7 +11,9 @@ pub mod Returning
 pub mod Moving
 pub mod Planning
 pub mod Running
+pub mod PlanLemmas
 pub mod Law
+pub mod FenceLemmas
 pub mod KeptLemmas
 pub mod ViewLemmas
 pub mod RunLemmas

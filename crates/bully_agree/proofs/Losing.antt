@@ -14,7 +14,7 @@ use Rattle.bully_agree.proofs.Changes.Asks.{asks}
 use Rattle.bully_agree.proofs.Changes.Passes.{passes}
 use Rattle.bully_agree.proofs.Changes.Shrinks.{calls_on, shrinks}
 use Rattle.bully_agree.proofs.Fitting.{summary, summary_of, written, all_local}
-use Rattle.bully_agree.proofs.NodeSummary.{NodeSummary, GroupInvariant, Turns}
+use Rattle.bully_agree.proofs.NodeSummary.{NodeSummary, Origin, GroupInvariant, Turns}
 
 -- the failure comes to nothing, to one node more that was asked past, or to one more that was passed
 abbrev Loss : ℕ → ℕ → NodeSummary → NodeSummary → Type 0
@@ -27,10 +27,10 @@ lost : (setup : Setup) (i : ℕ) (v : Vector) (p : Point) (c : Pending) → Suit
     → Loss i c.call.callee (summary setup.nodes i v p (Some c)) (summary setup.nodes i v p (Some (record c { phase = Phase.Failed })))
 lost setup i v p c suits not_failed = grind (arith, suits, not_failed)
 
-pub lose_keeps : (setup : Setup) (w : World) (i : ℕ) (c : Pending) → WorldInvariant setup w → GroupInvariant (summary_of setup w) → pending w i ≡ Some c → c.phase ≢ Phase.Failed
+pub lose_keeps : {last : Origin} (setup : Setup) (w : World) (i : ℕ) (c : Pending) → WorldInvariant setup w → GroupInvariant last (summary_of setup w) → pending w i ≡ Some c → c.phase ≢ Phase.Failed
     → (vector w c.call.callee).status ≡ Down
-    → GroupInvariant (summary_of setup (with_phase w i c Phase.Failed))
-lose_keeps setup w i c all kept is not_failed down = by_case (lost setup i (vector w i) (point w i) c (call_of_pending setup w i c all is) not_failed)
+    → GroupInvariant last (summary_of setup (with_phase w i c Phase.Failed))
+lose_keeps {last} setup w i c all kept is not_failed down = by_case (lost setup i (vector w i) (point w i) c (call_of_pending setup w i c all is) not_failed)
   where
     before : NodeSummary
     before = summary setup.nodes i (vector w i) (point w i) (Some c)
@@ -41,7 +41,7 @@ lose_keeps setup w i c all kept is not_failed down = by_case (lost setup i (vect
     turn : Turns (summary_of setup w) (summary_of setup (with_phase w i c Phase.Failed)) i after
     turn = written setup w i _ all (node_of_pending setup w i c all is).0
 
-    by_case : Loss i c.call.callee before after → GroupInvariant (summary_of setup (with_phase w i c Phase.Failed))
+    by_case : Loss i c.call.callee before after → GroupInvariant last (summary_of setup (with_phase w i c Phase.Failed))
     by_case (inl less) = shrinks turn kept (rw is (calls_on refl less.0 less.1 (λ k e. grind arith) (λ k e. grind arith)))
     by_case (inr (inl more)) = asks {c = i} {d = c.call.callee} (all_local setup w all) kept (rw is (rw more.1 at turn)) down (rw is more.0)
     by_case (inr (inr more)) =

@@ -17,7 +17,7 @@ use Rattle.bully_agree.proofs.Changes.Finishes.{finishes}
 use Rattle.bully_agree.proofs.Changes.Leads.{leads_now}
 use Rattle.bully_agree.proofs.Changes.Shrinks.{Shrinks, shrinks}
 use Rattle.bully_agree.proofs.Fitting.{summary, summary_of, written, all_local}
-use Rattle.bully_agree.proofs.NodeSummary.{Rests, Calls, NodeSummary, leads, GroupInvariant, Turns}
+use Rattle.bully_agree.proofs.NodeSummary.{Rests, Calls, NodeSummary, leads, Origin, GroupInvariant, Turns}
 
 module _ (setup : Setup) (i : ℕ) (v : Vector) (p q : Point) (offers : offered setup v.coordinator p ≡ Want.Move) (next : next_point setup i v.up p Outcome.Moved ≡ Some q) where
   abbrev before : NodeSummary
@@ -50,10 +50,10 @@ module _ (setup : Setup) (i : ℕ) (v : Vector) (p q : Point) (offers : offered 
     readies_on = λ k e. grind arith;
   }
 
-pub move_keeps : (setup : Setup) (w w' : World) (i : ℕ) → WorldInvariant setup w → GroupInvariant (summary_of setup w) → IsUp w i → pending w i ≡ None
+pub move_keeps : {last : Origin} (setup : Setup) (w w' : World) (i : ℕ) → WorldInvariant setup w → GroupInvariant last (summary_of setup w) → IsUp w i → pending w i ≡ None
     → offer setup w i ≡ Want.Move → Proceeds setup w i Outcome.Moved w'
-    → GroupInvariant (summary_of setup w')
-move_keeps setup w w' i all kept up free offers (q, next, becomes) = rw becomes (by_case (moved setup i v p q offers next))
+    → GroupInvariant last (summary_of setup w')
+move_keeps {last} setup w w' i all kept up free offers (q, next, becomes) = rw becomes (by_case (moved setup i v p q offers next))
   where
     v : Vector
     v = vector w i
@@ -71,10 +71,10 @@ move_keeps setup w w' i all kept up free offers (q, next, becomes) = rw becomes 
     nobody : (summary_of setup w 0).asked ≡ 0
     nobody = grind (arith, (all.fits 0).a_node, (all.fits 0).down_idle)
 
-    by_case : Move setup i v p q offers next → GroupInvariant (summary_of setup now)
+    by_case : Move setup i v p q offers next → GroupInvariant last (summary_of setup now)
     by_case (inl halted) =
         leads_now {c = i} (all_local setup w all) kept (rw free (rw halted.1 at turn))
-        (grind (arith, halted.0)) (grind (arith, halted.0)) (grind (arith, halted.0, free)) (grind (arith, free)) nobody
+        (grind (arith, halted.0)) (grind (arith, halted.0)) (grind (arith, halted.0, free)) (grind (arith, free)) (grind (arith, free)) nobody
     by_case (inr (inl handed)) = finishes {c = i} (all_local setup w all) kept (rw free (rw handed.1 at turn)) (grind (arith, handed.0)) (grind (arith, free))
     by_case (inr (inr other)) =
         shrinks turn kept (rw free (quiet setup i v p q offers next (summary_of setup w) (grind (arith, free)) (grind (arith, offers, other.0, other.1)) other.0 other.1))

@@ -92,19 +92,34 @@ pub record Agrees (f : ℕ → NodeSummary) : Type 0 where
   pub has_task : (j : ℕ) → (f j).status ≡ Normal → IsSome (f j).task
   pub same_task : (i j : ℕ) → (f i).status ≡ Normal → (f j).status ≡ Normal → (f i).task ≡ (f j).task
 
+-- the planner and the table of the last plan, if there was one
+pub record Origin : Type 0 where
+  pub planner : Option ℕ
+  pub table : Option (List ℕ)
+
+-- what nodes do their part by comes from the last plan
+pub record Fenced (last : Origin) (f : ℕ → NodeSummary) : Type 0 where
+  pub normal_planner : (j : ℕ) → (f j).status ≡ Normal → (f j).coordinator ≡ last.planner
+  pub normal_table : (j : ℕ) → (f j).status ≡ Normal → (f j).task ≡ last.table
+  pub hands_planner : (m : ℕ) → (f m).activity ≡ Hands → last.planner ≡ Some m
+  pub hands_table : (m : ℕ) → (f m).activity ≡ Hands → (f m).task ≡ last.table
+  pub readied_planner : (m k : ℕ) → Readies f m k → last.planner ≡ Some m
+  pub readied_table : (m k : ℕ) → Readies f m k → (f m).carries ≡ last.table
+
 -- what holds between the nodes
-pub record GroupInvariant (f : ℕ → NodeSummary) : Type 0 where
+pub record GroupInvariant (last : Origin) (f : ℕ → NodeSummary) : Type 0 where
   pub elections : Elections f
   pub announcements : Announcements f
   pub leaders : Leaders f
   pub agrees : Agrees f
+  pub fenced : Fenced last f
 
 -- from f to g, node c turns to the summary t and no other node changes
 pub record Turns (f g : ℕ → NodeSummary) (c : ℕ) (t : NodeSummary) : Type 0 where
   pub same : (j : ℕ) → ((j ≡ c) × (g j ≡ t)) ⊎ ((j ≢ c) × (g j ≡ f j))
 
 -- where c asked past all above it and passed all below it, nobody else announces
-pub sole : (n c : ℕ) (f : ℕ → NodeSummary) → AllLocal n f → GroupInvariant f → n < (f c).asked → (f c).passed ≤ 1
+pub sole : {last : Origin} (n c : ℕ) (f : ℕ → NodeSummary) → AllLocal n f → GroupInvariant last f → n < (f c).asked → (f c).passed ≤ 1
     → ((f c).status ≡ Election → (f c).halter ≡ Some c) → (m k : ℕ) → Announces f m k → m ≡ c
-sole n c f local kept asked passed own m k a =
+sole {last} n c f local kept asked passed own m k a =
     grind (arith, own, kept.announcements.unpassed c m k a, kept.announcements.unasked c m k a, (local k).a_node, a.status, a.halter)

@@ -8,11 +8,11 @@ use Rattle.bully_world.specs.NodeInvariant.{WorldInvariant}
 use Rattle.bully_world.specs.World.{World, vector, point, pending, member, with_member}
 use Rattle.bully_agree.proofs.Changes.Plans.{plans}
 use Rattle.bully_agree.proofs.Fitting.{summary_of, written, all_local}
-use Rattle.bully_agree.proofs.NodeSummary.{Hands, GroupInvariant, Turns}
+use Rattle.bully_agree.proofs.NodeSummary.{Hands, Origin, GroupInvariant, Turns}
 
-pub plan_keeps : (setup : Setup) (w : World) (i : ℕ) (table : List ℕ) → WorldInvariant setup w → GroupInvariant (summary_of setup w) → point w i ≡ Planning → pending w i ≡ None
-    → GroupInvariant (summary_of setup (with_member w i (record { vector = record (vector w i) { task = Some table }; point = Readying (vector w i).up; pending = None })))
-plan_keeps setup w i table all kept planning free = plans (all_local setup w all) kept turn (grind (arith, planning))
+pub plan_keeps : {last : Origin} (setup : Setup) (w : World) (i : ℕ) (table : List ℕ) → WorldInvariant setup w → GroupInvariant last (summary_of setup w) → point w i ≡ Planning → pending w i ≡ None
+    → GroupInvariant (record { planner = Some i; table = Some table }) (summary_of setup (with_member w i (record { vector = record (vector w i) { task = Some table }; point = Readying (vector w i).up; pending = None })))
+plan_keeps {last} setup w i table all kept planning free = plans (all_local setup w all) kept turn (grind (arith, planning))
   where
     now : World
     now = with_member w i (record { vector = record (vector w i) { task = Some table }; point = Readying (vector w i).up; pending = None })

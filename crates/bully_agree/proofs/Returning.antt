@@ -14,7 +14,7 @@ use Rattle.bully_world.specs.World.{World, vector, point, pending}
 use Rattle.bully_agree.proofs.Changes.Shrinks.{Shrinks, shrinks}
 use Rattle.bully_agree.proofs.Dropping.{drop_keeps}
 use Rattle.bully_agree.proofs.Fitting.{summary, summary_of, written}
-use Rattle.bully_agree.proofs.NodeSummary.{NodeSummary, GroupInvariant}
+use Rattle.bully_agree.proofs.NodeSummary.{NodeSummary, Origin, GroupInvariant}
 
 module _ (setup : Setup) (i : ℕ) (v : Vector) (p : Point) (c : Pending) (f : ℕ → NodeSummary) where
   -- what a live call brought was read off the call already
@@ -31,10 +31,10 @@ module _ (setup : Setup) (i : ℕ) (v : Vector) (p : Point) (c : Pending) (f : �
     readies_on = λ k e. grind arith;
   }
 
-pub return_keeps : (setup : Setup) (w w' : World) (i : ℕ) (c : Pending) (o : Outcome) (a : Answer) (live : Bool) → c.is_live ≡ live
-    → WorldInvariant setup w → GroupInvariant (summary_of setup w) → pending w i ≡ Some c → outcome_of c.phase ≡ Some o → Returns setup w i live o w' a
-    → GroupInvariant (summary_of setup w')
-return_keeps setup w w' i c o a true live all kept is done ((q, next, becomes), answered) =
+pub return_keeps : {last : Origin} (setup : Setup) (w w' : World) (i : ℕ) (c : Pending) (o : Outcome) (a : Answer) (live : Bool) → c.is_live ≡ live
+    → WorldInvariant setup w → GroupInvariant last (summary_of setup w) → pending w i ≡ Some c → outcome_of c.phase ≡ Some o → Returns setup w i live o w' a
+    → GroupInvariant last (summary_of setup w')
+return_keeps {last} setup w w' i c o a true live all kept is done ((q, next, becomes), answered) =
     rw becomes (shrinks (written setup w i _ all (node_of_pending setup w i c all is).0) kept
     (rw is (live_shrinks setup i (vector w i) (point w i) c (summary_of setup w) o q live done next)))
-return_keeps setup w w' i c o a false live all kept is done (becomes, answered) = rw becomes (drop_keeps setup w i c all kept is live)
+return_keeps {last} setup w w' i c o a false live all kept is done (becomes, answered) = rw becomes (drop_keeps setup w i c all kept is live)

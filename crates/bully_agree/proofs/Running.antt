@@ -21,7 +21,7 @@ use Rattle.bully_agree.proofs.Changes.Joins.{joins}
 use Rattle.bully_agree.proofs.Changes.Passes.{passes}
 use Rattle.bully_agree.proofs.Changes.Shrinks.{Shrinks, calls_on, shrinks, unmoved}
 use Rattle.bully_agree.proofs.Fitting.{summary, summary_at, summary_of, turns, written, all_local}
-use Rattle.bully_agree.proofs.NodeSummary.{NodeSummary, GroupInvariant, Turns}
+use Rattle.bully_agree.proofs.NodeSummary.{NodeSummary, Origin, GroupInvariant, Turns}
 
 -- the caller
 module _ (setup : Setup) (i : ℕ) (v : Vector) (p : Point) (c : Pending) (a : Answer) (suits : SuitsCall setup i v p c) (was_sent : c.phase ≡ Phase.Sent) where
@@ -58,7 +58,7 @@ halted_shrinks setup i d v p q f none far = record {
   readies_on = λ k e. grind arith;
 }
 
-module _ (setup : Setup) (w : World) (i : ℕ) (c : Pending) (all : WorldInvariant setup w) (kept : GroupInvariant (summary_of setup w)) (is : pending w i ≡ Some c) (was_sent : c.phase ≡ Phase.Sent) (up : IsUp w c.call.callee) where
+module _ {last : Origin} (setup : Setup) (w : World) (i : ℕ) (c : Pending) (all : WorldInvariant setup w) (kept : GroupInvariant last (summary_of setup w)) (is : pending w i ≡ Some c) (was_sent : c.phase ≡ Phase.Sent) (up : IsUp w c.call.callee) where
   suits : SuitsCall setup i (vector w i) (point w i) c
   suits = call_of_pending setup w i c all is
 
@@ -80,7 +80,7 @@ module _ (setup : Setup) (w : World) (i : ℕ) (c : Pending) (all : WorldInvaria
   after_call kind = stopped_by kind (record (member w c.call.callee) { vector = callee_after i kind c.table (vector w c.call.callee) })
 
   abbrev Hears : CallKind → Type 0
-  Hears kind = c.call.kind ≡ kind → Turns (summary_of setup w) (summary_of setup between) c.call.callee (summary_at setup c.call.callee (after_call kind)) → GroupInvariant (summary_of setup between)
+  Hears kind = c.call.kind ≡ kind → Turns (summary_of setup w) (summary_of setup between) c.call.callee (summary_at setup c.call.callee (after_call kind)) → GroupInvariant last (summary_of setup between)
 
   hear_halt : Hears Halt
   hear_halt e turn =
@@ -90,7 +90,7 @@ module _ (setup : Setup) (w : World) (i : ℕ) (c : Pending) (all : WorldInvaria
   hear_new_coordinator : Hears NewCoordinator
   hear_new_coordinator e turn = by_test (names (vector w c.call.callee).halter i && is_election (vector w c.call.callee).status) refl
     where
-      by_test : (b : Bool) → names (vector w c.call.callee).halter i && is_election (vector w c.call.callee).status ≡ b → GroupInvariant (summary_of setup between)
+      by_test : (b : Bool) → names (vector w c.call.callee).halter i && is_election (vector w c.call.callee).status ≡ b → GroupInvariant last (summary_of setup between)
       by_test false t = shrinks (rw t at turn) kept unmoved
       by_test true t =
           joins {c = i} {d = c.call.callee} (all_local setup w all) kept (rw t at turn) other
@@ -99,7 +99,7 @@ module _ (setup : Setup) (w : World) (i : ℕ) (c : Pending) (all : WorldInvaria
   hear_ready : Hears Ready
   hear_ready e turn = by_test (names (vector w c.call.callee).coordinator i && is_reorganization (vector w c.call.callee).status) refl
     where
-      by_test : (b : Bool) → names (vector w c.call.callee).coordinator i && is_reorganization (vector w c.call.callee).status ≡ b → GroupInvariant (summary_of setup between)
+      by_test : (b : Bool) → names (vector w c.call.callee).coordinator i && is_reorganization (vector w c.call.callee).status ≡ b → GroupInvariant last (summary_of setup between)
       by_test false t = shrinks (rw t at turn) kept unmoved
       by_test true t =
           follows {c = i} {d = c.call.callee} (all_local setup w all) kept (rw is (rw t at turn))
@@ -115,7 +115,7 @@ module _ (setup : Setup) (w : World) (i : ℕ) (c : Pending) (all : WorldInvaria
   callee_turn : Turns (summary_of setup w) (summary_of setup between) c.call.callee (summary_at setup c.call.callee (after_call c.call.kind))
   callee_turn = written setup w c.call.callee (after_call c.call.kind) all there
 
-  kept_between : GroupInvariant (summary_of setup between)
+  kept_between : GroupInvariant last (summary_of setup between)
   kept_between = hear c.call.kind refl callee_turn
 
   others : (j : ℕ) → j ≢ i → member (ran w i c) j ≡ member between j
@@ -131,7 +131,7 @@ module _ (setup : Setup) (w : World) (i : ℕ) (c : Pending) (all : WorldInvaria
   caller_between : summary_of setup between i ≡ summary setup.nodes i (vector w i) (point w i) (Some c)
   caller_between = ap (summary_at setup i) (member_other w c.call.callee i _ other) ∙ ap (summary setup.nodes i (vector w i) (point w i)) is
 
-  by_halt : (c.call.kind ≢ Halt) ⊎ ((c.is_live ≡ false) ⊎ ((c.call.kind ≡ Halt) × (c.is_live ≡ true))) → GroupInvariant (summary_of setup (ran w i c))
+  by_halt : (c.call.kind ≢ Halt) ⊎ ((c.is_live ≡ false) ⊎ ((c.call.kind ≡ Halt) × (c.is_live ≡ true))) → GroupInvariant last (summary_of setup (ran w i c))
   by_halt (inl n) = shrinks ran_turn kept_between (rw caller_between (quiet setup i (vector w i) (point w i) c answer suits was_sent (summary_of setup between) (inl n)))
   by_halt (inr (inl orphan)) = shrinks ran_turn kept_between (rw caller_between (quiet setup i (vector w i) (point w i) c answer suits was_sent (summary_of setup between) (inr orphan)))
   by_halt (inr (inr (e, live))) =
@@ -141,5 +141,5 @@ module _ (setup : Setup) (w : World) (i : ℕ) (c : Pending) (all : WorldInvaria
       passes {c = i} {d = c.call.callee} kept_between turn_between (grind (arith, suits.callee, e)) (ap (λ t. t.passed) caller_between ∙ halt.0)
       (grind (arith, turn.same c.call.callee)) (grind (arith, turn.same c.call.callee)) (λ m a. grind (arith, turn.same c.call.callee, a.halter))
 
-  pub run_keeps : GroupInvariant (summary_of setup (ran w i c))
+  pub run_keeps : GroupInvariant last (summary_of setup (ran w i c))
   run_keeps = by_halt (grind arith)

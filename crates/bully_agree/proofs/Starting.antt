@@ -16,7 +16,7 @@ use Rattle.bully_agree.proofs.Changes.Announces.{announces}
 use Rattle.bully_agree.proofs.Changes.Readies.{readies}
 use Rattle.bully_agree.proofs.Changes.Shrinks.{Shrinks, calls_on, shrinks}
 use Rattle.bully_agree.proofs.Fitting.{summary, summary_of, written, all_local}
-use Rattle.bully_agree.proofs.NodeSummary.{Calls, Hands, NodeSummary, GroupInvariant, Turns}
+use Rattle.bully_agree.proofs.NodeSummary.{Calls, Hands, NodeSummary, Origin, GroupInvariant, Turns}
 
 module _ (setup : Setup) (i : ℕ) (v : Vector) (p : Point) (call : Call) (offers : offered setup v.coordinator p ≡ Want.Start call) where
   abbrev before : NodeSummary
@@ -43,10 +43,10 @@ module _ (setup : Setup) (i : ℕ) (v : Vector) (p : Point) (call : Call) (offer
   readying : call.kind ≡ Ready → after ≡ record before { readies = Some call.callee; carries = v.task }
   readying e = grind (arith, offers, e)
 
-pub start_keeps : (setup : Setup) (w : World) (i : ℕ) (call : Call) → WorldInvariant setup w → GroupInvariant (summary_of setup w) → IsUp w i → pending w i ≡ None
+pub start_keeps : {last : Origin} (setup : Setup) (w : World) (i : ℕ) (call : Call) → WorldInvariant setup w → GroupInvariant last (summary_of setup w) → IsUp w i → pending w i ≡ None
     → offer setup w i ≡ Want.Start call
-    → GroupInvariant (summary_of setup (with_member w i (record (member w i) { pending = Some (sent call (vector w i)) })))
-start_keeps setup w i call all kept up free offers = by_kind call.kind refl
+    → GroupInvariant last (summary_of setup (with_member w i (record (member w i) { pending = Some (sent call (vector w i)) })))
+start_keeps {last} setup w i call all kept up free offers = by_kind call.kind refl
   where
     v : Vector
     v = vector w i
@@ -60,10 +60,10 @@ start_keeps setup w i call all kept up free offers = by_kind call.kind refl
     turn : Turns (summary_of setup w) (summary_of setup now) i (after setup i v p call offers)
     turn = written setup w i _ all (node_of_up setup w i all up)
 
-    quietly : call.kind ≢ NewCoordinator → call.kind ≢ Ready → GroupInvariant (summary_of setup now)
+    quietly : call.kind ≢ NewCoordinator → call.kind ≢ Ready → GroupInvariant last (summary_of setup now)
     quietly x y = shrinks turn kept (rw free (quiet setup i v p call offers (summary_of setup w) x y))
 
-    by_kind : (k : CallKind) → call.kind ≡ k → GroupInvariant (summary_of setup now)
+    by_kind : (k : CallKind) → call.kind ≡ k → GroupInvariant last (summary_of setup now)
     by_kind AreYouUp e = quietly (grind arith) (grind arith)
     by_kind AreYouNormal e = quietly (grind arith) (grind arith)
     by_kind Halt e = quietly (grind arith) (grind arith)

@@ -1,4 +1,6 @@
+pub mod Actors
 pub mod Agreement
+pub mod Fencing
 pub mod KeptSetup
 pub mod Runs
 pub mod Stages

@@ -1,13 +1,14 @@
 //! What scripts run beside the program. The benchmarks time it beside plain Rust: plans for random groups, turns of a group under
-//! its lock, looks of observers, the records of a trace alone, beside `bully check`, and a watched group in threads. And nodes on
-//! their own do what `bully check` then judges: over a simulated network, and beside a world.
+//! its lock, looks of observers, the records of a trace alone and a trace that a replica learns, beside `bully check`, and a watched
+//! group in threads. And nodes on their own do what `bully check` then judges: over a simulated network, and beside a world.
 //!
-//! It stands on bully_group and bully_node, the crates below them, bully_rows and csv. Nothing stands on it.
+//! It stands on bully_group, bully_node and bully_replica, the crates below them and csv. Nothing stands on it.
 #![tactic(auto)]
 
 mod agents;
 mod following;
 mod hand;
+mod learning;
 mod lines;
 mod lists;
 mod network;
@@ -21,6 +22,7 @@ mod turns;
 mod watching;
 
 use crate::following::{Turns, follow_trace};
+use crate::learning::learn_trace;
 use crate::lines::Lines;
 use crate::network::Breach;
 use crate::planning::plan_rounds;
@@ -42,6 +44,7 @@ enum Task {
     Trace(Simulation),
     Requests(Simulation),
     Follow(Turns),
+    Learn,
 }
 
 fn main(rt: HostRuntime) -> ExitCode {
@@ -57,6 +60,7 @@ fn main(rt: HostRuntime) -> ExitCode {
         Task::Trace(simulation) => tell_trace(alloc, &mut rt.stdout(), &simulation),
         Task::Requests(simulation) => count_requests(alloc, &simulation),
         Task::Follow(turns) => follow_trace(alloc, rt.stdin(), turns),
+        Task::Learn => learn_trace(alloc, rt.stdin(), &mut rt.stdout()),
     };
     match print_lines(&rt, answered) {
         Some(()) => ExitCode::from(0),
@@ -76,8 +80,8 @@ fn print_lines(rt: &HostRuntime, answered: Option<Lines>) -> Option<()> {
 }
 
 // What the words behind the program's name ask for: `plan ROUNDS`, `records`, `turns NODES COUNT`, `quiet NODES LOOKS`,
-// `publishing NODES LOOKS`, `watch TURNS`, `trace NODES SEED STEPS [BREACH]`, `requests NODES STEPS`, `follow`, `agents TURNS` or
-// `world TURNS`.
+// `publishing NODES LOOKS`, `watch TURNS`, `trace NODES SEED STEPS [BREACH]`, `requests NODES STEPS`, `follow`, `learn`, `agents
+// TURNS` or `world TURNS`.
 fn task_asked(rt: &HostRuntime) -> Option<Task> {
     let mut words = env::args(rt).ok()?;
     task_in(&mut words)
@@ -125,6 +129,7 @@ fn task_named(
     match name {
         "records" => Some(Task::Records),
         "follow" => Some(Task::Follow(Turns::None)),
+        "learn" => Some(Task::Learn),
         _ => counting_task(name, first?, second, third, breach),
     }
 }

@@ -3,3 +3,4 @@ pub mod SetLemmas
 pub mod SetupLemmas
 pub mod StepLemmas
 pub mod ReplyLemmas
+mod LogRowLemmas

@@ -5,8 +5,9 @@ use Rattle.bully_base.specs.NodeSet.{with_node}
 use Rattle.bully_base.specs.Setup.{IsNode, IsSetup, Setup}
 use Rattle.bully_calls.specs.declared.call.Answer.{Answer}
 use Rattle.bully_calls.specs.declared.call.Call.{Call}
-use Rattle.bully_calls.specs.Slot.{is_orphan}
+use Rattle.bully_calls.specs.Slot.{Slot, is_orphan}
 use Rattle.bully_handlers.specs.Handler.{reply}
+use Rattle.bully_handlers.specs.Vector.{Vector}
 use Rattle.bully_lines.specs.Texts.{IsRequestFault, reply_of_text, reply_text, request_of_text, request_text}
 use Rattle.bully_lines.specs.declared.fault.RequestFault.{RequestFault}
 use Rattle.bully_lines.specs.declared.fault.ReplyFault.{ReplyFault}
@@ -15,6 +16,7 @@ use Rattle.bully_messages.specs.declared.message.Request.{Request}
 use Rattle.bully_node.specs.Agent.{AgentState, new_agent, wanted}
 use Rattle.bully_node.specs.Calls.{request_of}
 use Rattle.bully_rows.specs.ReadBack.{AreOwners}
+use Rattle.bully_steps.specs.declared.point.Want.{Want}
 use Rattle.bully_table.specs.Planning.{planned}
 use Rattle.bully_events.specs.declared.event.Event.{Event}
 use Rattle.bully_events.specs.declared.event.Refused.{Refused}
@@ -26,10 +28,14 @@ use Rattle.bully_c.specs.declared.held.Held.{Held}
 use Rattle.bully_c.specs.declared.held.Told.{Told}
 use Rattle.bully_c.specs.declared.shown.CState.{CState}
 
--- of an open handle this holds, and it stays open; a closed one is told, and stays closed
+-- of what an open handle has this holds, and it stays open; a closed one is told, and stays closed
+abbrev pub AtOpenOf : (H : Type 0) → (H → ℕ → H → Type 0) → Option H → ℕ → Option H → Type 0
+AtOpenOf H Holds None status new = (status ≡ CLOSED) × (new ≡ None)
+AtOpenOf H Holds (Some held) status new = (after : H) × (new ≡ Some after) × Holds held status after
+
+-- and of an agent's
 abbrev pub AtOpen : (Held → ℕ → Held → Type 0) → Option Held → ℕ → Option Held → Type 0
-AtOpen Holds None status new = (status ≡ CLOSED) × (new ≡ None)
-AtOpen Holds (Some held) status new = (after : Held) × (new ≡ Some after) × Holds held status after
+AtOpen = AtOpenOf Held
 
 -- the status is that of a step which is taken or refused so
 abbrev pub IsStep : {A : Type 0} → (Held → Result A Refused → Held → Type 0) → Held → ℕ → Held → Type 0
@@ -113,14 +119,22 @@ abbrev pub callee_in : Option Call → ℕ
 callee_in None = 0
 callee_in (Some call) = call.callee
 
-abbrev pub shown : AgentState → CState
-shown a =
-    let v = a.member.vector.vector in let call = call_in a.member.slot in
-    record { status = status_number v.status; wants = want_number (wanted a); events = a.events; generation = a.member.generation; call = kind_in call; orphan = if is_orphan a.member.generation a.member.slot then 1 else 0; number = a.number; node = a.node; coordinator = number_or_none v.coordinator; halter = number_or_none v.halter; callee = callee_in call }
+-- of a node with this vector and this slot, of which no number is told
+abbrev pub standing : Vector → Slot → ℕ → Want → CState
+standing v slot generation wants =
+    let call = call_in slot in
+    record { status = status_number v.status; wants = want_number wants; events = 0; generation = generation; call = kind_in call; orphan = if is_orphan generation slot then 1 else 0; number = 0; node = 0; coordinator = number_or_none v.coordinator; halter = number_or_none v.halter; callee = callee_in call }
 
--- nothing changes, and this is shown of the agent
+abbrev pub shown : AgentState → CState
+shown a = record (standing a.member.vector.vector a.member.slot a.member.generation (wanted a)) { events = a.events; number = a.number; node = a.node }
+
+-- nothing changes, and this is shown
+abbrev pub ShowsOf : (H : Type 0) → (H → ℕ → Type 0) → H → ℕ → H → Type 0
+ShowsOf H Says held status after = Says held status × (after ≡ held)
+
+-- and shown of the agent
 abbrev pub Shows : (Held → ℕ → Type 0) → Held → ℕ → Held → Type 0
-Shows Says held status after = Says held status × (after ≡ held)
+Shows = ShowsOf Held
 
 -- ---- what a node should plan
 
@@ -162,6 +176,6 @@ IsOpening s node events task (Some held) status new = (status ≡ OPEN) × (new 
 IsOpening s node events task None status new =
     ((status ≡ OK) × CanOpen s node task × (new ≡ Some (opened s node events task))) ⊎ (RefusesOpening s node task status × (new ≡ None))
 
-abbrev pub IsClosing : Option Held → ℕ → Option Held → Type 0
+abbrev pub IsClosing : {H : Type 0} → Option H → ℕ → Option H → Type 0
 IsClosing None status new = (status ≡ CLOSED) × (new ≡ None)
 IsClosing (Some held) status new = (status ≡ OK) × (new ≡ None)

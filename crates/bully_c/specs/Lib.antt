@@ -3,3 +3,4 @@ pub mod Held
 pub mod Arguments
 pub mod Exports
 pub mod Judged
+pub mod Replicas

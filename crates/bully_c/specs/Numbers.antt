@@ -1,5 +1,5 @@
 -- The numbers by which C knows what the crates below name: those of include/bully.h.
-use Rattle.std.specs.Prelude.{ℕ, Result, Ok, Err}
+use Rattle.std.specs.Prelude.{ℕ, ◌==◌, Option, None, Some, Result, Ok, Err, if◌then◌else◌}
 use Rattle.bully_base.specs.declared.node.Status.{Status}
 use Rattle.bully_base.specs.declared.setup.SetupFault.{SetupFault}
 use Rattle.bully_calls.specs.declared.call.Answer.{Answer}
@@ -9,7 +9,10 @@ use Rattle.bully_lines.specs.declared.fault.RequestFault.{RequestFault}
 use Rattle.bully_rows.specs.declared.trace.TraceCause.{TraceCause}
 use Rattle.bully_steps.specs.declared.point.Want.{Want}
 use Rattle.bully_table.specs.declared.table.TableFault.{TableFault}
+use Rattle.bully_events.specs.declared.event.Event.{Event}
 use Rattle.bully_events.specs.declared.event.Refused.{Refused}
+use Rattle.bully_replica.specs.declared.follower.FollowFault.{FollowFault}
+use Rattle.bully_trace.specs.declared.verdict.Violation.{Violation}
 
 abbrev pub refusal_number : Refused → ℕ
 refusal_number Refused.Full = 1
@@ -53,6 +56,27 @@ trace_number TraceCause.TooManyRows = 52
 trace_number TraceCause.OutOfMemory = 23
 trace_number TraceCause.Read = 23
 trace_number TraceCause.Write = 23
+
+-- of the text of a header: with a row behind it, that is none
+abbrev pub header_number : TraceCause → ℕ
+header_number TraceCause.BadHeader = 50
+header_number TraceCause.BadRow = 50
+header_number TraceCause.TooManyRows = 50
+header_number TraceCause.OutOfMemory = 23
+header_number TraceCause.Read = 23
+header_number TraceCause.Write = 23
+
+-- of a row of a log that isn't learned
+abbrev pub follow_number : FollowFault → ℕ
+follow_number (FollowFault.Form cause) = trace_number cause
+follow_number (FollowFault.Violation (Violation.Refused why)) = refusal_number why
+follow_number (FollowFault.Violation Violation.Differs) = 53
+
+-- the event of node i of this number, if it is one
+abbrev pub event_numbered : ℕ → ℕ → Option Event
+event_numbered number i =
+    if number == 1 then Some (Event.Crash i) else if number == 2 then Some (Event.Recover i) else if number == 3 then Some (Event.Check i)
+    else if number == 4 then Some (Event.Timeout i) else if number == 5 then Some (Event.Drop i) else None
 
 abbrev pub answer_number : Answer → ℕ
 answer_number Answer.Done = 0

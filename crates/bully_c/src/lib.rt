@@ -1,4 +1,5 @@
-//! What C may call: each export is the call of bully_node, bully_trace or bully_table behind it, of arguments that it tests.
+//! What C may call: each export is the call of bully_node, bully_replica, bully_trace or bully_table behind it, of arguments that it
+//! tests.
 //!
 //! It stands on these, on the crates below them, on bully_lines for requests and replies, and on bully_handle. `include/bully.h` says
 //! what each export does, answers and in which order, and `bindings/c/bully.c` stands between it and C.
@@ -7,6 +8,9 @@
 mod agents;
 mod handle;
 mod held;
+mod logs;
+mod replica_handle;
+mod replicas;
 mod requests;
 mod shown;
 mod status;

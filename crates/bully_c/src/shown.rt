@@ -1,15 +1,21 @@
-//! What an agent shows.
+//! What an agent or a replica shows.
 ghost use Rattle.std.specs.Prelude.{◌≡◌, ◌≤◌, ◌++◌, [], drop, length, reverse, unwrap_or};
 ghost use Rattle.std.specs.Option.{option_copied};
 ghost use Rattle.bully_c.specs.Arguments.{IsCopied};
-ghost use Rattle.bully_c.specs.Exports.{callee_in, kind_in, number_or_none, shown};
+ghost use Rattle.bully_c.specs.Exports.{callee_in, kind_in, number_or_none, shown, standing};
+ghost use Rattle.bully_c.specs.Replicas.{agent_in};
+ghost use Rattle.bully_node.specs.Agent.{wanted};
 
 use crate::status::{self, OK, SHORT};
 use crate::tables::put_owners;
 use bully_base::{Node, NodeSet};
-use bully_calls::Call;
+use bully_calls::{Call, Slot};
+use bully_handlers::Vector;
 use bully_node::Agent;
+use bully_steps::Want;
 use bully_table::Table;
+use bully_trace::offer_of;
+use bully_world::World;
 
 /// How a node stands.
 #[repr(C)]
@@ -32,17 +38,55 @@ pub struct CState {
 pub fn state_of(agent: &Agent) -> CState
     ensures { result ≡ shown agent.now }
 {
-    let vector = agent.vector();
-    let slot = agent.slot();
+    let wants = agent.wants();
+    let mut state = standing(agent.vector(), agent.slot(), agent.generation(), wants);
+    state.events = agent.events();
+    state.number = agent.number();
+    state.node = agent.node().number();
+    state
+}
+
+/// How the node, which is at most the setup's last, stands in the world: as an agent of it that started no call yet.
+pub fn state_in(world: &World, node: Node) -> CState
+    requires { node ≤ world.now.setup.nodes }
+    ensures { result ≡ shown (agent_in world.now node) }
+{
+    let wants = wanted_in(world, node);
+    let mut state = standing(
+        world.vector(node),
+        world.slot(node),
+        world.generation(node),
+        wants,
+    );
+    state.events = world.events();
+    state.node = node.number();
+    state
+}
+
+// What the node, which is at most the setup's last, wants to do next.
+fn wanted_in(world: &World, node: Node) -> Want
+    requires { node ≤ world.now.setup.nodes }
+    ensures { result ≡ wanted (agent_in world.now node) }
+{
+    match world.slot(node).call() {
+        Some(_) => Want::Await,
+        None => offer_of(world, node),
+    }
+}
+
+// How a node of this vector and this slot stands, of which no number was told yet.
+fn standing(vector: &Vector, slot: &Slot, generation: u32, wants: Want) -> CState
+    ensures { result ≡ standing vector.now.vector slot.now generation wants }
+{
     CState {
         status: status::of_status(vector.status()),
-        wants: status::of_want(agent.wants()),
-        events: agent.events(),
-        generation: agent.generation(),
+        wants: status::of_want(wants),
+        events: 0,
+        generation,
         call: kind_of(slot.call()),
-        orphan: u32::from(slot.is_orphan(agent.generation())),
-        number: agent.number(),
-        node: agent.node().number(),
+        orphan: u32::from(slot.is_orphan(generation)),
+        number: 0,
+        node: 0,
         coordinator: number_of(vector.coordinator()),
         halter: number_of(vector.halter()),
         callee: callee_of(slot.call()),
@@ -69,8 +113,8 @@ fn callee_of(call: Option<Call>) -> u16
     }
 }
 
-// The node's number, or 0 for none.
-fn number_of(node: Option<Node>) -> u16
+/// The node's number, or 0 for none.
+pub fn number_of(node: Option<Node>) -> u16
     ensures { result ≡ number_or_none node }
 {
     match node {

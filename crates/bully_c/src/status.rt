@@ -2,16 +2,18 @@
 ghost use Rattle.std.specs.Prelude.{◌≡◌};
 ghost use Rattle.bully_events.specs.declared.event.Refused.{Refused};
 ghost use Rattle.bully_lines.specs.declared.fault.RequestFault.{RequestFault};
-ghost use Rattle.bully_c.specs.declared.status.TheConstants.{BAD_NODE, CLOSED, LINE_WORD, NO_MEMBER, OK, OPEN, OUT_OF_MEMORY, SHORT, TABLE_LENGTH, TABLE_OWNER};
-ghost use Rattle.bully_c.specs.Numbers.{answer_number, kind_number, refusal_number, reply_number, request_number, setup_number, status_number, trace_number, want_number};
+ghost use Rattle.bully_c.specs.declared.status.TheConstants.{BAD_EVENT, BAD_HEADER, BAD_NODE, BAD_ROW, CLOSED, LINE_WORD, NO_MEMBER, OK, OPEN, OUT_OF_MEMORY, ROW_DIFFERS, ROW_END, SHORT, TABLE_LENGTH, TABLE_OWNER};
+ghost use Rattle.bully_c.specs.Numbers.{answer_number, event_numbered, follow_number, kind_number, refusal_number, reply_number, request_number, setup_number, status_number, trace_number, want_number};
 
-use bully_base::{SetupFault, Status};
+use bully_base::{Node, SetupFault, Status};
 use bully_calls::{Answer, CallKind};
 use bully_lines::{ReplyFault, RequestFault};
+use bully_replica::FollowFault;
 use bully_rows::TraceCause;
 use bully_steps::Want;
 use bully_table::TableFault;
-use bully_world::Refused;
+use bully_trace::Violation;
+use bully_world::{Event, Refused};
 
 pub const OK: u32 = 0;
 
@@ -31,7 +33,17 @@ pub const TABLE_OWNER: u32 = 30;
 
 pub const NO_MEMBER: u32 = 31;
 
+pub const BAD_EVENT: u32 = 32;
+
 pub const LINE_WORD: u32 = 40;
+
+pub const BAD_HEADER: u32 = 50;
+
+pub const BAD_ROW: u32 = 51;
+
+pub const ROW_DIFFERS: u32 = 53;
+
+pub const ROW_END: u32 = 54;
 
 /// The numbers that stand by themselves.
 pub fn numbers()
@@ -44,7 +56,12 @@ pub fn numbers()
     ensures length { TABLE_LENGTH ≡ 29 }
     ensures owner { TABLE_OWNER ≡ 30 }
     ensures member { NO_MEMBER ≡ 31 }
+    ensures event { BAD_EVENT ≡ 32 }
     ensures word { LINE_WORD ≡ 40 }
+    ensures header { BAD_HEADER ≡ 50 }
+    ensures row { BAD_ROW ≡ 51 }
+    ensures differs { ROW_DIFFERS ≡ 53 }
+    ensures end { ROW_END ≡ 54 }
 {}
 
 /// Of an event that is refused.
@@ -121,10 +138,35 @@ pub fn of_trace(cause: TraceCause) -> u32
     ensures { result ≡ trace_number cause }
 {
     match cause {
-        TraceCause::BadHeader => 50,
-        TraceCause::BadRow => 51,
+        TraceCause::BadHeader => BAD_HEADER,
+        TraceCause::BadRow => BAD_ROW,
         TraceCause::TooManyRows => 52,
         TraceCause::OutOfMemory | TraceCause::Read | TraceCause::Write => OUT_OF_MEMORY,
+    }
+}
+
+/// Of a row of a log that isn't learned.
+pub fn of_follow(fault: FollowFault) -> u32
+    ensures { result ≡ follow_number fault }
+{
+    match fault {
+        FollowFault::Form(cause) => of_trace(cause),
+        FollowFault::Violation(Violation::Refused(why)) => of_refusal(why),
+        FollowFault::Violation(Violation::Differs) => ROW_DIFFERS,
+    }
+}
+
+/// The event of the node of this number, if it is one.
+pub fn event_of(number: u32, node: Node) -> Option<Event>
+    ensures { result ≡ event_numbered number node }
+{
+    match number {
+        1 => Some(Event::Crash(node)),
+        2 => Some(Event::Recover(node)),
+        3 => Some(Event::Check(node)),
+        4 => Some(Event::Timeout(node)),
+        5 => Some(Event::Drop(node)),
+        _ => None,
     }
 }
 

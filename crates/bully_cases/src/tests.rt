@@ -5,6 +5,7 @@ mod configurations;
 mod full_size;
 mod plans;
 mod preparing;
+mod replicas;
 mod runs;
 mod scripts;
 mod streams;

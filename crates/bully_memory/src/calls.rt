@@ -1,6 +1,7 @@
 use crate::agents::{AgentCall, LineCall};
 use crate::changes::Change;
 use crate::groups::Asked;
+use crate::replicas::ReplicaCall;
 use crate::tables::{FullCall, NewCall, TableCall};
 use crate::texts::{TraceCall, Version};
 use crate::watched::Watching;
@@ -20,10 +21,12 @@ pub enum Call {
     Watched(Watching),
     Claim,
     Trace(TraceCall, Version),
+    Replica(ReplicaCall),
+    Follow(Version),
 }
 
 // The name of each call.
-const NAMES: [(&str, Call); 59] = [
+const NAMES: [(&str, Call); 65] = [
     ("Setup::weighted", Call::New(NewCall::Weighted)),
     ("Table::read", Call::New(NewCall::Table)),
     ("Table::read_in", Call::New(NewCall::TableIn)),
@@ -91,6 +94,12 @@ const NAMES: [(&str, Call); 59] = [
     ("check", Call::Trace(TraceCall::Check, Version::First)),
     ("check/2", Call::Trace(TraceCall::Check, Version::Second)),
     ("check/3", Call::Trace(TraceCall::Check, Version::Third)),
+    ("Replica::new", Call::Replica(ReplicaCall::New)),
+    ("Replica::learn", Call::Replica(ReplicaCall::Learn)),
+    ("Replica::next", Call::Replica(ReplicaCall::Next)),
+    ("Follower::take_all", Call::Follow(Version::First)),
+    ("Follower::take_all/2", Call::Follow(Version::Second)),
+    ("Follower::take_all/3", Call::Follow(Version::Third)),
     ("upgrade", Call::Trace(TraceCall::Upgrade, Version::First)),
     (
         "upgrade/2",

@@ -10,6 +10,7 @@ mod changes;
 mod finished;
 mod groups;
 mod opened;
+mod replicas;
 mod tables;
 mod texts;
 mod trying;
@@ -19,6 +20,7 @@ mod worlds;
 use crate::agents::{agent_call, line_call};
 use crate::calls::{Call, call_of};
 use crate::groups::group_call;
+use crate::replicas::{follow_call, replica_call};
 use crate::tables::{full_call, new_call, table_call};
 use crate::texts::{claim_call, trace_call};
 use crate::trying::{Outcome, Trial};
@@ -31,7 +33,7 @@ use std::sync::Wait;
 
 /// The calls, from the lowest crate's on; `/2` or `/3` stands behind one that is tried with a trace of that version, too. (Two more,
 /// `World::new/full` and `view/full`, are for the largest group, and take a minute or two: they are asked for by name.)
-/// `Setup::weighted` and `Walk::apply` take no memory: the latter is tried with all events of an election.
+/// `Setup::weighted`, `Walk::apply` and `Replica::learn` take no memory: the last two are tried with all events of an election.
 const CALLS: &str = "Setup::weighted
 Table::read
 Table::read_in
@@ -84,6 +86,12 @@ write_trace/3
 check
 check/2
 check/3
+Replica::new
+Replica::learn
+Replica::next
+Follower::take_all
+Follower::take_all/2
+Follower::take_all/3
 upgrade
 upgrade/2
 upgrade/3
@@ -153,5 +161,7 @@ fn made<R: Print + Wait>(trial: &Trial<R>, call: Call) -> Option<Outcome> {
         Call::Watched(call) => watching_call(trial, call),
         Call::Claim => claim_call(trial),
         Call::Trace(call, version) => trace_call(trial, call, version),
+        Call::Replica(call) => replica_call(trial, call),
+        Call::Follow(version) => follow_call(trial, version),
     }
 }

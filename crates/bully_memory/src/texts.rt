@@ -62,8 +62,8 @@ pub enum Version {
     Third,
 }
 
-// The trace of this version.
-fn trace_of(version: Version) -> &'static str {
+/// The trace of this version.
+pub fn trace_of(version: Version) -> &'static str {
     match version {
         Version::First => ELECTION,
         Version::Second => KEPT,

@@ -22,7 +22,7 @@ mod words;
 mod writing;
 
 pub use detail::{Detail, DetailedEvent};
-pub use header::{Header, Version, read_weights};
+pub use header::{Header, Version, read_weights, version_for};
 pub use kind::{
     CHECK, CRASH, DROP, Deed, EVERY_DEED, EventKind, LOSE, MOVE, NodeEvent, PLAN, RECOVER, RETURN,
     RUN, START, TIMEOUT, kind_named,

@@ -1,4 +1,4 @@
-ghost use Rattle.std.specs.Prelude.{◌≡◌, ◌≢◌, ◌+◌, ◌≤◌, ℕ, List, [], Option, None, Some, true, length, IfErr, IfOk, IfSome};
+ghost use Rattle.std.specs.Prelude.{◌≡◌, ◌≢◌, ◌⊎◌, ◌+◌, ◌≤◌, ℕ, List, [], Option, None, Some, true, length, IfErr, IfOk, IfSome};
 ghost use Rattle.csv.specs.Records.{fields_of};
 ghost use Rattle.bully_base.specs.Setup.{Setup as SetupState};
 ghost use Rattle.bully_rows.specs.Headers.{header_of};
@@ -88,6 +88,7 @@ impl<R: Read + Drop> RowReader<R> {
     pub fn advance(&mut self) -> Result<bool, TraceFault>
         ensures takes { IfOk result (λ found. Takes self.old.records self.new.records found self.new.fields) }
         ensures counted { IfOk result (λ found. found ≡ true → (self.old.number ≤ ROWS_MAX) × (self.new.number ≡ self.old.number + 1)) }
+        ensures why { IfErr result (λ fault. IsOutside fault ⊎ ((fault.cause ≡ TraceCause.TooManyRows) × (self.old.number ≡ ROWS_MAX + 1))) }
         ensures first { (known : Option (List ℕ)) → IsUnread known self.old → IfErr result (EndsReading known) }
         ensures fault { (known : Option (List ℕ)) (rows : List RowState) (header : HeaderState) → HasRead known rows (rows_left header self.old) → IfErr result (EndsReading known) }
     {

@@ -4,5 +4,6 @@
 
 pub mod agents;
 pub mod coordinator;
+pub mod logs;
 pub mod status;
 pub mod watching;

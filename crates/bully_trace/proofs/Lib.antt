@@ -1,5 +1,6 @@
 pub mod NodeLineLemmas
 pub mod JudgeLemmas
+pub mod OneRowLemmas
 pub mod SameLemmas
 pub mod StepToldLemmas
 pub mod RecordedLemmas

@@ -4,3 +4,4 @@ pub mod Verdict
 pub mod VerdictText
 pub mod Judging
 pub mod Recorded
+pub mod OneRow

@@ -160,15 +160,15 @@ fn write_verdict<W: Write>(
     ensures silent { IfErr result (λ fault. fault.cause ≡ TraceCause.OutOfMemory → writer.new ≡ writer.old) }
 {
     let verdict = judge.verdict();
-    let text = text_of(alloc, verdict, judge.world())?;
+    let text = verdict_lines(alloc, verdict, judge.world())?;
     match writer.write_all(text.as_bytes()) {
         Ok(()) => Ok(verdict),
         Err(error) => Err(not_written(error)),
     }
 }
 
-// The text of the verdict, after which the world is so.
-fn text_of(alloc: Global, verdict: Verdict, world: &World) -> Result<String, OutOfMemory>
+/// The text of the verdict, after which the world is so: what [`check`] writes. Refused where an allocation fails.
+pub fn verdict_lines(alloc: Global, verdict: Verdict, world: &World) -> Result<String, OutOfMemory>
     ensures { IfOk result (λ text. string_bytes text ≡ verdict_text world.now.setup verdict (world_of world.now)) }
 {
     let mut text = String::new(alloc);

@@ -1,19 +1,21 @@
-ghost use Rattle.std.specs.Prelude.{◌≡◌, ◌+◌, ◌++◌, ◌∷◌, [], List, length, IfOk};
+ghost use Rattle.std.specs.Prelude.{◌≡◌, ◌+◌, ◌++◌, ◌∷◌, [], List, length, IfErr, IfOk, IfSome, IsOk, None, OnOk, Some, ◌↔◌};
+ghost use Rattle.std.specs.Option.{option_and_then, option_map};
 ghost use Rattle.bully_base.specs.Setup.{Setup as SetupState};
 ghost use Rattle.bully_rows.specs.declared.trace.Row.{Row as RowState};
-ghost use Rattle.bully_trace.specs.declared.verdict.Verdict.{Verdict as VerdictState};
-ghost use Rattle.bully_trace.specs.Judging.{HasJudged, IsJudgedOn};
+ghost use Rattle.bully_trace.specs.Judging.{HasJudged};
+ghost use Rattle.bully_trace.specs.OneRow.{IsRowTaken, IsTakenBy, verdict_at, violation_in, violation_of};
 ghost use Rattle.bully_rows.specs.Kinds.{event_at};
 ghost use Rattle.bully_trace.specs.Verdict.{IsJudged};
-ghost use Rattle.bully_world.specs.State.{world_of};
-ghost use Rattle.bully_world.specs.World.{World as WorldOf, first_world};
+ghost use Rattle.bully_world.specs.State.{IsApplied, cause_in, first_state, world_of};
+ghost use Rattle.bully_world.specs.World.{first_world};
 
-use crate::Verdict;
 use crate::details::{holds, is_so, is_whole};
+use crate::{Verdict, Violation};
 use bully_agree::Walk;
 use bully_base::OutOfMemory;
+use bully_calls::Answer;
 use bully_rows::{Claim, DetailedEvent, EventKind, Header, NodeEvent, Row, Version, WholeClaim};
-use bully_world::{Event, World};
+use bully_world::{Event, Refused, World};
 use std::alloc::Global;
 use std::marker::Model;
 
@@ -39,6 +41,7 @@ impl Judge {
     pub fn new(alloc: Global, header: Header) -> Result<Judge, OutOfMemory>
         ensures judged { IfOk result (HasJudged header.setup []) }
         ensures version { IfOk result (λ judge. judge.version ≡ header.version) }
+        ensures state { IfOk result (λ judge. judge ≡ record { version = header.version; world = first_state header.setup; stopped = None }) }
     {
         Ok(Judge {
             version: header.version,
@@ -58,6 +61,7 @@ impl Judge {
     /// decides, and no later row changes anything.
     pub fn take_row(&mut self, number: u32, row: &Row)
         ensures version { self.new.version ≡ self.old.version }
+        ensures taken { IsTakenBy number row.now self.old self.new }
         ensures judged { (setup : SetupState) (rows : List RowState) → length rows + 2 ≡ number → HasJudged setup rows self.old → HasJudged setup (rows ++ row.now ∷ []) self.new }
     {
         match row {
@@ -74,6 +78,7 @@ impl Judge {
     // the kind once more)
     pub fn take_node_event(&mut self, number: u32, event: NodeEvent)
         ensures version { self.new.version ≡ self.old.version }
+        ensures taken { IsTakenBy number (Row.Event (event_at event.kind event.node)) self.old self.new }
         ensures judged { (setup : SetupState) (rows : List RowState) → length rows + 2 ≡ number → HasJudged setup rows self.old
             → HasJudged setup (rows ++ Row.Event (event_at event.kind event.node) ∷ []) self.new }
     {
@@ -95,8 +100,7 @@ impl Judge {
     #[inline(always)]
     fn judge_event(&mut self, number: u32, event: &Event)
         ensures version { self.new.version ≡ self.old.version }
-        ensures judged { (setup : SetupState) (rows : List RowState) → length rows + 2 ≡ number → HasJudged setup rows self.old
-            → HasJudged setup (rows ++ Row.Event event.now ∷ []) self.new }
+        ensures taken { IsTakenBy number (Row.Event event.now) self.old self.new }
     {
         if self.stopped.is_none() {
             if let Some(verdict) = refusal(&mut self.walk, number, event) {
@@ -108,8 +112,7 @@ impl Judge {
     // Judges the claim of this row, where no row before it decided.
     fn judge_claim(&mut self, number: u32, claim: &Claim)
         ensures version { self.new.version ≡ self.old.version }
-        ensures judged { (setup : SetupState) (rows : List RowState) → length rows + 2 ≡ number → HasJudged setup rows self.old
-            → HasJudged setup (rows ++ Row.Claim claim.now ∷ []) self.new }
+        ensures taken { IsTakenBy number (Row.Claim claim.now) self.old self.new }
     {
         if self.stopped.is_none() && !holds(self.walk.world(), claim) {
             self.stopped = Some(Verdict::Differs(number));
@@ -119,8 +122,7 @@ impl Judge {
     // Judges the event of this row and what is said beside it, where no row before it decided.
     fn judge_detailed(&mut self, number: u32, event: &DetailedEvent)
         ensures version { self.new.version ≡ self.old.version }
-        ensures judged { (setup : SetupState) (rows : List RowState) → length rows + 2 ≡ number → HasJudged setup rows self.old
-            → HasJudged setup (rows ++ Row.Detailed event.now ∷ []) self.new }
+        ensures taken { IsTakenBy number (Row.Detailed event.now) self.old self.new }
     {
         if self.stopped.is_some() {
             return;
@@ -131,8 +133,7 @@ impl Judge {
     // Judges the claim of this row that tells all of a vector, where no row before it decided.
     fn judge_whole(&mut self, number: u32, whole: &WholeClaim)
         ensures version { self.new.version ≡ self.old.version }
-        ensures judged { (setup : SetupState) (rows : List RowState) → length rows + 2 ≡ number → HasJudged setup rows self.old
-            → HasJudged setup (rows ++ Row.Whole whole.now ∷ []) self.new }
+        ensures taken { IsTakenBy number (Row.Whole whole.now) self.old self.new }
     {
         if self.stopped.is_none() && !is_whole(self.walk.world(), whole) {
             self.stopped = Some(Verdict::Differs(number));
@@ -156,6 +157,60 @@ impl Judge {
         }
     }
 
+    /// Takes the next row, where nothing is wrong with it; no row decided before. What is wrong with it else is told, and then nothing
+    /// changes: it decides nothing.
+    pub fn try_row(&mut self, row: &Row) -> Option<Violation>
+        requires { self.old.stopped ≡ None }
+        ensures violation { result ≡ violation_of self.old.world row.now }
+        ensures taken { result ≡ None → IsRowTaken self.old.world row.now self.new.world }
+        ensures unchanged { IfSome result (λ _. self.new ≡ self.old) }
+        ensures going { (self.new.stopped ≡ None) × (self.new.version ≡ self.old.version) }
+    {
+        self.take_row(0, row);
+        self.pass_over()
+    }
+
+    /// The same of a row that tells this event.
+    pub fn try_node_event(&mut self, event: NodeEvent) -> Option<Violation>
+        requires { self.old.stopped ≡ None }
+        ensures violation { result ≡ violation_of self.old.world (Row.Event (event_at event.kind event.node)) }
+        ensures taken { result ≡ None → IsRowTaken self.old.world (Row.Event (event_at event.kind event.node)) self.new.world }
+        ensures unchanged { IfSome result (λ _. self.new ≡ self.old) }
+        ensures going { (self.new.stopped ≡ None) × (self.new.version ≡ self.old.version) }
+    {
+        self.take_node_event(0, event);
+        self.pass_over()
+    }
+
+    // What is wrong with the row that decided, if one did. From then on it is as if that row hadn't been there.
+    fn pass_over(&mut self) -> Option<Violation>
+        ensures violation { result ≡ option_and_then violation_in self.old.stopped }
+        ensures going { self.new ≡ record self.old { stopped = None } }
+    {
+        match self.stopped {
+            Some(verdict) => {
+                self.stopped = None;
+                verdict.violation()
+            }
+            None => None,
+        }
+    }
+
+    /// Takes an event to the world, as a row that tells it, and answers it, as [`Walk::apply`] does; no row decided before. Refused
+    /// with its cause, and then nothing changes, and it decides nothing.
+    #[inline(always)]
+    pub fn apply(&mut self, event: &Event) -> Result<Answer, Refused>
+        requires { self.old.stopped ≡ None }
+        ensures applied { IfOk result (IsApplied self.old.world event.now self.new.world) }
+        ensures exact { IsOk result ↔ (cause_in self.old.world event.now ≡ None) }
+        ensures why { IfErr result (λ why. cause_in self.old.world event.now ≡ Some why) }
+        ensures unchanged { IfErr result (λ _. self.new ≡ self.old) }
+        ensures going { (self.new.stopped ≡ None) × (self.new.version ≡ self.old.version) }
+        ensures judged { (setup : SetupState) (rows : List RowState) → HasJudged setup rows self.old → OnOk result (HasJudged setup (rows ++ Row.Event event.now ∷ []) self.new) }
+    {
+        self.walk.apply(event)
+    }
+
     /// The world that the rows were taken to.
     pub fn world(&self) -> &World
         ensures { result.now ≡ self.now.world }
@@ -168,9 +223,9 @@ impl Judge {
 // (inlined, as `take_node_event` says)
 #[inline(always)]
 fn refusal(walk: &mut Walk, number: u32, event: &Event) -> Option<Verdict>
-    ensures judged { (more : List RowState) (verdict : VerdictState) (w : WorldOf) → IsJudgedOn walk.new result (number + 1) more verdict w
-        → IsJudged walk.old.setup (world_of walk.old) walk.old.events number (Row.Event event.now ∷ more) verdict w }
-    ensures setup { walk.new.setup ≡ walk.old.setup }
+    ensures decides { result ≡ option_map (verdict_at number) (violation_of walk.old (Row.Event event.now)) }
+    ensures taken { result ≡ None → IsRowTaken walk.old (Row.Event event.now) walk.new }
+    ensures stays { IfSome result (λ _. walk.new ≡ walk.old) }
 {
     match walk.apply(event) {
         Ok(_) => None,
@@ -180,9 +235,9 @@ fn refusal(walk: &mut Walk, number: u32, event: &Event) -> Option<Verdict>
 
 // Takes an event to the world, where what is said beside it is so: the verdict, where that isn't lawful.
 fn detail_stop(walk: &mut Walk, number: u32, event: &DetailedEvent) -> Option<Verdict>
-    ensures judged { (more : List RowState) (verdict : VerdictState) (w : WorldOf) → IsJudgedOn walk.new result (number + 1) more verdict w
-        → IsJudged walk.old.setup (world_of walk.old) walk.old.events number (Row.Detailed event.now ∷ more) verdict w }
-    ensures setup { walk.new.setup ≡ walk.old.setup }
+    ensures decides { result ≡ option_map (verdict_at number) (violation_of walk.old (Row.Detailed event.now)) }
+    ensures taken { result ≡ None → IsRowTaken walk.old (Row.Detailed event.now) walk.new }
+    ensures stays { IfSome result (λ _. walk.new ≡ walk.old) }
 {
     let plain = event.event();
     if let Some(why) = walk.world().cause(&plain) {

@@ -29,11 +29,11 @@ pub use bully_rows::{
     read_coordinator, read_node, read_set, read_trace, read_weights, reply_named, status_named,
     status_word, write_trace,
 };
-pub use checking::check;
+pub use checking::{check, verdict_lines};
 pub use details::{call_at, offer_of, reached, said_of, same_task};
 pub use judging::Judge;
 pub use upgrading::upgrade;
-pub use verdict::Verdict;
+pub use verdict::{Verdict, Violation};
 pub use verdict_text::push_verdict_head;
 
 /// The law of upgraded traces. The verdict on one, and the world that its rows were taken to, are those of the trace that

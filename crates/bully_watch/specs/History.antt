@@ -1,29 +1,13 @@
 -- What a group's history is: lawful events with their answers, each of the actor whose event it is.
-use Rattle.std.specs.Prelude.{◌≡◌, ◌==◌, ◌+◌, ℕ, List, [], ◌∷◌, map, Option, Some, option_map, if◌then◌else◌}
+use Rattle.std.specs.Prelude.{◌≡◌, ◌==◌, ◌+◌, ℕ, List, [], ◌∷◌, map, Some, if◌then◌else◌}
+pub use Rattle.bully_agree.specs.Actors.{operator, callee_of, whose}
 use Rattle.bully_base.specs.Setup.{Setup}
 use Rattle.bully_calls.specs.declared.call.Answer.{Answer}
-use Rattle.bully_calls.specs.Pending.{Pending}
 use Rattle.bully_events.specs.declared.event.Event.{Event}
-use Rattle.bully_events.specs.Events.{node_of}
 use Rattle.bully_world.specs.Lawful.{IsLawful}
 use Rattle.bully_world.specs.Step.{Step}
-use Rattle.bully_world.specs.World.{World, first_world, pending}
+use Rattle.bully_world.specs.World.{World, first_world}
 use Rattle.bully_watch.specs.declared.entry.Entry.{Entry}
-
--- the operator; node i is actor i
-abbrev pub operator : ℕ
-operator = 0
-
-abbrev pub callee_of : Pending → ℕ
-callee_of c = c.call.callee
-
--- Whose event it is in this world: a recovery and a crash are the operator's, a run is the callee's, and nobody's where
--- no call is there, and each other event is the node's that it names.
-abbrev pub whose : World → Event → Option ℕ
-whose w (Event.Recover i) = Some operator
-whose w (Event.Crash i) = Some operator
-whose w (Event.Run i) = option_map callee_of (pending w i)
-whose w e = Some (node_of e)
 
 abbrev pub event_of : Entry → Event
 event_of e = e.event

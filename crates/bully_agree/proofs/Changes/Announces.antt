@@ -1,10 +1,10 @@
 -- Node c, which calls the lower nodes to itself, sends a NewCoordinator to node d.
 use Rattle.std.proofs.Common.{◌≡◌, ℕ, ◌<◌, true, Some, None, arith, refl}
 use Rattle.bully_base.specs.declared.node.Status.TheVariants.{Election}
-use Rattle.bully_agree.proofs.NodeSummary.{Calls, NodeSummary, leads, AllLocal, Announces, GroupInvariant, Turns, sole}
-use Rattle.bully_agree.proofs.Changes.Shrinks.{elects_alike, elections_remain, leads_alike, leaders_remain, agrees_remain}
+use Rattle.bully_agree.proofs.NodeSummary.{Calls, NodeSummary, leads, AllLocal, Announces, Origin, GroupInvariant, Turns, sole}
+use Rattle.bully_agree.proofs.Changes.Shrinks.{elects_alike, elections_remain, leads_alike, leaders_remain, agrees_remain, fenced_remain}
 
-module _ {n : ℕ} {f g : ℕ → NodeSummary} {c d : ℕ} (local : AllLocal n f) (kept : GroupInvariant f) (turn : Turns f g c (record (f c) { announces = Some d }))
+module _ {last : Origin} {n : ℕ} {f g : ℕ → NodeSummary} {c d : ℕ} (local : AllLocal n f) (kept : GroupInvariant last f) (turn : Turns f g c (record (f c) { announces = Some d }))
     (below : d < c) (calls : (f c).activity ≡ Calls) (idle : (f c).announces ≡ None) where
   leading : leads (f c).activity ≡ true
   leading = grind (arith, calls)
@@ -19,7 +19,7 @@ module _ {n : ℕ} {f g : ℕ → NodeSummary} {c d : ℕ} (local : AllLocal n f
       let before = λ (s : (f m).announces ≡ Some k) (h : (f k).halter ≡ Some m) (e : (f k).status ≡ Election). alone m k (record { sent = s; halter = h; status = e }) in
       grind (arith, turn.same m, turn.same k, a.sent, a.halter, a.status, before)
 
-  pub announces : GroupInvariant g
+  pub announces : GroupInvariant last g
   announces = record {
     elections = elections_remain turn (elects_alike refl (λ h. h)) kept.elections;
     announcements = record {
@@ -41,4 +41,5 @@ module _ {n : ℕ} {f g : ℕ → NodeSummary} {c d : ℕ} (local : AllLocal n f
     };
     leaders = leaders_remain turn (leads_alike refl) kept.leaders;
     agrees = agrees_remain turn (λ p. (p, refl)) (λ p. (p, refl)) kept.agrees;
+    fenced = fenced_remain turn (leads_alike refl) kept.fenced;
   }

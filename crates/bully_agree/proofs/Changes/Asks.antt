@@ -1,15 +1,15 @@
 -- Node c has asked past node d, which is Down.
 use Rattle.std.proofs.Common.{◌≡◌, ℕ, ◌+◌, arith, refl}
 use Rattle.bully_base.specs.declared.node.Status.TheVariants.{Down}
-use Rattle.bully_agree.proofs.NodeSummary.{NodeSummary, AllLocal, Announces, GroupInvariant, Turns}
-use Rattle.bully_agree.proofs.Changes.Shrinks.{leads_alike, leaders_remain, agrees_remain}
+use Rattle.bully_agree.proofs.NodeSummary.{NodeSummary, AllLocal, Announces, Origin, GroupInvariant, Turns}
+use Rattle.bully_agree.proofs.Changes.Shrinks.{leads_alike, leaders_remain, agrees_remain, fenced_remain}
 
-module _ {n : ℕ} {f g : ℕ → NodeSummary} {c d : ℕ} (local : AllLocal n f) (kept : GroupInvariant f) (turn : Turns f g c (record (f c) { asked = d + 1 }))
+module _ {last : Origin} {n : ℕ} {f g : ℕ → NodeSummary} {c d : ℕ} (local : AllLocal n f) (kept : GroupInvariant last f) (turn : Turns f g c (record (f c) { asked = d + 1 }))
     (down : (f d).status ≡ Down) (so_far : (f c).asked ≡ d) where
   announced : (m k : ℕ) → Announces g m k → Announces f m k
   announced m k a = grind (arith, turn.same m, turn.same k, a.sent, a.halter, a.status)
 
-  pub asks : GroupInvariant g
+  pub asks : GroupInvariant last g
   asks = record {
     elections = record {
       asked_unpassed = λ i k l a. grind (arith, turn.same i, turn.same k, kept.elections.asked_unpassed i k, (local d).down_passed_none);
@@ -25,4 +25,5 @@ module _ {n : ℕ} {f g : ℕ → NodeSummary} {c d : ℕ} (local : AllLocal n f
     };
     leaders = leaders_remain turn (leads_alike refl) kept.leaders;
     agrees = agrees_remain turn (λ p. (p, refl)) (λ p. (p, refl)) kept.agrees;
+    fenced = fenced_remain turn (leads_alike refl) kept.fenced;
   }

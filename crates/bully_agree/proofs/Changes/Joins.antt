@@ -1,14 +1,18 @@
 -- Node d has heard that node c is its coordinator.
-use Rattle.std.proofs.Common.{◌≢◌, ℕ, Some, arith}
+use Rattle.std.proofs.Common.{◌≡◌, ◌≢◌, ℕ, Some, arith}
 use Rattle.bully_base.specs.declared.node.Status.TheVariants.{Reorganization}
-use Rattle.bully_agree.proofs.NodeSummary.{NodeSummary, AllLocal, Announces, GroupInvariant, Turns}
+use Rattle.bully_agree.proofs.NodeSummary.{NodeSummary, AllLocal, Announces, Readies, Origin, GroupInvariant, Turns}
 
-module _ {n : ℕ} {f g : ℕ → NodeSummary} {c d : ℕ} (local : AllLocal n f) (kept : GroupInvariant f) (turn : Turns f g d (record (f d) { status = Reorganization; coordinator = Some c }))
+module _ {last : Origin} {n : ℕ} {f g : ℕ → NodeSummary} {c d : ℕ} (local : AllLocal n f) (kept : GroupInvariant last f) (turn : Turns f g d (record (f d) { status = Reorganization; coordinator = Some c }))
     (apart : c ≢ d) (will : Announces f c d) where
   announced : (m k : ℕ) → Announces g m k → Announces f m k
   announced m k a = grind (arith, turn.same m, turn.same k, a.sent, a.halter, a.status)
 
-  pub joins : GroupInvariant g
+  -- c has announced, so it has no Ready under way
+  readied : (m k : ℕ) → Readies g m k → Readies f m k × ((f m).carries ≡ (g m).carries)
+  readied m k r = grind (arith, turn.same m, turn.same k, r.sent, r.coordinator, r.status, (local c).announces_alone d, will.sent)
+
+  pub joins : GroupInvariant last g
   joins = record {
     elections = record {
       asked_unpassed = λ i k l a. grind (arith, turn.same i, turn.same k, kept.elections.asked_unpassed i k);
@@ -34,5 +38,13 @@ module _ {n : ℕ} {f g : ℕ → NodeSummary} {c d : ℕ} (local : AllLocal n f
       same_coordinator = λ i j t u. grind (arith, turn.same i, turn.same j, kept.announcements.followed c d i will, kept.announcements.followed c d j will);
       has_task = λ j t. grind (arith, turn.same j, kept.agrees.has_task j);
       same_task = λ i j t u. grind (arith, turn.same i, turn.same j, kept.agrees.same_task i j);
+    };
+    fenced = record {
+      normal_planner = λ j t. grind (arith, turn.same j, kept.fenced.normal_planner j);
+      normal_table = λ j t. grind (arith, turn.same j, kept.fenced.normal_table j);
+      hands_planner = λ m h. grind (arith, turn.same m, kept.fenced.hands_planner m);
+      hands_table = λ m h. grind (arith, turn.same m, kept.fenced.hands_table m);
+      readied_planner = λ m k r. kept.fenced.readied_planner m k (readied m k r).0;
+      readied_table = λ m k r. grind (arith, (readied m k r).1, kept.fenced.readied_table m k (readied m k r).0);
     };
   }

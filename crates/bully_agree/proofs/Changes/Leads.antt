@@ -1,10 +1,10 @@
 -- Node c, which asked past all above it and passed all below it, calls these to itself from now on.
 use Rattle.std.proofs.Common.{◌≡◌, ℕ, ◌<◌, true, Some, None, arith}
 use Rattle.bully_base.specs.declared.node.Status.TheVariants.{Election, Reorganization}
-use Rattle.bully_agree.proofs.NodeSummary.{Halts, Calls, NodeSummary, takes_part, leads, AllLocal, Announces, GroupInvariant, Turns, sole}
+use Rattle.bully_agree.proofs.NodeSummary.{Halts, Calls, NodeSummary, takes_part, leads, AllLocal, Announces, Readies, Origin, GroupInvariant, Turns, sole}
 
-module _ {n : ℕ} {f g : ℕ → NodeSummary} {c : ℕ} (local : AllLocal n f) (kept : GroupInvariant f) (turn : Turns f g c (record (f c) { passed = 0; activity = Calls; status = Reorganization; coordinator = Some c }))
-    (halts : (f c).activity ≡ Halts) (asked_all : n < (f c).asked) (passed_all : (f c).passed ≡ 1) (idle : (f c).announces ≡ None) (nobody : (f 0).asked ≡ 0) where
+module _ {last : Origin} {n : ℕ} {f g : ℕ → NodeSummary} {c : ℕ} (local : AllLocal n f) (kept : GroupInvariant last f) (turn : Turns f g c (record (f c) { passed = 0; activity = Calls; status = Reorganization; coordinator = Some c }))
+    (halts : (f c).activity ≡ Halts) (asked_all : n < (f c).asked) (passed_all : (f c).passed ≡ 1) (idle : (f c).announces ≡ None) (unready : (f c).readies ≡ None) (nobody : (f 0).asked ≡ 0) where
   -- nobody but c would announce
   alone : (m k : ℕ) → Announces f m k → m ≡ c
   alone = sole n c f local kept asked_all (omega arith) (λ _. (local c).halts_itself halts)
@@ -19,10 +19,14 @@ module _ {n : ℕ} {f g : ℕ → NodeSummary} {c : ℕ} (local : AllLocal n f) 
   only : (j : ℕ) → takes_part (g j).status ≡ true → j ≡ c
   only j t = grind (arith, turn.same j, kept.elections.asked_apart c j, kept.elections.passed_apart c j, (local j).a_node)
 
+  -- what is readied was so before: c has no call
+  readied : (m k : ℕ) → Readies g m k → Readies f m k × ((f m).carries ≡ (g m).carries)
+  readied m k r = grind (arith, turn.same m, turn.same k, r.sent, r.coordinator, r.status, unready)
+
   leading : (m : ℕ) → leads (g m).activity ≡ true → takes_part (g m).status ≡ true
   leading m l = grind (arith, turn.same m, (local m).leads_status)
 
-  pub leads_now : GroupInvariant g
+  pub leads_now : GroupInvariant last g
   leads_now = record {
     elections = record {
       asked_unpassed = λ i k l a. grind (arith, turn.same i, turn.same k, kept.elections.asked_unpassed i k);
@@ -48,5 +52,13 @@ module _ {n : ℕ} {f g : ℕ → NodeSummary} {c : ℕ} (local : AllLocal n f) 
       same_coordinator = λ i j t u. grind (arith, turn.same i, turn.same j, only i, only j);
       has_task = λ j t. grind (arith, turn.same j, kept.agrees.has_task j);
       same_task = λ i j t u. grind (arith, turn.same i, turn.same j, kept.agrees.same_task i j);
+    };
+    fenced = record {
+      normal_planner = λ j t. grind (arith, turn.same j, kept.fenced.normal_planner j);
+      normal_table = λ j t. grind (arith, turn.same j, kept.fenced.normal_table j);
+      hands_planner = λ m h. grind (arith, turn.same m, kept.fenced.hands_planner m);
+      hands_table = λ m h. grind (arith, turn.same m, kept.fenced.hands_table m);
+      readied_planner = λ m k r. kept.fenced.readied_planner m k (readied m k r).0;
+      readied_table = λ m k r. grind (arith, (readied m k r).1, kept.fenced.readied_table m k (readied m k r).0);
     };
   }

@@ -1,7 +1,7 @@
 -- Node c changes to summary of which less is to be said: what of the invariant is kept by that alone.
 use Rattle.std.proofs.Common.{◌≡◌, ℕ, ◌+◌, ◌<◌, ◌≤◌, true, false, Some, None, ◌⊎◌, arith, refl, inl}
 use Rattle.bully_base.specs.declared.node.Status.TheVariants.{Election, Reorganization, Normal}
-use Rattle.bully_agree.proofs.NodeSummary.{Rests, Halts, NodeSummary, takes_part, leads, Announces, Readies, Elections, Announcements, Leaders, Agrees, GroupInvariant, Turns}
+use Rattle.bully_agree.proofs.NodeSummary.{Rests, Halts, NodeSummary, takes_part, leads, Announces, Readies, Elections, Announcements, Leaders, Agrees, Origin, Fenced, GroupInvariant, Turns}
 
 -- c takes part in t only if it did, under the same coordinator
 abbrev pub FollowsOn : NodeSummary → NodeSummary → Type 0
@@ -57,6 +57,16 @@ module _ {f g : ℕ → NodeSummary} {c : ℕ} {t : NodeSummary} (turn : Turns f
     hands_task = λ m j l p. grind (arith, turn.same m, turn.same j, s.leads_on, s.normal, kept.hands_task m j);
     hands_carries = λ m j l r. grind (arith, turn.same m, s.leads_on, s.readies j, kept.hands_carries m j);
     readied_task = λ m k j r p. grind (arith, turn.same j, s.normal, (readied_before s m k r).1, kept.readied_task m k j (readied_before s m k r).0);
+  }
+
+  pub fenced_remain : {last : Origin} → LeadsOn (f c) t → Fenced last f → Fenced last g
+  fenced_remain {last} s kept = record {
+    normal_planner = λ j p. grind (arith, turn.same j, s.follows, s.normal, kept.normal_planner j);
+    normal_table = λ j p. grind (arith, turn.same j, s.normal, kept.normal_table j);
+    hands_planner = λ m h. grind (arith, turn.same m, s.leads_on, kept.hands_planner m);
+    hands_table = λ m h. grind (arith, turn.same m, s.leads_on, kept.hands_table m);
+    readied_planner = λ m k r. kept.readied_planner m k (readied_before s m k r).0;
+    readied_table = λ m k r. grind (arith, (readied_before s m k r).1, kept.readied_table m k (readied_before s m k r).0);
   }
 
   pub agrees_remain : FollowsOn (f c) t → NormalOn (f c) t → Agrees f → Agrees g
@@ -141,12 +151,13 @@ calls_on {f} {c} {s} {t} e asked passed announces readies = record {
   readies_on = readies;
 }
 
-pub shrinks : {f g : ℕ → NodeSummary} {c : ℕ} {t : NodeSummary} → Turns f g c t → GroupInvariant f → Shrinks f c (f c) t → GroupInvariant g
-shrinks {f} {g} {c} {t} turn kept s = record {
+pub shrinks : {last : Origin} {f g : ℕ → NodeSummary} {c : ℕ} {t : NodeSummary} → Turns f g c t → GroupInvariant last f → Shrinks f c (f c) t → GroupInvariant last g
+shrinks {last} {f} {g} {c} {t} turn kept s = record {
   elections = elections_remain turn elects kept.elections;
   announcements = announcements_remain turn elects s.announces_on kept.announcements;
-  leaders = leaders_remain turn (record { leads_on = s.leads_on; follows = follows; normal = normal; reorganizes = λ r. grind (arith, s.takes_part_on); readies = s.readies_on }) kept.leaders;
+  leaders = leaders_remain turn leading kept.leaders;
   agrees = agrees_remain turn follows normal kept.agrees;
+  fenced = fenced_remain turn leading kept.fenced;
 }
   where
     follows : FollowsOn (f c) t
@@ -157,3 +168,6 @@ shrinks {f} {g} {c} {t} turn kept s = record {
 
     elects : ElectsOn f c t
     elects = record { asked = s.asked; passed = s.passed; halts = s.halts; follows = follows; halted = s.halted }
+
+    leading : LeadsOn (f c) t
+    leading = record { leads_on = s.leads_on; follows = follows; normal = normal; reorganizes = λ r. grind (arith, s.takes_part_on); readies = s.readies_on }

@@ -1,7 +1,7 @@
 use Rattle.std.proofs.Common.{List, ℕ, Option, arith, subst}
 use Rattle.bully_base.specs.NodeSet.{with_node}
 use Rattle.bully_base.specs.Setup.{Setup}
-use Rattle.bully_table.specs.Planning.{owners_before, planned, quota}
+use Rattle.bully_table.specs.Planning.{owners_before, quota}
 use Rattle.bully_table.proofs.PlannedLemmas.{planned-covers}
 use Rattle.bully_c.specs.Arguments.{AreGiven}
 use Rattle.bully_c.proofs.agents.prepared.Goals as goal

@@ -3,7 +3,6 @@ use Rattle.bully_base.specs.Setup.{Setup}
 use Rattle.bully_calls.specs.declared.call.Answer.{Answer}
 use Rattle.bully_handlers.specs.Handler.{reply}
 use Rattle.bully_lines.specs.Texts.{reply_text}
-use Rattle.bully_messages.specs.declared.message.Reply.{Reply}
 use Rattle.bully_c.specs.Exports.{IsRequestLine, RefusesRequestLine, answer_line}
 use Rattle.bully_c.proofs.ReplyLemmas.{copied-as}
 use Rattle.bully_c.proofs.requests.served.Goals as goal

@@ -1,0 +1,60 @@
+//! A trace that a replica learns row by row, and what comes of it, as `bully check` writes it.
+
+use crate::lines::{Lines, NO_LINES};
+use bully_replica::{FollowFault, Follower};
+use bully_rows::RowReader;
+use bully_trace::{Verdict, verdict_lines};
+use std::alloc::Global;
+use std::io::{Read, Write};
+
+/// Learns the rows of a trace up to the first with which something is wrong, and writes the verdict that this is. None of a trace
+/// with a fault of form before that.
+pub fn learn_trace<R: Read + Drop, W: Write>(
+    alloc: Global,
+    input: R,
+    output: &mut W,
+) -> Option<Lines> {
+    let mut rows = RowReader::open(alloc, input);
+    let mut follower = begun(alloc, &mut rows)?;
+    let verdict = learned(alloc, &mut follower, &mut rows)?;
+    write_verdict(alloc, output, verdict, &follower)
+}
+
+// The follower behind the header, which is the first row.
+fn begun<R: Read + Drop>(alloc: Global, rows: &mut RowReader<R>) -> Option<Follower> {
+    match rows.advance() {
+        Ok(true) => match rows.header() {
+            Ok(header) => Follower::new(alloc, header).ok(),
+            Err(_) => None,
+        },
+        _ => None,
+    }
+}
+
+// The verdict on the rows that the reader still gives.
+fn learned<R: Read + Drop>(
+    alloc: Global,
+    follower: &mut Follower,
+    rows: &mut RowReader<R>,
+) -> Option<Verdict> {
+    match follower.take_all(alloc, rows) {
+        Ok(()) => Some(Verdict::Lawful(follower.replica().events())),
+        Err(FollowFault::Violation(violation)) => Some(violation.at(rows.number())),
+        Err(FollowFault::Form(_)) => None,
+    }
+}
+
+fn write_verdict<W: Write>(
+    alloc: Global,
+    output: &mut W,
+    verdict: Verdict,
+    follower: &Follower,
+) -> Option<Lines> {
+    let Ok(text) = verdict_lines(alloc, verdict, follower.replica().world()) else {
+        return None;
+    };
+    match output.write_all(text.as_bytes()) {
+        Ok(()) => Some(NO_LINES),
+        Err(_) => None,
+    }
+}

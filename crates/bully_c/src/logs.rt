@@ -1,0 +1,210 @@
+//! What is kept of a log behind a handle, and what is learned of it and told of it.
+ghost use Rattle.std.specs.Prelude.{◌≡◌, ◌≤◌, IfErr, IfOk, List, string_bytes};
+ghost use Rattle.bully_c.specs.Numbers.{header_number};
+ghost use Rattle.bully_c.specs.Replicas.{EndsLearning, IsAllowedRow, IsEventRow, IsHeaderAlone, IsLearning, IsNextRow, IsWritten, RefusesEvent, RefusesHeader, RefusesNext, RefusesRow, append_cause, has_end, has_mark, mark_number, opened_log};
+ghost use Rattle.bully_replica.specs.Following.{FollowsUpTo};
+ghost use Rattle.bully_rows.specs.Headers.{Record};
+ghost use Rattle.bully_rows.specs.Rows.{records_of};
+ghost use Rattle.bully_rows.specs.declared.header.Header.{Header as HeaderState};
+
+use crate::shown::copy_text;
+use crate::status::{self, BAD_EVENT, BAD_HEADER, OK, OUT_OF_MEMORY, ROW_END};
+use crate::tables::node_of;
+use bully_base::OutOfMemory;
+use bully_replica::Follower;
+use bully_rows::{Header, ROWS_MAX, RowReader, TraceCause, push_event, read_trace};
+use bully_world::{Event, Refused};
+use std::alloc::Global;
+
+/// The replica of a log, and how many rows it learned.
+#[derive(Drop)]
+pub struct HeldLog {
+    pub follower: Follower,
+}
+
+/// The replica of a log with the header of this text, on the heap. Refused if that is no header, if a row stands behind it,
+/// and if an allocation fails.
+pub fn opened(alloc: Global, text: &[u8]) -> Result<Box<HeldLog>, u32>
+    ensures ok { IfOk result (λ held. (header : HeaderState) × IsHeaderAlone text.now header × (held.value ≡ opened_log header)) }
+    ensures err { IfErr result (RefusesHeader text.now) }
+{
+    let header = header_in(alloc, text)?;
+    match boxed(alloc, header) {
+        Ok(held) => Ok(held),
+        Err(_) => Err(OUT_OF_MEMORY),
+    }
+}
+
+// The header of this text.
+fn header_in(alloc: Global, text: &[u8]) -> Result<Header, u32>
+    ensures ok { IfOk result (IsHeaderAlone text.now) }
+    ensures err { IfErr result (RefusesHeader text.now) }
+{
+    match read_trace(alloc, text) {
+        Ok(trace) => match trace.rows.as_slice().is_empty() {
+            true => Ok(Header {
+                version: trace.version,
+                setup: trace.setup,
+            }),
+            false => Err(BAD_HEADER),
+        },
+        Err(fault) => Err(of_header(fault.cause)),
+    }
+}
+
+// Why a text is no header: of a bad row, a row stands behind it.
+fn of_header(cause: TraceCause) -> u32
+    ensures { result ≡ header_number cause }
+{
+    match cause {
+        TraceCause::BadHeader | TraceCause::BadRow | TraceCause::TooManyRows => BAD_HEADER,
+        TraceCause::OutOfMemory | TraceCause::Read | TraceCause::Write => OUT_OF_MEMORY,
+    }
+}
+
+// The replica of a log with this header, on the heap.
+fn boxed(alloc: Global, header: Header) -> Result<Box<HeldLog>, OutOfMemory>
+    ensures { IfOk result (λ held. held.value ≡ opened_log header) }
+{
+    let follower = Follower::new(alloc, header)?;
+    Ok(Box::new(alloc, HeldLog { follower })?)
+}
+
+/// Learns the rows of the text, and tells how many, and why the next one wasn't learned.
+pub fn learn(alloc: Global, held: &mut HeldLog, text: &[u8], taken: &mut usize) -> u32
+    ensures { IsLearning text.now taken.new held.old result held.new }
+{
+    *taken = 0;
+    if !has_end(text) {
+        return ROW_END;
+    }
+    if has_mark(text) {
+        return of_mark(&held.follower);
+    }
+    let before = held.follower.rows();
+    let status = learn_rows(alloc, &mut held.follower, text);
+    *taken = (held.follower.rows() - before) as usize;
+    status
+}
+
+// Learns the rows of the text up to the first that isn't learned, and tells why it isn't.
+fn learn_rows(alloc: Global, follower: &mut Follower, text: &[u8]) -> u32
+    ensures learned { (left : List Record) × FollowsUpTo (records_of text.now) follower.old follower.new left × EndsLearning left follower.new result }
+    ensures counted { follower.old.rows ≤ follower.new.rows }
+{
+    let mut reader = RowReader::open(alloc, text);
+    match follower.take_all(alloc, &mut reader) {
+        Ok(()) => OK,
+        Err(fault) => status::of_follow(fault),
+    }
+}
+
+// Why no row is learned of a text that begins with a byte-order mark.
+fn of_mark(follower: &Follower) -> u32
+    ensures { result ≡ mark_number follower.now }
+{
+    let cause = if follower.rows() == ROWS_MAX {
+        TraceCause::TooManyRows
+    } else {
+        TraceCause::BadRow
+    };
+    status::of_trace(cause)
+}
+
+// Whether the text is empty, or its last line has a line end.
+fn has_end(text: &[u8]) -> bool
+    ensures { result ≡ has_end text.now }
+{
+    text.is_empty() || text.ends_with(b"\n")
+}
+
+// Whether it begins with a byte-order mark.
+fn has_mark(text: &[u8]) -> bool
+    ensures { result ≡ has_mark text.now }
+{
+    text.starts_with(b"\xEF\xBB\xBF")
+}
+
+/// Writes the row of what the node of this number appends next by itself, or nothing if it rests; or tells why there is none.
+pub fn write_next(
+    alloc: Global,
+    follower: &Follower,
+    node: u16,
+    row: &mut [u8],
+    length: &mut usize,
+) -> u32
+    ensures { IsWritten (IsNextRow follower.now node) (RefusesNext follower.now node) row.old length.old result row.new length.new }
+{
+    match next_row(alloc, follower, node) {
+        Ok(text) => copy_text(&text, row, length),
+        Err(status) => status,
+    }
+}
+
+// The row of what the node of this number appends next by itself, or nothing if it rests.
+fn next_row(alloc: Global, follower: &Follower, node: u16) -> Result<String, u32>
+    ensures ok { IfOk result (λ text. IsNextRow follower.now node (string_bytes text)) }
+    ensures err { IfErr result (RefusesNext follower.now node) }
+{
+    let replica = follower.replica();
+    let node = node_of(replica.world().setup(), node)?;
+    match replica.next(alloc, node) {
+        Ok(Some(event)) => allowed_row(alloc, follower, &event),
+        Ok(None) => Ok(String::new(alloc)),
+        Err(_) => Err(OUT_OF_MEMORY),
+    }
+}
+
+/// Writes the row of the event of this number of the node of this number, or tells why there is none.
+pub fn write_event(
+    alloc: Global,
+    follower: &Follower,
+    node: u16,
+    number: u32,
+    row: &mut [u8],
+    length: &mut usize,
+) -> u32
+    ensures { IsWritten (IsEventRow follower.now node number) (RefusesEvent follower.now node number) row.old length.old result row.new length.new }
+{
+    match event_row(alloc, follower, node, number) {
+        Ok(text) => copy_text(&text, row, length),
+        Err(status) => status,
+    }
+}
+
+// The row of the event of this number of the node of this number, or why there is none.
+fn event_row(alloc: Global, follower: &Follower, node: u16, number: u32) -> Result<String, u32>
+    ensures ok { IfOk result (λ text. IsEventRow follower.now node number (string_bytes text)) }
+    ensures err { IfErr result (RefusesEvent follower.now node number) }
+{
+    let node = node_of(follower.replica().world().setup(), node)?;
+    match status::event_of(number, node) {
+        Some(event) => allowed_row(alloc, follower, &event),
+        None => Err(BAD_EVENT),
+    }
+}
+
+// The row of the event, if nothing refuses it.
+fn allowed_row(alloc: Global, follower: &Follower, event: &Event) -> Result<String, u32>
+    ensures ok { IfOk result (λ text. IsAllowedRow follower.now event.now (string_bytes text)) }
+    ensures err { IfErr result (RefusesRow follower.now event.now) }
+{
+    if let Some(why) = append_cause(follower, event) {
+        return Err(status::of_refusal(why));
+    }
+    let mut text = String::new(alloc);
+    match push_event(&mut text, event) {
+        Ok(()) => Ok(text),
+        Err(_) => Err(OUT_OF_MEMORY),
+    }
+}
+
+// Why the event isn't appended, if it isn't.
+fn append_cause(follower: &Follower, event: &Event) -> Option<Refused>
+    ensures { result ≡ append_cause follower.now event.now }
+{
+    if follower.rows() == ROWS_MAX {
+        return Some(Refused::Full);
+    }
+    follower.replica().world().cause(event)
+}

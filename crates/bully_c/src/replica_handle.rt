@@ -1,0 +1,51 @@
+//! What C holds of a replica.
+ghost use Rattle.std.specs.Prelude.{◌≡◌, Option, None, Some, MatchOption};
+ghost use Rattle.bully_c.specs.declared.logs.HeldLog.{HeldLog};
+
+use crate::logs::HeldLog;
+use bully_handle::Loose;
+use std::alloc::Global;
+use std::marker::Model;
+
+/// A pointer to what is kept of a replica, which the handle owns, or null if the handle is closed.
+#[repr(C)]
+pub struct ReplicaHandle {
+    at: *mut u8,
+    pub ghost value: { Option HeldLog },
+}
+
+impl Model for ReplicaHandle {
+    ghost use Rattle.std.specs.Prelude.{Option};
+    ghost use Rattle.bully_handle.specs.Ownership.{loose_owns};
+    ghost use Rattle.bully_c.specs.contracts.logs.HeldLog.{the_row};
+
+    ghost also_owns = { λ h. loose_owns the_row h.at h.value };
+}
+
+impl ReplicaHandle {
+    // Puts `with` in the place of what the handle has.
+    fn swap(&mut self, with: Loose<HeldLog>) -> Loose<HeldLog>
+        ensures now { self.new.value ≡ with.value }
+        ensures before { result.value ≡ self.old.value }
+    {
+        let Loose { at } = with;
+        let before = self.at as *mut HeldLog;
+        self.at = at as *mut u8;
+        Loose { at: before }
+    }
+
+    /// Takes what the handle has, and leaves it closed.
+    pub fn take(&mut self, alloc: Global) -> Option<Box<HeldLog>>
+        ensures taken { MatchOption result (self.old.value ≡ None) (λ held. self.old.value ≡ Some held.value) }
+        ensures closed { self.new.value ≡ None }
+    {
+        self.swap(Loose::none()).into_box(alloc)
+    }
+
+    /// Puts this in, and drops what was there.
+    pub fn put(&mut self, alloc: Global, held: Box<HeldLog>)
+        ensures { self.new.value ≡ Some held.value }
+    {
+        drop(self.swap(Loose::of(held)).into_box(alloc));
+    }
+}

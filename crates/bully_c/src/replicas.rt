@@ -1,0 +1,299 @@
+//! Replicas behind their handles, and headers.
+ghost use Rattle.std.specs.Prelude.{◌≡◌, None, IfErr, IfOk, reverse, string_bytes, unwrap_or, []};
+ghost use Rattle.bully_c.specs.Arguments.{IsCopied, setup_given};
+ghost use Rattle.bully_c.specs.Exports.{IsClosing, shown};
+ghost use Rattle.bully_c.specs.Replicas.{AtLog, IsEventRow, IsHeaderRow, IsLearning, IsLogOpening, IsNextRow, IsWritten, RefusesEvent, RefusesHeaderRow, RefusesNext, ShowsLog, ShowsNode, agent_in, group_shown, table_shown};
+ghost use Rattle.bully_c.specs.declared.status.TheConstants.{OK as OkNumber};
+ghost use Rattle.bully_world.specs.State.{state_at};
+
+use crate::logs::{learn, opened, write_event, write_next};
+use crate::replica_handle::ReplicaHandle;
+use crate::shown::{CState, copy_owners, copy_text, copy_up, number_of, state_in};
+use crate::status::{CLOSED, OK, OPEN, OUT_OF_MEMORY};
+use crate::tables::{CSetup, node_of, setup_of};
+use bully_replica::Follower;
+use bully_rows::{push_header, version_for};
+use bully_world::World;
+use std::alloc::Global;
+
+/// How the group stands.
+#[repr(C)]
+#[derive(Clone, Copy)]
+pub struct CGroup {
+    pub rows: u32,
+    pub events: u32,
+    pub token: u32,
+    pub planner: u16,
+    pub nodes: u16,
+    pub partitions: u16,
+    pub keeps: u16,
+}
+
+/// The header of a trace of this setup: [`push_header`], in the first version that can tell it.
+#[unsafe(no_mangle)]
+pub extern "C" fn bully_c_header(
+    alloc: Global,
+    setup: &CSetup,
+    weights: &[u16],
+    row: &mut [u8],
+    length: &mut usize,
+) -> u32
+    ensures { IsWritten (IsHeaderRow (setup_given setup.now weights.now)) (RefusesHeaderRow (setup_given setup.now weights.now)) row.old length.old result row.new length.new }
+{
+    match header_row(alloc, setup, weights) {
+        Ok(text) => copy_text(&text, row, length),
+        Err(status) => status,
+    }
+}
+
+// The header of this setup.
+fn header_row(alloc: Global, setup: &CSetup, weights: &[u16]) -> Result<String, u32>
+    ensures ok { IfOk result (λ text. IsHeaderRow (setup_given setup.now weights.now) (string_bytes text)) }
+    ensures err { IfErr result (RefusesHeaderRow (setup_given setup.now weights.now)) }
+{
+    let setup = setup_of(setup, weights)?;
+    let mut text = String::new(alloc);
+    match push_header(&mut text, version_for(&setup), &setup) {
+        Ok(()) => Ok(text),
+        Err(_) => Err(OUT_OF_MEMORY),
+    }
+}
+
+/// Opens the handle: the replica of a log behind this header, [`Follower::new`].
+#[unsafe(no_mangle)]
+pub extern "C" fn bully_c_replica_open(
+    alloc: Global,
+    replica: &mut ReplicaHandle,
+    header: &[u8],
+) -> u32
+    ensures { IsLogOpening header.now replica.old.value result replica.new.value }
+{
+    if let Some(held) = replica.take(alloc) {
+        replica.put(alloc, held);
+        return OPEN;
+    }
+    match opened(alloc, header) {
+        Ok(held) => {
+            replica.put(alloc, held);
+            OK
+        }
+        Err(status) => status,
+    }
+}
+
+/// Closes the handle, and gives back what it kept.
+#[unsafe(no_mangle)]
+pub extern "C" fn bully_c_replica_close(alloc: Global, replica: &mut ReplicaHandle) -> u32
+    ensures { IsClosing replica.old.value result replica.new.value }
+{
+    match replica.take(alloc) {
+        Some(_) => OK,
+        None => CLOSED,
+    }
+}
+
+/// Learns the rows that stand next in the log: [`Follower::take_all`].
+#[unsafe(no_mangle)]
+pub extern "C" fn bully_c_replica_learn(
+    alloc: Global,
+    replica: &mut ReplicaHandle,
+    rows: &[u8],
+    taken: &mut usize,
+) -> u32
+    ensures open { AtLog (IsLearning rows.now taken.new) replica.old.value result replica.new.value }
+    ensures closed { replica.old.value ≡ None → taken.new ≡ taken.old }
+{
+    let Some(mut held) = replica.take(alloc) else {
+        return CLOSED;
+    };
+    let status = learn(alloc, &mut held, rows, taken);
+    replica.put(alloc, held);
+    status
+}
+
+/// The row of what the node appends next by itself: [`bully_replica::Replica::next`].
+#[unsafe(no_mangle)]
+pub extern "C" fn bully_c_replica_next(
+    alloc: Global,
+    replica: &mut ReplicaHandle,
+    node: u16,
+    row: &mut [u8],
+    length: &mut usize,
+) -> u32
+    ensures open { AtLog (ShowsLog (λ held status. IsWritten (IsNextRow held.follower node) (RefusesNext held.follower node) row.old length.old status row.new length.new)) replica.old.value result replica.new.value }
+    ensures closed { replica.old.value ≡ None → (row.new ≡ row.old) × (length.new ≡ length.old) }
+{
+    let Some(held) = replica.take(alloc) else {
+        return CLOSED;
+    };
+    let status = write_next(alloc, &held.follower, node, row, length);
+    replica.put(alloc, held);
+    status
+}
+
+/// The row of an event that a process appends for reasons of its own.
+#[unsafe(no_mangle)]
+pub extern "C" fn bully_c_replica_event(
+    alloc: Global,
+    replica: &mut ReplicaHandle,
+    node: u16,
+    event: u32,
+    row: &mut [u8],
+    length: &mut usize,
+) -> u32
+    ensures open { AtLog (ShowsLog (λ held status. IsWritten (IsEventRow held.follower node event) (RefusesEvent held.follower node event) row.old length.old status row.new length.new)) replica.old.value result replica.new.value }
+    ensures closed { replica.old.value ≡ None → (row.new ≡ row.old) × (length.new ≡ length.old) }
+{
+    let Some(held) = replica.take(alloc) else {
+        return CLOSED;
+    };
+    let status = write_event(alloc, &held.follower, node, event, row, length);
+    replica.put(alloc, held);
+    status
+}
+
+/// How the node stands.
+#[unsafe(no_mangle)]
+pub extern "C" fn bully_c_replica_show(
+    alloc: Global,
+    replica: &mut ReplicaHandle,
+    node: u16,
+    state: &mut CState,
+) -> u32
+    ensures open { AtLog (ShowsLog (λ held status. ShowsNode held.follower.replica.world.setup node status ((status ≡ OkNumber) × (state.new ≡ shown (agent_in held.follower.replica.world node))) (state.new ≡ state.old))) replica.old.value result replica.new.value }
+    ensures closed { replica.old.value ≡ None → state.new ≡ state.old }
+{
+    let Some(held) = replica.take(alloc) else {
+        return CLOSED;
+    };
+    let status = show_node(held.follower.replica().world(), node, state);
+    replica.put(alloc, held);
+    status
+}
+
+// Writes how the node of this number stands.
+fn show_node(world: &World, node: u16, state: &mut CState) -> u32
+    ensures { ShowsNode world.now.setup node result ((result ≡ OkNumber) × (state.new ≡ shown (agent_in world.now node))) (state.new ≡ state.old) }
+{
+    match node_of(world.setup(), node) {
+        Ok(node) => {
+            *state = state_in(world, node);
+            OK
+        }
+        Err(status) => status,
+    }
+}
+
+/// The nodes of the node's up set, rising.
+#[unsafe(no_mangle)]
+pub extern "C" fn bully_c_replica_up(
+    alloc: Global,
+    replica: &mut ReplicaHandle,
+    node: u16,
+    nodes: &mut [u16],
+    count: &mut usize,
+) -> u32
+    ensures open { AtLog (ShowsLog (λ held status. ShowsNode held.follower.replica.world.setup node status (IsCopied (reverse (state_at held.follower.replica.world node).vector.vector.up) nodes.old status nodes.new count.new) ((nodes.new ≡ nodes.old) × (count.new ≡ count.old)))) replica.old.value result replica.new.value }
+    ensures closed { replica.old.value ≡ None → (nodes.new ≡ nodes.old) × (count.new ≡ count.old) }
+{
+    let Some(held) = replica.take(alloc) else {
+        return CLOSED;
+    };
+    let status = show_up(held.follower.replica().world(), node, nodes, count);
+    replica.put(alloc, held);
+    status
+}
+
+// Writes the up set of the node of this number.
+fn show_up(world: &World, node: u16, nodes: &mut [u16], count: &mut usize) -> u32
+    ensures { ShowsNode world.now.setup node result (IsCopied (reverse (state_at world.now node).vector.vector.up) nodes.old result nodes.new count.new) ((nodes.new ≡ nodes.old) × (count.new ≡ count.old)) }
+{
+    match node_of(world.setup(), node) {
+        Ok(node) => copy_up(world.vector(node).up(), nodes, count),
+        Err(status) => status,
+    }
+}
+
+/// The owners of the node's task; none without one.
+#[unsafe(no_mangle)]
+pub extern "C" fn bully_c_replica_task(
+    alloc: Global,
+    replica: &mut ReplicaHandle,
+    node: u16,
+    owners: &mut [u16],
+    count: &mut usize,
+) -> u32
+    ensures open { AtLog (ShowsLog (λ held status. ShowsNode held.follower.replica.world.setup node status (IsCopied (unwrap_or (state_at held.follower.replica.world node).vector.vector.task []) owners.old status owners.new count.new) ((owners.new ≡ owners.old) × (count.new ≡ count.old)))) replica.old.value result replica.new.value }
+    ensures closed { replica.old.value ≡ None → (owners.new ≡ owners.old) × (count.new ≡ count.old) }
+{
+    let Some(held) = replica.take(alloc) else {
+        return CLOSED;
+    };
+    let status = show_task(held.follower.replica().world(), node, owners, count);
+    replica.put(alloc, held);
+    status
+}
+
+// Writes the owners of the task of the node of this number.
+fn show_task(world: &World, node: u16, owners: &mut [u16], count: &mut usize) -> u32
+    ensures { ShowsNode world.now.setup node result (IsCopied (unwrap_or (state_at world.now node).vector.vector.task []) owners.old result owners.new count.new) ((owners.new ≡ owners.old) × (count.new ≡ count.old)) }
+{
+    match node_of(world.setup(), node) {
+        Ok(node) => copy_owners(world.vector(node).task(), owners, count),
+        Err(status) => status,
+    }
+}
+
+/// How the group stands.
+#[unsafe(no_mangle)]
+pub extern "C" fn bully_c_replica_group(
+    alloc: Global,
+    replica: &mut ReplicaHandle,
+    group: &mut CGroup,
+) -> u32
+    ensures open { AtLog (ShowsLog (λ held status. (status ≡ OkNumber) × (group.new ≡ group_shown held.follower))) replica.old.value result replica.new.value }
+    ensures closed { replica.old.value ≡ None → group.new ≡ group.old }
+{
+    let Some(held) = replica.take(alloc) else {
+        return CLOSED;
+    };
+    *group = group_of(&held.follower);
+    replica.put(alloc, held);
+    OK
+}
+
+// How the group stands of which this was learned.
+fn group_of(follower: &Follower) -> CGroup
+    ensures { result ≡ group_shown follower.now }
+{
+    let replica = follower.replica();
+    let setup = replica.world().setup();
+    CGroup {
+        rows: follower.rows(),
+        events: replica.events(),
+        token: replica.token(),
+        planner: number_of(replica.planner()),
+        nodes: setup.nodes(),
+        partitions: setup.partitions(),
+        keeps: u16::from(setup.keeps()),
+    }
+}
+
+/// The owners of the last plan's table; none without one.
+#[unsafe(no_mangle)]
+pub extern "C" fn bully_c_replica_planned(
+    alloc: Global,
+    replica: &mut ReplicaHandle,
+    owners: &mut [u16],
+    count: &mut usize,
+) -> u32
+    ensures open { AtLog (ShowsLog (λ held status. IsCopied (table_shown held.follower.replica) owners.old status owners.new count.new)) replica.old.value result replica.new.value }
+    ensures closed { replica.old.value ≡ None → (owners.new ≡ owners.old) × (count.new ≡ count.old) }
+{
+    let Some(held) = replica.take(alloc) else {
+        return CLOSED;
+    };
+    let status = copy_owners(held.follower.replica().last_table(), owners, count);
+    replica.put(alloc, held);
+    status
+}

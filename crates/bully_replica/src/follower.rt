@@ -1,0 +1,169 @@
+ghost use Rattle.std.specs.Prelude.{◌≡◌, ◌≤◌, ◌+◌, [], List, IfErr, IfOk, OnOk, None, Some, false, length, true};
+ghost use Rattle.bully_replica.specs.Following.{FailsAt, FailsOn, Follows, FollowsUpTo, LearnsFields, Stops};
+ghost use Rattle.bully_replica.specs.Replica.{HasLearned, first_replica};
+ghost use Rattle.bully_rows.specs.Headers.{Record};
+ghost use Rattle.bully_rows.specs.RecordsLeft.{Takes};
+ghost use Rattle.bully_rows.specs.Rows.{row_of};
+ghost use Rattle.bully_rows.specs.declared.TheConstants.{ROWS_MAX};
+
+use crate::Replica;
+use bully_base::OutOfMemory;
+use bully_rows::{Header, ROWS_MAX, RowReader, TraceCause, TraceFault};
+use bully_trace::Violation;
+use std::alloc::Global;
+use std::io::Read;
+use std::marker::Model;
+
+/// Why the next row of a log isn't learned.
+#[derive(Clone, Copy, PartialEq, Eq, Debug)]
+pub enum FollowFault {
+    /// It has no form of a row (`BadRow`), comes behind as many rows as a trace has at most (`TooManyRows`), or couldn't be
+    /// read (`Read`, `OutOfMemory`).
+    Form(TraceCause),
+    /// This is wrong with it where it stands.
+    Violation(Violation),
+}
+
+impl From<TraceFault> for FollowFault {
+    ghost use Rattle.std.specs.Prelude.{◌≡◌};
+    ghost use Rattle.bully_replica.specs.declared.follower.FollowFault.{FollowFault};
+
+    ghost from_gives = { λ fault follow. follow ≡ FollowFault.Form fault.cause };
+
+    fn from(fault: TraceFault) -> FollowFault {
+        FollowFault::Form(fault.cause)
+    }
+}
+
+/// The replica of a log whose rows are read one by one, and how many it learned.
+#[derive(Drop)]
+pub struct Follower {
+    replica: Replica,
+    rows: u32,
+}
+
+impl Model for Follower {
+    ghost use Rattle.std.specs.Prelude.{◌≤◌};
+    ghost use Rattle.bully_replica.specs.Following.{FollowerState};
+    ghost use Rattle.bully_rows.specs.declared.TheConstants.{ROWS_MAX};
+
+    ghost Value = { FollowerState };
+
+    ghost view = { λ f. record { replica = f.replica; rows = f.rows } };
+
+    ghost invariant = { λ f. f.rows ≤ ROWS_MAX };
+}
+
+impl Follower {
+    /// Behind this header, before any row. It reserves all memory that the events will need. Refused if an allocation fails.
+    pub fn new(alloc: Global, header: Header) -> Result<Follower, OutOfMemory>
+        ensures ok { IfOk result (λ f. f ≡ record { replica = first_replica header; rows = 0 }) }
+        ensures learned { IfOk result (λ f. HasLearned f.replica []) }
+    {
+        Ok(Follower {
+            replica: Replica::behind(alloc, header)?,
+            rows: 0,
+        })
+    }
+
+    /// What was learned.
+    pub fn replica(&self) -> &Replica
+        ensures { result.now ≡ self.now.replica }
+    {
+        &self.replica
+    }
+
+    /// How many rows were learned.
+    pub fn rows(&self) -> u32
+        ensures { result ≡ self.now.rows }
+    {
+        self.rows
+    }
+
+    /// Learns the row that the reader gives next, and tells whether there is one. Refused if there is one that isn't
+    /// learned, or that can't be read, and then nothing changes but how far the reader has come: `TooManyRows` behind as
+    /// many rows as a trace has at most, then `BadRow`, then what is wrong with the row. The rule: docs/FORMATS.md.
+    pub fn take_next<R: Read + Drop>(
+        &mut self,
+        alloc: Global,
+        reader: &mut RowReader<R>,
+    ) -> Result<bool, FollowFault>
+        ensures takes { IfOk result (λ found. Takes reader.old.records reader.new.records found reader.new.fields) }
+        ensures follows { IfOk result (λ found. found ≡ true → Follows reader.new.fields self.old self.new) }
+        ensures counted { IfOk result (λ found. found ≡ true → reader.new.number ≡ reader.old.number + 1) }
+        ensures ended { IfOk result (λ found. found ≡ false → self.new ≡ self.old) }
+        ensures fault { IfErr result (FailsAt reader.old reader.new self.old) }
+        ensures unchanged { IfErr result (λ _. self.new ≡ self.old) }
+        ensures within { self.new.rows ≤ ROWS_MAX }
+    {
+        let is_full = self.rows == ROWS_MAX;
+        if !reader.advance()? {
+            return Ok(false);
+        }
+        if is_full {
+            return Err(FollowFault::Form(TraceCause::TooManyRows));
+        }
+        learn_next(alloc, &mut self.replica, reader)?;
+        self.rows += 1;
+        Ok(true)
+    }
+
+    /// Learns the rows that the reader still gives, in their order, up to the first that [`Follower::take_next`] refuses; what was
+    /// learned before it stays.
+    pub fn take_all<R: Read + Drop>(
+        &mut self,
+        alloc: Global,
+        reader: &mut RowReader<R>,
+    ) -> Result<(), FollowFault>
+        ensures all { OnOk result ((records : List Record) → reader.old.records ≡ Some records → FollowsUpTo records self.old self.new []) }
+        ensures part { IfErr result (λ fault. (records : List Record) → reader.old.records ≡ Some records
+            → (left : List Record) × FollowsUpTo records self.old self.new left × Stops reader.old self.old left self.new fault) }
+        ensures counted { self.old.rows ≤ self.new.rows }
+        ensures within { self.new.rows ≤ ROWS_MAX }
+    {
+        while self.take_next(alloc, reader)? {}
+        Ok(())
+    }
+}
+
+// Learns the row that was read last.
+// (an event that names a node and no more, as most rows do, is never a `Row`, as in `bully_trace::check`)
+fn learn_next<R: Read + Drop>(
+    alloc: Global,
+    replica: &mut Replica,
+    reader: &RowReader<R>,
+) -> Result<(), FollowFault>
+    ensures learned { OnOk result (LearnsFields reader.now.fields replica.old replica.new) }
+    ensures fault { IfErr result (FailsOn reader.now.fields replica.old) }
+    ensures unchanged { IfErr result (λ _. replica.new ≡ replica.old) }
+{
+    match reader.node_event(replica.version()) {
+        Some(event) => match replica.learn_node_event(event) {
+            Ok(()) => Ok(()),
+            Err(violation) => Err(FollowFault::Violation(violation)),
+        },
+        None => learn_longer(alloc, replica, reader),
+    }
+}
+
+// The same, if it is no event that names a node and no more.
+#[inline(never)]
+fn learn_longer<R: Read + Drop>(
+    alloc: Global,
+    replica: &mut Replica,
+    reader: &RowReader<R>,
+) -> Result<(), FollowFault>
+    requires { length reader.now.fields ≡ 2 → row_of replica.old.version replica.old.world.setup reader.now.fields ≡ None }
+    ensures learned { OnOk result (LearnsFields reader.now.fields replica.old replica.new) }
+    ensures fault { IfErr result (FailsOn reader.now.fields replica.old) }
+    ensures unchanged { IfErr result (λ _. replica.new ≡ replica.old) }
+{
+    match &reader.longer_row(alloc, replica.version(), replica.world().setup()) {
+        Ok(Some(row)) => match replica.learn_row(row) {
+            Ok(()) => Ok(()),
+            Err(violation) => Err(FollowFault::Violation(violation)),
+        },
+        Ok(None) => Err(FollowFault::Form(TraceCause::BadRow)),
+        Err(_) => Err(FollowFault::Form(TraceCause::OutOfMemory)),
+    }
+}
