@@ -1,4 +1,4 @@
-/* bully.h: one node of a group, from C and from whatever calls C.
+/* bully.h: one node of a group, or what a process knows of a group, from C and from whatever calls C.
  *
  * The node elects a coordinator with its group by Garcia-Molina's Bully algorithm and has the group's task, as `docs/NODE.md`
  * says: that page has the two ways to embed a node, what the program has to keep, and why. An agent is one node that sends calls to
@@ -255,7 +255,7 @@ bully_status bully_agent_claim(bully_agent *agent, char *row, size_t room, size_
 
 /* ---- A group whose history is a log outside ---- */
 
-/* A handle of a replica: what the library keeps of a group whose rows it learned. Closed where it is zeroed. */
+/* A handle of a replica: what the library keeps of a group whose rows it learned. Closed if it is zeroed. */
 typedef struct bully_replica {
     void *held;
 } bully_replica;
@@ -270,10 +270,10 @@ bully_status bully_replica_open(bully_replica *replica, const char *header, size
 bully_status bully_replica_close(bully_replica *replica);
 
 /* Learns the rows that stand next in the log, each with its line end, a line feed, in their order and as `bully_check` takes them: up
- * to the first that isn't a row or is refused. `taken` gets how many were learned, also if the status isn't BULLY_OK: that says why the
+ * to the first that isn't a row, is refused or says what isn't so. A blank line is no row, and isn't counted. `taken` gets how many were learned, also if the status isn't BULLY_OK: that says why the
  * next one wasn't, and what was learned before it stays.
  * BULLY_NULL, BULLY_CLOSED: `taken` is as before; BULLY_ROW_END: none was learned. Then of the first that isn't learned:
- * BULLY_OUT_OF_MEMORY; BULLY_TOO_MANY_ROWS; BULLY_BAD_ROW; BULLY_FULL to BULLY_NOT_ORPHAN: its event is refused; BULLY_ROW_DIFFERS. */
+ * BULLY_OUT_OF_MEMORY; BULLY_TOO_MANY_ROWS; BULLY_BAD_ROW, also for a byte-order mark in front; BULLY_FULL to BULLY_NOT_ORPHAN: its event is refused; BULLY_ROW_DIFFERS. */
 bully_status bully_replica_learn(bully_replica *replica, const char *rows, size_t length, size_t *taken);
 
 /* The row that the node appends next by itself, with its line end; a length of 0: it rests. If it isn't Down, it first runs the
@@ -284,7 +284,7 @@ bully_status bully_replica_learn(bully_replica *replica, const char *rows, size_
  * most; BULLY_SHORT, with the length. */
 bully_status bully_replica_next(bully_replica *replica, uint16_t node, char *row, size_t room, size_t *length);
 
-/* The events that no step of a procedure is. */
+/* Events that a process appends for reasons of its own. (`bully_replica_next` drops an orphan by itself.) */
 enum {
     BULLY_EVENT_CRASH = 1,
     BULLY_EVENT_RECOVER = 2,

@@ -468,7 +468,7 @@ class State(NamedTuple):
 
 
 class _Event(enum.IntEnum):
-    """The events that no step of a procedure is."""
+    """Events that a process appends for reasons of its own."""
 
     CRASH = 1
     RECOVER = 2

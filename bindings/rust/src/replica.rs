@@ -11,7 +11,7 @@ use std::fmt;
 /// The log begins with a header, as [`Setup::header`](crate::Setup::header) has one. Then come rows, as `docs/FORMATS.md` has them.
 /// Here rows have no line end. A process learns all rows of the log in their order, by [`Replica::learn`]. It appends a row that
 /// [`Replica::next`] or [`Replica::event`] gave, behind exactly the rows that it has learned. If another row came first, it appends
-/// nothing, and learns that one. So the log is lawful, whatever its processes do, and agreement holds of all that they read.
+/// nothing, and learns that one. If all processes do so, the log is lawful, and agreement holds of all that they read.
 ///
 /// [`Replica::learn`] alone takes `&mut self`. The calls that take `&self` change nothing.
 ///
@@ -26,7 +26,8 @@ pub struct Replica {
     handle: ReplicaHandle,
 }
 
-/// An event that no step of a procedure is, shown as the rows of traces spell it.
+/// An event that a process appends for reasons of its own, shown as the rows of traces spell it. ([`Replica::next`] drops an orphan
+/// by itself.)
 #[derive(Clone, Copy, Debug, PartialEq, Eq, Hash)]
 pub enum ReplicaEvent {
     /// The node crashes, or has to stop. Refused as `Full`, `IsDown`.

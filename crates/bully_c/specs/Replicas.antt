@@ -99,7 +99,7 @@ RefusesRow f e status = ((why : Refused) × (append_cause f e ≡ Some why) × (
 abbrev pub HasNode : FollowerState → ℕ → Type 0
 HasNode f node = IsNode f.replica.world.setup node
 
--- the row of what the node appends next, or nothing where it rests
+-- the row of what the node appends next, or nothing if it rests
 abbrev pub IsNextRow : FollowerState → ℕ → List ℕ → Type 0
 IsNextRow f node text = HasNode f node × (next : Option Event) × IsNext f.replica node next × MatchOption next (text ≡ []) (λ e. IsAllowedRow f e text)
 

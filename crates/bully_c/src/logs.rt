@@ -22,8 +22,8 @@ pub struct HeldLog {
     pub follower: Follower,
 }
 
-/// The replica of a log with the header of this text, on the heap. Refused where that is no header, where a row stands behind it,
-/// and where an allocation fails.
+/// The replica of a log with the header of this text, on the heap. Refused if that is no header, if a row stands behind it,
+/// and if an allocation fails.
 pub fn opened(alloc: Global, text: &[u8]) -> Result<Box<HeldLog>, u32>
     ensures ok { IfOk result (λ held. (header : HeaderState) × IsHeaderAlone text.now header × (held.value ≡ opened_log header)) }
     ensures err { IfErr result (RefusesHeader text.now) }
@@ -125,7 +125,7 @@ fn has_mark(text: &[u8]) -> bool
     text.starts_with(b"\xEF\xBB\xBF")
 }
 
-/// Writes the row of what the node of this number appends next by itself, or nothing where it rests; or tells why there is none.
+/// Writes the row of what the node of this number appends next by itself, or nothing if it rests; or tells why there is none.
 pub fn write_next(
     alloc: Global,
     follower: &Follower,
@@ -141,7 +141,7 @@ pub fn write_next(
     }
 }
 
-// The row of what the node of this number appends next by itself, or nothing where it rests.
+// The row of what the node of this number appends next by itself, or nothing if it rests.
 fn next_row(alloc: Global, follower: &Follower, node: u16) -> Result<String, u32>
     ensures ok { IfOk result (λ text. IsNextRow follower.now node (string_bytes text)) }
     ensures err { IfErr result (RefusesNext follower.now node) }
@@ -184,7 +184,7 @@ fn event_row(alloc: Global, follower: &Follower, node: u16, number: u32) -> Resu
     }
 }
 
-// The row of the event, where nothing refuses it.
+// The row of the event, if nothing refuses it.
 fn allowed_row(alloc: Global, follower: &Follower, event: &Event) -> Result<String, u32>
     ensures ok { IfOk result (λ text. IsAllowedRow follower.now event.now (string_bytes text)) }
     ensures err { IfErr result (RefusesRow follower.now event.now) }

@@ -7,7 +7,7 @@ use bully_handle::Loose;
 use std::alloc::Global;
 use std::marker::Model;
 
-/// A pointer to what is kept of a replica, which the handle owns, or null where the handle is closed.
+/// A pointer to what is kept of a replica, which the handle owns, or null if the handle is closed.
 #[repr(C)]
 pub struct ReplicaHandle {
     at: *mut u8,

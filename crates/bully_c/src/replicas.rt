@@ -131,7 +131,7 @@ pub extern "C" fn bully_c_replica_next(
     status
 }
 
-/// The row of an event of the node that is no step of its procedure.
+/// The row of an event that a process appends for reasons of its own.
 #[unsafe(no_mangle)]
 pub extern "C" fn bully_c_replica_event(
     alloc: Global,

@@ -1,15 +1,17 @@
 -- A log that is followed by one row more, and why it isn't.
-use Rattle.std.proofs.Common.{◌≡◌, ◌++◌, Bool, true, false, List, [], ◌∷◌, Some, None, inl, inr, map, length-append, append_assoc, append-nil, refl, sym, ap, subst, arith, ◌∙◌}
+use Rattle.std.proofs.Common.{◌≡◌, ◌⊎◌, ◌+◌, ◌++◌, Bool, true, false, List, [], ◌∷◌, Some, inl, inr, map, length-append, append_assoc, append-nil, refl, sym, ap, subst, arith, ◌∙◌}
 use Rattle.std.proofs.lemmas.List.{map-append}
 use Rattle.bully_base.specs.Setup.{Setup}
-use Rattle.bully_replica.specs.Following.{FailsAt, FailsOn, Follows, FollowerState, FollowsUpTo, StopsAt, row_in}
+use Rattle.bully_replica.specs.Following.{FailsAt, FailsBehind, Follows, FollowerState, FollowsUpTo, StopsAt, row_in}
 use Rattle.bully_replica.specs.Replica.{HasLearned, ReplicaState}
 use Rattle.bully_replica.specs.declared.follower.FollowFault.{FollowFault}
 use Rattle.bully_replica.proofs.LogLemmas.{taken_setup}
 use Rattle.bully_rows.specs.Headers.{Record}
 use Rattle.bully_rows.specs.RecordsLeft.{ReadSoFar, Takes}
 use Rattle.bully_rows.specs.Rows.{row_of}
+use Rattle.bully_rows.specs.declared.TheConstants.{ROWS_MAX}
 use Rattle.bully_rows.specs.declared.header.Version.{Version}
+use Rattle.bully_rows.specs.declared.trace.TraceCause.{TraceCause}
 
 -- before any of the records
 pub follows_none : (records : List Record) (f : FollowerState) → FollowsUpTo records f f records
@@ -42,23 +44,23 @@ follows_more records before mid after fields rest up ((row, told, learns), room,
   learned = λ earlier has. subst (HasLearned after.replica) (append_assoc earlier up.rows (row ∷ [])) (learns.learned (earlier ++ up.rows) (up.learned earlier has));
 }
 
--- a row that can't be had, or that is none, or with which something is wrong
-pub stops_at : (before after : ReadSoFar) (f : FollowerState) (left : List Record) (fault : FollowFault) → before.records ≡ Some left → FailsAt before after f fault → StopsAt left f fault
-stops_at before after f left fault known (inl (inl is)) = rw is (inl refl)
-stops_at before after f left fault known (inl (inr (inl is))) = rw is (inr (inl refl))
-stops_at before after f left fault known (inl (inr (inr (is, many)))) = rw is (inr (inr (inl refl)))
-stops_at before after f left fault known (inr (takes, fails)) = by_left left known
-  where
-    by_fault : (rest : List Record) (first : Record) (fault : FollowFault) → after.fields ≡ first → FailsOn after.fields f.replica fault → StopsAt (first ∷ rest) f fault
-    by_fault rest first (FollowFault.Form cause) same (inl memory) = inr (inl memory)
-    by_fault rest first (FollowFault.Form cause) same (inr (bad, none)) = inr (inr (inr (bad, first, rest, refl, subst (λ fields. row_in f.replica fields ≡ None) same none)))
-    by_fault rest first (FollowFault.Violation violation) same (row, told, wrong) = (first, rest, refl, row, subst (λ fields. row_in f.replica fields ≡ Some row) same told, wrong)
+-- the reader has given as many as a trace has
+abbrev pub HasGivenAll : ReadSoFar → FollowFault → Type 0
+HasGivenAll reader fault = (fault ≡ FollowFault.Form TraceCause.TooManyRows) × (reader.number ≡ ROWS_MAX + 1)
 
-    by_left : (left : List Record) → before.records ≡ Some left → StopsAt left f fault
+-- a row that can't be had, or that isn't learned behind those so far
+pub stops_at : (before after : ReadSoFar) (f : FollowerState) (left : List Record) (fault : FollowFault) → before.records ≡ Some left → FailsAt before after f fault
+    → StopsAt left f fault ⊎ HasGivenAll before fault
+stops_at before after f left fault known (inl (inl read)) = inl (inl read)
+stops_at before after f left fault known (inl (inr (inl memory))) = inl (inr (inl memory))
+stops_at before after f left fault known (inl (inr (inr many))) = inr many
+stops_at before after f left fault known (inr (takes, fails)) = inl (inr (inr (by_left left known)))
+  where
+    by_left : (left : List Record) → before.records ≡ Some left → (fields : Record) × (rest : List Record) × (left ≡ fields ∷ rest) × FailsBehind fields f fault
     by_left [] none = let found : true ≡ false = rw none at takes in absurd (cc found)
     by_left (first ∷ rest) some =
         let is : (true ≡ true) × (after.fields ≡ first) × (after.records ≡ Some rest) = rw some at takes in
-        by_fault rest first fault is.1 fails
+        (first, rest, refl, subst (λ fields. FailsBehind fields f fault) is.1 fails)
 
 -- how far a reader has come, and the follower with it
 abbrev pub IsFollowedTo : ReadSoFar → FollowerState → ReadSoFar → FollowerState → Type 0

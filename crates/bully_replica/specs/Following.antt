@@ -32,15 +32,20 @@ abbrev pub FailsOn : Record → ReplicaState → FollowFault → Type 0
 FailsOn fields r (FollowFault.Form cause) = (cause ≡ TraceCause.OutOfMemory) ⊎ ((cause ≡ TraceCause.BadRow) × (row_in r fields ≡ None))
 FailsOn fields r (FollowFault.Violation violation) = (row : Row) × (row_in r fields ≡ Some row) × (violation_of r.world row ≡ Some violation)
 
--- why no row can be had: the reader fails, or there is no memory; or a trace has no more rows
-abbrev pub FailsOutside : ReadSoFar → FollowerState → FollowFault → Type 0
-FailsOutside reader f fault =
+-- why these fields aren't learned behind the rows so far: a trace has no more rows, or FailsOn
+abbrev pub FailsBehind : Record → FollowerState → FollowFault → Type 0
+FailsBehind fields f fault =
+    ((f.rows ≡ ROWS_MAX) × (fault ≡ FollowFault.Form TraceCause.TooManyRows)) ⊎ ((f.rows < ROWS_MAX) × FailsOn fields f.replica fault)
+
+-- why no row can be had: the reader fails, or there is no memory; or it has given as many as a trace has with its header
+abbrev pub FailsOutside : ReadSoFar → FollowFault → Type 0
+FailsOutside reader fault =
     (fault ≡ FollowFault.Form TraceCause.Read) ⊎ (fault ≡ FollowFault.Form TraceCause.OutOfMemory)
-    ⊎ ((fault ≡ FollowFault.Form TraceCause.TooManyRows) × ((f.rows ≡ ROWS_MAX) ⊎ (reader.number ≡ ROWS_MAX + 1)))
+    ⊎ ((fault ≡ FollowFault.Form TraceCause.TooManyRows) × (reader.number ≡ ROWS_MAX + 1))
 
 -- why the next row isn't learned
 abbrev pub FailsAt : ReadSoFar → ReadSoFar → FollowerState → FollowFault → Type 0
-FailsAt before after f fault = FailsOutside before f fault ⊎ (Takes before.records after.records true after.fields × FailsOn after.fields f.replica fault)
+FailsAt before after f fault = FailsOutside before fault ⊎ (Takes before.records after.records true after.fields × FailsBehind after.fields f fault)
 
 -- of these records the first were learned, as the rows that they mean, behind those before; and the others are left
 pub record FollowsUpTo (records : List Record) (before after : FollowerState) (left : List Record) : Type 0 where
@@ -53,10 +58,13 @@ pub record FollowsUpTo (records : List Record) (before after : FollowerState) (l
   pub setup : after.replica.world.setup ≡ before.replica.world.setup
   pub learned : (earlier : List Row) → HasLearned before.replica earlier → HasLearned after.replica (earlier ++ rows)
 
--- why the first of those that are left isn't learned
+-- why the first of those that are left isn't learned: it can't be read, or there is no memory, or FailsBehind
 abbrev pub StopsAt : List Record → FollowerState → FollowFault → Type 0
-StopsAt left f (FollowFault.Form cause) =
-    (cause ≡ TraceCause.Read) ⊎ (cause ≡ TraceCause.OutOfMemory) ⊎ (cause ≡ TraceCause.TooManyRows)
-    ⊎ ((cause ≡ TraceCause.BadRow) × (fields : Record) × (rest : List Record) × (left ≡ fields ∷ rest) × (row_in f.replica fields ≡ None))
-StopsAt left f (FollowFault.Violation violation) =
-    (fields : Record) × (rest : List Record) × (left ≡ fields ∷ rest) × (row : Row) × (row_in f.replica fields ≡ Some row) × (violation_of f.replica.world row ≡ Some violation)
+StopsAt left f fault =
+    (fault ≡ FollowFault.Form TraceCause.Read) ⊎ (fault ≡ FollowFault.Form TraceCause.OutOfMemory)
+    ⊎ ((fields : Record) × (rest : List Record) × (left ≡ fields ∷ rest) × FailsBehind fields f fault)
+
+-- or a reader that stood here when the follower was at `before` has given as many as a trace has with its header
+abbrev pub Stops : ReadSoFar → FollowerState → List Record → FollowerState → FollowFault → Type 0
+Stops reader before left f fault =
+    StopsAt left f fault ⊎ ((fault ≡ FollowFault.Form TraceCause.TooManyRows) × (reader.number + f.rows ≡ before.rows + (ROWS_MAX + 1)))

@@ -1,9 +1,10 @@
-ghost use Rattle.std.specs.Prelude.{◌≡◌, ◌≤◌, [], List, IfErr, IfOk, OnOk, None, Some, false, length, true};
-ghost use Rattle.bully_replica.specs.Following.{FailsAt, FailsOn, Follows, FollowsUpTo, LearnsFields, StopsAt};
-ghost use Rattle.bully_replica.specs.Replica.{first_replica};
+ghost use Rattle.std.specs.Prelude.{◌≡◌, ◌≤◌, ◌+◌, [], List, IfErr, IfOk, OnOk, None, Some, false, length, true};
+ghost use Rattle.bully_replica.specs.Following.{FailsAt, FailsOn, Follows, FollowsUpTo, LearnsFields, Stops};
+ghost use Rattle.bully_replica.specs.Replica.{HasLearned, first_replica};
 ghost use Rattle.bully_rows.specs.Headers.{Record};
 ghost use Rattle.bully_rows.specs.RecordsLeft.{Takes};
 ghost use Rattle.bully_rows.specs.Rows.{row_of};
+ghost use Rattle.bully_rows.specs.declared.TheConstants.{ROWS_MAX};
 
 use crate::Replica;
 use bully_base::OutOfMemory;
@@ -54,9 +55,10 @@ impl Model for Follower {
 }
 
 impl Follower {
-    /// Behind this header, before any row. It reserves all memory that the events will need. Refused where an allocation fails.
+    /// Behind this header, before any row. It reserves all memory that the events will need. Refused if an allocation fails.
     pub fn new(alloc: Global, header: Header) -> Result<Follower, OutOfMemory>
-        ensures { IfOk result (λ f. f ≡ record { replica = first_replica header; rows = 0 }) }
+        ensures ok { IfOk result (λ f. f ≡ record { replica = first_replica header; rows = 0 }) }
+        ensures learned { IfOk result (λ f. HasLearned f.replica []) }
     {
         Ok(Follower {
             replica: Replica::behind(alloc, header)?,
@@ -78,7 +80,7 @@ impl Follower {
         self.rows
     }
 
-    /// Learns the row that the reader gives next, and tells whether there is one. Refused where there is one that isn't
+    /// Learns the row that the reader gives next, and tells whether there is one. Refused if there is one that isn't
     /// learned, or that can't be read, and then nothing changes but how far the reader has come: `TooManyRows` behind as
     /// many rows as a trace has at most, then `BadRow`, then what is wrong with the row. The rule: docs/FORMATS.md.
     pub fn take_next<R: Read + Drop>(
@@ -88,14 +90,17 @@ impl Follower {
     ) -> Result<bool, FollowFault>
         ensures takes { IfOk result (λ found. Takes reader.old.records reader.new.records found reader.new.fields) }
         ensures follows { IfOk result (λ found. found ≡ true → Follows reader.new.fields self.old self.new) }
+        ensures counted { IfOk result (λ found. found ≡ true → reader.new.number ≡ reader.old.number + 1) }
         ensures ended { IfOk result (λ found. found ≡ false → self.new ≡ self.old) }
         ensures fault { IfErr result (FailsAt reader.old reader.new self.old) }
         ensures unchanged { IfErr result (λ _. self.new ≡ self.old) }
+        ensures within { self.new.rows ≤ ROWS_MAX }
     {
+        let is_full = self.rows == ROWS_MAX;
         if !reader.advance()? {
             return Ok(false);
         }
-        if self.rows == ROWS_MAX {
+        if is_full {
             return Err(FollowFault::Form(TraceCause::TooManyRows));
         }
         learn_next(alloc, &mut self.replica, reader)?;
@@ -112,8 +117,9 @@ impl Follower {
     ) -> Result<(), FollowFault>
         ensures all { OnOk result ((records : List Record) → reader.old.records ≡ Some records → FollowsUpTo records self.old self.new []) }
         ensures part { IfErr result (λ fault. (records : List Record) → reader.old.records ≡ Some records
-            → (left : List Record) × FollowsUpTo records self.old self.new left × StopsAt left self.new fault) }
+            → (left : List Record) × FollowsUpTo records self.old self.new left × Stops reader.old self.old left self.new fault) }
         ensures counted { self.old.rows ≤ self.new.rows }
+        ensures within { self.new.rows ≤ ROWS_MAX }
     {
         while self.take_next(alloc, reader)? {}
         Ok(())
@@ -140,7 +146,7 @@ fn learn_next<R: Read + Drop>(
     }
 }
 
-// The same, where it is no event that names a node and no more.
+// The same, if it is no event that names a node and no more.
 #[inline(never)]
 fn learn_longer<R: Read + Drop>(
     alloc: Global,

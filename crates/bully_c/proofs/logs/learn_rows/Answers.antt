@@ -1,0 +1,9 @@
+use Rattle.std.proofs.Common.{rules}
+use Rattle.bully_rows.specs.Rows.{records_of}
+use Rattle.bully_c.proofs.LogRowLemmas.{ends-learning}
+use Rattle.bully_c.proofs.logs.learn_rows.Goals as goal
+
+pub returns-clause-learned : goal.returns-clause-learned
+returns-clause-learned c =
+    ends-learning (records_of c.args.text.now) c.open-reader.result c.args.follower.now c.take_all.new.self c.in-Err.fault c.of_follow.result
+    c.open-reader.ensures.number c.take_all.ensures.within c.of_follow.ensures (c.in-Err.ensures.part (records_of c.args.text.now) (search rules))
