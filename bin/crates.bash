@@ -184,7 +184,8 @@ take_gated() {
     for name in "${libraries[@]}"; do
         folder=$root/crates/$name/out
         if [[ -e $folder/rlib/$name.rlib ]]; then
-            mkdir -p "$folder/built" && ln -f "$folder/rlib/$name.rlib" "$folder/built/$name.rlib" && printf '%s\n' "${made_of[$name]}" >"$folder/built/made_of"
+            rm -rf "$folder/built" && mkdir -p "$folder/built" && cp -al "$folder/rlib/$name.rlib" "$folder/built/" &&
+                printf '%s\n' "${made_of[$name]}" >"$folder/built/made_of"
         elif [[ -x $folder/$name ]]; then
             printf '%s\n' "${made_of[$name]}" >"$folder/asked"
         elif [[ -e $folder/gated/lib$name.a ]]; then
@@ -276,7 +277,8 @@ prove_library() {
     local words out=$root/crates/$1/out keep=(--statements)
     find_words "$1" src/lib.rt
     [[ -z ${whole[$1]-} && ! -e $out/incremental && ! -e $out/built/$1.rlib ]] || keep=(--incremental out/incremental)
-    mkdir -p "$out/built" && rm -f "$out/built/made_of"
+    # (what the gate built may be linked from elsewhere, so nothing is written over it)
+    mkdir -p "$out/built" && rm -rf "$out/built/made_of" "$out/built/$1.rlib"
     if cd "$root/crates/$1" && "$kit/bin/rattle" build "${words[@]}" --jobs "$2" "${keep[@]}" -o "out/built/$1.rlib"; then
         printf '%s\n' "${made_of[$1]}" >"$out/built/made_of"
     fi &>"$room/$1.said" </dev/null
