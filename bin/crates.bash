@@ -1,6 +1,8 @@
 # What bin/bully and bin/library share: the crates of crates.txt, and how those that one of them stands on are proved and built. It is
 # sourced, where `root` is the top of the repository, and `say` tells a line on standard error. A library is built into its folder
 # out/built, beside a sum of all that it is made of.
+# (root and room are its callers', and proved is one number of prove_below)
+# shellcheck disable=SC2128,SC2154
 
 # Of each crate the libraries that its line names, and those of this repository that it stands on, lowest first. In crates.txt a
 # crate's line stands behind those of the crates that it names.
@@ -21,9 +23,27 @@ read_crates() {
     done <"$root/crates.txt"
 }
 
-# The libraries that most others wait for: three processes prove each, in half the time of one, though they do a third more work.
-# docs/DECISIONS.md says how this list came about.
-several='bully_base bully_table bully_calls bully_handlers bully_steps bully_world bully_agree bully_trace'
+# Of each crate the seconds that its proof takes by one process, by how many processes it is proved, and whether its proof is kept the
+# first time, too: what durations.txt says, and else a tenth of its lines, and one.
+declare -A seconds=() several=() whole=()
+
+read_durations() {
+    local name duration processes kept
+    while read -r name duration processes kept; do
+        [[ $name != '#'* ]] || continue
+        seconds[$name]=$duration several[$name]=$processes whole[$name]=$kept
+    done <"$root/bin/durations.txt"
+}
+
+duration_of() {
+    local lines
+    if [[ -v seconds[$1] ]]; then
+        echo "${seconds[$1]}"
+    else
+        lines=$(find "$root/crates/$1"/{src,specs,proofs} -type f -exec cat {} + 2>/dev/null | wc -l)
+        echo $((lines / 10))
+    fi
+}
 
 # Finds the folder of the kit, `kit`.
 find_kit() {
@@ -110,12 +130,12 @@ all_jobs() {
 # Proves each library that this crate stands on and that isn't built of what it is made of now, each as soon as those below it are,
 # and then what the command behind it proves and builds. The files of the folder `room` tell what was said.
 prove_below() {
-    # (of each crate: empty while no proof was begun, `begun` or `proved`; what it is made of; the seconds that its proof takes, and those
-    # of its chain; and by how many processes it is proved. And how many were proved, are to be, and are under way, and the processes of
-    # these)
-    local -A state=() made_of=() seconds=() chain=() processes_of=()
+    # (of each crate: empty while no proof was begun, `begun` or `proved`; what it is made of; the seconds of its chain; and by how many
+    # processes it is proved. And how many were proved, are to be, and are under way, and the processes of these)
+    local -A state=() made_of=() chain=() processes_of=()
     local proved=0 all=0 begun=0 busy=0 libraries
     read -ra libraries <<<"${below[$1]}"
+    read_durations
     find_states
     find_chains "$1"
     tell_plan "$1"
@@ -128,22 +148,57 @@ prove_below() {
     done
 }
 
-# Finds which libraries are built of what they are made of now: the kit, themselves, and all below them.
-find_states() {
-    local name lower sum text
+# Finds what the libraries are made of, by these sums: the kit, themselves, and all below them.
+find_made_of() {
+    local name lower sum
     local -A own=()
-    text=$(sums "${libraries[@]}")
     while read -r name sum; do
         own[$name]=$sum
-    done <<<"$text"
+    done <<<"$1"
     for name in "${libraries[@]}"; do
-        made_of[$name]=${text%%$'\n'*}
+        made_of[$name]=${1%%$'\n'*}
         for lower in ${below[$name]} "$name"; do
             made_of[$name]+=$'\n'"$lower ${own[$lower]}"
         done
+    done
+}
+
+# Finds which libraries are built of what they are made of now.
+find_states() {
+    local name
+    find_made_of "$(sums "${libraries[@]}")"
+    for name in "${libraries[@]}"; do
         state[$name]=
         [[ ! -e $(library_of "$name") || ${made_of[$name]} != "$(cat "$root/crates/$name/out/built/made_of" 2>/dev/null)" ]] || state[$name]=proved
     done
+}
+
+# Takes what the gate has proved and built as built, of what these sums say. They are those of all crates before the gate began, and
+# have to be those of now, too: else something changed meanwhile, and nothing is taken. The gate left each library in out/rlib, each
+# program in out/NAME, and bin/library the archive for C in out/gated.
+take_gated() {
+    local name folder libraries=("${!below[@]}")
+    local -A made_of=()
+    [[ $1 == "$(sums_of_all)" ]] || return 0
+    find_made_of "$1"
+    for name in "${libraries[@]}"; do
+        folder=$root/crates/$name/out
+        if [[ -e $folder/rlib/$name.rlib ]]; then
+            rm -rf "$folder/built" && mkdir -p "$folder/built" && cp -al "$folder/rlib/$name.rlib" "$folder/built/" &&
+                printf '%s\n' "${made_of[$name]}" >"$folder/built/made_of"
+        elif [[ -x $folder/$name ]]; then
+            printf '%s\n' "${made_of[$name]}" >"$folder/asked"
+        elif [[ -e $folder/gated/lib$name.a ]]; then
+            ln -f "$folder/gated/lib$name.a" "$folder/lib$name.a" && printf '%s\n' "${made_of[$name]}" >"$folder/made_of"
+        fi
+    done
+}
+
+# The sums of all crates.
+sums_of_all() {
+    # (the names have no spaces)
+    # shellcheck disable=SC2046
+    sums $(printf '%s\n' "${!below[@]}" | LC_ALL=C sort)
 }
 
 # Tells how many crates are to be proved, and how long that takes on four cores: for each 35 s from nothing, 10 s over the work that an
@@ -171,21 +226,15 @@ is_ready() {
     done
 }
 
-# Of each crate how many seconds the longest chain of proofs takes from it on up to the one that is to be built: by docs/GATE.md, and a
-# tenth of its lines where that has no row of it; half of that where several processes prove it.
+# Of each crate how many seconds the longest chain of proofs takes from it on up to the one that is to be built. Several processes take
+# half the time of one, though they do a third more work.
 find_chains() {
-    local name lower lines place all=("${libraries[@]}" "$1")
-    while read -r name lines; do
-        seconds[$name]=$lines
-    done < <(sed -nE 's/^\| (bully[a-z_]*) \| ([0-9]+) \|.*/\1 \2/p' "$root/docs/GATE.md")
+    local name lower place duration all=("${libraries[@]}" "$1")
     for ((place = ${#all[@]} - 1; place >= 0; place--)); do
         name=${all[place]}
-        if [[ ! -v seconds[$name] ]]; then
-            lines=$(find "$root/crates/$name"/{src,specs,proofs} -type f -exec cat {} + 2>/dev/null | wc -l)
-            seconds[$name]=$((lines / 10))
-        fi
-        [[ " $several " != *" $name "* ]] || seconds[$name]=$((seconds[$name] / 2))
-        chain[$name]=$((${chain[$name]-0} + seconds[$name]))
+        duration=$(duration_of "$name")
+        [[ ${several[$name]-1} == 1 ]] || duration=$((duration / 2))
+        chain[$name]=$((${chain[$name]-0} + duration))
         for lower in ${below[$name]}; do
             [[ ${chain[$lower]-0} -gt ${chain[$name]} ]] || chain[$lower]=${chain[$name]}
         done
@@ -208,8 +257,8 @@ begin_all() {
         left=$(($(nproc) - busy))
         [[ $left -ge 1 ]] || return 0
         [[ $(jobs_within_memory 1) -ge 1 || $begun == 0 ]] || return 0
-        processes=1
-        [[ " $several " != *" $name "* ]] || processes=$(jobs_within_memory $((left < 3 ? left : 3)))
+        processes=${several[$name]-1}
+        [[ $processes == 1 ]] || processes=$(jobs_within_memory $((left < processes ? left : processes)))
         begin_proof "$name" $((processes < 1 ? 1 : processes))
     done
 }
@@ -223,12 +272,13 @@ begin_proof() {
 
 # Proves a library by so many processes, and builds it. `room` has what was said, and how that ended. The first time only its statements are
 # built, by which the crates above it are proved sooner, and nothing is kept; from the second time on what was proved is kept for the next
-# one. Of bully_nodes that is kept the first time, too: its statements take a fourth of its proof to write, and only the program reads them.
+# one. Of a `whole` one it is kept the first time, too.
 prove_library() {
     local words out=$root/crates/$1/out keep=(--statements)
     find_words "$1" src/lib.rt
-    [[ $1 != bully_nodes && ! -e $out/incremental && ! -e $out/built/$1.rlib ]] || keep=(--incremental out/incremental)
-    mkdir -p "$out/built" && rm -f "$out/built/made_of"
+    [[ -z ${whole[$1]-} && ! -e $out/incremental && ! -e $out/built/$1.rlib ]] || keep=(--incremental out/incremental)
+    # (what the gate built may be linked from elsewhere, so nothing is written over it)
+    mkdir -p "$out/built" && rm -rf "$out/built/made_of" "$out/built/$1.rlib"
     if cd "$root/crates/$1" && "$kit/bin/rattle" build "${words[@]}" --jobs "$2" "${keep[@]}" -o "out/built/$1.rlib"; then
         printf '%s\n' "${made_of[$1]}" >"$out/built/made_of"
     fi &>"$room/$1.said" </dev/null

@@ -6,9 +6,9 @@
 //! that goes on with the turns and publishes after each, or with nothing beside it. A publish writes what changed alone.
 //! It prints the looks and what the last view makes, or the looks and the publishes.
 
-// The checks of it are the baseline's.
+// The checks of it are the oracle's.
 #[allow(dead_code)]
-#[path = "../baseline/world.rs"]
+#[path = "../../tests/oracle/world.rs"]
 mod world;
 
 #[path = "../planning.rs"]

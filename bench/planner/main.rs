@@ -5,7 +5,7 @@
 //! It makes 64 random tables of 256 partitions over 64 nodes. Each round plans from one of them, in turn, for a random
 //! set of members. It prints the sums of the moves and of the bounds, and a number that the owners of all plans make.
 
-// The other calls of it are the baseline's.
+// The other calls of it are the oracle's.
 #[allow(dead_code)]
 #[path = "../random.rs"]
 mod random;

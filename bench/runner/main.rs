@@ -13,11 +13,11 @@
 
 // The other calls of it are the checker's.
 #[allow(dead_code)]
-#[path = "../baseline/world.rs"]
+#[path = "../../tests/oracle/world.rs"]
 mod world;
 // Only headers are written: reading is the checker's.
 #[allow(dead_code)]
-#[path = "../baseline/rows.rs"]
+#[path = "../../tests/oracle/rows.rs"]
 mod rows;
 #[path = "../planning.rs"]
 mod planning;

@@ -4,9 +4,9 @@
 //!
 //! It prints how many entries there are, and a number that all of them make.
 
-// The checks of it are the baseline's.
+// The checks of it are the oracle's.
 #[allow(dead_code)]
-#[path = "../baseline/world.rs"]
+#[path = "../../tests/oracle/world.rs"]
 mod world;
 
 #[path = "../planning.rs"]

@@ -21,6 +21,7 @@ The exit status is 0 where the log is lawful and all were seen at rest, and else
 import argparse
 import collections
 import json
+import os
 import random
 import selectors
 import shutil
@@ -206,7 +207,7 @@ class Cluster:
         member.life += 1
         bug = self.options.bug if BUGS.get(self.options.bug) == member.node else None
         told = {
-            'port': port_of(self.listener), 'node': member.node, 'life': member.life, 'events': member.events,
+            'supervisor': os.getpid(), 'port': port_of(self.listener), 'node': member.node, 'life': member.life, 'events': member.events,
             'nodes': self.options.nodes, 'partitions': self.options.partitions,
             'says_all': self.options.all_details, 'bug': bug,
         }  # fmt: skip
@@ -372,15 +373,15 @@ def judge(log: Log) -> bully.Verdict:
 
 def words() -> argparse.Namespace:
     parser = argparse.ArgumentParser(description=__doc__, formatter_class=argparse.RawDescriptionHelpFormatter)
-    parser.add_argument('--nodes', type=int, default=5)
-    parser.add_argument('--partitions', type=int, default=7)
-    parser.add_argument('--kills', type=int, default=100)
-    parser.add_argument('--pauses', type=int, default=0)
-    parser.add_argument('--every', type=float, default=40)
-    parser.add_argument('--seed', type=int, default=1)
-    parser.add_argument('--folder', type=Path)
-    parser.add_argument('--all-details', action='store_true')
-    parser.add_argument('--bug', choices=sorted(BUGS))
+    parser.add_argument('--nodes', type=int, default=5, help='how many nodes, from 2 to 64; without it 5')
+    parser.add_argument('--partitions', type=int, default=7, help='how many partitions the task has; without it 7')
+    parser.add_argument('--kills', type=int, default=100, help='how many processes are killed; without it 100')
+    parser.add_argument('--pauses', type=int, default=0, help='how many are stopped for a while; without it none')
+    parser.add_argument('--every', type=float, default=40, help='rows of the log between two kills in the mean; without it 40')
+    parser.add_argument('--seed', type=int, default=1, help='of the random choices; without it 1')
+    parser.add_argument('--folder', type=Path, help='where log.csv is written; without it a new folder, whose name is printed')
+    parser.add_argument('--all-details', action='store_true', help='a claim of the whole vector behind each row that may change it')
+    parser.add_argument('--bug', choices=sorted(BUGS), help='the mistake that one node makes; without it none')
     options = parser.parse_args()
     if not 2 <= options.nodes <= 64 or options.every <= 0:
         parser.error('--nodes has to be from 2 to 64, and --every above 0')
@@ -391,8 +392,9 @@ def words() -> argparse.Namespace:
 
 
 def main() -> int:
+    options = words()
     bully.load()
-    cluster = Cluster(words())
+    cluster = Cluster(options)
     try:
         rests = cluster.run()
     finally:

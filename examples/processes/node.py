@@ -1,15 +1,18 @@
 #!/usr/bin/env python3
 """One node in a process of its own. `cluster.py`, its supervisor, starts it; `README.md` says how both keep the premises.
 
-    node.py '{"port": .., "node": .., "life": .., "events": .., "nodes": .., "partitions": .., "says_all": .., "bug": ..}'
+    node.py '{"supervisor": .., "port": .., "node": .., "life": .., "events": .., "nodes": .., "partitions": .., "says_all": .., "bug": ..}'
 
 The process does one thing at a time: it obeys an order of the supervisor, or takes a step that its node wants, or serves a request,
 or takes a reply, or ticks. Each step is told to the supervisor, and what follows from it leaves only once that wrote it.
 """
 import collections
+import ctypes
 import json
+import os
 import random
 import selectors
+import signal
 import sys
 import time
 from pathlib import Path
@@ -23,6 +26,7 @@ from lines import Lines, connected, listener, port_of  # noqa: E402
 
 BUGS = ('garbled', 'deaf', 'impatient')
 TICKS = (0.03, 0.12)  # seconds from one tick to the next
+PR_SET_PDEATHSIG = 1  # of Linux: the signal that a process gets once its parent is gone
 
 Order = Dict[str, Any]
 
@@ -322,5 +326,19 @@ def changes_vector(row: str) -> bool:
     return word in ('recover', 'move', 'plan') or word == 'return' and rest[0] == 'halt'
 
 
+def end_with(supervisor: int) -> None:
+    """Has the system kill this process once its supervisor is gone, also while it is stopped."""
+    if ctypes.CDLL(None, use_errno=True).prctl(PR_SET_PDEATHSIG, signal.SIGKILL) != 0:
+        sys.exit('the system tells no process that its supervisor is gone')
+    if os.getppid() != supervisor:
+        sys.exit('there is no supervisor')
+
+
+def main() -> None:
+    options = json.loads(sys.argv[1])
+    end_with(options['supervisor'])
+    Process(options).run()
+
+
 if __name__ == '__main__':
-    Process(json.loads(sys.argv[1])).run()
+    main()

@@ -1,5 +1,5 @@
 //! What node threads do, and nodes on their own. What is played of configurations the cases of the program have, in
-//! `examples/cases/play.txt`.
+//! `tests/cases/play.txt`.
 
 mod agents;
 mod gates;

@@ -33,7 +33,7 @@ fn recovered(alloc: Global, setup: &Setup, node: Node) -> Option<Agent>
     Some(agent)
 }
 
-/// The next event that the node takes by itself, for the log; none where it waits for a reply or wants nothing, and where
+/// The next event that the node takes by itself, for the log; none if it waits for a reply or wants nothing, and if
 /// the agent refuses it.
 pub fn next_event(alloc: Global, agent: &mut Agent) -> Option<TakenStep> {
     match agent.wants() {

@@ -1,4 +1,4 @@
-//! The Rust of README.md, docs/USING.md and docs/NODE.md, so that the check reads it. `examples/snippets` compares the texts: each
+//! The Rust of README.md, docs/USING.md and docs/NODE.md, so that the check reads it. `tests/snippets/compare` compares the texts: each
 //! file beside this one stands there whole.
 #![tactic(auto)]
 

@@ -1,4 +1,4 @@
-//! What is read of configurations. Why one is refused, the cases of `examples/cases/config.txt` show.
+//! What is read of configurations. Why one is refused, the cases of `tests/cases/config.txt` show.
 
 use bully_config::{Config, ConfigFault, Fault, FaultKind, Key};
 use std::alloc::Global;

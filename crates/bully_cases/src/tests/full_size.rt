@@ -151,7 +151,7 @@ fn everybody() -> NodeSet {
 }
 
 // Whether the plan over all nodes from the table is the same one, which is balanced.
-// (what else is planned in the largest group, `examples/cases/table.txt` shows)
+// (what else is planned in the largest group, `tests/cases/table.txt` shows)
 fn is_planned(alloc: Global, group: Setup, table: &Table) -> bool
     requires { length table.now ≡ group.partitions }
 {

@@ -1,5 +1,5 @@
 //! Plans over nobody, and each small plan beside a slow search. Plans that were worked out by hand stand in
-//! `examples/cases/table.txt`.
+//! `tests/cases/table.txt`.
 
 ghost use Rattle.std.specs.Prelude.{◌≡◌, ◌≤◌, All, IfSome, length};
 ghost use Rattle.std.specs.Option.{option_copied};

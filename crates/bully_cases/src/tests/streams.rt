@@ -58,7 +58,7 @@ const UNWRITTEN: TraceFault = TraceFault {
 };
 
 // Whether an upgraded trace of 69 bytes isn't written where the writer takes only so many, nor a verdict of 26 bytes.
-// (which bytes are taken, `examples/cases/streams.txt` shows)
+// (which bytes are taken, `tests/cases/streams.txt` shows)
 fn are_cut_off(alloc: Global, room: usize) -> bool
     requires { room < 69 }
 {

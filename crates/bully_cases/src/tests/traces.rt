@@ -1,5 +1,5 @@
 //! What is read of traces and written again, and how many rows an upgrade tells. Verdicts, and what is refused, the cases of
-//! `examples/cases` show.
+//! `tests/cases` show.
 
 use super::scripts::{
     ALL_UP, ALONE, ALONE_UPGRADED, ANNOUNCED_TOO_LATE, KEPT, ORPHAN_HALT, TOLD, WEIGHTED,

@@ -1,11 +1,11 @@
 //! A plain checker of traces, to compare `bully check` with, and a maker of long traces and of spoiled ones.
 //!
-//!     baseline check < TRACE
-//!     baseline answers FOLDER
-//!     baseline annotate < TRACE > TRACE
-//!     baseline generate NODES PARTITIONS ROWS SEED > TRACE
-//!     baseline spoil FOLDER COUNT SEED
-//!     baseline spoil-annotated FOLDER COUNT SEED
+//!     oracle check < TRACE
+//!     oracle answers FOLDER
+//!     oracle annotate < TRACE > TRACE
+//!     oracle generate NODES PARTITIONS ROWS SEED > TRACE
+//!     oracle spoil FOLDER COUNT SEED
+//!     oracle spoil-annotated FOLDER COUNT SEED
 //!
 //! `check` answers as `bully check` does. It takes rows as lines without quotes, as traces are written.
 //! `annotate` writes a lawful trace of any version as one of version 3, in which all is said that a row may say, and where
@@ -20,7 +20,7 @@ mod annotating;
 mod checking;
 mod csv_text;
 mod generating;
-#[path = "../random.rs"]
+#[path = "../../bench/random.rs"]
 mod random;
 mod reading;
 mod rows;
@@ -60,7 +60,7 @@ fn main() -> ExitCode {
 }
 
 fn refuse_words() -> ExitCode {
-    eprintln!("usage: baseline check | answers FOLDER | annotate | generate NODES PARTITIONS ROWS SEED");
+    eprintln!("usage: oracle check | answers FOLDER | annotate | generate NODES PARTITIONS ROWS SEED");
     eprintln!("     | spoil FOLDER COUNT SEED | spoil-annotated FOLDER COUNT SEED");
     ExitCode::from(2)
 }
