@@ -309,7 +309,7 @@ const char *bully_status_name(bully_status status) {
 /* ---- The version ---- */
 
 #ifndef BULLY_VERSION
-#error "BULLY_VERSION has to be the version, as bin/library takes it from crates/bully_words"
+#error "BULLY_VERSION has to be the version, as bin/library takes it from crates/bully_cli"
 #endif
 
 const char *bully_version(void) {

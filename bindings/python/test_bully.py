@@ -144,7 +144,7 @@ class Headers(unittest.TestCase):
                     self.assertEqual(named[prefix + member.name], member.value)
 
     def test_version(self) -> None:
-        program = (ROOT / 'crates' / 'bully_words' / 'src' / 'help.rt').read_text()
+        program = (ROOT / 'crates' / 'bully_cli' / 'src' / 'help.rt').read_text()
         told = re.search(r'VERSION: &str = "([0-9]+\.[0-9]+\.[0-9]+)', program)
         assert told is not None
         self.assertEqual(bully.version(), told.group(1))

@@ -1,6 +1,6 @@
 -- From what an action asks for to what the words ask for.
 use Rattle.std.proofs.Common.{◌≡◌, ℕ, subst}
-use Rattle.bully_words.specs.Words.{Asked}
+use Rattle.bully_cli.specs.Words.{Asked}
 use Rattle.bully.specs.Answer.{KnownBytes}
 use Rattle.bully.specs.AskedAnswer.{IsAnswerTo}
 

@@ -14,7 +14,7 @@ use Rattle.bully_table.specs.declared.planning.PlanFault.{PlanFault}
 use Rattle.bully_table.specs.declared.planning.TablePlan.{TablePlan}
 use Rattle.bully_table.specs.declared.table.TableFault.{TableFault}
 use Rattle.bully_rows.specs.TraceText.{trace_text}
-use Rattle.bully_events.specs.declared.event.Event.{Event}
+use Rattle.bully_calls.specs.declared.event.Event.{Event}
 use Rattle.bully.specs.Answer.{KnownBytes, Tells, stop_line}
 use Rattle.bully.specs.ConfigAnswer.{IsNotDone, IsPlayAnswer, IsRefused, IsRunAnswer, IsStopped, IsTableAnswer, nodes_line}
 use Rattle.bully.specs.PlanText.{plan_text}

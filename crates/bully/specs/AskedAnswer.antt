@@ -1,6 +1,6 @@
 -- What the program answers to what words ask for, whatever that is: the status, and what then stands on the output and on the errors.
 use Rattle.std.specs.Prelude.{ℕ, List, Some, None, IfSome}
-use Rattle.bully_words.specs.Words.{Asked, annotating, checking, drawing, explaining, planning, playing, running, upgrading}
+use Rattle.bully_cli.specs.Words.{Asked, annotating, checking, drawing, explaining, planning, playing, running, upgrading}
 use Rattle.bully.specs.Answer.{IsAnswer, IsUpgradeAnswer, KnownBytes}
 use Rattle.bully.specs.AnnotateAnswer.{IsAnnotateAnswer}
 use Rattle.bully.specs.ConfigAnswer.{IsPlayAnswer, IsRunAnswer, IsTableAnswer}

@@ -11,7 +11,7 @@ use Rattle.bully_play.specs.declared.playing.PlayFault.{PlayFault}
 use Rattle.bully_nodes.specs.declared.running.NodesFault.{NodesFault}
 use Rattle.bully_table.specs.declared.planning.TablePlan.{TablePlan}
 use Rattle.bully_rows.specs.TraceText.{trace_text}
-use Rattle.bully_events.specs.declared.event.Event.{Event}
+use Rattle.bully_calls.specs.declared.event.Event.{Event}
 use Rattle.bully.specs.Answer.{KnownBytes, Tells, stop_line}
 use Rattle.bully.specs.PlanText.{plan_text}
 use Rattle.bully.specs.RefusalText.{refusal_line, refusal_status}

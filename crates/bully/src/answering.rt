@@ -1,6 +1,6 @@
 ghost use Rattle.std.specs.Prelude.{◌≡◌, ◌≤◌, ◌⊎◌, ◌∷◌, ℕ, List, [], None, Some, true, false, codes, map, IfSome};
 ghost use Rattle.clap.specs.Words.{kind_of};
-ghost use Rattle.bully_words.specs.Words.{texts_of, ParsesAsAnnotate, ParsesAsCheck, ParsesAsDraw, ParsesAsExplain, ParsesAsPlay, ParsesAsRun, ParsesAsTable, ParsesAsUpgrade, is_help, is_mistake, asks_for_help};
+ghost use Rattle.bully_cli.specs.Words.{texts_of, ParsesAsAnnotate, ParsesAsCheck, ParsesAsDraw, ParsesAsExplain, ParsesAsPlay, ParsesAsRun, ParsesAsTable, ParsesAsUpgrade, is_help, is_mistake, asks_for_help};
 ghost use Rattle.bully.specs.Answer.{IsAnswer, IsUpgradeAnswer, Tells, stop_line};
 ghost use Rattle.bully.specs.AnnotateAnswer.{IsAnnotateAnswer};
 ghost use Rattle.bully.specs.AskedAnswer.{IsAnswerTo};
@@ -17,7 +17,7 @@ use crate::running::answer_run;
 use crate::tables::answer_table;
 use crate::telling::{Stop, answer_stop, finish};
 use crate::upgrading::answer_upgrade;
-use bully_words::{Action, action_of};
+use bully_cli::{Action, action_of};
 use clap::Error;
 use clap::error::ErrorKind;
 use std::convert::AsStr;

@@ -1,7 +1,7 @@
 //! The program `bully`: it judges, upgrades and annotates recorded traces, explains verdicts, plays groups, runs them in threads,
 //! and plans tables.
 //!
-//! It stands on bully_nodes, bully_explain, bully_annotate, bully_config, bully_table, the crates below them, and bully_words.
+//! It stands on bully_nodes, bully_explain, bully_annotate, bully_config, bully_table, the crates below them, and bully_cli.
 //! No crate stands on it; its callers rely on the statuses: 0 done, lawful or help asked for; 1 refused or differs; 2 bad
 //! words; 3 a fault of form in a trace or a configuration, or a trace too long to annotate; 4 what stops it from outside, as
 //! Read, Write, Spawn, Finish or OutOfMemory.

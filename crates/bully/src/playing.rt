@@ -5,7 +5,7 @@ ghost use Rattle.bully.specs.ConfigAnswer.{IsPlayAnswer};
 ghost use Rattle.bully_play.specs.Play.{IsPlay, trace_with};
 ghost use Rattle.bully_play.specs.Turns.{IsScheduled};
 ghost use Rattle.bully_rows.specs.TraceText.{trace_text};
-ghost use Rattle.bully_events.specs.declared.event.Event.{Event};
+ghost use Rattle.bully_calls.specs.declared.event.Event.{Event};
 
 use crate::configs::{bytes_at, config_of};
 use crate::refusals::{Refusal, answer_refusal};

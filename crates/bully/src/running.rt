@@ -7,7 +7,7 @@ ghost use Rattle.bully_nodes.specs.Run.{IsNodesFault};
 ghost use Rattle.bully_nodes.specs.declared.running.NodesFault.{NodesFault};
 ghost use Rattle.bully_rows.specs.TraceText.{trace_text};
 ghost use Rattle.bully_watch.specs.History.{event_of};
-ghost use Rattle.bully_events.specs.declared.event.Event.{Event};
+ghost use Rattle.bully_calls.specs.declared.event.Event.{Event};
 
 use crate::configs::{bytes_at, config_of};
 use crate::refusals::{Refusal, answer_refusal};

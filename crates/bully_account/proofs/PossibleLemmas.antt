@@ -11,9 +11,9 @@ use Rattle.bully_calls.specs.declared.call.Answer.{Answer}
 use Rattle.bully_steps.specs.declared.point.Point.{Point}
 use Rattle.bully_steps.specs.Prepared.{prepared_from}
 use Rattle.bully_steps.specs.ProcedureState.{IsPlannedOver, IsProcedureState, procedure_state}
-use Rattle.bully_events.specs.declared.event.Event.{Event}
-use Rattle.bully_events.specs.declared.event.Refused.{Refused}
-use Rattle.bully_events.specs.Events.{node_of}
+use Rattle.bully_calls.specs.declared.event.Event.{Event}
+use Rattle.bully_calls.specs.declared.event.Refused.{Refused}
+use Rattle.bully_calls.specs.Events.{node_of}
 use Rattle.bully_world.specs.State.{IsReached, WorldState, cause_in, member_of, state_at, world_of}
 use Rattle.bully_world.specs.Step.{Step}
 use Rattle.bully_world.specs.World.{Member, World, pending, point, vector, with_member}

@@ -1,8 +1,8 @@
 -- What may come next at a node: the deeds that nothing refuses there.
 use Rattle.std.specs.Prelude.{◌≡◌, ◌↔◌, ℕ, Bool, true, List, Option, Some, None, filter, is_none}
 use Rattle.std.specs.Option.{option_map_or}
-use Rattle.bully_events.specs.declared.event.Event.{Event}
-use Rattle.bully_events.specs.Events.{node_of}
+use Rattle.bully_calls.specs.declared.event.Event.{Event}
+use Rattle.bully_calls.specs.Events.{node_of}
 use Rattle.bully_world.specs.State.{WorldState, cause_in}
 use Rattle.bully_rows.specs.declared.kind.Deed.{Deed}
 use Rattle.bully_rows.specs.Kinds.{deed_of, event_of_deed, every_deed}

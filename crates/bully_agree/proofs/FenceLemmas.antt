@@ -4,7 +4,7 @@ use Rattle.std.specs.Prelude.{IsSome}
 use Rattle.bully_base.specs.Setup.{Setup}
 use Rattle.bully_base.specs.declared.node.Status.TheVariants.{Normal}
 use Rattle.bully_calls.specs.declared.call.Answer.{Answer}
-use Rattle.bully_events.specs.declared.event.Event.{Event}
+use Rattle.bully_calls.specs.declared.event.Event.{Event}
 use Rattle.bully_steps.specs.declared.point.Point.TheVariants.{Planning}
 use Rattle.bully_world.specs.Lawful.{IsLawful}
 use Rattle.bully_world.specs.Step.{Step}

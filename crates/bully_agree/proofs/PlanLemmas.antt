@@ -1,7 +1,7 @@
 -- The last plan of a list, found from the front.
 use Rattle.std.proofs.Common.{◌≡◌, ◌+◌, ◌≤◌, ◌++◌, ◌⊎◌, inl, inr, ℕ, Bool, true, false, List, [], ◌∷◌, Option, Some, None, length, length-append, add-zero, arith, refl, sym, ap, ◌∙◌}
 use Rattle.std.specs.Prelude.{◌||◌}
-use Rattle.bully_events.specs.declared.event.Event.{Event}
+use Rattle.bully_calls.specs.declared.event.Event.{Event}
 use Rattle.bully_agree.specs.Fencing.{is_plan, has_plan, Planned, IsLastPlan, plan_then, IsLast}
 
 -- the last plan behind the events, where there were so many before and this was the last one of those

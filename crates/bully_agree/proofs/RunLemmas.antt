@@ -15,8 +15,8 @@ use Rattle.bully_world.specs.Cause.{cause}
 use Rattle.bully_world.specs.Lawful.{IsLawful, LeadTo}
 use Rattle.bully_world.specs.Step.{Step}
 use Rattle.bully_world.specs.World.{World, first_world}
-use Rattle.bully_events.specs.declared.event.Event.{Event}
-use Rattle.bully_events.specs.declared.event.Refused.{Refused}
+use Rattle.bully_calls.specs.declared.event.Event.{Event}
+use Rattle.bully_calls.specs.declared.event.Refused.{Refused}
 use Rattle.bully_agree.specs.Runs.{RunsTo, StopsAt}
 
 pub take-more : {A : Type 0} (xs : List A) (k : ℕ) (x : A) → slice_get xs k ≡ Some x → take (k + 1) xs ≡ take k xs ++ x ∷ []

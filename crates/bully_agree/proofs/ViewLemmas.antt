@@ -6,7 +6,7 @@ use Rattle.bully_base.specs.Places.{at_node}
 use Rattle.bully_base.specs.Setup.{Setup}
 use Rattle.bully_calls.specs.declared.call.Answer.{Answer}
 use Rattle.bully_world.proofs.NodeInvariantLemmas.{lawful_fits}
-use Rattle.bully_events.specs.declared.event.Event.{Event}
+use Rattle.bully_calls.specs.declared.event.Event.{Event}
 use Rattle.bully_world.specs.Lawful.{IsLawful}
 use Rattle.bully_world.specs.State.{MemberState, WorldState, IsReached, empty_state, member_of, world_of}
 use Rattle.bully_world.specs.World.{Member, World, empty_member, member}

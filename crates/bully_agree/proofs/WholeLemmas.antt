@@ -5,7 +5,7 @@ use Rattle.std.proofs.Math.Seq.{take-length}
 use Rattle.std.proofs.lemmas.Bool.{eq-eqb}
 use Rattle.std.proofs.lemmas.List.{append-nil}
 use Rattle.std.proofs.lemmas.Option.{slice_get_within}
-use Rattle.bully_events.specs.declared.event.Event.{Event}
+use Rattle.bully_calls.specs.declared.event.Event.{Event}
 use Rattle.bully_agree.specs.Stages.{may_stand, stage_after}
 use Rattle.bully_agree.specs.WholeCalls.{BreaksAt, MayGoOn, is_whole, settles, gives_back}
 use Rattle.bully_agree.specs.declared.whole_calls.Stage.{Stage}

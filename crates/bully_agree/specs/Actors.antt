@@ -1,8 +1,8 @@
 -- Whose an event is.
 use Rattle.std.specs.Prelude.{ℕ, Option, Some, option_map}
 use Rattle.bully_calls.specs.Pending.{Pending}
-use Rattle.bully_events.specs.declared.event.Event.{Event}
-use Rattle.bully_events.specs.Events.{node_of}
+use Rattle.bully_calls.specs.declared.event.Event.{Event}
+use Rattle.bully_calls.specs.Events.{node_of}
 use Rattle.bully_world.specs.World.{World, pending}
 
 -- the operator; node i is actor i

@@ -1,6 +1,6 @@
 -- The last plan of a list of events, and its token.
 use Rattle.std.specs.Prelude.{◌≡◌, ◌+◌, ◌++◌, ◌||◌, ℕ, Bool, true, false, List, [], ◌∷◌, length, Option, None, Some}
-use Rattle.bully_events.specs.declared.event.Event.{Event}
+use Rattle.bully_calls.specs.declared.event.Event.{Event}
 use Rattle.bully_world.specs.World.{World, vector}
 
 abbrev pub is_plan : Event → Bool

@@ -2,8 +2,8 @@
 use Rattle.std.specs.Prelude.{◌≡◌, ℕ, true, false, List, take, slice_get, Some}
 use Rattle.bully_base.specs.Setup.{Setup}
 use Rattle.bully_calls.specs.declared.call.Answer.{Answer}
-use Rattle.bully_events.specs.declared.event.Event.{Event}
-use Rattle.bully_events.specs.declared.event.Refused.{Refused}
+use Rattle.bully_calls.specs.declared.event.Event.{Event}
+use Rattle.bully_calls.specs.declared.event.Refused.{Refused}
 use Rattle.bully_world.specs.Cause.{cause}
 use Rattle.bully_world.specs.Lawful.{IsLawful}
 use Rattle.bully_world.specs.World.{World}

@@ -1,6 +1,6 @@
 -- How far the call at hand has come, as a list of events is gone through; and the fault of a run as that of whole calls.
 use Rattle.std.specs.Prelude.{Bool, true}
-use Rattle.bully_events.specs.declared.event.Event.{Event}
+use Rattle.bully_calls.specs.declared.event.Event.{Event}
 use Rattle.bully_agree.specs.declared.whole_calls.Stage.{Stage}
 use Rattle.bully_agree.specs.declared.whole_calls.Stage.TheVariants.{Between, Started, Over}
 use Rattle.bully_agree.specs.declared.runs.RunFault.{RunFault}

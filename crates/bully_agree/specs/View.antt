@@ -6,7 +6,7 @@ use Rattle.bully_base.specs.declared.node.Status.{Status}
 use Rattle.bully_base.specs.declared.node.Status.TheVariants.{Down, Reorganization, Normal}
 use Rattle.bully_calls.specs.declared.call.Answer.{Answer}
 use Rattle.bully_handlers.specs.Vector.{Vector}
-use Rattle.bully_events.specs.declared.event.Event.{Event}
+use Rattle.bully_calls.specs.declared.event.Event.{Event}
 use Rattle.bully_world.specs.Lawful.{IsLawful}
 use Rattle.bully_world.specs.World.{World, Member}
 

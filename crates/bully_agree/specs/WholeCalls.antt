@@ -1,6 +1,6 @@
 -- Lists of events in which each call is whole: its start, its run or loss, and its return stand together.
 use Rattle.std.specs.Prelude.{◌≡◌, ◌<◌, ◌⊎◌, ◌+◌, ◌++◌, ℕ, Bool, true, false, List, [], ◌∷◌, ◌&&◌, ◌==◌, length, take}
-use Rattle.bully_events.specs.declared.event.Event.{Event}
+use Rattle.bully_calls.specs.declared.event.Event.{Event}
 
 -- the event is no part of a call
 abbrev pub stands_alone : Event → Bool

@@ -14,7 +14,7 @@ ghost use Rattle.bully_world.specs.Cause.{cause};
 ghost use Rattle.bully_world.specs.Lawful.{IsLawful};
 ghost use Rattle.bully_world.specs.Step.{Step};
 ghost use Rattle.bully_world.specs.World.{World, vector};
-ghost use Rattle.bully_events.specs.declared.event.Event.{Event};
+ghost use Rattle.bully_calls.specs.declared.event.Event.{Event};
 
 mod runs;
 mod views;

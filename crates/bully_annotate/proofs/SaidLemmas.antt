@@ -12,9 +12,9 @@ use Rattle.bully_calls.specs.declared.call.Call.{Call}
 use Rattle.bully_calls.specs.Pending.{Pending}
 use Rattle.bully_handlers.specs.Handler.{reply}
 use Rattle.bully_steps.specs.declared.point.Want.{Want}
-use Rattle.bully_events.specs.declared.event.Event.{Event}
-use Rattle.bully_events.specs.declared.event.Refused.{Refused}
-use Rattle.bully_events.specs.Events.{node_of}
+use Rattle.bully_calls.specs.declared.event.Event.{Event}
+use Rattle.bully_calls.specs.declared.event.Refused.{Refused}
+use Rattle.bully_calls.specs.Events.{node_of}
 use Rattle.bully_world.specs.Cause.{cause}
 use Rattle.bully_world.specs.Lawful.{IsLawful}
 use Rattle.bully_world.specs.NodeInvariant.{SuitsPending, WorldInvariant}

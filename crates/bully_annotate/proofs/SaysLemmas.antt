@@ -9,8 +9,8 @@ use Rattle.bully_rows.specs.TraceText.{line_of, row_fields, rows_text}
 use Rattle.bully_world.proofs.MembersOf.{member-members_of}
 use Rattle.bully_base.specs.Setup.{IsNode, Setup}
 use Rattle.bully_calls.specs.declared.call.Answer.{Answer}
-use Rattle.bully_events.specs.declared.event.Event.{Event}
-use Rattle.bully_events.specs.declared.event.Refused.{Refused}
+use Rattle.bully_calls.specs.declared.event.Event.{Event}
+use Rattle.bully_calls.specs.declared.event.Refused.{Refused}
 use Rattle.bully_world.specs.Cause.{cause}
 use Rattle.bully_world.specs.State.{WorldState, cause_in, state_at, world_of}
 use Rattle.bully_world.specs.Step.{Step}

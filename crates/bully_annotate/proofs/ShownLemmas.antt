@@ -11,7 +11,7 @@ use Rattle.bully_base.proofs.NodeSetLemmas.{IsFallingBelow-more, same_set_test}
 use Rattle.bully_calls.specs.declared.call.Answer.{Answer}
 use Rattle.bully_calls.specs.Pending.{Pending}
 use Rattle.bully_handlers.specs.Vector.{Vector}
-use Rattle.bully_events.specs.declared.event.Event.{Event}
+use Rattle.bully_calls.specs.declared.event.Event.{Event}
 use Rattle.bully_world.specs.NodeInvariant.{WorldInvariant}
 use Rattle.bully_world.specs.Step.{Step, ran}
 use Rattle.bully_world.specs.Turn.{same_node}

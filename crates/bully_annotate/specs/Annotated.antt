@@ -10,8 +10,8 @@ use Rattle.bully_rows.specs.EventsTold.{event_of_detailed}
 use Rattle.bully_trace.specs.Details.{call_at, callee_or, said_of, same_status, same_task}
 use Rattle.bully_rows.specs.Trace.{Trace}
 use Rattle.bully_rows.specs.Whole.{whole_of}
-use Rattle.bully_events.specs.declared.event.Event.{Event}
-use Rattle.bully_events.specs.Events.{node_of}
+use Rattle.bully_calls.specs.declared.event.Event.{Event}
+use Rattle.bully_calls.specs.Events.{node_of}
 use Rattle.bully_world.specs.StepOf.{step_of}
 use Rattle.bully_world.specs.Turn.{same_node}
 use Rattle.bully_world.specs.World.{World, first_world, vector}

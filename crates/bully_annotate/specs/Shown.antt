@@ -3,7 +3,7 @@ use Rattle.std.specs.Prelude.{◌≡◌, ◌↔◌, ◌⊎◌, ℕ, true, List, 
 use Rattle.bully_base.specs.NodeSet.{IsFallingBelow}
 use Rattle.bully_base.specs.Setup.{IsNode, Setup}
 use Rattle.bully_calls.specs.declared.call.Answer.{Answer}
-use Rattle.bully_events.specs.declared.event.Event.{Event}
+use Rattle.bully_calls.specs.declared.event.Event.{Event}
 use Rattle.bully_world.specs.Lawful.{IsLawful}
 use Rattle.bully_world.specs.Step.{Step}
 use Rattle.bully_world.specs.World.{World, vector}

@@ -3,7 +3,7 @@ ghost use Rattle.std.specs.Prelude.{◌≡◌, ◌≤◌, ◌+◌, ◌++◌, ◌
 ghost use Rattle.bully_annotate.specs.Annotated.{place_of, said_row, same_vector, shown_row, shown_unless};
 ghost use Rattle.bully_trace.specs.Details.{said_of};
 ghost use Rattle.bully_rows.specs.TraceText.{line_of, row_fields, rows_text};
-ghost use Rattle.bully_events.specs.Events.{node_of};
+ghost use Rattle.bully_calls.specs.Events.{node_of};
 ghost use Rattle.bully_world.specs.State.{world_of};
 ghost use Rattle.bully_world.specs.World.{vector};
 

@@ -1,10 +1,9 @@
 //! What a node on its own is asked, by those that follow a trace and by those of a network.
 ghost use Rattle.std.specs.Prelude.{◌≤◌};
 
+use bully_agent::Agent;
 use bully_base::{Node, Setup};
-use bully_calls::Answer;
-use bully_messages::{Reply, Request};
-use bully_node::Agent;
+use bully_calls::{Answer, Reply, Request};
 use bully_world::{Refused, TakenStep};
 use std::alloc::Global;
 

@@ -3,10 +3,9 @@
 use crate::agents::{answer_of, asked, failed, new_agent, place_of, started};
 use crate::lines::{Lines, one_line};
 use crate::lists::push;
+use bully_agent::Agent;
 use bully_base::{Node, Setup};
-use bully_calls::Answer;
-use bully_messages::{Reply, Request};
-use bully_node::Agent;
+use bully_calls::{Answer, Reply, Request};
 use bully_rows::{Row, Trace, read_trace};
 use bully_world::{Event, Refused, World};
 use std::alloc::Global;

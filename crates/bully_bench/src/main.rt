@@ -2,7 +2,7 @@
 //! its lock, looks of observers, the records of a trace alone and a trace that a replica learns, beside `bully check`, and a watched
 //! group in threads. And nodes on their own do what `bully check` then judges: over a simulated network, and beside a world.
 //!
-//! It stands on bully_group, bully_node and bully_replica, the crates below them and csv. Nothing stands on it.
+//! It stands on bully_group, bully_agent and bully_replica, the crates below them and csv. Nothing stands on it.
 #![tactic(auto)]
 
 mod agents;

@@ -1,10 +1,9 @@
 use crate::agents::{answer_of, asked, failed, new_agent, place_of, started};
 use crate::lists::push;
 use crate::random::Random;
+use bully_agent::Agent;
 use bully_base::{Node, Setup, Status};
-use bully_calls::{Answer, Call};
-use bully_messages::{Reply, Request};
-use bully_node::Agent;
+use bully_calls::{Answer, Call, Reply, Request};
 use bully_rows::{Claim, Detail, DetailedEvent, Row, WholeClaim};
 use bully_steps::Want;
 use bully_world::{Event, Refused, TakenStep};

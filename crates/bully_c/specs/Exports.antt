@@ -11,15 +11,15 @@ use Rattle.bully_handlers.specs.Vector.{Vector}
 use Rattle.bully_lines.specs.Texts.{IsRequestFault, reply_of_text, reply_text, request_of_text, request_text}
 use Rattle.bully_lines.specs.declared.fault.RequestFault.{RequestFault}
 use Rattle.bully_lines.specs.declared.fault.ReplyFault.{ReplyFault}
-use Rattle.bully_messages.specs.declared.message.Reply.{Reply}
-use Rattle.bully_messages.specs.declared.message.Request.{Request}
-use Rattle.bully_node.specs.Agent.{AgentState, new_agent, wanted}
-use Rattle.bully_node.specs.Calls.{request_of}
+use Rattle.bully_calls.specs.declared.message.Reply.{Reply}
+use Rattle.bully_calls.specs.declared.message.Request.{Request}
+use Rattle.bully_agent.specs.Agent.{AgentState, new_agent, wanted}
+use Rattle.bully_agent.specs.Calls.{request_of}
 use Rattle.bully_rows.specs.ReadBack.{AreOwners}
 use Rattle.bully_steps.specs.declared.point.Want.{Want}
 use Rattle.bully_table.specs.Planning.{planned}
-use Rattle.bully_events.specs.declared.event.Event.{Event}
-use Rattle.bully_events.specs.declared.event.Refused.{Refused}
+use Rattle.bully_calls.specs.declared.event.Event.{Event}
+use Rattle.bully_calls.specs.declared.event.Refused.{Refused}
 use Rattle.bully_c.specs.Arguments.{AreGiven, IsCopied, IsSetupRefusal, RefusesGiven, RefusesOwners, table_given}
 use Rattle.bully_c.specs.Held.{ServesRequest, call_in, Takes, TakesFailure, TakesReply, TellsEvent}
 use Rattle.bully_c.specs.Numbers.{answer_number, kind_number, reply_number, request_number, status_number, step_number, want_number}

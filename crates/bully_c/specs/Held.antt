@@ -3,15 +3,15 @@ use Rattle.std.specs.Prelude.{◌≡◌, ℕ, List, [], ◌∷◌, Option, Some,
 use Rattle.bully_calls.specs.declared.call.Answer.{Answer}
 use Rattle.bully_calls.specs.declared.call.Call.{Call}
 use Rattle.bully_calls.specs.Slot.{Slot}
-use Rattle.bully_messages.specs.declared.message.Reply.{Reply}
-use Rattle.bully_messages.specs.declared.message.Request.{Request}
-use Rattle.bully_node.specs.Agent.{AgentState, IsRefused, IsTaken}
-use Rattle.bully_node.specs.Calls.{IsFailed, IsReplyTo, IsRequested, IsReturned, IsServed, RefusesFailure, RefusesReply, RefusesRequest, TellsRun}
-use Rattle.bully_node.specs.Part.{Always}
+use Rattle.bully_calls.specs.declared.message.Reply.{Reply}
+use Rattle.bully_calls.specs.declared.message.Request.{Request}
+use Rattle.bully_agent.specs.Agent.{AgentState, IsRefused, IsTaken}
+use Rattle.bully_agent.specs.Calls.{IsFailed, IsReplyTo, IsRequested, IsReturned, IsServed, RefusesFailure, RefusesReply, RefusesRequest, TellsRun}
+use Rattle.bully_agent.specs.Part.{Always}
 use Rattle.bully_rows.specs.declared.detail.Detail.{Detail}
 use Rattle.bully_rows.specs.declared.trace.Row.{Row}
-use Rattle.bully_events.specs.declared.event.Event.{Event}
-use Rattle.bully_events.specs.declared.event.Refused.{Refused}
+use Rattle.bully_calls.specs.declared.event.Event.{Event}
+use Rattle.bully_calls.specs.declared.event.Refused.{Refused}
 use Rattle.bully_c.specs.declared.held.Held.{Held}
 use Rattle.bully_c.specs.declared.held.Told.{Told}
 

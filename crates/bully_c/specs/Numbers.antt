@@ -9,8 +9,8 @@ use Rattle.bully_lines.specs.declared.fault.RequestFault.{RequestFault}
 use Rattle.bully_rows.specs.declared.trace.TraceCause.{TraceCause}
 use Rattle.bully_steps.specs.declared.point.Want.{Want}
 use Rattle.bully_table.specs.declared.table.TableFault.{TableFault}
-use Rattle.bully_events.specs.declared.event.Event.{Event}
-use Rattle.bully_events.specs.declared.event.Refused.{Refused}
+use Rattle.bully_calls.specs.declared.event.Event.{Event}
+use Rattle.bully_calls.specs.declared.event.Refused.{Refused}
 use Rattle.bully_replica.specs.declared.follower.FollowFault.{FollowFault}
 use Rattle.bully_trace.specs.declared.verdict.Violation.{Violation}
 

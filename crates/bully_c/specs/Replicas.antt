@@ -1,11 +1,11 @@
 -- What an export over a replica answers.
-use Rattle.std.specs.Prelude.{◌≡◌, ◌⊎◌, ◌+◌, ◌==◌, ℕ, List, [], ◌∷◌, Bool, Option, Some, None, Ok, MatchOption, true, false, unwrap_or, if◌then◌else◌}
+use Rattle.std.specs.Prelude.{◌≡◌, ◌⊎◌, ◌+◌, ◌==◌, ℕ, List, [], ◌∷◌, Bool, Option, Some, None, Ok, MatchOption, true, false, reverse, unwrap_or, if◌then◌else◌}
 use Rattle.std.specs.List.{ends_with, starts_with}
 use Rattle.std.specs.Option.{option_map}
 use Rattle.bully_base.specs.Setup.{IsNode, IsSetup, Setup}
-use Rattle.bully_events.specs.declared.event.Event.{Event}
-use Rattle.bully_events.specs.declared.event.Refused.{Refused}
-use Rattle.bully_node.specs.Agent.{AgentState}
+use Rattle.bully_calls.specs.declared.event.Event.{Event}
+use Rattle.bully_calls.specs.declared.event.Refused.{Refused}
+use Rattle.bully_agent.specs.Agent.{AgentState}
 use Rattle.bully_replica.specs.Following.{FollowerState, FollowsUpTo, StopsAt}
 use Rattle.bully_replica.specs.LastPlan.{planner_in, table_in}
 use Rattle.bully_replica.specs.Next.{IsNext}
@@ -20,10 +20,11 @@ use Rattle.bully_rows.specs.declared.header.Header.{Header}
 use Rattle.bully_rows.specs.declared.trace.TraceCause.{TraceCause}
 use Rattle.bully_world.specs.State.{WorldState, cause_in, state_at}
 use Rattle.bully_c.specs.Arguments.{IsCopied, IsSetupRefusal}
-use Rattle.bully_c.specs.Exports.{AtOpenOf, ShowsOf, number_or_none}
+use Rattle.bully_c.specs.Exports.{AtOpenOf, ShowsOf, number_or_none, shown}
 use Rattle.bully_c.specs.Numbers.{event_numbered, follow_number, refusal_number, trace_number}
 use Rattle.bully_c.specs.declared.logs.HeldLog.{HeldLog}
 use Rattle.bully_c.specs.declared.replicas.CGroup.{CGroup}
+use Rattle.bully_c.specs.declared.shown.CState.{CState}
 use Rattle.bully_c.specs.declared.status.TheConstants.{BAD_EVENT, BAD_HEADER, BAD_NODE, OK, OPEN, OUT_OF_MEMORY, ROW_END}
 
 -- ---- handles
@@ -139,6 +140,21 @@ agent_in w i = record { setup = w.setup; node = i; events = w.events; number = 0
 -- of a node this is shown; of another number it is told that there is no such node, and nothing is written
 abbrev pub ShowsNode : Setup → ℕ → ℕ → Type 0 → Type 0 → Type 0
 ShowsNode s node status Shown Same = (IsNode s node × Shown) ⊎ ((status ≡ BAD_NODE) × (¬ IsNode s node) × Same)
+
+-- a node's state, as an agent of it would show it
+abbrev pub IsStateShown : WorldState → ℕ → CState → ℕ → CState → Type 0
+IsStateShown w node before status after = ShowsNode w.setup node status ((status ≡ OK) × (after ≡ shown (agent_in w node))) (after ≡ before)
+
+-- a list that a node has in this world, from the first
+abbrev pub IsListShown : WorldState → ℕ → List ℕ → List ℕ → ℕ → ℕ → List ℕ → ℕ → Type 0
+IsListShown w node items before count_before status after count =
+    ShowsNode w.setup node status (IsCopied items before status after count) ((after ≡ before) × (count ≡ count_before))
+
+abbrev pub up_in : WorldState → ℕ → List ℕ
+up_in w node = reverse (state_at w node).vector.vector.up
+
+abbrev pub task_in : WorldState → ℕ → List ℕ
+task_in w node = unwrap_or (state_at w node).vector.vector.task []
 
 abbrev pub group_shown : FollowerState → CGroup
 group_shown f =

@@ -1,11 +1,11 @@
 //! Agents behind their handles.
 ghost use Rattle.std.specs.Prelude.{◌≡◌, ◌≤◌, [], IfErr, IfOk, IfSome, length, None, unwrap_or, reverse};
 ghost use Rattle.std.specs.Option.{option_copied};
-ghost use Rattle.bully_node.specs.Agent.{new_agent};
+ghost use Rattle.bully_agent.specs.Agent.{new_agent};
 ghost use Rattle.bully_rows.specs.TraceText.{line_of, row_fields, rows_text};
 ghost use Rattle.bully_rows.specs.Whole.{whole_of};
 ghost use Rattle.bully_rows.specs.declared.trace.Row.{Row as RowState};
-ghost use Rattle.bully_events.specs.declared.event.Event.{Event as EventState};
+ghost use Rattle.bully_calls.specs.declared.event.Event.{Event as EventState};
 ghost use Rattle.bully_c.specs.Arguments.{IsCopied, IsMadeAndCopied, setup_given};
 ghost use Rattle.bully_c.specs.Exports.{AtOpen, CanOpen, IsClosing, IsEvent, IsOpening, IsPlan, IsPrepared, IsPreparedTable, RefusesOpening, RefusesPrepare, Shows, opened, shown};
 ghost use Rattle.bully_c.specs.Held.{TellsDrop, TellsEvent, TellsStart, rows_told};
@@ -18,9 +18,9 @@ use crate::held::Held;
 use crate::shown::{CState, copy_owners, copy_text, copy_up, state_of};
 use crate::status::{self, CLOSED, OK, OPEN, OUT_OF_MEMORY, TABLE_LENGTH};
 use crate::tables::{CSetup, node_of, put_owners, read_table, setup_of, table_of};
+use bully_agent::Agent;
 use bully_base::{Node, OutOfMemory, Setup};
 use bully_calls::Answer;
-use bully_node::Agent;
 use bully_rows::push_vector;
 use bully_table::Table;
 use bully_world::Refused;

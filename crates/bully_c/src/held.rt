@@ -2,14 +2,13 @@
 ghost use Rattle.std.specs.Prelude.{◌≡◌, ◌++◌, ◌∷◌, [], OnOk, string_bytes};
 ghost use Rattle.bully_rows.specs.TraceText.{rows_text};
 ghost use Rattle.bully_rows.specs.declared.trace.Row.{Row as RowState};
-ghost use Rattle.bully_events.specs.declared.event.Event.{Event as EventState};
+ghost use Rattle.bully_calls.specs.declared.event.Event.{Event as EventState};
 ghost use Rattle.bully_c.specs.Held.{ServesRequest, Takes, TakesFailure, TakesReply, TellsDrop, TellsEvent, TellsStart, detail_told, failure_told, rows_told};
 ghost use Rattle.bully_c.specs.declared.held.Told.{Told as ToldState};
 
+use bully_agent::Agent;
 use bully_base::{Node, OutOfMemory};
-use bully_calls::{Answer, Call};
-use bully_messages::{Reply, Request};
-use bully_node::Agent;
+use bully_calls::{Answer, Call, Reply, Request};
 use bully_rows::{Detail, DetailedEvent, push_detailed, push_event};
 use bully_table::Table;
 use bully_world::{Event, Refused};

@@ -1,4 +1,4 @@
-//! What C may call: each export is the call of bully_node, bully_replica, bully_trace or bully_table behind it, of arguments that it
+//! What C may call: each export is the call of bully_agent, bully_replica, bully_trace or bully_table behind it, of arguments that it
 //! tests.
 //!
 //! It stands on these, on the crates below them, on bully_lines for requests and replies, and on bully_handle. `include/bully.h` says

@@ -1,10 +1,9 @@
 //! Replicas behind their handles, and headers.
 ghost use Rattle.std.specs.Prelude.{◌≡◌, None, IfErr, IfOk, reverse, string_bytes, unwrap_or, []};
 ghost use Rattle.bully_c.specs.Arguments.{IsCopied, setup_given};
-ghost use Rattle.bully_c.specs.Exports.{IsClosing, shown};
-ghost use Rattle.bully_c.specs.Replicas.{AtLog, IsEventRow, IsHeaderRow, IsLearning, IsLogOpening, IsNextRow, IsWritten, RefusesEvent, RefusesHeaderRow, RefusesNext, ShowsLog, ShowsNode, agent_in, group_shown, table_shown};
+ghost use Rattle.bully_c.specs.Exports.{IsClosing};
+ghost use Rattle.bully_c.specs.Replicas.{AtLog, IsEventRow, IsHeaderRow, IsLearning, IsLogOpening, IsNextRow, IsWritten, RefusesEvent, RefusesHeaderRow, RefusesNext, IsListShown, IsStateShown, ShowsLog, group_shown, table_shown, task_in, up_in};
 ghost use Rattle.bully_c.specs.declared.status.TheConstants.{OK as OkNumber};
-ghost use Rattle.bully_world.specs.State.{state_at};
 
 use crate::logs::{learn, opened, write_event, write_next};
 use crate::replica_handle::ReplicaHandle;
@@ -160,7 +159,7 @@ pub extern "C" fn bully_c_replica_show(
     node: u16,
     state: &mut CState,
 ) -> u32
-    ensures open { AtLog (ShowsLog (λ held status. ShowsNode held.follower.replica.world.setup node status ((status ≡ OkNumber) × (state.new ≡ shown (agent_in held.follower.replica.world node))) (state.new ≡ state.old))) replica.old.value result replica.new.value }
+    ensures open { AtLog (ShowsLog (λ held status. IsStateShown held.follower.replica.world node state.old status state.new)) replica.old.value result replica.new.value }
     ensures closed { replica.old.value ≡ None → state.new ≡ state.old }
 {
     let Some(held) = replica.take(alloc) else {
@@ -173,7 +172,7 @@ pub extern "C" fn bully_c_replica_show(
 
 // Writes how the node of this number stands.
 fn show_node(world: &World, node: u16, state: &mut CState) -> u32
-    ensures { ShowsNode world.now.setup node result ((result ≡ OkNumber) × (state.new ≡ shown (agent_in world.now node))) (state.new ≡ state.old) }
+    ensures { IsStateShown world.now node state.old result state.new }
 {
     match node_of(world.setup(), node) {
         Ok(node) => {
@@ -193,7 +192,7 @@ pub extern "C" fn bully_c_replica_up(
     nodes: &mut [u16],
     count: &mut usize,
 ) -> u32
-    ensures open { AtLog (ShowsLog (λ held status. ShowsNode held.follower.replica.world.setup node status (IsCopied (reverse (state_at held.follower.replica.world node).vector.vector.up) nodes.old status nodes.new count.new) ((nodes.new ≡ nodes.old) × (count.new ≡ count.old)))) replica.old.value result replica.new.value }
+    ensures open { AtLog (ShowsLog (λ held status. let w = held.follower.replica.world in IsListShown w node (up_in w node) nodes.old count.old status nodes.new count.new)) replica.old.value result replica.new.value }
     ensures closed { replica.old.value ≡ None → (nodes.new ≡ nodes.old) × (count.new ≡ count.old) }
 {
     let Some(held) = replica.take(alloc) else {
@@ -206,7 +205,7 @@ pub extern "C" fn bully_c_replica_up(
 
 // Writes the up set of the node of this number.
 fn show_up(world: &World, node: u16, nodes: &mut [u16], count: &mut usize) -> u32
-    ensures { ShowsNode world.now.setup node result (IsCopied (reverse (state_at world.now node).vector.vector.up) nodes.old result nodes.new count.new) ((nodes.new ≡ nodes.old) × (count.new ≡ count.old)) }
+    ensures { IsListShown world.now node (up_in world.now node) nodes.old count.old result nodes.new count.new }
 {
     match node_of(world.setup(), node) {
         Ok(node) => copy_up(world.vector(node).up(), nodes, count),
@@ -223,7 +222,7 @@ pub extern "C" fn bully_c_replica_task(
     owners: &mut [u16],
     count: &mut usize,
 ) -> u32
-    ensures open { AtLog (ShowsLog (λ held status. ShowsNode held.follower.replica.world.setup node status (IsCopied (unwrap_or (state_at held.follower.replica.world node).vector.vector.task []) owners.old status owners.new count.new) ((owners.new ≡ owners.old) × (count.new ≡ count.old)))) replica.old.value result replica.new.value }
+    ensures open { AtLog (ShowsLog (λ held status. let w = held.follower.replica.world in IsListShown w node (task_in w node) owners.old count.old status owners.new count.new)) replica.old.value result replica.new.value }
     ensures closed { replica.old.value ≡ None → (owners.new ≡ owners.old) × (count.new ≡ count.old) }
 {
     let Some(held) = replica.take(alloc) else {
@@ -236,7 +235,7 @@ pub extern "C" fn bully_c_replica_task(
 
 // Writes the owners of the task of the node of this number.
 fn show_task(world: &World, node: u16, owners: &mut [u16], count: &mut usize) -> u32
-    ensures { ShowsNode world.now.setup node result (IsCopied (unwrap_or (state_at world.now node).vector.vector.task []) owners.old result owners.new count.new) ((owners.new ≡ owners.old) × (count.new ≡ count.old)) }
+    ensures { IsListShown world.now node (task_in world.now node) owners.old count.old result owners.new count.new }
 {
     match node_of(world.setup(), node) {
         Ok(node) => copy_owners(world.vector(node).task(), owners, count),

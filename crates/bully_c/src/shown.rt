@@ -4,14 +4,14 @@ ghost use Rattle.std.specs.Option.{option_copied};
 ghost use Rattle.bully_c.specs.Arguments.{IsCopied};
 ghost use Rattle.bully_c.specs.Exports.{callee_in, kind_in, number_or_none, shown, standing};
 ghost use Rattle.bully_c.specs.Replicas.{agent_in};
-ghost use Rattle.bully_node.specs.Agent.{wanted};
+ghost use Rattle.bully_agent.specs.Agent.{wanted};
 
 use crate::status::{self, OK, SHORT};
 use crate::tables::put_owners;
+use bully_agent::Agent;
 use bully_base::{Node, NodeSet};
 use bully_calls::{Call, Slot};
 use bully_handlers::Vector;
-use bully_node::Agent;
 use bully_steps::Want;
 use bully_table::Table;
 use bully_trace::offer_of;

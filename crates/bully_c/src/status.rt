@@ -1,6 +1,6 @@
 //! The numbers of include/bully.h.
 ghost use Rattle.std.specs.Prelude.{◌≡◌};
-ghost use Rattle.bully_events.specs.declared.event.Refused.{Refused};
+ghost use Rattle.bully_calls.specs.declared.event.Refused.{Refused};
 ghost use Rattle.bully_lines.specs.declared.fault.RequestFault.{RequestFault};
 ghost use Rattle.bully_c.specs.declared.status.TheConstants.{BAD_EVENT, BAD_HEADER, BAD_NODE, BAD_ROW, CLOSED, LINE_WORD, NO_MEMBER, OK, OPEN, OUT_OF_MEMORY, ROW_DIFFERS, ROW_END, SHORT, TABLE_LENGTH, TABLE_OWNER};
 ghost use Rattle.bully_c.specs.Numbers.{answer_number, event_numbered, follow_number, kind_number, refusal_number, reply_number, request_number, setup_number, status_number, trace_number, want_number};

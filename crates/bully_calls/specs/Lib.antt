@@ -1,3 +1,4 @@
 pub mod Pending
 pub mod Slot
 pub mod Waiting
+pub mod Events

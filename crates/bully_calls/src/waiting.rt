@@ -30,7 +30,7 @@ impl Waiting {
     }
 
     /// The caller waits for the callee, which is at most the setup's last. Takes no memory.
-    pub fn add_caller(&mut self, callee: Node, caller: Node)
+    pub fn add(&mut self, callee: Node, caller: Node)
         requires { callee ≤ length self.old }
         ensures { self.new ≡ with_caller callee caller self.old }
     {
@@ -38,7 +38,7 @@ impl Waiting {
     }
 
     /// The caller doesn't wait for the callee any more, which is at most the setup's last. Takes no memory.
-    pub fn remove_caller(&mut self, callee: Node, caller: Node)
+    pub fn remove(&mut self, callee: Node, caller: Node)
         requires { callee ≤ length self.old }
         ensures { self.new ≡ without_caller callee caller self.old }
     {

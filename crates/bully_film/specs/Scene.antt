@@ -5,7 +5,7 @@ use Rattle.bully_base.specs.Setup.{Setup}
 use Rattle.bully_calls.specs.declared.call.Call.{Call}
 use Rattle.bully_calls.specs.Pending.{Pending}
 use Rattle.bully_handlers.specs.Vector.{is_normal}
-use Rattle.bully_events.specs.Events.{node_of}
+use Rattle.bully_calls.specs.Events.{node_of}
 use Rattle.bully_world.specs.Cause.{is_idle}
 use Rattle.bully_world.specs.State.{is_halt}
 use Rattle.bully_world.specs.World.{Member, World, member, point, vector}

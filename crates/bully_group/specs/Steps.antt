@@ -3,7 +3,7 @@ use Rattle.std.specs.Prelude.{◌≡◌, ◌≢◌, ◌<◌, ◌⊎◌, ◌++◌
 use Rattle.bully_calls.specs.declared.call.Answer.{Answer}
 use Rattle.bully_watch.specs.declared.entry.Entry.{Entry}
 use Rattle.bully_watch.specs.History.{whose}
-use Rattle.bully_events.specs.declared.event.Event.{Event}
+use Rattle.bully_calls.specs.declared.event.Event.{Event}
 use Rattle.bully_world.specs.Cause.{is_down_at}
 use Rattle.bully_world.specs.State.{world_of, cause_in, RaisesGenerations}
 use Rattle.bully_world.specs.Step.{Step}

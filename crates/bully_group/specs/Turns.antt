@@ -2,7 +2,7 @@
 use Rattle.std.specs.Prelude.{◌≡◌, ◌≢◌, ◌<◌, ◌≤◌, Bool, true, false}
 use Rattle.bully_steps.specs.Procedure.{state_of}
 use Rattle.bully_steps.specs.ProcedureState.{ProcedureState}
-use Rattle.bully_events.specs.declared.event.Refused.{Refused as Cause}
+use Rattle.bully_calls.specs.declared.event.Refused.{Refused as Cause}
 use Rattle.bully_world.specs.declared.turn.Next.{Next}
 use Rattle.bully_world.specs.declared.turn.StepKind.{StepKind}
 use Rattle.bully_world.specs.Turn.{turn, step_event, procedure_after, procedure_in, is_in_step}

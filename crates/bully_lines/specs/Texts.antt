@@ -13,8 +13,8 @@ use Rattle.bully_table.specs.TableText.{owners_text, table_of_text}
 use Rattle.bully_table.specs.declared.table.TableFault.{TableFault}
 use Rattle.bully_lines.specs.declared.fault.ReplyFault.{ReplyFault}
 use Rattle.bully_lines.specs.declared.fault.RequestFault.{RequestFault}
-use Rattle.bully_messages.specs.declared.message.Reply.{Reply}
-use Rattle.bully_messages.specs.declared.message.Request.{Request}
+use Rattle.bully_calls.specs.declared.message.Reply.{Reply}
+use Rattle.bully_calls.specs.declared.message.Request.{Request}
 use Rattle.bully_rows.specs.Words.{answer_word, call_named, call_word}
 use Rattle.bully_lines.specs.Words.{answer_named}
 

@@ -1,6 +1,6 @@
 //! A line of text for each request and each reply.
 //!
-//! It stands on bully_messages, on bully_rows for the words of calls and answers, and on the crates below them. Whoever carries
+//! It stands on bully_calls, on bully_rows for the words of calls and answers, and on the crates below them. Whoever carries
 //! lines relies on a line being read as the request or the reply that it spells, or being refused by its first fault.
 #![tactic(auto)]
 

@@ -3,7 +3,7 @@ ghost use Rattle.bully_lines.specs.Texts.{reply_text, request_text};
 
 use crate::words::{ASK, TELL};
 use bully_base::OutOfMemory;
-use bully_messages::{Reply, Request};
+use bully_calls::{Reply, Request};
 use bully_rows::{answer_word, call_word};
 use bully_table::push_owners;
 

@@ -1,9 +1,8 @@
 use crate::trying::{Outcome, Trial};
+use bully_agent::Agent;
 use bully_base::{EVENTS_MAX, Node, OutOfMemory, Setup};
-use bully_calls::Answer;
+use bully_calls::{Answer, Reply, Request};
 use bully_lines::{push_reply, push_request, read_request};
-use bully_messages::{Reply, Request};
-use bully_node::Agent;
 use bully_steps::Want;
 use bully_world::{Refused, TakenStep};
 use std::alloc::Global;

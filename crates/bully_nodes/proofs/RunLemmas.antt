@@ -32,7 +32,7 @@ use Rattle.bully_steps.specs.Procedure.{state_of}
 use Rattle.bully_watch.specs.declared.entry.Entry.{Entry}
 use Rattle.bully_watch.specs.declared.knowledge.PublisherId.{PublisherId}
 use Rattle.bully_watch.specs.History.{event_of, answer_of}
-use Rattle.bully_events.specs.declared.event.Event.{Event}
+use Rattle.bully_calls.specs.declared.event.Event.{Event}
 use Rattle.bully_world.specs.State.{world_of}
 use Rattle.bully_world.specs.World.{member}
 use Rattle.bully_world.proofs.NodeInvariantLemmas.{lawful_fits}

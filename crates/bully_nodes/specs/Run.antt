@@ -21,7 +21,7 @@ use Rattle.bully_steps.specs.Prepared.{prepared_from}
 use Rattle.bully_steps.specs.Procedure.{state_of}
 use Rattle.bully_steps.specs.ProcedureState.{ProcedureState}
 use Rattle.bully_watch.specs.declared.entry.Entry.{Entry}
-use Rattle.bully_events.specs.declared.event.Event.{Event}
+use Rattle.bully_calls.specs.declared.event.Event.{Event}
 use Rattle.bully_world.specs.State.{world_of}
 use Rattle.bully_world.specs.Turn.{turn, step_event, procedure_after}
 use Rattle.bully_world.specs.declared.turn.Next.{Next}

@@ -10,7 +10,7 @@ use Rattle.bully_steps.specs.declared.point.Point.TheVariants.{Idle, Asking, Hal
 use Rattle.bully_steps.specs.NextPoint.{next_point}
 use Rattle.bully_steps.specs.Point.{offered}
 use Rattle.bully_table.specs.Balance.{IsBalanced, base_of, total_weight}
-use Rattle.bully_events.specs.declared.event.Event.{Event}
+use Rattle.bully_calls.specs.declared.event.Event.{Event}
 use Rattle.bully_world.specs.Lawful.{LeadTo, IsLawful}
 use Rattle.bully_world.specs.Step.{Step, Returns, Proceeds}
 use Rattle.bully_world.specs.World.{World, first_world}

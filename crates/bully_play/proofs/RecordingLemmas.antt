@@ -20,8 +20,8 @@ use Rattle.bully_steps.specs.Driver.{chosen_every}
 use Rattle.bully_steps.specs.ProcedureState.{ProcedureState}
 use Rattle.bully_rows.specs.declared.trace.Row.{Row}
 use Rattle.bully_rows.specs.Trace.{Trace, trace_for}
-use Rattle.bully_events.specs.declared.event.Event.{Event}
-use Rattle.bully_events.specs.declared.event.Refused.{Refused}
+use Rattle.bully_calls.specs.declared.event.Event.{Event}
+use Rattle.bully_calls.specs.declared.event.Refused.{Refused}
 use Rattle.bully_world.specs.State.{WorldState, state_at, world_of, cause_in}
 use Rattle.bully_world.specs.Step.{Step}
 use Rattle.bully_world.specs.Turn.{step_event, procedure_after, turn}

@@ -18,7 +18,7 @@ use Rattle.bully_config.specs.declared.config.FaultKind.{FaultKind}
 use Rattle.bully_play.specs.Play.{event_of_fault}
 use Rattle.bully_play.specs.Schedule.{turn_of, faults_in, AreLeft}
 use Rattle.bully_play.specs.Turns.{OperatesOn}
-use Rattle.bully_events.specs.declared.event.Event.{Event}
+use Rattle.bully_calls.specs.declared.event.Event.{Event}
 
 filter_same : {X : Type 0} (p q : X → Bool) (xs : List X) → ((x : X) → p x ≡ q x) → filter p xs ≡ filter q xs
 filter_same p q [] same = refl

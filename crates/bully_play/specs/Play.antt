@@ -10,7 +10,7 @@ use Rattle.bully_play.specs.declared.playing.PlayFault.{PlayFault}
 use Rattle.bully_rows.specs.declared.trace.Row.{Row}
 use Rattle.bully_rows.specs.declared.trace.TraceCause.{TraceCause}
 use Rattle.bully_rows.specs.Trace.{Trace, trace_for}
-use Rattle.bully_events.specs.declared.event.Event.{Event}
+use Rattle.bully_calls.specs.declared.event.Event.{Event}
 use Rattle.bully_world.specs.Lawful.{IsLawful}
 use Rattle.bully_world.specs.World.{World}
 

@@ -5,7 +5,7 @@ use Rattle.bully_config.specs.Configuration.{Configuration}
 use Rattle.bully_play.specs.Play.{IsDue}
 use Rattle.bully_steps.specs.ProcedureState.{ProcedureState}
 use Rattle.bully_rows.specs.declared.trace.Row.{Row}
-use Rattle.bully_events.specs.declared.event.Event.{Event}
+use Rattle.bully_calls.specs.declared.event.Event.{Event}
 use Rattle.bully_world.specs.Lawful.{IsLawful}
 use Rattle.bully_world.specs.State.{WorldState, state_at, world_of, cause_in, raises}
 use Rattle.bully_world.specs.Step.{Step}

@@ -13,7 +13,7 @@ use Rattle.bully_steps.specs.Driver.{chosen_every}
 use Rattle.bully_steps.specs.Prepared.{prepared_from}
 use Rattle.bully_steps.specs.ProcedureState.{ProcedureState, procedure_state}
 use Rattle.bully_rows.specs.declared.trace.Row.{Row}
-use Rattle.bully_events.specs.declared.event.Event.{Event}
+use Rattle.bully_calls.specs.declared.event.Event.{Event}
 use Rattle.bully_world.specs.declared.turn.Next.{Next}
 use Rattle.bully_world.specs.State.{WorldState, state_at, world_of, first_state}
 use Rattle.bully_world.specs.Turn.{procedure_in, turn}

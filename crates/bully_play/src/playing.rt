@@ -7,7 +7,7 @@ ghost use Rattle.bully_play.specs.Turns.{IsTurn, IsRound, IsScheduled, idle_firs
 ghost use Rattle.bully_steps.specs.Procedure.{state_of};
 ghost use Rattle.bully_steps.specs.ProcedureState.{HasSameNode};
 ghost use Rattle.bully_rows.specs.TraceText.{trace_text};
-ghost use Rattle.bully_events.specs.declared.event.Event.{Event};
+ghost use Rattle.bully_calls.specs.declared.event.Event.{Event};
 
 use crate::recording::Recording;
 use crate::schedule::Schedule;

@@ -12,7 +12,7 @@ pub trait Stage {
     ghost use Rattle.std.specs.Prelude.{ℕ, Bool};
     ghost use Rattle.bully_base.specs.Setup.{Setup};
     ghost use Rattle.bully_steps.specs.ProcedureState.{ProcedureState};
-    ghost use Rattle.bully_events.specs.declared.event.Event.{Event as AnyEvent};
+    ghost use Rattle.bully_calls.specs.declared.event.Event.{Event as AnyEvent};
 
     // The group's setup.
     ghost setup: { Self → Setup };

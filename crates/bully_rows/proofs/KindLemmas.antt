@@ -1,8 +1,8 @@
 -- What an event is, and its node, tell the event, but for the table of a plan.
 use Rattle.std.proofs.Common.{◌≡◌, ℕ, Option, Some, None, ap, refl}
 use Rattle.std.specs.Prelude.{IfSome}
-use Rattle.bully_events.specs.declared.event.Event.{Event}
-use Rattle.bully_events.specs.Events.{node_of}
+use Rattle.bully_calls.specs.declared.event.Event.{Event}
+use Rattle.bully_calls.specs.Events.{node_of}
 use Rattle.bully_rows.specs.declared.kind.Deed.{Deed}
 use Rattle.bully_rows.specs.declared.kind.EventKind.{EventKind}
 use Rattle.bully_rows.specs.Kinds.{deed_of, event_at, event_of_deed}

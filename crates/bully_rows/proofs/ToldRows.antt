@@ -18,7 +18,7 @@ use Rattle.bully_calls.specs.declared.call.Call.{Call}
 use Rattle.bully_table.specs.Numeral.{number_of}
 use Rattle.bully_table.specs.TableText.{is_no_number, names_nobody, owner_of, pieces_of, table_of_text}
 use Rattle.bully_table.specs.declared.table.TableFault.{TableFault}
-use Rattle.bully_events.specs.declared.event.Event.{Event}
+use Rattle.bully_calls.specs.declared.event.Event.{Event}
 use Rattle.bully_rows.specs.declared.detail.Detail.{Detail}
 use Rattle.bully_rows.specs.declared.header.Version.{Version}
 use Rattle.bully_rows.specs.declared.trace.Claim.{Claim}

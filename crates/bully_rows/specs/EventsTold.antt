@@ -1,7 +1,7 @@
 -- The event and the call of which a row of version 3 says more.
 use Rattle.std.specs.Prelude.{ℕ}
 use Rattle.bully_calls.specs.declared.call.Call.{Call}
-use Rattle.bully_events.specs.declared.event.Event.{Event}
+use Rattle.bully_calls.specs.declared.event.Event.{Event}
 use Rattle.bully_rows.specs.declared.detail.Detail.{Detail}
 use Rattle.bully_rows.specs.declared.detail.DetailedEvent.{DetailedEvent}
 

@@ -1,6 +1,6 @@
 -- What events are, and their words: for reading and for writing.
 use Rattle.std.specs.Prelude.{ℕ, List, [], ◌∷◌, Option, Some, None, codes}
-use Rattle.bully_events.specs.declared.event.Event.{Event}
+use Rattle.bully_calls.specs.declared.event.Event.{Event}
 use Rattle.bully_rows.specs.declared.kind.Deed.{Deed}
 use Rattle.bully_rows.specs.declared.kind.EventKind.{EventKind}
 use Rattle.bully_rows.specs.Words.{first_named}

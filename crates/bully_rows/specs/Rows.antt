@@ -7,7 +7,7 @@ use Rattle.bully_base.specs.NodeSet.{with_node}
 use Rattle.bully_base.specs.Setup.{Setup}
 use Rattle.bully_table.specs.TableText.{pieces_of, table_of_text}
 use Rattle.bully_calls.specs.declared.call.Call.{Call}
-use Rattle.bully_events.specs.declared.event.Event.{Event}
+use Rattle.bully_calls.specs.declared.event.Event.{Event}
 use Rattle.bully_rows.specs.declared.TheConstants.{ROWS_MAX}
 use Rattle.bully_rows.specs.declared.detail.Detail.{Detail}
 use Rattle.bully_rows.specs.declared.header.Header.{Header}

@@ -5,8 +5,8 @@ use Rattle.std.specs.Fmt.{decimal}
 use Rattle.bully_base.specs.Setup.{Setup}
 use Rattle.bully_table.specs.TableText.{owners_text}
 use Rattle.bully_calls.specs.declared.call.Call.{Call}
-use Rattle.bully_events.specs.declared.event.Event.{Event}
-use Rattle.bully_events.specs.Events.{node_of}
+use Rattle.bully_calls.specs.declared.event.Event.{Event}
+use Rattle.bully_calls.specs.Events.{node_of}
 use Rattle.bully_rows.specs.declared.detail.Detail.{Detail}
 use Rattle.bully_rows.specs.declared.header.Version.{Version}
 use Rattle.bully_rows.specs.declared.trace.Claim.{Claim}

@@ -7,8 +7,8 @@ use Rattle.bully_calls.specs.declared.call.Answer.{Answer}
 use Rattle.bully_calls.specs.declared.call.Answer.TheVariants.{Done, Yes, No, Failed, Discarded}
 use Rattle.bully_calls.specs.declared.call.CallKind.{CallKind}
 use Rattle.bully_calls.specs.declared.call.CallKind.TheVariants.{AreYouUp, AreYouNormal, Halt, NewCoordinator, Ready}
-use Rattle.bully_events.specs.declared.event.Refused.{Refused}
-use Rattle.bully_events.specs.declared.event.Refused.TheVariants.{Full, BadNode, IsDown, IsUp, Busy, NoStep, SlotBusy, NoCall, CalleeDown, CalleeUp, BadTable, NotOrphan}
+use Rattle.bully_calls.specs.declared.event.Refused.{Refused}
+use Rattle.bully_calls.specs.declared.event.Refused.TheVariants.{Full, BadNode, IsDown, IsUp, Busy, NoStep, SlotBusy, NoCall, CalleeDown, CalleeUp, BadTable, NotOrphan}
 
 abbrev pub status_word : Status → List ℕ
 status_word Down = codes "down"

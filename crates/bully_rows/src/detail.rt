@@ -3,8 +3,7 @@ ghost use Rattle.std.specs.Prelude.{◌≡◌};
 ghost use Rattle.bully_rows.specs.EventsTold.{call_told, event_of_detailed, event_told};
 
 use bully_base::Node;
-use bully_calls::{Answer, Call};
-use bully_events::Event;
+use bully_calls::{Answer, Call, Event};
 
 /// What is said beside an event of a call: which call it is; of a Run what it is answered, and of a Return what it brings.
 #[derive(Clone, Copy, Debug)]

@@ -2,11 +2,11 @@
 ghost use Rattle.std.specs.Prelude.{◌≡◌, ℕ};
 ghost use Rattle.std.specs.Option.{option_map};
 ghost use Rattle.bully_rows.specs.Kinds.{deed_of, event_at, event_named, event_of_deed, event_word};
-ghost use Rattle.bully_events.specs.declared.event.Event.{Event as EventState};
+ghost use Rattle.bully_calls.specs.declared.event.Event.{Event as EventState};
 
 use crate::words::is_word;
 use bully_base::Node;
-use bully_events::Event;
+use bully_calls::Event;
 
 /// The words of the events.
 pub const RECOVER: &str = "recover";

@@ -1,6 +1,6 @@
 //! The rows of traces: what they may say, how they are read, row by row or all of a trace, and how they are written.
 //!
-//! It stands on bully_events, which the rows tell, on the crates below it, and on csv. bully_trace, which judges rows, and
+//! It stands on bully_calls, which the rows tell, on the crates below it, and on csv. bully_trace, which judges rows, and
 //! the crates above rely on what is read being what the records of csv mean, on the first fault of form being told, on what is
 //! written being the text of the rows, and on that text being read back.
 #![tactic(auto)]

@@ -14,7 +14,7 @@ use crate::saying::{answered_row, unanswered_row, whole_row};
 use crate::trace::{Claim, Row};
 use crate::words::{SAW, is_word, status_named};
 use bully_base::{Node, OutOfMemory, Setup};
-use bully_events::Event;
+use bully_calls::Event;
 use bully_table::{Table, TableFault, read_number};
 use csv::ByteRecord;
 use std::alloc::{AllocError, Global};

@@ -5,7 +5,7 @@ ghost use Rattle.std.specs.Option.{option_copied};
 ghost use Rattle.bully_base.specs.NodeSet.{IsFallingBelow, below_node, highest_of};
 ghost use Rattle.bully_base.specs.declared.TheConstants.{NODES_MAX};
 ghost use Rattle.bully_table.specs.TableText.{owners_text};
-ghost use Rattle.bully_events.specs.declared.event.Event.{Event};
+ghost use Rattle.bully_calls.specs.declared.event.Event.{Event};
 ghost use Rattle.bully_rows.specs.TraceText.{call_fields, claim_fields, event_fields, gap_behind, header_fields, later_fields, line_of, node_text, rest_text, row_fields, set_text, task_text};
 ghost use Rattle.bully_rows.specs.Whole.{whole_of};
 ghost use Rattle.bully_rows.specs.Words.{answer_word};
@@ -14,8 +14,7 @@ use crate::kind::{DROP, Deed, LOSE, PLAN, RETURN, RUN, START};
 use crate::words::{answer_word, call_word, keeps_word, status_word};
 use crate::{Claim, Detail, DetailedEvent, Row, Version, WholeClaim};
 use bully_base::{Node, NodeSet, OutOfMemory, Setup};
-use bully_calls::{Answer, Call};
-use bully_events::Event;
+use bully_calls::{Answer, Call, Event};
 use bully_handlers::Vector;
 use bully_table::{Table, push_owners};
 

@@ -4,7 +4,7 @@ ghost use Rattle.bully_rows.specs.Trace.{are_short};
 use crate::detail::DetailedEvent;
 use crate::header::{Version, version_for};
 use bully_base::{Node, NodeSet, OutOfMemory, Setup, Status};
-use bully_events::Event;
+use bully_calls::Event;
 use bully_table::Table;
 use std::alloc::{AllocError, AllocFailed, Global};
 use std::fmt;

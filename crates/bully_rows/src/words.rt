@@ -4,8 +4,7 @@ ghost use Rattle.std.specs.Str.{bytes_eq};
 ghost use Rattle.bully_rows.specs.Words.{answer_word, call_named, call_word, cause_word, keeps_named, keeps_word, outcome_named, reply_named, status_named, status_word};
 
 use bully_base::Status;
-use bully_calls::{Answer, CallKind};
-use bully_events::Refused;
+use bully_calls::{Answer, CallKind, Refused};
 
 /// The word of a claim.
 pub const SAW: &str = "saw";

@@ -1,8 +1,8 @@
 ghost use Rattle.std.specs.Prelude.{◌≤◌};
 
+use bully_agent::Agent;
 use bully_base::{Node, Setup};
 use bully_calls::Answer;
-use bully_node::Agent;
 use bully_steps::Want;
 use bully_world::TakenStep;
 use std::alloc::Global;

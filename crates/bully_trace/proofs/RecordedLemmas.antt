@@ -8,8 +8,8 @@ use Rattle.bully_base.specs.declared.node.Status.{Status}
 use Rattle.bully_base.specs.declared.node.Status.TheVariants.{Reorganization, Normal}
 use Rattle.bully_base.specs.Setup.{Setup, is_node}
 use Rattle.bully_calls.specs.declared.call.Answer.{Answer}
-use Rattle.bully_events.specs.declared.event.Event.{Event}
-use Rattle.bully_events.specs.declared.event.Refused.{Refused}
+use Rattle.bully_calls.specs.declared.event.Event.{Event}
+use Rattle.bully_calls.specs.declared.event.Refused.{Refused}
 use Rattle.bully_world.specs.Cause.{cause}
 use Rattle.bully_world.specs.Lawful.{IsLawful, LeadTo}
 use Rattle.bully_world.specs.Step.{Step}

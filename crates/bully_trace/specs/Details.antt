@@ -14,7 +14,7 @@ use Rattle.bully_calls.specs.Pending.{Pending, answer_of, outcome_of}
 use Rattle.bully_handlers.specs.Handler.{reply}
 use Rattle.bully_handlers.specs.Vector.{is_down, is_election, is_reorganization, is_normal}
 use Rattle.bully_steps.specs.declared.point.Want.{Want}
-use Rattle.bully_events.specs.declared.event.Event.{Event}
+use Rattle.bully_calls.specs.declared.event.Event.{Event}
 use Rattle.bully_world.specs.Step.{offer}
 use Rattle.bully_world.specs.Turn.{same_node}
 use Rattle.bully_world.specs.World.{World, pending, vector}

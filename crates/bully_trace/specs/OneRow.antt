@@ -1,7 +1,7 @@
 -- What one row comes to in a world: what is wrong with it, or the world that it leads to.
 use Rattle.std.specs.Prelude.{◌≡◌, ℕ, Bool, Option, Some, None, IfSome, option_map, if◌then◌else◌}
 use Rattle.bully_calls.specs.declared.call.Answer.{Answer}
-use Rattle.bully_events.specs.declared.event.Refused.{Refused}
+use Rattle.bully_calls.specs.declared.event.Refused.{Refused}
 use Rattle.bully_rows.specs.EventsTold.{event_of_detailed}
 use Rattle.bully_rows.specs.declared.trace.Row.{Row}
 use Rattle.bully_trace.specs.Details.{is_so, is_true, is_whole}

@@ -7,7 +7,7 @@ ghost use Rattle.bully_handlers.specs.Vector.{is_normal};
 ghost use Rattle.bully_steps.specs.Point.{offered};
 ghost use Rattle.bully_rows.specs.EventsTold.{call_told};
 ghost use Rattle.bully_trace.specs.Details.{brought, call_at, has_answer, has_call, is_so, is_true, is_whole, offered_call, said_of, same_task, says};
-ghost use Rattle.bully_events.specs.Events.{node_of};
+ghost use Rattle.bully_calls.specs.Events.{node_of};
 ghost use Rattle.bully_world.specs.State.{IsReached, state_at, world_of};
 ghost use Rattle.bully_world.specs.World.{pending, vector};
 

@@ -5,7 +5,7 @@ use mathlib.Core.List.{IsPrefix}
 use lib.ListN.{get_elem?}
 use Rattle.bully_base.specs.Setup.{Setup, even_setup}
 use Rattle.bully_world.specs.Cause.{cause}
-use Rattle.bully_events.specs.declared.event.Refused.{Refused}
+use Rattle.bully_calls.specs.declared.event.Refused.{Refused}
 use Rattle.bully_world.specs.State.{WorldState, world_of}
 use Rattle.bully_world.specs.StepOf.{StepResult, step_of}
 use Rattle.bully_world.specs.World.{World}

@@ -4,8 +4,8 @@ use Rattle.std.specs.Prelude.{slice_index_or}
 use Rattle.std.proofs.lemmas.Bool.Decides.{nat_tests}
 use Rattle.bully_base.proofs.PlaceLemmas.{at_node-place}
 use Rattle.bully_base.specs.Setup.{Setup, IsNode}
-use Rattle.bully_events.specs.declared.event.Event.{Event}
-use Rattle.bully_events.specs.Events.{node_of}
+use Rattle.bully_calls.specs.declared.event.Event.{Event}
+use Rattle.bully_calls.specs.Events.{node_of}
 use Rattle.bully_world.specs.Cause.{cause}
 use Rattle.bully_world.specs.State.{kept_of, MemberState, empty_state}
 use Rattle.bully_world.specs.World.{World}

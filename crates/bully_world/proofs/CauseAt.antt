@@ -10,9 +10,9 @@ use Rattle.bully_calls.specs.Slot.{SlotCall, pending_of}
 use Rattle.bully_base.specs.declared.node.Status.{Status}
 use Rattle.bully_base.specs.declared.node.Status.TheVariants.{Down, Election, Reorganization, Normal}
 use Rattle.bully_handlers.specs.Vector.{is_down}
-use Rattle.bully_events.specs.declared.event.Event.{Event}
-use Rattle.bully_events.specs.declared.event.Refused.{Refused}
-use Rattle.bully_events.specs.Events.{node_of}
+use Rattle.bully_calls.specs.declared.event.Event.{Event}
+use Rattle.bully_calls.specs.declared.event.Refused.{Refused}
+use Rattle.bully_calls.specs.Events.{node_of}
 use Rattle.bully_world.specs.Cause.{refuses, first_of, later_refusals, cause, is_down_at}
 use Rattle.bully_world.specs.NodeInvariant.{WorldInvariant, SuitsPending}
 use Rattle.bully_world.specs.State.{MemberState, empty_state, member_of, members_of}

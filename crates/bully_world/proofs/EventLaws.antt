@@ -6,8 +6,8 @@ use Rattle.bully_base.specs.Setup.{Setup, IsNode}
 use Rattle.bully_calls.specs.declared.call.Answer.{Answer}
 use Rattle.bully_calls.specs.Pending.{Pending}
 use Rattle.bully_calls.specs.Slot.{SlotCall, pending_of}
-use Rattle.bully_events.specs.declared.event.Event.{Event}
-use Rattle.bully_events.specs.Events.{node_of}
+use Rattle.bully_calls.specs.declared.event.Event.{Event}
+use Rattle.bully_calls.specs.Events.{node_of}
 use Rattle.bully_world.specs.Cause.{cause}
 use Rattle.bully_world.specs.NodeInvariant.{WorldInvariant, NodeInvariant}
 use Rattle.bully_world.specs.State.{MemberState, empty_state, kept_of, member_of, members_of, IsKept, AllKept, raises, changes_slot, tag_in}

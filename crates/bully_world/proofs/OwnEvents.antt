@@ -4,8 +4,8 @@ use Rattle.std.specs.Prelude.{◌↔◌, ◌==◌, ◌&&◌}
 use Rattle.std.proofs.lemmas.Bool.Decides.{nat_tests}
 use Rattle.bully_base.specs.Places.{put_node}
 use Rattle.bully_base.specs.Setup.{Setup}
-use Rattle.bully_events.specs.declared.event.Event.{Event}
-use Rattle.bully_events.specs.Events.{node_of}
+use Rattle.bully_calls.specs.declared.event.Event.{Event}
+use Rattle.bully_calls.specs.Events.{node_of}
 use Rattle.bully_world.specs.State.{MemberState, kept_of, raises}
 use Rattle.bully_world.specs.StateAfter.{state_after, node_after, answer_after, node_answer, CanApply, CanApplyHere}
 use Rattle.bully_world.specs.World.{World}

@@ -15,7 +15,7 @@ use Rattle.bully_steps.specs.declared.point.Want.{Want}
 use Rattle.bully_steps.specs.ProcedureState.{ProcedureState, CanCome, CanResume, is_started, resumed, want_of}
 use Rattle.bully_steps.specs.NextPoint.{next_point, next_vector}
 use Rattle.bully_steps.specs.Point.{offered}
-use Rattle.bully_events.specs.declared.event.Event.{Event}
+use Rattle.bully_calls.specs.declared.event.Event.{Event}
 use Rattle.bully_world.specs.declared.turn.StepKind.{StepKind}
 use Rattle.bully_world.specs.Cause.{is_live_in}
 use Rattle.bully_world.specs.NodeInvariant.{WorldInvariant, SuitsPhase}

@@ -3,7 +3,7 @@ use Rattle.std.proofs.Common.{◌≡◌, List, [], ◌∷◌, Option, Some, None
 use Rattle.std.specs.Prelude.{option_map, option_and_then}
 use Rattle.bully_base.specs.Setup.{Setup}
 use Rattle.bully_calls.specs.declared.call.Answer.{Answer}
-use Rattle.bully_events.specs.declared.event.Event.{Event}
+use Rattle.bully_calls.specs.declared.event.Event.{Event}
 use Rattle.bully_world.specs.Lawful.{LeadTo}
 use Rattle.bully_world.specs.Step.{Step}
 use Rattle.bully_world.specs.StepOf.{StepResult, StepsResult, step_of, steps_from, answered_first, StepIsComputed, LeadIsComputed, StepIsOne, LawfulIsOne}

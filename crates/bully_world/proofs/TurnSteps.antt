@@ -15,7 +15,7 @@ use Rattle.bully_steps.specs.declared.point.Point.TheVariants.{Idle, Asking, Hal
 use Rattle.bully_steps.specs.declared.point.Want.{Want}
 use Rattle.bully_steps.specs.ProcedureState.{ProcedureState, IsProcedureState, SuitsPlan, IsPlannedOver, procedure_state, coordinator_at, want_of}
 use Rattle.bully_steps.specs.Point.{offered}
-use Rattle.bully_events.specs.declared.event.Event.{Event}
+use Rattle.bully_calls.specs.declared.event.Event.{Event}
 use Rattle.bully_world.specs.declared.turn.Next.{Next}
 use Rattle.bully_world.specs.declared.turn.StepKind.{StepKind}
 use Rattle.bully_world.specs.Cause.{cause, is_call, is_down_at, is_live_in}

@@ -4,7 +4,7 @@ use Rattle.std.specs.Prelude.{IfSome, if◌then◌else◌}
 use Rattle.std.specs.Option.{option_map_or}
 use Rattle.bully_calls.specs.declared.call.Answer.{Answer}
 use Rattle.bully_steps.specs.ProcedureState.{ProcedureState, IsProcedureState, CanResume, resumed}
-use Rattle.bully_events.specs.declared.event.Event.{Event}
+use Rattle.bully_calls.specs.declared.event.Event.{Event}
 use Rattle.bully_world.specs.declared.turn.Next.{Next}
 use Rattle.bully_world.specs.declared.turn.StepKind.{StepKind}
 use Rattle.bully_world.specs.State.{WorldState, IsReached, state_at, member_of, world_of, cause_in, KeepsGenerations, RaisesGenerations}

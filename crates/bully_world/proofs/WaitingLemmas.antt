@@ -11,8 +11,8 @@ use Rattle.bully_base.specs.Setup.{Setup, IsNode}
 use Rattle.bully_calls.specs.Pending.{is_sent}
 use Rattle.bully_calls.specs.Slot.{SlotCall, pending_of}
 use Rattle.bully_calls.specs.Waiting.{callers_of}
-use Rattle.bully_events.specs.declared.event.Event.{Event}
-use Rattle.bully_events.specs.Events.{node_of}
+use Rattle.bully_calls.specs.declared.event.Event.{Event}
+use Rattle.bully_calls.specs.Events.{node_of}
 use Rattle.bully_world.specs.NodeInvariant.{NodeInvariant, WorldInvariant, SuitsPending}
 use Rattle.bully_world.specs.State.{MemberState, WorldState, empty_state, kept_of, member_of, members_of, new_members, waits_for, NobodyWaits, NobodyWaitsBelow}
 use Rattle.bully_world.specs.StateAfter.{state_after}

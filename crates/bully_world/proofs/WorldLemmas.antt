@@ -4,7 +4,7 @@ use Rattle.std.proofs.lemmas.Grind.{common_steps}
 use Rattle.std.specs.Prelude.{replicate, slice_index_or}
 use Rattle.bully_base.proofs.PlaceLemmas.{at_node-place}
 use Rattle.bully_base.specs.Setup.{Setup}
-use Rattle.bully_events.specs.declared.event.Event.{Event}
+use Rattle.bully_calls.specs.declared.event.Event.{Event}
 use Rattle.bully_world.specs.Cause.{cause}
 use Rattle.bully_world.specs.NodeInvariant.{WorldInvariant}
 use Rattle.bully_world.specs.State.{MemberState, WorldState, empty_state, state_at, IsWorld, IsReached, members_of, first_state, new_members}

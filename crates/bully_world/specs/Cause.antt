@@ -8,10 +8,10 @@ use Rattle.bully_calls.specs.Pending.{Pending, is_sent, is_failed}
 use Rattle.bully_handlers.specs.Vector.{is_down}
 use Rattle.bully_steps.specs.declared.point.Point.{Point}
 use Rattle.bully_steps.specs.declared.point.Want.{Want}
-use Rattle.bully_events.specs.declared.event.Event.{Event}
-use Rattle.bully_events.specs.Events.{node_of}
-use Rattle.bully_events.specs.declared.event.Refused.{Refused}
-use Rattle.bully_events.specs.declared.event.Refused.TheVariants.{Full, BadNode, IsDown, IsUp, Busy, NoStep, SlotBusy, NoCall, CalleeDown, CalleeUp, BadTable, NotOrphan}
+use Rattle.bully_calls.specs.declared.event.Event.{Event}
+use Rattle.bully_calls.specs.Events.{node_of}
+use Rattle.bully_calls.specs.declared.event.Refused.{Refused}
+use Rattle.bully_calls.specs.declared.event.Refused.TheVariants.{Full, BadNode, IsDown, IsUp, Busy, NoStep, SlotBusy, NoCall, CalleeDown, CalleeUp, BadTable, NotOrphan}
 use Rattle.bully_world.specs.Step.{offer}
 use Rattle.bully_world.specs.World.{World, vector, point, pending}
 

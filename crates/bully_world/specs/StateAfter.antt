@@ -20,8 +20,8 @@ use Rattle.bully_steps.specs.declared.point.Want.{Want}
 use Rattle.bully_steps.specs.NextPoint.{next_point, next_vector, election, checked, timed_out}
 use Rattle.bully_steps.specs.Point.{offered, IsPointOf}
 use Rattle.bully_steps.specs.ProcedureState.{IsCall}
-use Rattle.bully_events.specs.declared.event.Event.{Event}
-use Rattle.bully_events.specs.Events.{node_of}
+use Rattle.bully_calls.specs.declared.event.Event.{Event}
+use Rattle.bully_calls.specs.Events.{node_of}
 use Rattle.bully_world.specs.State.{MemberState, empty_state, kept_of}
 use Rattle.bully_world.specs.Step.{carried}
 

@@ -18,7 +18,7 @@ use Rattle.bully_steps.specs.declared.point.Point.TheVariants.{Idle, Planning, R
 use Rattle.bully_steps.specs.declared.point.Want.{Want}
 use Rattle.bully_steps.specs.NextPoint.{next_point, next_vector, election, checked, timed_out}
 use Rattle.bully_steps.specs.Point.{offered}
-use Rattle.bully_events.specs.declared.event.Event.{Event}
+use Rattle.bully_calls.specs.declared.event.Event.{Event}
 use Rattle.bully_world.specs.World.{Member, World, member, vector, point, pending, with_member, stopped}
 
 -- a number that is no node's is Down too

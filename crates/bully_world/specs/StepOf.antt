@@ -13,7 +13,7 @@ use Rattle.bully_handlers.specs.Vector.{Vector, crashed, recovered}
 use Rattle.bully_steps.specs.declared.point.Point.{Point}
 use Rattle.bully_steps.specs.declared.point.Want.{Want}
 use Rattle.bully_steps.specs.NextPoint.{next_point, next_vector, election, checked, timed_out}
-use Rattle.bully_events.specs.declared.event.Event.{Event}
+use Rattle.bully_calls.specs.declared.event.Event.{Event}
 use Rattle.bully_world.specs.Cause.{is_down_at, is_idle, is_pending}
 use Rattle.bully_world.specs.Lawful.{LeadTo, IsLawful}
 use Rattle.bully_world.specs.Step.{Step, offer, sent, with_phase, ran, emptied}

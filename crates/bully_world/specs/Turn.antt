@@ -11,7 +11,7 @@ use Rattle.bully_steps.specs.declared.point.Point.{Point}
 use Rattle.bully_steps.specs.declared.point.Point.TheVariants.{Idle, Asking, Halting, Announcing, Planning, Readying, Checking, Inquiring}
 use Rattle.bully_steps.specs.declared.point.Want.{Want}
 use Rattle.bully_steps.specs.ProcedureState.{ProcedureState, procedure_state, want_of, resumed}
-use Rattle.bully_events.specs.declared.event.Event.{Event}
+use Rattle.bully_calls.specs.declared.event.Event.{Event}
 use Rattle.bully_world.specs.declared.turn.Next.{Next}
 use Rattle.bully_world.specs.declared.turn.Next.TheVariants.{Resync, Rest, Take}
 use Rattle.bully_world.specs.declared.turn.StepKind.{StepKind}

@@ -3,7 +3,7 @@ ghost use Rattle.bully_base.specs.NodeSet.{with_node, IsFallingBelow};
 ghost use Rattle.bully_table.specs.Balance.{is_balanced};
 ghost use Rattle.bully_calls.specs.Pending.{is_sent, is_failed};
 ghost use Rattle.bully_steps.specs.Point.{offered, IsPointOf};
-ghost use Rattle.bully_events.specs.Events.{node_of};
+ghost use Rattle.bully_calls.specs.Events.{node_of};
 ghost use Rattle.bully_world.specs.Cause.{refuses, first_of, later_refusals, cause, is_idle, is_call, is_move, is_plan, in_phase, is_pending, is_live_in, callee_is_down, IsToldByNode};
 ghost use Rattle.bully_world.specs.NodeInvariant.{NodeInvariant, WorldInvariant};
 ghost use Rattle.bully_world.specs.State.{member_of, members_of};
@@ -11,8 +11,7 @@ ghost use Rattle.bully_world.specs.World.{World, member};
 
 use crate::member::Member;
 use bully_base::{Node, Setup};
-use bully_calls::Phase;
-use bully_events::{Event, Refused};
+use bully_calls::{Event, Phase, Refused};
 use bully_steps::{PointKind, Standing, Want};
 use bully_table::Table;
 

@@ -1,6 +1,6 @@
 //! The group: for each node a vector, a point and a call slot; what each event does, and why one is refused.
 //!
-//! It stands on bully_base, bully_table, bully_calls, bully_events, bully_handlers and bully_steps. The crates above rely on
+//! It stands on bully_base, bully_table, bully_calls, bully_handlers and bully_steps. The crates above rely on
 //! `apply` being one step of the definitions, and on every world being reached by a lawful list of events.
 #![tactic(auto)]
 
@@ -13,7 +13,7 @@ mod take;
 mod turn;
 mod world;
 
-pub use bully_events::{Event, Refused};
+pub use bully_calls::{Event, Refused};
 pub use causes::own_cause;
 pub use member::Member;
 pub use take::TakenStep;

@@ -6,15 +6,14 @@ ghost use Rattle.bully_calls.specs.Slot.{CarriesFor, holds_call, outcome_in};
 ghost use Rattle.bully_handlers.specs.Handler.{reply};
 ghost use Rattle.bully_steps.specs.NextPoint.{next_vector};
 ghost use Rattle.bully_steps.specs.Point.{offered, IsPointOf};
-ghost use Rattle.bully_events.specs.Events.{node_of};
+ghost use Rattle.bully_calls.specs.Events.{node_of};
 ghost use Rattle.bully_world.specs.State.{empty_state};
 ghost use Rattle.bully_world.specs.Step.{carried};
 ghost use Rattle.bully_world.specs.Waiting.{sent_in};
 ghost use Rattle.bully_world.specs.StateAfter.{with_vector, with_content, down_state, halted_number, recovered_state, crashed_state, opened_state, phased_state, callee_state_after, heard_state, proceeded_state, node_after_return, return_answer, planned_state, started_state, node_after, node_answer, MayApply};
 
 use bully_base::{Node, OutOfMemory, Setup, Status};
-use bully_calls::{Answer, Call, CallKind, Outcome, Phase, Slot, Tag};
-use bully_events::Event;
+use bully_calls::{Answer, Call, CallKind, Event, Outcome, Phase, Slot, Tag};
 use bully_handlers::Vector;
 use bully_steps::{Point, PointKind, Standing, Want};
 use bully_table::Table;

@@ -4,14 +4,13 @@ ghost use Rattle.bully_calls.specs.Slot.{CarriesFor, holds_call};
 ghost use Rattle.bully_handlers.specs.Handler.{reply};
 ghost use Rattle.bully_world.specs.State.{empty_state, kept_of};
 ghost use Rattle.bully_world.specs.StateAfter.{CanApply, CanExchange, CanRun, callee_state_after, phased_state, state_after, state_after_run, answer_after, run_answer};
-ghost use Rattle.bully_events.specs.Events.{node_of};
+ghost use Rattle.bully_calls.specs.Events.{node_of};
 ghost use Rattle.bully_world.specs.Waiting.{sent_in, IsWaiting, with_sent, without_sent};
 
 use crate::causes::place_of;
 use crate::member::Member;
 use bully_base::{Node, Setup};
-use bully_calls::{Answer, Phase, Waiting};
-use bully_events::Event;
+use bully_calls::{Answer, Event, Phase, Waiting};
 
 /// An event that nothing refuses is applied, and the map of the waiting callers goes with it.
 // (inlined, as `World::apply_allowed` is)
@@ -48,10 +47,10 @@ fn keep_waiting(waiting: &mut Waiting, caller: Node, before: Option<Node>, after
     ensures { waiting.new ≡ with_sent caller after (without_sent caller before waiting.old) }
 {
     if let Some(callee) = before {
-        waiting.remove_caller(callee, caller);
+        waiting.remove(callee, caller);
     }
     if let Some(callee) = after {
-        waiting.add_caller(callee, caller);
+        waiting.add(callee, caller);
     }
 }
 

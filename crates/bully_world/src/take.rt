@@ -8,8 +8,7 @@ ghost use Rattle.bully_world.specs.declared.turn.Next.{Next};
 
 use crate::World;
 use crate::turn::StepKind;
-use bully_calls::{Answer, Outcome};
-use bully_events::{Event, Refused};
+use bully_calls::{Answer, Event, Outcome, Refused};
 use bully_steps::Procedure;
 
 /// A step that a node took by its procedure.

@@ -11,8 +11,7 @@ ghost use Rattle.bully_world.specs.declared.turn.StepKind.{StepKind};
 use crate::World;
 use crate::member::Member;
 use bully_base::{Node, NodeSet, Status};
-use bully_calls::{Phase, Slot};
-use bully_events::Event;
+use bully_calls::{Event, Phase, Slot};
 use bully_steps::{PointKind, Procedure, Want};
 use bully_table::Table;
 

@@ -2,8 +2,8 @@
 use Rattle.std.proofs.Common.{◌≡◌, ℕ, None, Some, arith, refl}
 use Rattle.std.specs.Prelude.{not, if◌then◌else◌}
 use Rattle.bully_base.specs.Setup.{Setup}
-use Rattle.bully_events.specs.declared.event.Event.{Event}
-use Rattle.bully_events.specs.declared.event.Refused.{Refused}
+use Rattle.bully_calls.specs.declared.event.Event.{Event}
+use Rattle.bully_calls.specs.declared.event.Refused.{Refused}
 use Rattle.bully_world.specs.Cause.{refuses, first_of, later_refusals, is_idle}
 use Rattle.bully_world.specs.World.{World, Member, member}
 use Rattle.bully_world.proofs.EventLaws.{OwnLaws}

@@ -5,8 +5,8 @@ use Rattle.std.proofs.lemmas.Bool.Decides.{nat_tests}
 use Rattle.bully_base.specs.Setup.{Setup}
 use Rattle.bully_calls.specs.declared.call.Answer.{Answer}
 use Rattle.bully_calls.specs.Pending.{Pending}
-use Rattle.bully_events.specs.declared.event.Event.{Event}
-use Rattle.bully_events.specs.declared.event.Refused.{Refused}
+use Rattle.bully_calls.specs.declared.event.Event.{Event}
+use Rattle.bully_calls.specs.declared.event.Refused.{Refused}
 use Rattle.bully_world.specs.Cause.{refuses, first_of, later_refusals, cause, is_pending, is_live_in}
 use Rattle.bully_world.specs.State.{MemberState, member_of}
 use Rattle.bully_world.specs.StateAfter.{with_content}

@@ -6,8 +6,8 @@ use Rattle.bully_base.specs.Setup.{Setup}
 use Rattle.bully_calls.specs.declared.call.Phase.{Phase}
 use Rattle.bully_calls.specs.Pending.{Pending, is_failed}
 use Rattle.bully_calls.specs.Slot.{pending_of}
-use Rattle.bully_events.specs.declared.event.Event.{Event}
-use Rattle.bully_events.specs.declared.event.Refused.{Refused}
+use Rattle.bully_calls.specs.declared.event.Event.{Event}
+use Rattle.bully_calls.specs.declared.event.Refused.{Refused}
 use Rattle.bully_world.specs.Cause.{refuses, first_of, later_refusals, cause, in_phase, callee_is_down}
 use Rattle.bully_world.specs.State.{MemberState, member_of, IsKept}
 use Rattle.bully_world.specs.StateAfter.{phased_state, node_answer, MayApply}

@@ -8,8 +8,8 @@ use Rattle.bully_table.specs.Balance.{IsBalanced, is_balanced}
 use Rattle.bully_table.proofs.BalanceLemmas.{is_balanced_decides}
 use Rattle.bully_steps.specs.declared.point.Point.TheVariants.{Planning}
 use Rattle.bully_steps.specs.Point.{offered}
-use Rattle.bully_events.specs.declared.event.Event.{Event}
-use Rattle.bully_events.specs.declared.event.Refused.{Refused}
+use Rattle.bully_calls.specs.declared.event.Event.{Event}
+use Rattle.bully_calls.specs.declared.event.Refused.{Refused}
 use Rattle.bully_world.specs.Cause.{refuses, first_of, later_refusals, cause, is_plan, is_pending}
 use Rattle.bully_world.specs.State.{MemberState, member_of}
 use Rattle.bully_world.specs.StateAfter.{planned_state, node_answer}

@@ -2,7 +2,7 @@
 use Rattle.std.proofs.Common.{ℕ, arith, refl}
 use Rattle.std.proofs.lemmas.Bool.Decides.{nat_tests}
 use Rattle.bully_base.specs.Setup.{Setup}
-use Rattle.bully_events.specs.declared.event.Event.{Event}
+use Rattle.bully_calls.specs.declared.event.Event.{Event}
 use Rattle.bully_world.specs.World.{member}
 use Rattle.bully_world.proofs.EventLaws.{OwnLaws}
 use Rattle.bully_world.proofs.KeptLemmas.{kept_with}

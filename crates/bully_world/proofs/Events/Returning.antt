@@ -13,8 +13,8 @@ use Rattle.bully_calls.specs.Slot.{SlotCall, pending_of}
 use Rattle.bully_handlers.specs.Vector.{Vector}
 use Rattle.bully_steps.specs.declared.point.Point.{Point}
 use Rattle.bully_steps.specs.NextPoint.{next_point, next_vector}
-use Rattle.bully_events.specs.declared.event.Event.{Event}
-use Rattle.bully_events.specs.declared.event.Refused.{Refused}
+use Rattle.bully_calls.specs.declared.event.Event.{Event}
+use Rattle.bully_calls.specs.declared.event.Refused.{Refused}
 use Rattle.bully_world.specs.Cause.{refuses, first_of, later_refusals, cause, in_phase}
 use Rattle.bully_world.specs.NodeInvariant.{NodeInvariant, WorldInvariant, SuitsCall, SuitsPhase, SuitsPending}
 use Rattle.bully_world.specs.State.{MemberState, member_of, IsKept}

@@ -16,8 +16,8 @@ use Rattle.bully_calls.specs.Slot.{Slot, SlotCall, pending_of, phased, CarriesFo
 use Rattle.bully_handlers.specs.Handler.{callee_after, reply}
 use Rattle.bully_handlers.specs.Vector.{Vector}
 use Rattle.bully_steps.specs.declared.point.Point.TheVariants.{Idle}
-use Rattle.bully_events.specs.declared.event.Event.{Event}
-use Rattle.bully_events.specs.declared.event.Refused.{Refused}
+use Rattle.bully_calls.specs.declared.event.Event.{Event}
+use Rattle.bully_calls.specs.declared.event.Refused.{Refused}
 use Rattle.bully_world.specs.Cause.{refuses, first_of, later_refusals, cause, in_phase, callee_is_down}
 use Rattle.bully_world.specs.NodeInvariant.{WorldInvariant, SuitsCall, SuitsCallee, SuitsTable}
 use Rattle.bully_world.specs.State.{MemberState, empty_state, kept_of, member_of, members_of, IsKept, AllKept, is_halt, halts, tag_in, tag_of_call}

@@ -13,8 +13,8 @@ use Rattle.bully_steps.specs.declared.point.Point.TheVariants.{Idle, Asking, Hal
 use Rattle.bully_steps.specs.declared.point.Want.{Want}
 use Rattle.bully_steps.specs.Point.{offered}
 use Rattle.bully_steps.specs.ProcedureState.{IsCall}
-use Rattle.bully_events.specs.declared.event.Event.{Event}
-use Rattle.bully_events.specs.declared.event.Refused.{Refused}
+use Rattle.bully_calls.specs.declared.event.Event.{Event}
+use Rattle.bully_calls.specs.declared.event.Refused.{Refused}
 use Rattle.bully_world.specs.Cause.{refuses, first_of, later_refusals, cause, is_call, is_pending}
 use Rattle.bully_world.specs.NodeInvariant.{NodeInvariant, SuitsPoint}
 use Rattle.bully_world.specs.State.{MemberState, member_of, IsKept}

@@ -1,6 +1,6 @@
 use Rattle.std.proofs.Common.{◌⊎◌, inl, inr, [], None, Some, ap, sym, subst, map, arith}
 use Rattle.clap.specs.Words.{fault_of}
-use Rattle.bully_words.specs.Words.{ParsesAsCheck, annotating, checking, drawing, explaining, planning, playing, program, running, texts_of, upgrading}
+use Rattle.bully_cli.specs.Words.{ParsesAsCheck, annotating, checking, drawing, explaining, planning, playing, program, running, texts_of, upgrading}
 use Rattle.bully.specs.declared.telling.Stop.{Stop}
 use Rattle.bully.proofs.KnownBytesLemmas.{keeps-same}
 use Rattle.bully.proofs.AnnotateLemmas.{kept-alone, none-annotated}
@@ -8,7 +8,7 @@ use Rattle.bully.proofs.AskedLemmas.{answers-same}
 use Rattle.bully.proofs.AnswerLemmas.{none-judged, none-upgraded, stop-case}
 use Rattle.bully.proofs.DrawLemmas.{none-drawn, plain-answer}
 use Rattle.bully.proofs.ExplainLemmas.{unparsed-answer}
-use Rattle.bully_words.proofs.WordsLemmas.{check-parses, mistake-kind, help-kind}
+use Rattle.bully_cli.proofs.WordsLemmas.{check-parses, mistake-kind, help-kind}
 use Rattle.bully.proofs.answering.answer.Goals as goal
 
 -- a stop at a write is a stop

@@ -1,7 +1,7 @@
 use Rattle.std.proofs.Common.{List, ℕ, inl, inr, refl, subst}
 use Rattle.bully_base.specs.Setup.{Setup}
 use Rattle.bully_rows.specs.ReadBack.{AreOwners}
-use Rattle.bully_events.specs.declared.event.Event.{Event}
+use Rattle.bully_calls.specs.declared.event.Event.{Event}
 use Rattle.bully_c.specs.Arguments.{RefusesOwners}
 use Rattle.bully_c.specs.Held.{Takes, TellsEvent}
 use Rattle.bully_c.proofs.agents.planned.Goals as goal

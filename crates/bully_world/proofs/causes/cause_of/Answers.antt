@@ -1,7 +1,7 @@
 -- The first refusals are tested in their order; the later ones are asked of a node that is up.
 use Rattle.std.proofs.Common.{◌≡◌, ◌<◌, arith, ◌∙◌, ap, sym, subst}
 use Rattle.bully_base.specs.Setup.{IsNode}
-use Rattle.bully_events.specs.Events.{node_of}
+use Rattle.bully_calls.specs.Events.{node_of}
 use Rattle.bully_world.specs.Cause.{cause}
 use Rattle.bully_world.specs.State.{member_of, members_of}
 use Rattle.bully_world.proofs.CauseAt.{member-place, place-within, cause-recover, cause-later, down-test}

@@ -1,7 +1,7 @@
 -- Each arm's tests are those of the definitions at the member of the event's node.
 use Rattle.std.proofs.Common.{◌≤◌, arith, subst}
-use Rattle.bully_events.specs.declared.event.Event.{Event}
-use Rattle.bully_events.specs.Events.{node_of}
+use Rattle.bully_calls.specs.declared.event.Event.{Event}
+use Rattle.bully_calls.specs.Events.{node_of}
 use Rattle.bully_world.specs.NodeInvariant.{NodeInvariant}
 use Rattle.bully_world.specs.State.{member_of}
 use Rattle.bully_steps.specs.Point.{IsPointOf}

@@ -2,7 +2,7 @@
 use Rattle.std.proofs.Common.{arith, sym, ◌∙◌, ap, subst}
 use Rattle.bully_base.proofs.PlaceLemmas.{put_node-place}
 use Rattle.bully_base.specs.Places.{put_node}
-use Rattle.bully_events.specs.Events.{node_of}
+use Rattle.bully_calls.specs.Events.{node_of}
 use Rattle.bully_world.specs.StateAfter.{CanApplyHere, CanApply, node_after, node_answer}
 use Rattle.bully_world.proofs.ApplyLemmas.{place_of_node}
 use Rattle.bully_world.proofs.OwnEvents.{is_own}

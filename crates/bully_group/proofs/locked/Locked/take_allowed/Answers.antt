@@ -1,6 +1,6 @@
 -- The event's entry is one more, and the world goes one step by it.
 use Rattle.std.proofs.Common.{rules, List, length, refl, sym, subst, ◌≡◌, ◌+◌, ◌++◌, ◌<◌, [], ◌∷◌, Some, None}
-use Rattle.bully_events.specs.declared.event.Event.{Event}
+use Rattle.bully_calls.specs.declared.event.Event.{Event}
 use Rattle.bully_watch.specs.declared.entry.Entry.{Entry}
 use Rattle.bully_watch.specs.History.{whose}
 use Rattle.bully_world.specs.State.{WorldState, RaisesGenerations, world_of, cause_in}

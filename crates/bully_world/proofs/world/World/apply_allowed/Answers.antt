@@ -2,7 +2,7 @@
 use Rattle.std.proofs.Common.{◌≡◌, ◌+◌, ◌<◌, ◌≤◌, ◌^◌, ℕ, List, rules, arith, None, sym, ◌∙◌, ap, subst, length, take, drop, ◌++◌}
 use Rattle.std.specs.Prelude.{IfSome, if◌then◌else◌}
 use Rattle.bully_base.specs.Places.{at_node}
-use Rattle.bully_events.specs.Events.{node_of}
+use Rattle.bully_calls.specs.Events.{node_of}
 use Rattle.bully_world.specs.Cause.{cause}
 use Rattle.bully_world.specs.State.{MemberState, WorldState, kept_of, IsWorld, members_of, state_at, world_of, cause_in, empty_state, raises, tag_in}
 use Rattle.bully_world.specs.Step.{Step}

@@ -1,0 +1,72 @@
+-- The laws of nodes on their own: what a step leaves of the others, and what they agree on.
+use Rattle.std.specs.Prelude.{◌≡◌, ◌≢◌, ◌<◌, ◌==◌, ℕ, Bool, false, List, [], ◌∷◌, ◌++◌, length, Option, Some, None, IsSome, if◌then◌else◌}
+use Rattle.bully_base.specs.declared.node.Status.TheVariants.{Normal}
+use Rattle.bully_base.specs.Setup.{Setup, IsNode}
+use Rattle.bully_calls.specs.declared.call.Answer.{Answer}
+use Rattle.bully_calls.specs.Pending.{Pending}
+use Rattle.bully_handlers.specs.Vector.{Vector}
+use Rattle.bully_calls.specs.declared.event.Event.{Event}
+use Rattle.bully_calls.specs.Events.{node_of}
+use Rattle.bully_world.specs.Lawful.{IsLawful}
+use Rattle.bully_world.specs.NodeInvariant.{TakesPart, WorldInvariant}
+use Rattle.bully_world.specs.State.{MemberState}
+use Rattle.bully_world.specs.Step.{Step}
+use Rattle.bully_world.specs.World.{World, pending}
+use Rattle.bully_agent.specs.Calls.{HasRun}
+use Rattle.bully_agent.specs.Part.{IsPart}
+
+abbrev pub callee_of : Option Pending → ℕ
+callee_of None = 0
+callee_of (Some c) = c.call.callee
+
+-- the node at which the event takes place: of a Run the callee
+abbrev pub place_of : World → Event → ℕ
+place_of w (Event.Run i) = callee_of (pending w i)
+place_of w e = node_of e
+
+-- what is kept of every node but the one at which a step takes place is a part of the world that comes
+abbrev pub KeepsOthers : Type 0
+KeepsOthers = (setup : Setup) (w w' : World) (e : Event) (a : Answer) (k : ℕ) (m : MemberState)
+    → Step setup w e w' a → k ≢ place_of w e → IsPart setup k m w → IsPart setup k m w'
+
+-- what is kept of each node is a part of the world
+abbrev pub AreParts : Setup → (ℕ → MemberState) → World → Type 0
+AreParts setup kept w = (k : ℕ) → IsNode setup k → IsPart setup k (kept k) w
+
+-- the same, with node i's written anew
+abbrev pub with_part : (ℕ → MemberState) → ℕ → MemberState → ℕ → MemberState
+with_part kept i next k = if k == i then next else kept k
+
+-- Where a lawful list leads to a world of which all nodes are parts, and with room for one event more: a step at node i,
+-- after which what comes of it is a part of the world, makes the list longer by one, and lawful still, and all nodes are
+-- parts of the world to which it leads.
+abbrev pub GroupGoesOn : Type 0
+GroupGoesOn = (setup : Setup) (events : List Event) (answers : List Answer) (w w' : World) (kept : ℕ → MemberState) (i : ℕ) (e : Event) (a : Answer) (next : MemberState)
+    → IsLawful setup events answers w → length events < setup.events_max → AreParts setup kept w
+    → Step setup w e w' a → place_of w e ≡ i → IsPart setup i next w'
+    → IsLawful setup (events ++ e ∷ []) (answers ++ a ∷ []) w' × AreParts setup (with_part kept i next) w'
+
+-- the event is node i's own loss, return, drop or crash: what ends its call
+abbrev pub ends_call : Event → ℕ → Bool
+ends_call (Event.Crash j) i = j == i
+ends_call (Event.Lose j) i = j == i
+ends_call (Event.Return j) i = j == i
+ends_call (Event.Drop j) i = j == i
+ends_call e i = false
+
+-- A call that ran with an answer is one that ran with it, until such an event of its caller.
+abbrev pub RunsStay : Type 0
+RunsStay = (setup : Setup) (w w' : World) (e : Event) (a : Answer) (i : ℕ) (answer : Answer)
+    → WorldInvariant setup w → Step setup w e w' a → ends_call e i ≡ false → HasRun i answer w → HasRun i answer w'
+
+-- both have a coordinator, and the same, where both take part; both have a task, and the same, where both are Normal
+pub record Agree (v u : Vector) : Type 0 where
+  pub has_coordinator : TakesPart v → IsSome v.coordinator
+  pub same_coordinator : TakesPart v → TakesPart u → v.coordinator ≡ u.coordinator
+  pub has_task : v.status ≡ Normal → IsSome v.task
+  pub same_task : v.status ≡ Normal → u.status ≡ Normal → v.task ≡ u.task
+
+-- any two nodes that are parts of a world that a lawful list leads to agree; 'any two' is also a node and itself
+abbrev pub PartsAgree : Type 0
+PartsAgree = (setup : Setup) (events : List Event) (answers : List Answer) (w : World) → IsLawful setup events answers w
+    → (i j : ℕ) (m n : MemberState) → IsPart setup i m w → IsPart setup j n w → Agree m.vector.vector n.vector.vector

@@ -1,0 +1,411 @@
+ghost use Rattle.std.specs.Prelude.{◌≡◌, ◌≤◌, ◌↔◌, None, length, IfOk, IfErr, IfSome, IsTrue};
+ghost use Rattle.std.specs.Option.{option_copied};
+ghost use Rattle.bully_world.specs.NodeInvariant.{WorldInvariant};
+ghost use Rattle.bully_world.specs.World.{World, member, first_world};
+ghost use Rattle.bully_base.specs.NodeSet.{with_node};
+ghost use Rattle.bully_table.specs.Planning.{planned};
+ghost use Rattle.bully_calls.specs.Events.{node_of};
+ghost use Rattle.bully_agent.specs.Agent.{IsAlone, IsRefused, IsTaken, PartOf, down_member, new_agent, number_after, wanted};
+ghost use Rattle.bully_agent.specs.Calls.{GivesOut, IsAwaited, IsDue, IsFailed, IsReplyTo, IsRequested, IsReturned, IsServed, RefusesFailure, RefusesReply, RefusesRequest, TellsRun, request_of};
+ghost use Rattle.bully_agent.specs.Part.{Always};
+
+use crate::due::{can_return, is_under_way};
+use crate::planning::planned_table;
+use crate::requests::{request_cause, serve_request};
+use crate::returns::{return_failure, return_reply};
+use crate::taking::take_alone;
+use bully_base::{Node, OutOfMemory, Setup};
+use bully_calls::{Reply, Request, Slot};
+use bully_handlers::Vector;
+use bully_steps::{Point, Want};
+use bully_table::Table;
+use bully_world::{Event, Member, Refused, TakenStep};
+use std::alloc::Global;
+use std::marker::Model;
+
+/// One node on its own.
+///
+/// Each call that changes it is refused and changes nothing, or is an event of the group, which it tells for the log. Its
+/// contract says so of every world of which the agent may be a part; some calls have a premise that the agent can't see,
+/// and that whoever carries requests and replies has to keep: docs/NODE.md.
+#[derive(Drop, Debug)]
+pub struct Agent {
+    setup: Setup,
+    node: Node,
+    events: u32, // how many its calls told
+    number: u32, // of its last call
+    member: Member,
+}
+
+impl Model for Agent {
+    ghost use Rattle.bully_agent.specs.Agent.{AgentState, IsAgentOf};
+
+    ghost Value = { AgentState };
+
+    ghost view = { λ a. record { setup = a.setup; node = a.node; events = a.events; number = a.number; member = a.member } };
+
+    ghost invariant = { λ a. IsAgentOf a.setup a.node a.events a.member };
+}
+
+/// A request that ran.
+#[derive(Drop, Debug)]
+pub struct Served {
+    /// The run, for the log.
+    pub event: Event,
+    /// What the caller is told.
+    pub reply: Reply,
+}
+
+/// A call that failed and returned.
+#[derive(Drop, Debug)]
+pub struct FailedCall {
+    /// The loss, for the log.
+    pub lost: Event,
+    /// The return, behind it.
+    pub returned: TakenStep,
+}
+
+impl Agent {
+    /// The agent of a node, which is at most the setup's last, while the node is Down. The node's log has so many events,
+    /// none at first; and it has kept this task, if any, which has the setup's partitions. It reserves room for a task and for a
+    /// call's table, so that no call which changes it takes memory. Refused where an allocation fails.
+    pub fn new(
+        alloc: Global,
+        setup: &Setup,
+        node: Node,
+        events: u32,
+        task: Option<&Table>,
+    ) -> Result<Agent, OutOfMemory>
+        requires node { node ≤ setup.now.nodes }
+        requires task { IfSome (option_copied task) (λ t. length t ≡ setup.now.partitions) }
+        ensures state { IfOk result (λ a. a ≡ new_agent setup.now node events (option_copied task.entry)) }
+        ensures first { IfOk result (λ a. option_copied task.entry ≡ None → PartOf a (first_world setup.now)) }
+        ensures part { IfOk result (λ a. (w : World) → WorldInvariant setup.now w → member w node ≡ down_member (option_copied task.entry) → PartOf a w) }
+    {
+        // `number` also shows the proof that this is a node.
+        let _number = node.number();
+        Ok(Agent {
+            setup: *setup,
+            node,
+            events,
+            number: events,
+            member: Member::restored(alloc, setup, task)?,
+        })
+    }
+
+    /// What the group was set up with. Every agent is a part of some world: alone, with all others Down.
+    pub fn setup(&self) -> &Setup
+        ensures setup { result.now ≡ self.now.setup }
+        ensures part { (w : World) × PartOf self.now w }
+    {
+        &self.setup
+    }
+
+    /// The node. It is at most the setup's last.
+    pub fn node(&self) -> Node
+        ensures node { result ≡ self.now.node }
+        ensures within { result ≤ self.now.setup.nodes }
+    {
+        self.node
+    }
+
+    /// How many events its calls told, with those before it was made.
+    pub fn events(&self) -> u32
+        ensures { result ≡ self.now.events }
+    {
+        self.events
+    }
+
+    /// The number of its last call: a later one has a higher number.
+    pub fn number(&self) -> u32
+        ensures { result ≡ self.now.number }
+    {
+        self.number
+    }
+
+    /// The node's vector. A task has the setup's partitions.
+    pub fn vector(&self) -> &Vector
+        ensures vector { result.now ≡ self.now.member.vector }
+        ensures task { IfSome result.now.vector.task (λ t. length t ≡ self.now.setup.partitions) }
+    {
+        self.member.vector()
+    }
+
+    /// Where its procedure stands.
+    pub fn point(&self) -> Point
+        ensures { result ≡ self.now.member.point }
+    {
+        self.member.point()
+    }
+
+    /// Its call slot.
+    pub fn slot(&self) -> &Slot
+        ensures { result.now ≡ self.now.member.slot }
+    {
+        self.member.slot()
+    }
+
+    /// How often the node was stopped or crashed since the agent was made.
+    pub fn generation(&self) -> u32
+        ensures { result ≡ self.now.member.generation }
+    {
+        self.member.generation()
+    }
+
+    /// What the node wants to do next: to await where a call is in its slot, else what its point offers.
+    pub fn wants(&self) -> Want
+        ensures { result ≡ wanted self.now }
+    {
+        if self.member.slot().call().is_some() {
+            return Want::Await;
+        }
+        self.member.offer(&self.setup, self.node)
+    }
+
+    /// The request of the node's call, while that is under way: to be sent to its callee, once. Only a Ready takes memory,
+    /// for its table; refused where an allocation fails.
+    pub fn request(&self) -> Result<Option<Request>, OutOfMemory>
+        ensures request { IfOk result (λ request. request ≡ request_of self.now) }
+        ensures requested { IfOk result (GivesOut self.now) }
+    {
+        let slot = self.member.slot();
+        let Some(call) = slot.call() else {
+            return Ok(None);
+        };
+        if !is_under_way(slot) {
+            return Ok(None);
+        }
+        Ok(Some(Request {
+            caller: self.node,
+            number: self.number,
+            call,
+            table: copy_of(slot.table())?,
+        }))
+    }
+
+    /// The planned table over the node and its up set, from the old one, which has the setup's partitions: what
+    /// [`Agent::plan`] takes at Planning. Refused where an allocation fails.
+    pub fn prepare(&self, alloc: Global, old: Option<&Table>) -> Result<Table, OutOfMemory>
+        requires { IfSome (option_copied old) (λ t. length t ≡ self.now.setup.partitions) }
+        ensures { IfOk result (λ table. table ≡ planned self.now.setup (option_copied old.entry) (with_node self.now.node self.now.member.vector.vector.up)) }
+    {
+        planned_table(
+            alloc,
+            &self.setup,
+            self.node,
+            self.member.vector().up(),
+            old,
+        )
+    }
+
+    /// The node recovers, and stands for election. Refused as `Full`, `IsUp`. The rule: docs/ALGORITHM.md.
+    pub fn recover(&mut self) -> Result<TakenStep, Refused>
+        ensures taken { IfOk result (IsTaken self.old (Event.Recover self.old.node) self.new) }
+        ensures why { IfErr result (IsRefused Always self.old (Event.Recover self.old.node)) }
+        ensures unchanged { IfErr result (λ _. self.new ≡ self.old) }
+    {
+        self.take_event(Event::Recover(self.node))
+    }
+
+    /// The node crashes. Of a process that dies nobody calls this: whoever sees its death logs the event. Refused as `Full`,
+    /// `IsDown`.
+    pub fn crash(&mut self) -> Result<TakenStep, Refused>
+        ensures taken { IfOk result (IsTaken self.old (Event.Crash self.old.node) self.new) }
+        ensures why { IfErr result (IsRefused Always self.old (Event.Crash self.old.node)) }
+        ensures unchanged { IfErr result (λ _. self.new ≡ self.old) }
+    {
+        self.take_event(Event::Crash(self.node))
+    }
+
+    /// The idle node begins to check. Refused as `Full`, `IsDown`, `Busy`.
+    pub fn check(&mut self) -> Result<TakenStep, Refused>
+        ensures taken { IfOk result (IsTaken self.old (Event.Check self.old.node) self.new) }
+        ensures why { IfErr result (IsRefused Always self.old (Event.Check self.old.node)) }
+        ensures unchanged { IfErr result (λ _. self.new ≡ self.old) }
+    {
+        self.take_event(Event::Check(self.node))
+    }
+
+    /// The idle node heard nothing for too long. Refused as `Full`, `IsDown`, `Busy`.
+    pub fn timeout(&mut self) -> Result<TakenStep, Refused>
+        ensures taken { IfOk result (IsTaken self.old (Event.Timeout self.old.node) self.new) }
+        ensures why { IfErr result (IsRefused Always self.old (Event.Timeout self.old.node)) }
+        ensures unchanged { IfErr result (λ _. self.new ≡ self.old) }
+    {
+        self.take_event(Event::Timeout(self.node))
+    }
+
+    /// The node starts the call that its point offers; [`Agent::request`] then has what is to be sent. Refused as `Full`,
+    /// `IsDown`, `NoStep`, `SlotBusy`.
+    pub fn start(&mut self) -> Result<TakenStep, Refused>
+        ensures taken { IfOk result (IsTaken self.old (Event.Start self.old.node) self.new) }
+        ensures why { IfErr result (IsRefused Always self.old (Event.Start self.old.node)) }
+        ensures unchanged { IfErr result (λ _. self.new ≡ self.old) }
+    {
+        self.take_event(Event::Start(self.node))
+    }
+
+    /// The node's procedure moves on without a call. Refused as `Full`, `IsDown`, `NoStep`, `SlotBusy`.
+    pub fn advance(&mut self) -> Result<TakenStep, Refused>
+        ensures taken { IfOk result (IsTaken self.old (Event.Move self.old.node) self.new) }
+        ensures why { IfErr result (IsRefused Always self.old (Event.Move self.old.node)) }
+        ensures unchanged { IfErr result (λ _. self.new ≡ self.old) }
+    {
+        self.take_event(Event::Move(self.node))
+    }
+
+    /// The node has planned this table. Refused as `Full`, `IsDown`, `NoStep`, `SlotBusy`, `BadTable`.
+    pub fn plan(&mut self, table: Table) -> Result<TakenStep, Refused>
+        ensures taken { IfOk result (IsTaken self.old (Event.Plan self.old.node table) self.new) }
+        ensures why { IfErr result (IsRefused Always self.old (Event.Plan self.old.node table)) }
+        ensures unchanged { IfErr result (λ _. self.new ≡ self.old) }
+    {
+        self.take_event(Event::Plan(self.node, table))
+    }
+
+    /// The node's call, an orphan, is taken out of its slot. Refused as `Full`, `IsDown`, `NoCall`, `NotOrphan`.
+    pub fn drop_orphan(&mut self) -> Result<TakenStep, Refused>
+        ensures taken { IfOk result (IsTaken self.old (Event.Drop self.old.node) self.new) }
+        ensures why { IfErr result (IsRefused Always self.old (Event.Drop self.old.node)) }
+        ensures unchanged { IfErr result (λ _. self.new ≡ self.old) }
+    {
+        self.take_event(Event::Drop(self.node))
+    }
+
+    /// The request runs at the node. Refused as `Full`; `BadNode`, where its caller is above the setup's last node;
+    /// `NoCall`, where no node makes such a call to this one; `CalleeDown`.
+    ///
+    /// Premise: the request is the caller's call, which was sent and didn't run yet. What [`Agent::request`] of the caller gives
+    /// out is that, until the call runs or is over.
+    pub fn serve(&mut self, request: &Request) -> Result<Served, Refused>
+        ensures served { IfOk result (IsServed self.old request.now self.new) }
+        ensures told { IfOk result (λ served. TellsRun self.old request.now served.reply) }
+        ensures due { IfOk result (λ served. IsReplyTo request.now served.reply) }
+        ensures why { IfErr result (IsRefused (IsRequested self.old.node request.now) self.old (Event.Run request.now.caller)) }
+        ensures refusal { IfErr result (RefusesRequest self.old.setup self.old.node self.old.events self.old.member request.now) }
+        ensures unchanged { IfErr result (λ _. self.new ≡ self.old) }
+    {
+        let cause = request_cause(&self.setup, self.node, self.events, &self.member, request);
+        if let Some(why) = cause {
+            return Err(why);
+        }
+        let answer = serve_request(
+            &self.setup,
+            self.node,
+            self.events,
+            &mut self.member,
+            request,
+        );
+        self.events += 1;
+        Ok(Served {
+            event: Event::Run(request.caller),
+            reply: Reply {
+                caller: request.caller,
+                number: request.number,
+                answer,
+            },
+        })
+    }
+
+    /// The node's call returns with this reply. Refused as `Full`; `NoCall`, where it is no reply to the call that the node
+    /// has under way.
+    ///
+    /// Premise: the call ran at its callee and was answered so. The reply of [`Agent::serve`] of the callee tells that.
+    pub fn replied(&mut self, reply: Reply) -> Result<TakenStep, Refused>
+        ensures returned { IfOk result (IsReturned self.old reply self.new) }
+        ensures why { IfErr result (RefusesReply self.old reply) }
+        ensures unchanged { IfErr result (λ _. self.new ≡ self.old) }
+    {
+        let told = reply.answer;
+        if self.events >= self.setup.events_max() {
+            return Err(Refused::Full);
+        }
+        if !self.is_due(reply) {
+            return Err(Refused::NoCall);
+        }
+        let answer = return_reply(&self.setup, self.node, self.events, &mut self.member, told);
+        self.events += 1;
+        Ok(TakenStep {
+            event: Event::Return(self.node),
+            answer,
+        })
+    }
+
+    /// The node's call of this number failed, and returns: two events. Refused as `Full`, where there isn't room for both;
+    /// `NoCall`, where the node has no such call under way.
+    ///
+    /// Premise: the callee is Down.
+    pub fn failed(&mut self, number: u32) -> Result<FailedCall, Refused>
+        ensures failed { IfOk result (IsFailed self.old number self.new) }
+        ensures why { IfErr result (RefusesFailure self.old number) }
+        ensures unchanged { IfErr result (λ _. self.new ≡ self.old) }
+    {
+        if self.events >= self.setup.events_max() - 1 {
+            return Err(Refused::Full);
+        }
+        if !self.awaits(number) {
+            return Err(Refused::NoCall);
+        }
+        let answer = return_failure(&self.setup, self.node, self.events, &mut self.member);
+        self.events += 2;
+        Ok(FailedCall {
+            lost: Event::Lose(self.node),
+            returned: TakenStep {
+                event: Event::Return(self.node),
+                answer,
+            },
+        })
+    }
+
+    // An event that the node takes by itself.
+    // (inlined with what it calls, so that each call of the agent has what its own event needs, and no more)
+    #[inline(always)]
+    fn take_event(&mut self, event: Event) -> Result<TakenStep, Refused>
+        requires alone { IsAlone event }
+        requires named { node_of event ≡ self.old.node }
+        ensures taken { IfOk result (IsTaken self.old event self.new) }
+        ensures why { IfErr result (IsRefused Always self.old event) }
+        ensures unchanged { IfErr result (λ _. self.new ≡ self.old) }
+    {
+        let answer = take_alone(&self.setup, self.events, &mut self.member, &event)?;
+        self.number = number_after(&event, self.events, self.number);
+        self.events += 1;
+        Ok(TakenStep { event, answer })
+    }
+
+    // Whether the reply is one to the call that the node has under way.
+    fn is_due(&self, reply: Reply) -> bool
+        ensures { IsTrue result ↔ IsDue self.now reply }
+    {
+        reply.caller == self.node
+            && reply.number == self.number
+            && can_return(self.member.slot(), reply.answer)
+    }
+
+    // Whether the node has its call of this number under way.
+    fn awaits(&self, number: u32) -> bool
+        ensures { IsTrue result ↔ IsAwaited self.now number }
+    {
+        number == self.number && is_under_way(self.member.slot())
+    }
+}
+
+// The number of a node's last call after the event: a call has the number of events told before its start.
+fn number_after(event: &Event, events: u32, number: u32) -> u32
+    ensures { result ≡ number_after event.now events number }
+{
+    match event {
+        Event::Start(_) => events,
+        _ => number,
+    }
+}
+
+// A copy of the table, if there is one. Refused where an allocation fails.
+fn copy_of(table: Option<&Table>) -> Result<Option<Table>, OutOfMemory>
+    ensures { IfOk result (λ copy. copy ≡ option_copied table.entry) }
+{
+    match table {
+        Some(table) => Ok(Some(table.copy()?)),
+        None => Ok(None),
+    }
+}

@@ -1,0 +1,64 @@
+//! The events that a node takes by itself.
+ghost use Rattle.std.specs.Prelude.{◌≡◌, ◌+◌, ◌<◌, ◌^◌, Some, None, IfOk, IfErr, OnOk, if◌then◌else◌};
+ghost use Rattle.bully_calls.specs.Events.{node_of};
+ghost use Rattle.bully_world.specs.StateAfter.{node_after, node_answer};
+ghost use Rattle.bully_agent.specs.Agent.{IsAgentOf, IsAlone};
+ghost use Rattle.bully_agent.specs.Part.{Always, CauseAt, FollowsAt, IsRefusedAt};
+
+use bully_base::Setup;
+use bully_calls::Answer;
+use bully_world::{Event, Member, Refused, own_cause};
+
+/// Why such an event is refused, with so many events told; none where it isn't. `member` is that of the event's node.
+// (inlined, as `Agent::take_event` is)
+#[inline(always)]
+pub fn alone_cause(setup: &Setup, events: u32, member: &Member, event: &Event) -> Option<Refused>
+    requires own { IsAlone event.now }
+    requires is { IsAgentOf setup.now (node_of event.now) events member.now }
+    ensures cause { CauseAt Always setup.now (node_of event.now) events member.now event.now result }
+    ensures room { result ≡ None → events < setup.now.events_max }
+    ensures small { result ≡ None → events + 1 < 2 ^ 32 }
+{
+    if events >= setup.events_max() {
+        return Some(Refused::Full);
+    }
+    let is_down = member.is_down();
+    match event {
+        Event::Recover(_) => recover_cause(is_down),
+        _ if is_down => Some(Refused::IsDown),
+        _ => own_cause(setup, member, event),
+    }
+}
+
+// Why the recovery of a node is refused.
+fn recover_cause(is_down: bool) -> Option<Refused>
+    ensures { result ≡ (if is_down then None else Some Refused.IsUp) }
+{
+    if is_down { None } else { Some(Refused::IsUp) }
+}
+
+/// Such an event is taken, where nothing refuses it. `member` is that of the event's node, which told so many events.
+// (inlined, as `Agent::take_event` is)
+#[inline(always)]
+pub fn take_alone(
+    setup: &Setup,
+    events: u32,
+    member: &mut Member,
+    event: &Event,
+) -> Result<Answer, Refused>
+    requires own { IsAlone event.now }
+    requires is { IsAgentOf setup.now (node_of event.now) events member.old }
+    ensures after { OnOk result (member.new ≡ node_after setup.now event.now member.old) }
+    ensures answer { IfOk result (λ answer. answer ≡ node_answer event.now member.old) }
+    ensures room { OnOk result (events < setup.now.events_max) }
+    ensures small { OnOk result (events + 1 < 2 ^ 32) }
+    ensures is { OnOk result (IsAgentOf setup.now (node_of event.now) (events + 1) member.new) }
+    ensures follows { IfOk result (λ answer. FollowsAt Always setup.now (node_of event.now) member.old event.now answer member.new) }
+    ensures why { IfErr result (IsRefusedAt Always setup.now (node_of event.now) events member.old event.now) }
+    ensures unchanged { IfErr result (λ _. member.new ≡ member.old) }
+{
+    match alone_cause(setup, events, member, event) {
+        Some(why) => Err(why),
+        None => Ok(member.apply(setup, event)),
+    }
+}

@@ -1,0 +1,108 @@
+//! What the program says of itself: its version, and what help tells of each command behind its usage.
+
+/// The version of the program, that the promises of its README were proved for it, and the kit that they were proved with,
+/// by its number and its logic. `bin/test` compares these with `rt version`. When the version rises: CONTRIBUTING.md.
+pub const VERSION: &str = "0.5.0\n\
+    Each promise of its README was proved for this version.\n\
+    Proved with rattle-kit-13f logic dac8208d650f15bf";
+
+/// What help tells of the program.
+pub const PROGRAM: &str = "\
+    A trace is read on standard input. What is asked for is written on standard\n\
+    output, and a fault as one line on standard error.\n\
+    \n\
+    Statuses: 0 done, 1 the trace is refused or differs, 2 bad words, 3 a fault of\n\
+    form in a trace or a configuration, or a trace too long to annotate, 4 something\n\
+    failed: Read, Write, Spawn, Finish or OutOfMemory.\n\
+    \n\
+    Example: bully play examples/two_nodes.toml | bully check";
+
+/// What help tells of `check`.
+pub const CHECK: &str = "\
+    Reads a trace on standard input. Once all rows are read, writes its verdict on\n\
+    standard output: 'lawful', the number of events and a line for each node; or\n\
+    'refused', the row and the cause; or 'differs' and the row.\n\
+    \n\
+    Statuses: 0 lawful, 1 refused or differs, 3 a fault of the trace's form, 4 Read,\n\
+    Write or OutOfMemory.\n\
+    \n\
+    Example: bully check < examples/alone.csv";
+
+/// What help tells of `explain`.
+pub const EXPLAIN: &str = "\
+    Reads a trace on standard input as 'check' does, and writes on standard output\n\
+    what the rule saw at the row that decided: where the node stood, what was in its\n\
+    slot, what it could have done, and its last rows. Of a fault of form it says on\n\
+    standard error what may stand there. With --config it reads a configuration, and\n\
+    says so of its first fault.\n\
+    \n\
+    Statuses: 0 lawful, or no fault in the configuration, 1 refused or differs, 3 a\n\
+    fault of form, 4 Read, Write or OutOfMemory.\n\
+    \n\
+    Example: bully explain < examples/orphan_ready.csv";
+
+/// What help tells of `upgrade`.
+pub const UPGRADE: &str = "\
+    Reads a trace of any version on standard input, and writes it on standard\n\
+    output as one of version 2, or of version 3 where a row says more, with the\n\
+    same rows and the same verdict. It judges nothing.\n\
+    \n\
+    Statuses: 0 written, 3 a fault of the trace's form, 4 Read, Write or OutOfMemory.\n\
+    \n\
+    Example: bully upgrade < examples/alone.csv | bully check";
+
+/// What help tells of `annotate`.
+pub const ANNOTATE: &str = "\
+    Reads a lawful trace of any version on standard input, and writes it on standard\n\
+    output as one of version 3 in which everything is said: which call each event is\n\
+    of and what was answered, and behind each event the whole vector of the node that\n\
+    it changed. Of a trace that isn't lawful the verdict stands on standard error.\n\
+    \n\
+    Statuses: 0 written, 1 refused or differs, 3 a fault of the trace's form, or more\n\
+    rows than a trace may have, 4 Read, Write or OutOfMemory.\n\
+    \n\
+    Example: bully annotate < examples/alone.csv | bully check";
+
+/// What help tells of `draw`.
+pub const DRAW: &str = "\
+    Reads a trace on standard input as 'check' does, and writes an SVG picture of it\n\
+    on standard output: a lane for each node, and arrows for the calls. It shows the\n\
+    200 rows that end at the verdict, or those of --rows. A row that is refused or\n\
+    differs is the last one, with a sentence below it.\n\
+    \n\
+    Statuses: 0 lawful, 1 refused or differs, 2 bad words, 3 a fault of form in the\n\
+    trace or in the configuration, 4 Read, Write or OutOfMemory.\n\
+    \n\
+    Example: bully draw < examples/all_up.csv > all_up.svg";
+
+/// What help tells of `play`.
+pub const PLAY: &str = "\
+    Reads the configuration, plays its group turn by turn on one thread, and writes\n\
+    what happened as a trace on standard output, always the same one.\n\
+    \n\
+    Statuses: 0 written, 3 a fault in the configuration, 4 Read, Write or\n\
+    OutOfMemory.\n\
+    \n\
+    Example: bully play examples/three_nodes.toml";
+
+/// What help tells of `run`.
+pub const RUN: &str = "\
+    Reads the configuration, runs its group with a thread for the operator and one\n\
+    for each node, and writes its history as a trace on standard output. It may be\n\
+    another one each time, and is lawful.\n\
+    \n\
+    Statuses: 0 written, 3 a fault in the configuration, 4 Read, Write, Spawn, Finish\n\
+    or OutOfMemory.\n\
+    \n\
+    Example: bully run examples/three_nodes.toml | bully check";
+
+/// What help tells of `table`.
+pub const TABLE: &str = "\
+    Reads the configuration, and plans a table over the members that is balanced by\n\
+    their weights, with the fewest moves from the old one. Writes the owners, how\n\
+    many partitions move, and how many could stay, each on a line of standard output.\n\
+    \n\
+    Statuses: 0 written, 2 a member that is no name or owners that are no table, 3 a\n\
+    fault in the configuration, 4 Read, Write or OutOfMemory.\n\
+    \n\
+    Example: bully table examples/three_nodes.toml a b --old '1 2 2 2 3'";
