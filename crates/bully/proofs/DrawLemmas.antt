@@ -4,8 +4,8 @@ use Rattle.std.specs.Prelude.{IfSome, IsSome}
 use Rattle.std.specs.Io.KnownBytes.{Appends}
 use Rattle.bully_rows.specs.Rows.{OfTrace}
 use Rattle.bully_trace.specs.VerdictText.{verdict_head}
-use Rattle.bully_film.specs.declared.film.Reel.{Reel}
-use Rattle.bully_film.specs.Film.{IsReelOf}
+use Rattle.bully_film.specs.declared.film.FinishedFilm.{FinishedFilm}
+use Rattle.bully_film.specs.Film.{IsFilmOf}
 use Rattle.bully_film.specs.Window.{WindowState}
 use Rattle.bully_picture.specs.Title.{Has}
 use Rattle.bully.specs.Answer.{IsUntaken, KnownBytes, Tells, stop_line, verdict_status}
@@ -15,18 +15,18 @@ use Rattle.bully.specs.declared.telling.Stop.{Stop}
 use Rattle.bully.proofs.KnownBytesLemmas.{keeps-same}
 
 -- a picture was written, or there was no memory for it
-pub drawn-answer : {W E : Type 0} (bytes-of : W → KnownBytes) (contents : E → KnownBytes) (remaining : KnownBytes) (window : WindowState) (reel : Reel) (out out' : W) (errors errors' : E) (status : ℕ)
-    → OfTrace remaining (IsReelOf window reel)
-    → (((picture : List ℕ) × Has picture (verdict_head reel.verdict)
-    × (((status ≡ verdict_status reel.verdict) × Appends (bytes-of out) (bytes-of out') picture × (errors' ≡ errors)) ⊎ ((status ≡ 4) × Tells (contents errors) (contents errors') (stop_line Stop.Write))))
+pub drawn-answer : {W E : Type 0} (bytes-of : W → KnownBytes) (contents : E → KnownBytes) (remaining : KnownBytes) (window : WindowState) (finished : FinishedFilm) (out out' : W) (errors errors' : E) (status : ℕ)
+    → OfTrace remaining (IsFilmOf window finished)
+    → (((picture : List ℕ) × Has picture (verdict_head finished.verdict)
+    × (((status ≡ verdict_status finished.verdict) × Appends (bytes-of out) (bytes-of out') picture × (errors' ≡ errors)) ⊎ ((status ≡ 4) × Tells (contents errors) (contents errors') (stop_line Stop.Write))))
     ⊎ ((status ≡ 4) × (out' ≡ out) × Tells (contents errors) (contents errors') (stop_line Stop.OutOfMemory)))
     → IfSome remaining (λ bytes. IsPictureAnswer bytes (bytes-of out) (bytes-of out') (contents errors) (contents errors') status)
-drawn-answer bytes-of contents None window reel out out' errors errors' status told drawn = tt
-drawn-answer bytes-of contents (Some bytes) window reel out out' errors errors' status (trace, is, e) (inl (picture, has, inl (done, appended, same))) =
-    inl (trace, reel.verdict, e.judged.0, picture, is, e.judged.1, has, appended, keeps-same _ _ (ap contents same), done)
-drawn-answer bytes-of contents (Some bytes) window reel out out' errors errors' status (trace, is, e) (inl (picture, has, inr (stopped, told))) =
+drawn-answer bytes-of contents None window finished out out' errors errors' status told drawn = tt
+drawn-answer bytes-of contents (Some bytes) window finished out out' errors errors' status (trace, is, e) (inl (picture, has, inl (done, appended, same))) =
+    inl (trace, finished.verdict, e.judged.0, picture, is, e.judged.1, has, appended, keeps-same _ _ (ap contents same), done)
+drawn-answer bytes-of contents (Some bytes) window finished out out' errors errors' status (trace, is, e) (inl (picture, has, inr (stopped, told))) =
     inr (inr (Stop.Write, (λ other. absurd (other refl)), (λ _. rw is refl), told, stopped))
-drawn-answer bytes-of contents (Some bytes) window reel out out' errors errors' status (trace, is, e) (inr (stopped, same, told)) =
+drawn-answer bytes-of contents (Some bytes) window finished out out' errors errors' status (trace, is, e) (inr (stopped, same, told)) =
     inr (inr (Stop.OutOfMemory, (λ _. keeps-same _ _ (ap bytes-of same)), (λ e. absurd (grind (arith, e))), told, stopped))
 
 -- where no trace is taken, none is drawn

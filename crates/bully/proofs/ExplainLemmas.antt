@@ -11,7 +11,7 @@ use Rattle.bully_rows.specs.Rows.{OfTrace, is_of_form}
 use Rattle.bully_config.specs.Configuration.{Configuration}
 use Rattle.bully_config.specs.declared.fault.ConfigFault.{ConfigFault}
 use Rattle.bully_account.specs.declared.showing.NodeSheet.{NodeSheet}
-use Rattle.bully_account.specs.Told.{Explains, IsUntold}
+use Rattle.bully_account.specs.TraceReport.{Explains, IsUntold}
 use Rattle.bully.specs.Answer.{KnownBytes, Tells, row_line, stop_line, stop_of, verdict_status}
 use Rattle.bully.specs.ExplainAnswer.{IsConfigExplainAnswer, IsExplainAnswer}
 use Rattle.bully.specs.RefusalText.{refusal_line}

@@ -16,7 +16,7 @@ use bully_base::{Node, OutOfMemory};
 use bully_cli::DrawWords;
 use bully_config::Config;
 use bully_explain::reason;
-use bully_film::{Reel, Window, film_of};
+use bully_film::{FinishedFilm, Window, film_of};
 use bully_picture::{svg_picture, text_picture};
 use std::alloc::Global;
 use std::io::{Read, Write};
@@ -161,28 +161,28 @@ fn draw_input<R: Read + Drop, W: Write, E: Write>(
     ensures status { result ≤ 4 }
 {
     match film_of(alloc, input, drawing.window) {
-        Ok(reel) => draw_reel(alloc, &reel, drawing.is_text, names, output, errors),
+        Ok(finished) => draw_finished(alloc, &finished, drawing.is_text, names, output, errors),
         Err(fault) => answer_fault(alloc, fault, errors),
     }
 }
 
 // Draws what a film shows.
-fn draw_reel<W: Write, E: Write>(
+fn draw_finished<W: Write, E: Write>(
     alloc: Global,
-    reel: &Reel,
+    finished: &FinishedFilm,
     is_text: bool,
     names: Option<&Config>,
     output: &mut W,
     errors: &mut E,
 ) -> u8
-    ensures answer { ((picture : List ℕ) × Has picture (verdict_head reel.now.verdict) × (((result ≡ verdict_status reel.now.verdict) × Appends (W.contents output.old) (W.contents output.new) picture × (errors.new ≡ errors.old))
+    ensures answer { ((picture : List ℕ) × Has picture (verdict_head finished.now.verdict) × (((result ≡ verdict_status finished.now.verdict) × Appends (W.contents output.old) (W.contents output.new) picture × (errors.new ≡ errors.old))
         ⊎ ((result ≡ 4) × Tells (E.contents errors.old) (E.contents errors.new) (stop_line Stop.Write))))
         ⊎ ((result ≡ 4) × (output.new ≡ output.old) × Tells (E.contents errors.old) (E.contents errors.new) (stop_line Stop.OutOfMemory)) }
     ensures status { (result ≤ 1) ⊎ (result ≡ 4) }
 {
-    match picture_of(alloc, reel, is_text, names) {
+    match picture_of(alloc, finished, is_text, names) {
         Ok(picture) => write_sheet(
-            verdict_status(reel.verdict),
+            verdict_status(finished.verdict),
             picture.as_str(),
             output,
             errors,
@@ -194,24 +194,24 @@ fn draw_reel<W: Write, E: Write>(
 // The picture of what a film shows.
 fn picture_of(
     alloc: Global,
-    reel: &Reel,
+    finished: &FinishedFilm,
     is_text: bool,
     names: Option<&Config>,
 ) -> Result<String, OutOfMemory>
-    ensures { IfOk result (λ picture. Has (string_bytes picture) (verdict_head reel.now.verdict)) }
+    ensures { IfOk result (λ picture. Has (string_bytes picture) (verdict_head finished.now.verdict)) }
 {
-    let below = below(alloc, reel)?;
+    let below = below(alloc, finished)?;
     if is_text {
-        return text_picture(alloc, reel, below.as_str());
+        return text_picture(alloc, finished, below.as_str());
     }
     let names = names_of(alloc, names)?;
-    svg_picture(alloc, reel, names.as_slice(), below.as_str())
+    svg_picture(alloc, finished, names.as_slice(), below.as_str())
 }
 
 // Why the row that decided did so; nothing of a lawful trace.
-fn below(alloc: Global, reel: &Reel) -> Result<String, OutOfMemory> {
-    match &reel.stop {
-        Some(row) => reason(alloc, reel.judge.world(), reel.verdict, row),
+fn below(alloc: Global, finished: &FinishedFilm) -> Result<String, OutOfMemory> {
+    match &finished.stop {
+        Some(row) => reason(alloc, finished.judge.world(), finished.verdict, row),
         None => Ok(String::new(alloc)),
     }
 }

@@ -2,7 +2,7 @@
 use Rattle.std.proofs.Common.{◌≡◌, ℕ, ◌+◌, ◌++◌, List, [], ◌∷◌, length, arith, subst}
 use Rattle.bully_world.specs.State.{WorldState}
 use Rattle.bully_account.specs.declared.showing.NodeSheet.{NodeSheet}
-use Rattle.bully_account.specs.Shown.{Shows, ShowsFrom}
+use Rattle.bully_account.specs.NodeSummary.{Shows, ShowsFrom}
 
 -- one more node is shown
 pub shows-more : (w : WorldState) (i j : ℕ) (sheets : List NodeSheet) (sheet : NodeSheet) → length sheets + i ≡ j → ShowsFrom w i sheets → Shows w j sheet

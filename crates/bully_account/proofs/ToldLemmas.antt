@@ -13,8 +13,8 @@ use Rattle.bully_rows.specs.Rows.{OfTrace, is_of_form, no_memory}
 use Rattle.bully_trace.specs.Verdict.{IsJudged}
 use Rattle.bully_rows.proofs.TraceLemmas.{memory-ends}
 use Rattle.bully_account.specs.declared.showing.NodeSheet.{NodeSheet}
-use Rattle.bully_account.specs.Told.{Explains, IsUntold}
-use Rattle.bully_account.specs.Shown.{ShowsAll}
+use Rattle.bully_account.specs.TraceReport.{Explains, IsUntold}
+use Rattle.bully_account.specs.NodeSummary.{ShowsAll}
 
 -- the verdict on all rows of a text is that on its trace, and its world the one that is shown
 pub verdict-told : (known : Option (List ℕ)) (setup : Setup) (judge : JudgeState) (verdict : Verdict) (sheets : List NodeSheet)

@@ -1,5 +1,5 @@
 pub mod Possible
-pub mod Shown
+pub mod NodeSummary
 pub mod Remembered
-pub mod Told
+pub mod TraceReport
 pub mod Lines

@@ -38,7 +38,7 @@ impl Model for Account {
 
 impl Account {
     ghost use Rattle.std.specs.Prelude.{◌≡◌, ◌+◌, ◌++◌, ◌∷◌, [], List, length, IfOk};
-    ghost use Rattle.bully_account.specs.Shown.{ShowsAll};
+    ghost use Rattle.bully_account.specs.NodeSummary.{ShowsAll};
     ghost use Rattle.bully_base.specs.Setup.{Setup as SetupState};
     ghost use Rattle.bully_rows.specs.declared.trace.Row.{Row as RowState};
     ghost use Rattle.bully_trace.specs.Judging.{HasJudged};

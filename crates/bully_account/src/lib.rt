@@ -1,9 +1,9 @@
 //! What the rows of a trace came to: the judge that took them, what is remembered of each node's rows, what the world has of
-//! each node, which deeds are possible there, and what is told of the trace, a verdict or its first fault of form.
+//! each node, which kinds of event are possible there, and what is told of the trace, a verdict or its first fault of form.
 //!
 //! It stands on bully_trace, whose judge decides, and on the crates below it. bully_explain, which makes the sheet of all this,
 //! relies on the verdict being that of `check`, on what is shown of a node being what the world before the row has of it, on the
-//! deeds that are listed as possible being those that nothing refuses, and on nothing being told where a read fails. Which rows
+//! kinds of event that are listed as possible being those that nothing refuses, and on nothing being told where a read fails. Which rows
 //! are remembered, and where one starts, is tested.
 #![tactic(auto)]
 
@@ -17,12 +17,12 @@ mod showing;
 mod telling;
 
 pub use account::{Account, Stop, line_of};
-pub use bully_rows::Deed;
+pub use bully_rows::EventKind;
 pub use lines::Lines;
 pub use memory::{Memory, Note, What};
 pub use possible::possible_now;
-pub use showing::{NodeSheet, Shown, ShownCall, node_sheet, shown_of};
-pub use telling::{Told, tell};
+pub use showing::{NodeSheet, NodeSummary, CallSummary, node_sheet, shown_of};
+pub use telling::{TraceReport, tell};
 
 /// How many of its last rows a node has remembered.
 pub const ROWS_KEPT: usize = 5;

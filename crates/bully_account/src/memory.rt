@@ -2,7 +2,7 @@ ghost use Rattle.std.specs.Prelude.{◌≡◌, ◌+◌, ◌<◌, ◌≤◌, remo
 ghost use Rattle.bully_account.specs.Remembered.{noted};
 
 use crate::moving::is_idle;
-use crate::{Deed, ROWS_KEPT};
+use crate::{EventKind, ROWS_KEPT};
 use bully_base::{Node, OutOfMemory, Setup};
 use bully_calls::{Call, CallKind};
 use bully_table::{Table, TableRoom};
@@ -14,7 +14,7 @@ use std::marker::Model;
 #[derive(Clone, Copy, PartialEq, Eq)]
 pub enum What {
     /// An event of the node, other than the start of a call.
-    Did(Deed),
+    Did(EventKind),
     /// The node started this call.
     Started(Call),
     /// A Halt of this other node ran at it.
@@ -153,9 +153,9 @@ fn what_of(event: &Event, call: Option<Call>) -> What {
     match event {
         Event::Start(_) => match call {
             Some(call) => What::Started(call),
-            None => What::Did(Deed::Start),
+            None => What::Did(EventKind::Start),
         },
-        _ => What::Did(Deed::of(event)),
+        _ => What::Did(EventKind::of(event)),
     }
 }
 

@@ -1,8 +1,8 @@
 ghost use Rattle.std.specs.Prelude.{◌≡◌, ◌≤◌, [], option_map, IfOk, OnOk};
 ghost use Rattle.bully_calls.specs.Slot.{pending_in};
-ghost use Rattle.bully_account.specs.Shown.{Shows, ShowsAll, shown_call, shown_in};
+ghost use Rattle.bully_account.specs.NodeSummary.{Shows, ShowsAll, shown_call, shown_in};
 
-use crate::{Deed, possible_now};
+use crate::{EventKind, possible_now};
 use bully_base::{Node, NodeSet, OutOfMemory, Status};
 use bully_calls::{Call, Phase, Slot};
 use bully_steps::{Point, Want};
@@ -13,7 +13,7 @@ use std::alloc::Global;
 /// What a sheet shows of a node: its vector but for the task, its generation, its point with what that offers, and the
 /// call in its slot.
 #[derive(Clone, Copy)]
-pub struct Shown {
+pub struct NodeSummary {
     pub status: Status,
     pub coordinator: Option<Node>,
     pub halter: Option<Node>,
@@ -22,23 +22,23 @@ pub struct Shown {
     pub generation: u32,
     pub point: Point,
     pub offer: Want,
-    pub call: Option<ShownCall>,
+    pub call: Option<CallSummary>,
 }
 
 /// The call in a node's slot: how far it came, and whether its caller wasn't stopped since it was started.
 #[derive(Clone, Copy)]
-pub struct ShownCall {
+pub struct CallSummary {
     pub call: Call,
     pub phase: Phase,
     pub is_live: bool,
 }
 
-/// What a sheet tells of a node: what is shown of it, and the deeds that nothing refuses now, in the order of the profile's
+/// What a sheet tells of a node: what is shown of it, and the kinds of event that nothing refuses now, in the order of the profile's
 /// table of rows.
 #[derive(Drop)]
 pub struct NodeSheet {
-    pub shown: Shown,
-    pub possible: Vec<Deed>,
+    pub shown: NodeSummary,
+    pub possible: Vec<EventKind>,
 }
 
 /// What the world has of each node, from node 1 on. Refused where an allocation fails.
@@ -73,12 +73,12 @@ pub fn node_sheet(alloc: Global, world: &World, node: Node) -> Result<NodeSheet,
 }
 
 /// What is shown of the node, which is at most the setup's last.
-pub fn shown_of(world: &World, node: Node) -> Shown
+pub fn shown_of(world: &World, node: Node) -> NodeSummary
     requires { node ≤ world.now.setup.nodes }
     ensures { result ≡ shown_in world.now node }
 {
     let vector = world.vector(node);
-    Shown {
+    NodeSummary {
         status: vector.status(),
         coordinator: vector.coordinator(),
         halter: vector.halter(),
@@ -91,11 +91,11 @@ pub fn shown_of(world: &World, node: Node) -> Shown
 }
 
 // The call in the slot of a caller of this generation.
-fn shown_call(slot: &Slot, generation: u32) -> Option<ShownCall>
+fn shown_call(slot: &Slot, generation: u32) -> Option<CallSummary>
     ensures { result ≡ option_map shown_call (pending_in generation slot.now) }
 {
     match (slot.call(), slot.phase()) {
-        (Some(call), Some(phase)) => Some(ShownCall {
+        (Some(call), Some(phase)) => Some(CallSummary {
             call,
             phase,
             is_live: !slot.is_orphan(generation),

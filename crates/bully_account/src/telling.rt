@@ -1,5 +1,5 @@
 ghost use Rattle.std.specs.Prelude.{◌≡◌, ℕ, List, [], Option, None, true, IfErr, IfOk, IsSome};
-ghost use Rattle.bully_account.specs.Told.{IsToldOf, IsUntold};
+ghost use Rattle.bully_account.specs.TraceReport.{IsToldOf, IsUntold};
 ghost use Rattle.bully_trace.specs.Judging.{AreAllJudged};
 ghost use Rattle.bully_rows.specs.RecordsLeft.{EndsReading, IsUnread};
 ghost use Rattle.bully_rows.specs.Rows.{is_of_form, no_memory};
@@ -15,7 +15,7 @@ use std::io::Read;
 
 /// What is told of a trace, a verdict or a fault of form; and what is shown of each node, from node 1 on, where it is a verdict.
 #[derive(Drop)]
-pub struct Told {
+pub struct TraceReport {
     pub verdict: Result<Verdict, TraceFault>,
     pub nodes: Vec<NodeSheet>,
 }
@@ -27,7 +27,7 @@ pub fn tell<R: Read + Drop>(
     alloc: Global,
     rows: &mut RowReader<Lines<R>>,
     account: &mut Option<Account>,
-) -> Result<Told, TraceFault>
+) -> Result<TraceReport, TraceFault>
     requires { account.old ≡ None }
     ensures told { (known : Option (List ℕ)) → IsUnread known rows.old → IfOk result (λ told. IsToldOf known told.nodes.items told.verdict) }
     ensures form { IfOk result (λ told. IfErr told.verdict (λ fault. is_of_form fault.cause ≡ true)) }
@@ -46,7 +46,7 @@ pub fn tell<R: Read + Drop>(
 }
 
 // The verdict, and what is shown of each node.
-fn verdict_told(alloc: Global, account: &Account) -> Result<Told, TraceFault>
+fn verdict_told(alloc: Global, account: &Account) -> Result<TraceReport, TraceFault>
     ensures told { (known : Option (List ℕ)) → AreAllJudged known account.now.world.setup account.now → IfOk result (λ told. IsToldOf known told.nodes.items told.verdict) }
     ensures verdict { IfOk result (λ told. (verdict : VerdictState) × (told.verdict ≡ Ok verdict)) }
     ensures fault { IfErr result (λ fault. fault ≡ no_memory) }
@@ -54,21 +54,21 @@ fn verdict_told(alloc: Global, account: &Account) -> Result<Told, TraceFault>
     reached(account.world());
     let verdict = account.verdict();
     let nodes = account.nodes(alloc)?;
-    Ok(Told {
+    Ok(TraceReport {
         verdict: Ok(verdict),
         nodes,
     })
 }
 
 // The fault, where it is one of form; another one isn't told.
-fn fault_told(alloc: Global, fault: TraceFault) -> Result<Told, TraceFault>
+fn fault_told(alloc: Global, fault: TraceFault) -> Result<TraceReport, TraceFault>
     ensures told { IfOk result (λ told. (told.verdict ≡ Err fault) × (told.nodes.items ≡ []) × (is_of_form fault.cause ≡ true)) }
     ensures other { IfErr result (λ other. (other ≡ fault) × IsUntold fault) }
 {
     if !is_of_form(fault.cause) {
         return Err(fault);
     }
-    Ok(Told {
+    Ok(TraceReport {
         verdict: Err(fault),
         nodes: Vec::new(alloc),
     })

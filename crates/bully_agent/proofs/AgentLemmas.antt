@@ -1,4 +1,4 @@
--- What an agent tells and becomes, put together from what its member becomes.
+-- What an agent tells and becomes, put together from what its node state becomes.
 use Rattle.std.proofs.Common.{◌≡◌, ℕ, ◌+◌, ◌<◌, refl, ◌∙◌, ap, subst}
 use Rattle.bully_base.specs.Setup.{Setup}
 use Rattle.bully_calls.specs.declared.call.Answer.{Answer}
@@ -9,21 +9,21 @@ use Rattle.bully_calls.specs.declared.message.Request.{Request}
 use Rattle.bully_calls.specs.declared.event.Event.{Event}
 use Rattle.bully_world.specs.declared.take.TakenStep.{TakenStep}
 use Rattle.bully_calls.specs.Events.{node_of}
-use Rattle.bully_world.specs.State.{MemberState}
+use Rattle.bully_world.specs.State.{StoredNode}
 use Rattle.bully_world.specs.StateAfter.{heard_state, node_after, node_answer, phased_state}
 use Rattle.bully_agent.specs.declared.agent.FailedCall.{FailedCall}
 use Rattle.bully_agent.specs.Agent.{AgentState, IsTaken, number_after}
 use Rattle.bully_agent.specs.Calls.{CalleeIsDown, CanServe, HasRun, IsAwaited, IsDue, IsFailed, IsRequested, IsReturned, IsServed, returned_answer, returned_by}
 use Rattle.bully_agent.specs.Part.{Always, FollowsAt}
 
-abbrev pub agent : Setup → ℕ → ℕ → ℕ → MemberState → AgentState
-agent setup i events number m = record { setup = setup; node = i; events = events; number = number; member = m }
+abbrev pub agent : Setup → ℕ → ℕ → ℕ → StoredNode → AgentState
+agent setup i events number m = record { setup = setup; node = i; events = events; number = number; node_state = m }
 
 -- the reply to a request, with this answer
 abbrev reply_of : Request → Answer → Reply
 reply_of r a = record { caller = r.caller; number = r.number; answer = a }
 
-module _ (setup : Setup) (i events number : ℕ) (m n : MemberState) where
+module _ (setup : Setup) (i events number : ℕ) (m n : StoredNode) where
   pub taken_is : (e : Event) (k : ℕ) (taken : TakenStep) → events < setup.events_max → node_of e ≡ i → taken.event ≡ e → n ≡ node_after setup e m → taken.answer ≡ node_answer e m → k ≡ number_after e events number
       → FollowsAt Always setup (node_of e) m e taken.answer n → IsTaken (agent setup i events number m) e (agent setup i (events + 1) k n) taken
   taken_is e k taken room named event after answer numbered follows = record {

@@ -1,6 +1,6 @@
 -- What the nodes of a world agree on, those agree on that are parts of it.
 use Rattle.std.proofs.Common.{ℕ, subst}
-use Rattle.bully_world.specs.World.{World, member, vector}
+use Rattle.bully_world.specs.World.{World, node_state, vector}
 use Rattle.bully_agree.specs.Agreement.{Agreement}
 use Rattle.bully_agree.proofs.Law.{agreement_lem}
 use Rattle.bully_agent.specs.Laws.{Agree, PartsAgree}
@@ -16,5 +16,5 @@ world_agrees w i j all = record {
 
 pub parts_agree : PartsAgree
 parts_agree setup events answers w lawful i j m n p q =
-    subst (λ v. Agree v n.vector.vector) (like_vector m (member w i) p.like)
-    (subst (Agree (vector w i)) (like_vector n (member w j) q.like) (world_agrees w i j (agreement_lem setup events answers w lawful)))
+    subst (λ v. Agree v n.vector.vector) (like_vector m (node_state w i) p.like)
+    (subst (Agree (vector w i)) (like_vector n (node_state w j) q.like) (world_agrees w i j (agreement_lem setup events answers w lawful)))

@@ -11,9 +11,9 @@ use Rattle.bully_calls.specs.Slot.{SlotCall, pending_of}
 use Rattle.bully_handlers.specs.Handler.{reply}
 use Rattle.bully_calls.specs.declared.event.Event.{Event}
 use Rattle.bully_world.specs.Cause.{in_phase}
-use Rattle.bully_world.specs.State.{MemberState, member_of}
+use Rattle.bully_world.specs.State.{StoredNode, node_state_of}
 use Rattle.bully_world.specs.Step.{Step, IsUp, ran}
-use Rattle.bully_world.specs.World.{World, Member, member, pending, vector}
+use Rattle.bully_world.specs.World.{World, NodeState, node_state, pending, vector}
 use Rattle.bully_world.specs.NodeInvariant.{WorldInvariant}
 use Rattle.bully_world.proofs.Events.{own_other}
 use Rattle.bully_world.proofs.LawfulLemmas.{lawful_more}
@@ -37,7 +37,7 @@ module _ (setup : Setup) (w : World) (i : ℕ) (c : Pending) (all : WorldInvaria
   f = Phase.Ran (reply c.call.kind (vector w c.call.callee))
 
   -- the caller as it was, once its call ran
-  caller_ran : (m : MemberState) → member w i ≡ member_of m → IsUnderWay m (record (member w i) { pending = Some (record c { phase = f }) })
+  caller_ran : (m : StoredNode) → node_state w i ≡ node_state_of m → IsUnderWay m (record (node_state w i) { pending = Some (record c { phase = f }) })
   caller_ran m here =
       let there = call_in_slot w i m here is_sent (ap (in_phase is_sent) is ∙ ap is_sent sent) in
       let same : c ≡ pending_of m.generation there.0 = same_call c (pending_of m.generation there.0) (sym is ∙ pending_there w i m here there.0 there.1) in
@@ -45,28 +45,28 @@ module _ (setup : Setup) (w : World) (i : ℕ) (c : Pending) (all : WorldInvaria
         answer = reply c.call.kind (vector w c.call.callee);
         sent = ap (λ q. option_map_or (λ (x : SlotCall). is_sent x.phase) q false) there.1 ∙ there.2;
         ran =
-            ap (λ (x : Member). record x { pending = Some (record c { phase = f }) }) here
-            ∙ (ap (λ (x : Pending). record (member_of m) { pending = Some (record x { phase = f }) }) same ∙ sym (phased_is m there.0 f there.1));
+            ap (λ (x : NodeState). record x { pending = Some (record c { phase = f }) }) here
+            ∙ (ap (λ (x : Pending). record (node_state_of m) { pending = Some (record x { phase = f }) }) same ∙ sym (phased_is m there.0 f there.1));
       }
 
-  caller_like : (m : MemberState) → IsLike m (member w i) → IsLike m (record (member w i) { pending = Some (record c { phase = f }) })
+  caller_like : (m : StoredNode) → IsLike m (node_state w i) → IsLike m (record (node_state w i) { pending = Some (record c { phase = f }) })
   caller_like m (inl here) = inr (caller_ran m here)
   caller_like m (inr u) =
       let there = sent_call m.slot u.sent in
       let g = Phase.Ran u.answer in
-      let stands : pending w i ≡ Some (record (pending_of m.generation there.0) { phase = g }) = ap (λ (x : Member). x.pending) (u.ran ∙ phased_is m there.0 g there.1) in
+      let stands : pending w i ≡ Some (record (pending_of m.generation there.0) { phase = g }) = ap (λ (x : NodeState). x.pending) (u.ran ∙ phased_is m there.0 g there.1) in
       absurd (not_sent (record (pending_of m.generation there.0) { phase = g }) c u.answer (sym stands ∙ is) refl sent)
 
-  run_like : (k : ℕ) (m : MemberState) → k ≢ c.call.callee → (k ≡ i) ⊎ (k ≢ i) → IsLike m (member w k) → IsLike m (member (ran w i c) k)
+  run_like : (k : ℕ) (m : StoredNode) → k ≢ c.call.callee → (k ≡ i) ⊎ (k ≢ i) → IsLike m (node_state w k) → IsLike m (node_state (ran w i c) k)
   run_like k m elsewhere (inl same) like =
-      subst (λ j. IsLike m (member (ran w i c) j)) (sym same)
-      (subst (IsLike m) (sym (ran_here setup w i c all is up)) (caller_like m (subst (λ j. IsLike m (member w j)) same like)))
+      subst (λ j. IsLike m (node_state (ran w i c) j)) (sym same)
+      (subst (IsLike m) (sym (ran_here setup w i c all is up)) (caller_like m (subst (λ j. IsLike m (node_state w j)) same like)))
   run_like k m elsewhere (inr other) like = subst (IsLike m) (sym (ran_other setup w i c all is up k other elsewhere)) like
 
-step_like : (setup : Setup) (w w' : World) (e : Event) (a : Answer) (k : ℕ) (m : MemberState) → WorldInvariant setup w → Step setup w e w' a → k ≢ place_of w e → IsLike m (member w k) → IsLike m (member w' k)
+step_like : (setup : Setup) (w w' : World) (e : Event) (a : Answer) (k : ℕ) (m : StoredNode) → WorldInvariant setup w → Step setup w e w' a → k ≢ place_of w e → IsLike m (node_state w k) → IsLike m (node_state w' k)
 step_like setup w w' (Event.Run i) a k m all s d like =
     let elsewhere : k ≢ s.0.call.callee = λ same. d (same ∙ ap callee_of (sym s.1)) in
-    subst (λ v. IsLike m (member v k)) (sym s.4) (run_like setup w i s.0 all s.1 s.2 s.3 k m elsewhere (grind arith) like)
+    subst (λ v. IsLike m (node_state v k)) (sym s.4) (run_like setup w i s.0 all s.1 s.2 s.3 k m elsewhere (grind arith) like)
 step_like setup w w' e a k m all s d like = subst (IsLike m) (sym (own_other setup w w' e a k (λ i same. absurd (cc same)) s d)) like
 
 pub keeps_others : KeepsOthers
@@ -74,7 +74,7 @@ keeps_others setup w w' e a k m s d part = record { fits = step_fits setup w e w
 
 -- a group goes on
 
-part_then : (setup : Setup) (w : World) (kept : ℕ → MemberState) (i k : ℕ) (next : MemberState) → IsPart setup i next w → (k ≢ i → IsPart setup k (kept k) w) → (k ≡ i) ⊎ (k ≢ i) → IsPart setup k (with_part kept i next k) w
+part_then : (setup : Setup) (w : World) (kept : ℕ → StoredNode) (i k : ℕ) (next : StoredNode) → IsPart setup i next w → (k ≢ i → IsPart setup k (kept k) w) → (k ≡ i) ⊎ (k ≢ i) → IsPart setup k (with_part kept i next k) w
 part_then setup w kept i k next here other (inl same) =
     let test : (k == i) ≡ true = grind (arith, nat_tests, same) in
     subst (λ b. IsPart setup k (if b then next else kept k) w) (sym test) (subst (λ j. IsPart setup j next w) (sym same) here)

@@ -8,56 +8,56 @@ use Rattle.bully_calls.specs.declared.event.Event.{Event}
 use Rattle.bully_calls.specs.Events.{node_of}
 use Rattle.bully_world.specs.Cause.{cause}
 use Rattle.bully_world.specs.NodeInvariant.{NodeInvariant, WorldInvariant, SuitsPhase}
-use Rattle.bully_world.specs.State.{MemberState, member_of}
+use Rattle.bully_world.specs.State.{StoredNode, node_state_of}
 use Rattle.bully_world.specs.StateAfter.{down_state, node_after, node_answer, phased_state, CanApplyHere}
 use Rattle.bully_world.specs.Step.{Step}
-use Rattle.bully_world.specs.World.{World, Member, member, with_member, first_world}
+use Rattle.bully_world.specs.World.{World, NodeState, node_state, with_node_state, first_world}
 use Rattle.bully_world.proofs.ApplyLemmas.{node_in_setup}
 use Rattle.bully_world.proofs.CallInvariant.{phase_fits}
 use Rattle.bully_world.proofs.EventLaws.{IsFree}
 use Rattle.bully_world.proofs.Events.{own_laws}
 use Rattle.bully_world.proofs.KeptLemmas.{kept_phased}
-use Rattle.bully_world.proofs.MemberLemmas.{member_here, written_fits}
-use Rattle.bully_world.proofs.NodeInvariantLemmas.{first_fits, first_member, step_fits}
+use Rattle.bully_world.proofs.NodeStateLemmas.{node_state_here, written_fits}
+use Rattle.bully_world.proofs.NodeInvariantLemmas.{first_fits, first_node_state, step_fits}
 use Rattle.bully_world.proofs.OwnEvents.{IsNoRun}
 use Rattle.bully_world.proofs.SlotLemmas.{phased_is}
-use Rattle.bully_agent.specs.Agent.{IsAgentOf, down_member}
+use Rattle.bully_agent.specs.Agent.{IsAgentOf, down_node_state}
 use Rattle.bully_agent.specs.Part.{IsLike, IsPart}
 
 -- what the world has of the node's vector and point
-pub like_vector : (m : MemberState) (x : Member) → IsLike m x → x.vector ≡ m.vector.vector
-like_vector m x (inl e) = ap (λ (y : Member). y.vector) e
-like_vector m x (inr u) = ap (λ (y : Member). y.vector) u.ran
+pub like_vector : (m : StoredNode) (x : NodeState) → IsLike m x → x.vector ≡ m.vector.vector
+like_vector m x (inl e) = ap (λ (y : NodeState). y.vector) e
+like_vector m x (inr u) = ap (λ (y : NodeState). y.vector) u.ran
 
-pub like_point : (m : MemberState) (x : Member) → IsLike m x → x.point ≡ m.point
-like_point m x (inl e) = ap (λ (y : Member). y.point) e
-like_point m x (inr u) = ap (λ (y : Member). y.point) u.ran
+pub like_point : (m : StoredNode) (x : NodeState) → IsLike m x → x.point ≡ m.point
+like_point m x (inl e) = ap (λ (y : NodeState). y.point) e
+like_point m x (inr u) = ap (λ (y : NodeState). y.point) u.ran
 
 -- the world where this is node i, and all others are as at first
-abbrev pub alone : Setup → ℕ → MemberState → World
-alone setup i m = with_member (first_world setup) i (member_of m)
+abbrev pub alone : Setup → ℕ → StoredNode → World
+alone setup i m = with_node_state (first_world setup) i (node_state_of m)
 
-pub alone_here : (setup : Setup) (i : ℕ) (m : MemberState) → IsNode setup i → member (alone setup i m) i ≡ member_of m
-alone_here setup i m node = member_here setup (first_world setup) i (member_of m) (first_fits setup) node
+pub alone_here : (setup : Setup) (i : ℕ) (m : StoredNode) → IsNode setup i → node_state (alone setup i m) i ≡ node_state_of m
+alone_here setup i m node = node_state_here setup (first_world setup) i (node_state_of m) (first_fits setup) node
 
 -- so what fits is a part of some world
-pub alone_part : (setup : Setup) (i : ℕ) (m : MemberState) → IsNode setup i → NodeInvariant setup i (member_of m) → IsPart setup i m (alone setup i m)
-alone_part setup i m node fits = record { fits = written_fits setup (first_world setup) i (member_of m) (first_fits setup) node fits; like = inl (alone_here setup i m node) }
+pub alone_part : (setup : Setup) (i : ℕ) (m : StoredNode) → IsNode setup i → NodeInvariant setup i (node_state_of m) → IsPart setup i m (alone setup i m)
+alone_part setup i m node fits = record { fits = written_fits setup (first_world setup) i (node_state_of m) (first_fits setup) node fits; like = inl (alone_here setup i m node) }
 
 -- an event that nothing refuses leads on from a world that has just this of its node
-pub exact_follows : (setup : Setup) (e : Event) (w : World) (count : ℕ) (m : MemberState) → IsNoRun e → IsFree setup w count e m
-    → (w' : World) × Step setup w e w' (node_answer e m) × WorldInvariant setup w' × (member w' (node_of e) ≡ member_of (node_after setup e m))
+pub exact_follows : (setup : Setup) (e : Event) (w : World) (count : ℕ) (m : StoredNode) → IsNoRun e → IsFree setup w count e m
+    → (w' : World) × Step setup w e w' (node_answer e m) × WorldInvariant setup w' × (node_state w' (node_of e) ≡ node_state_of (node_after setup e m))
 exact_follows setup e w count m other free =
-    let next = with_member w (node_of e) (member_of (node_after setup e m)) in
+    let next = with_node_state w (node_of e) (node_state_of (node_after setup e m)) in
     let step : Step setup w e next (node_answer e m) = (own_laws setup e other).steps w count m free in (
       next,
       step,
       step_fits setup w e next (node_answer e m) step free.all,
-      member_here setup w (node_of e) (member_of (node_after setup e m)) free.all (node_in_setup setup w count e free.none),
+      node_state_here setup w (node_of e) (node_state_of (node_after setup e m)) free.all (node_in_setup setup w count e free.none),
     )
 
 -- what the event makes of it is kept of a node, too
-pub exact_agent : (setup : Setup) (e : Event) (count : ℕ) (m : MemberState) → IsNoRun e → IsAgentOf setup (node_of e) count m → cause setup (alone setup (node_of e) m) count e ≡ None → IsAgentOf setup (node_of e) (count + 1) (node_after setup e m)
+pub exact_agent : (setup : Setup) (e : Event) (count : ℕ) (m : StoredNode) → IsNoRun e → IsAgentOf setup (node_of e) count m → cause setup (alone setup (node_of e) m) count e ≡ None → IsAgentOf setup (node_of e) (count + 1) (node_after setup e m)
 exact_agent setup e count m other is none =
     let i = node_of e in
     let here = alone_here setup i m is.is_node in
@@ -68,8 +68,8 @@ exact_agent setup e count m other is none =
       kept = (own_laws setup e other).kept count m is.kept;
     }
 
--- its member may take the event
-pub exact_can : (setup : Setup) (e : Event) (count : ℕ) (m : MemberState) → IsNoRun e → IsAgentOf setup (node_of e) count m → cause setup (alone setup (node_of e) m) count e ≡ None → count + 1 < 2 ^ 32 → CanApplyHere setup e m
+-- its node state may take the event
+pub exact_can : (setup : Setup) (e : Event) (count : ℕ) (m : StoredNode) → IsNoRun e → IsAgentOf setup (node_of e) count m → cause setup (alone setup (node_of e) m) count e ≡ None → count + 1 < 2 ^ 32 → CanApplyHere setup e m
 exact_can setup e count m other is none room =
     let i = node_of e in
     let free : IsFree setup (alone setup i m) count e m = record { all = (alone_part setup i m is.is_node is.fits).fits; here = alone_here setup i m is.is_node; none = none } in
@@ -88,7 +88,7 @@ task_sized n (Some t) sized table e = ap length (sym (some_same t table e)) ∙ 
     some_same : (x y : List ℕ) → Some x ≡ Some y → x ≡ y
     some_same x y e = cc e
 
-down_fits : (setup : Setup) (i : ℕ) (task : Option (List ℕ)) → IfSome task (λ t. length t ≡ setup.partitions) → NodeInvariant setup i (down_member task)
+down_fits : (setup : Setup) (i : ℕ) (task : Option (List ℕ)) → IfSome task (λ t. length t ≡ setup.partitions) → NodeInvariant setup i (down_node_state task)
 down_fits setup i task sized = record {
   a_node = inl refl;
   down_idle = λ d. refl;
@@ -106,16 +106,16 @@ new_is setup i count task node sized = record {
   kept = record { vector_room = refl; slot_room = refl; caller = tt; tag = tt; generation = omega arith };
 }
 
-pub new_part : (setup : Setup) (i : ℕ) (task : Option (List ℕ)) (w : World) → WorldInvariant setup w → member w i ≡ down_member task → IsPart setup i (down_state setup.partitions task) w
+pub new_part : (setup : Setup) (i : ℕ) (task : Option (List ℕ)) (w : World) → WorldInvariant setup w → node_state w i ≡ down_node_state task → IsPart setup i (down_state setup.partitions task) w
 new_part setup i task w all down = record { fits = all; like = inl down }
 
 pub new_first : (setup : Setup) (i : ℕ) (task : Option (List ℕ)) → task ≡ None → IsPart setup i (down_state setup.partitions task) (first_world setup)
-new_first setup i task none = new_part setup i task (first_world setup) (first_fits setup) (first_member setup i ∙ ap down_member (sym none))
+new_first setup i task none = new_part setup i task (first_world setup) (first_fits setup) (first_node_state setup i ∙ ap down_node_state (sym none))
 
 -- the call comes to another phase
-pub phased_agent : (setup : Setup) (i count : ℕ) (m : MemberState) (p : SlotCall) (f : Phase) → IsAgentOf setup i count m → m.slot.content ≡ Some p → SuitsPhase p.call.kind f → IsAgentOf setup i count (phased_state f m)
+pub phased_agent : (setup : Setup) (i count : ℕ) (m : StoredNode) (p : SlotCall) (f : Phase) → IsAgentOf setup i count m → m.slot.content ≡ Some p → SuitsPhase p.call.kind f → IsAgentOf setup i count (phased_state f m)
 phased_agent setup i count m p f is content suits = record {
   is_node = is.is_node;
-  fits = subst (NodeInvariant setup i) (sym (phased_is m p f content)) (phase_fits setup i (member_of m) (pending_of m.generation p) f is.fits (ap (option_map (pending_of m.generation)) content) suits);
+  fits = subst (NodeInvariant setup i) (sym (phased_is m p f content)) (phase_fits setup i (node_state_of m) (pending_of m.generation p) f is.fits (ap (option_map (pending_of m.generation)) content) suits);
   kept = kept_phased setup count i m f is.kept;
 }

@@ -11,7 +11,7 @@ use Rattle.bully_handlers.specs.Vector.{Vector}
 use Rattle.bully_calls.specs.declared.message.Reply.{Reply}
 use Rattle.bully_calls.specs.declared.message.Request.{Request}
 use Rattle.bully_world.specs.NodeInvariant.{SuitsPhase}
-use Rattle.bully_world.specs.World.{World, Member, member, pending, vector}
+use Rattle.bully_world.specs.World.{World, NodeState, node_state, pending, vector}
 use Rattle.bully_world.proofs.RunInvariant.{ran_here, reply_suits}
 use Rattle.bully_agent.specs.Agent.{AgentState}
 use Rattle.bully_agent.specs.Calls.{IsDue, IsReplyTo, TellsRun, request_in}
@@ -21,13 +21,13 @@ same_pending : (x y : Pending) → Some x ≡ Some y → x ≡ y
 same_pending x y e = cc e
 
 -- a served reply tells what its run comes to
-pub tells_run : (a : AgentState) (r : Request) (told : Reply) → told.caller ≡ r.caller → told.answer ≡ reply r.call.kind a.member.vector.vector → TellsRun a r told
+pub tells_run : (a : AgentState) (r : Request) (told : Reply) → told.caller ≡ r.caller → told.answer ≡ reply r.call.kind a.node_state.vector.vector → TellsRun a r told
 tells_run a r told caller answered = λ w w' answer part q step.
     let c = step.0 in
     let same : c ≡ q.call = same_pending c q.call (sym step.1 ∙ q.is) in
     let call : c.call ≡ r.call = ap (λ (x : Pending). x.call) same ∙ q.same in
     let to_node : c.call.callee ≡ a.node = ap (λ (k : Call). k.callee) call ∙ q.goes in
-    let vectors : vector w c.call.callee ≡ a.member.vector.vector = ap (vector w) to_node ∙ like_vector a.member (member w a.node) part.like in
+    let vectors : vector w c.call.callee ≡ a.node_state.vector.vector = ap (vector w) to_node ∙ like_vector a.node_state (node_state w a.node) part.like in
     let answers : reply c.call.kind (vector w c.call.callee) ≡ told.answer = ap (λ (k : Call). reply k.kind (vector w c.call.callee)) call ∙ (ap (reply r.call.kind) vectors ∙ sym answered) in
     let f = Phase.Ran (reply c.call.kind (vector w c.call.callee)) in
     record {
@@ -35,7 +35,7 @@ tells_run a r told caller answered = λ w w' answer part q step.
       is =
           ap (pending w') caller
           ∙ (ap (λ (v : World). pending v r.caller) step.4
-          ∙ ap (λ (x : Member). x.pending) (ran_here a.setup w r.caller c part.fits step.1 step.3));
+          ∙ ap (λ (x : NodeState). x.pending) (ran_here a.setup w r.caller c part.fits step.1 step.3));
       ran = ap (λ x. Phase.Ran x) answers;
     }
 
@@ -44,7 +44,7 @@ tells_run a r told caller answered = λ w w' answer part q step.
 abbrev asked : AgentState → SlotCall → Request
 asked a p = record { caller = a.node; number = a.number; call = p.call; table = p.table }
 
-due_in : (a : AgentState) (q : Option SlotCall) (r : Request) (told : Reply) → a.member.slot.content ≡ q → request_in a q ≡ Some r → told.caller ≡ r.caller → told.number ≡ r.number → SuitsPhase r.call.kind (Phase.Ran told.answer) → IsDue a told
+due_in : (a : AgentState) (q : Option SlotCall) (r : Request) (told : Reply) → a.node_state.slot.content ≡ q → request_in a q ≡ Some r → told.caller ≡ r.caller → told.number ≡ r.number → SuitsPhase r.call.kind (Phase.Ran told.answer) → IsDue a told
 due_in a None r told content is caller number suits = absurd (cc is)
 due_in a (Some p) r told content is caller number suits = by_phase (is_sent p.phase) refl is
   where
@@ -63,4 +63,4 @@ due_in a (Some p) r told content is caller number suits = by_phase (is_sent p.ph
 
 pub is_reply_to : (r : Request) (told : Reply) (v : Vector) → told.caller ≡ r.caller → told.number ≡ r.number → told.answer ≡ reply r.call.kind v → IsReplyTo r told
 is_reply_to r told v caller number answered = λ a is.
-    due_in a a.member.slot.content r told refl is caller number (subst (λ x. SuitsPhase r.call.kind (Phase.Ran x)) (sym answered) (reply_suits r.call.kind v))
+    due_in a a.node_state.slot.content r told refl is caller number (subst (λ x. SuitsPhase r.call.kind (Phase.Ran x)) (sym answered) (reply_suits r.call.kind v))

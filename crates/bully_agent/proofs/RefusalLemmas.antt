@@ -11,9 +11,9 @@ use Rattle.bully_calls.specs.declared.event.Event.{Event}
 use Rattle.bully_calls.specs.declared.event.Refused.{Refused}
 use Rattle.bully_calls.specs.Events.{node_of}
 use Rattle.bully_world.specs.Cause.{cause, refuses, first_of, later_refusals, is_pending, is_live_in, is_down_at}
-use Rattle.bully_world.specs.State.{MemberState, member_of}
+use Rattle.bully_world.specs.State.{StoredNode, node_state_of}
 use Rattle.bully_world.specs.StateAfter.{phased_state}
-use Rattle.bully_world.specs.World.{World, Member, member, vector}
+use Rattle.bully_world.specs.World.{World, NodeState, node_state, vector}
 use Rattle.bully_world.proofs.CauseAt.{cause-recover, cause-later, down-test}
 use Rattle.bully_world.proofs.Events.Checking.{check-cause, timeout-cause}
 use Rattle.bully_world.proofs.Events.Dropping.{drop-cause}
@@ -28,14 +28,14 @@ use Rattle.bully_agent.proofs.PartLemmas.{alone, alone_here, like_vector}
 pub full_cause : (setup : Setup) (w : World) (count : ℕ) (e : Event) → setup.events_max ≤ count → cause setup w count e ≡ Some Refused.Full
 full_cause setup w count e full = grind (arith, nat_tests, full)
 
--- the members are alike in all that the refusals of such an event read
-record IsReadAlike (x y : Member) : Type 0 where
+-- the states are alike in all that the refusals of such an event read
+record IsReadAlike (x y : NodeState) : Type 0 where
   vector : x.vector ≡ y.vector
   point : x.point ≡ y.point
   pending : is_pending x.pending ≡ is_pending y.pending
   live : is_live_in x.pending ≡ is_live_in y.pending
 
-ahead_alike : (m : MemberState) (f : Phase) → IsReadAlike (member_of (phased_state f m)) (member_of m)
+ahead_alike : (m : StoredNode) (f : Phase) → IsReadAlike (node_state_of (phased_state f m)) (node_state_of m)
 ahead_alike m f = record { vector = refl; point = refl; pending = same_pending m.slot.content; live = same_live m.slot.content }
   where
     same_pending : (q : Option SlotCall) → is_pending (option_map (pending_of m.generation) (option_map (phased f) q)) ≡ is_pending (option_map (pending_of m.generation) q)
@@ -46,7 +46,7 @@ ahead_alike m f = record { vector = refl; point = refl; pending = same_pending m
     same_live None = refl
     same_live (Some p) = refl
 
-same_refusals : (setup : Setup) (w v : World) (count : ℕ) (e : Event) (x y : Member) → IsAlone e → member w (node_of e) ≡ x → member v (node_of e) ≡ y → IsReadAlike x y
+same_refusals : (setup : Setup) (w v : World) (count : ℕ) (e : Event) (x y : NodeState) → IsAlone e → node_state w (node_of e) ≡ x → node_state v (node_of e) ≡ y → IsReadAlike x y
     → first_of (refuses setup w count e) later_refusals ≡ first_of (refuses setup v count e) later_refusals
 same_refusals setup w v count (Event.Recover i) x y own there here alike = refl
 same_refusals setup w v count (Event.Crash i) x y own there here alike = refl
@@ -58,25 +58,25 @@ same_refusals setup w v count (Event.Move i) x y own there here alike = grind (a
 same_refusals setup w v count (Event.Plan i table) x y own there here alike = grind (arith, plan-cause setup w count i x table there, plan-cause setup v count i y table here, alike.vector, alike.point, alike.pending)
 same_refusals setup w v count e x y own there here alike = elim own [ ]
 
-module _ (setup : Setup) (e : Event) (count : ℕ) (m : MemberState) (node : IsNode setup (node_of e)) (room : count < setup.events_max) where
+module _ (setup : Setup) (e : Event) (count : ℕ) (m : StoredNode) (node : IsNode setup (node_of e)) (room : count < setup.events_max) where
   abbrev i : ℕ
   i = node_of e
 
   -- whether the node is Down, as a test that was made of what is kept
   down_there : (w : World) (b : Bool) → IsPart setup i m w → (b ≡ true → m.vector.vector.status ≡ Down) → (m.vector.vector.status ≡ Down → b ≡ true) → b ≡ is_down_at w i
   down_there w b part to from =
-      let same : (vector w i).status ≡ m.vector.vector.status = ap (λ (v : Vector). v.status) (like_vector m (member w i) part.like) in
-      down-test w i (member w i) b refl (λ t. same ∙ to t) (λ d. from (sym same ∙ d))
+      let same : (vector w i).status ≡ m.vector.vector.status = ap (λ (v : Vector). v.status) (like_vector m (node_state w i) part.like) in
+      down-test w i (node_state w i) b refl (λ t. same ∙ to t) (λ d. from (sym same ∙ d))
 
   -- the later refusals in a world where a reply may be under way
-  later_there : (w : World) (r : Option Refused) → IsAlone e → IsLike m (member w i) → ((v : World) (n : ℕ) → member v i ≡ member_of m → r ≡ first_of (refuses setup v n e) later_refusals) → first_of (refuses setup w count e) later_refusals ≡ r
+  later_there : (w : World) (r : Option Refused) → IsAlone e → IsLike m (node_state w i) → ((v : World) (n : ℕ) → node_state v i ≡ node_state_of m → r ≡ first_of (refuses setup v n e) later_refusals) → first_of (refuses setup w count e) later_refusals ≡ r
   later_there w r own (inl here) told = sym (told w count here)
   later_there w r own (inr u) told =
       let here = alone_here setup i m node in
-      same_refusals setup w (alone setup i m) count e (member_of (phased_state (Phase.Ran u.answer) m)) (member_of m) own u.ran here (ahead_alike m (Phase.Ran u.answer)) ∙ sym (told (alone setup i m) count here)
+      same_refusals setup w (alone setup i m) count e (node_state_of (phased_state (Phase.Ran u.answer) m)) (node_state_of m) own u.ran here (ahead_alike m (Phase.Ran u.answer)) ∙ sym (told (alone setup i m) count here)
 
   pub later_cause_at : (w : World) (b : Bool) (r : Option Refused) → IsAlone e → ((k : ℕ) → e ≡ Event.Recover k → ⊥) → IsPart setup i m w → (b ≡ true → m.vector.vector.status ≡ Down) → (m.vector.vector.status ≡ Down → b ≡ true)
-      → ((v : World) (n : ℕ) → member v i ≡ member_of m → r ≡ first_of (refuses setup v n e) later_refusals) → cause setup w count e ≡ (if b then Some Refused.IsDown else r)
+      → ((v : World) (n : ℕ) → node_state v i ≡ node_state_of m → r ≡ first_of (refuses setup v n e) later_refusals) → cause setup w count e ≡ (if b then Some Refused.IsDown else r)
   later_cause_at w b r own other part to from told =
       cause-later setup w count e other room node
       ∙ ap (λ t. if t then Some Refused.IsDown else first_of (refuses setup w count e) later_refusals) (sym (down_there w b part to from))
@@ -87,7 +87,7 @@ module _ (setup : Setup) (e : Event) (count : ℕ) (m : MemberState) (node : IsN
       cause-later setup w count e other room node
       ∙ ap (λ t. if t then Some Refused.IsDown else first_of (refuses setup w count e) later_refusals) (sym (down_there w b part to from) ∙ down)
 
-pub recover_cause_at : (setup : Setup) (i count : ℕ) (m : MemberState) (w : World) (b : Bool) → IsNode setup i → count < setup.events_max → IsPart setup i m w → (b ≡ true → m.vector.vector.status ≡ Down) → (m.vector.vector.status ≡ Down → b ≡ true)
+pub recover_cause_at : (setup : Setup) (i count : ℕ) (m : StoredNode) (w : World) (b : Bool) → IsNode setup i → count < setup.events_max → IsPart setup i m w → (b ≡ true → m.vector.vector.status ≡ Down) → (m.vector.vector.status ≡ Down → b ≡ true)
     → cause setup w count (Event.Recover i) ≡ (if b then None else Some Refused.IsUp)
 recover_cause_at setup i count m w b node room part to from =
     let down = down_there setup (Event.Recover i) count m node room w b part to from in

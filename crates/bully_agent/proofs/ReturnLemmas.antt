@@ -12,16 +12,16 @@ use Rattle.bully_calls.specs.Slot.{Slot, SlotCall, pending_of, phased, holds_cal
 use Rattle.bully_calls.specs.declared.event.Event.{Event}
 use Rattle.bully_world.specs.Cause.{cause}
 use Rattle.bully_world.specs.NodeInvariant.{WorldInvariant, SuitsPhase}
-use Rattle.bully_world.specs.State.{MemberState, member_of}
+use Rattle.bully_world.specs.State.{StoredNode, node_state_of}
 use Rattle.bully_world.specs.StateAfter.{phased_state, with_content}
 use Rattle.bully_world.specs.Step.{Step}
-use Rattle.bully_world.specs.World.{World, Member, member, pending, vector}
+use Rattle.bully_world.specs.World.{World, NodeState, node_state, pending, vector}
 use Rattle.bully_world.proofs.CauseAt.{cause-later}
 use Rattle.bully_world.proofs.Events.Losing.{lose-cause}
 use Rattle.bully_world.proofs.Events.Returning.{return-cause}
 use Rattle.bully_world.proofs.Events.Running.{sent_is}
 use Rattle.bully_world.proofs.KeptLemmas.{kept_later}
-use Rattle.bully_world.proofs.MemberLemmas.{node_of_pending}
+use Rattle.bully_world.proofs.NodeStateLemmas.{node_of_pending}
 use Rattle.bully_world.proofs.OwnEvents.{IsNoRun}
 use Rattle.bully_world.proofs.SlotLemmas.{phased_is}
 use Rattle.bully_agent.specs.Agent.{IsAgentOf}
@@ -48,7 +48,7 @@ return_free : (setup : Setup) (w : World) (count i : ℕ) (c : Pending) → coun
 return_free setup w count i c room all is came =
     let node = node_of_pending setup w i c all is in
     let later = cause-later setup w count (Event.Return i) (λ k e. absurd (cc e)) room node.0 in
-    let tests = return-cause setup w count i (member w i) refl in
+    let tests = return-cause setup w count i (node_state w i) refl in
     grind (arith, later, tests, node.1, is, came)
 
 -- nor the loss of one whose callee is Down
@@ -56,11 +56,11 @@ lose_free : (setup : Setup) (w : World) (count i : ℕ) (c : Pending) → count 
 lose_free setup w count i c room all is unfailed down =
     let node = node_of_pending setup w i c all is in
     let later = cause-later setup w count (Event.Lose i) (λ k e. absurd (cc e)) room node.0 in
-    let tests = lose-cause setup w count i (member w i) refl in
+    let tests = lose-cause setup w count i (node_state w i) refl in
     grind (arith, later, tests, node.1, is, unfailed, down)
 
 -- a phase that follows another is as if it came alone
-phased_twice : (f g : Phase) (m : MemberState) → phased_state f (phased_state g m) ≡ phased_state f m
+phased_twice : (f g : Phase) (m : StoredNode) → phased_state f (phased_state g m) ≡ phased_state f m
 phased_twice f g m = ap (λ q. with_content q m) (twice m.slot.content)
   where
     twice : (q : Option SlotCall) → option_map (phased f) (option_map (phased g) q) ≡ option_map (phased f) q
@@ -68,15 +68,15 @@ phased_twice f g m = ap (λ q. with_content q m) (twice m.slot.content)
     twice (Some p) = refl
 
 -- the call of node i comes to the phase f, and returns
-module _ (setup : Setup) (i : ℕ) (m : MemberState) (p : SlotCall) (f : Phase) (content : m.slot.content ≡ Some p) (came : is_sent f ≡ false) where
+module _ (setup : Setup) (i : ℕ) (m : StoredNode) (p : SlotCall) (f : Phase) (content : m.slot.content ≡ Some p) (came : is_sent f ≡ false) where
   -- the call as it then is
   abbrev c : Pending
   c = record (pending_of m.generation p) { phase = f }
 
-  stands : (w : World) → member w i ≡ member_of (phased_state f m) → pending w i ≡ Some c
-  stands w here = ap (λ (x : Member). x.pending) (here ∙ phased_is m p f content)
+  stands : (w : World) → node_state w i ≡ node_state_of (phased_state f m) → pending w i ≡ Some c
+  stands w here = ap (λ (x : NodeState). x.pending) (here ∙ phased_is m p f content)
 
-  settles : (w : World) (count : ℕ) → count < setup.events_max → WorldInvariant setup w → member w i ≡ member_of (phased_state f m) → (w' : World) × Step setup w (Event.Return i) w' (returned_answer i f m) × IsPart setup i (returned_by setup i f m) w'
+  settles : (w : World) (count : ℕ) → count < setup.events_max → WorldInvariant setup w → node_state w i ≡ node_state_of (phased_state f m) → (w' : World) × Step setup w (Event.Return i) w' (returned_answer i f m) × IsPart setup i (returned_by setup i f m) w'
   settles w count room all here =
       let next = exact_follows setup (Event.Return i) w count (phased_state f m) (return_no_run i) (record { all = all; here = here; none = return_free setup w count i c room all (stands w here) came }) in
       (next.0, next.1, record { fits = next.2; like = inl next.3 })
@@ -99,18 +99,18 @@ not_ran x c a same sent ran = grind (arith, same, sent, ran)
 ran_same : (x c : Pending) (a b : Answer) → Some x ≡ Some c → x.phase ≡ Phase.Ran b → c.phase ≡ Phase.Ran a → b ≡ a
 ran_same x c a b same rb ra = grind (arith, same, rb, ra)
 
-reply_by : (setup : Setup) (i count : ℕ) (m : MemberState) (p : SlotCall) (a : Answer) (w : World) → m.slot.content ≡ Some p → p.phase ≡ Phase.Sent → count < setup.events_max → WorldInvariant setup w → HasRun i a w → IsLike m (member w i)
+reply_by : (setup : Setup) (i count : ℕ) (m : StoredNode) (p : SlotCall) (a : Answer) (w : World) → m.slot.content ≡ Some p → p.phase ≡ Phase.Sent → count < setup.events_max → WorldInvariant setup w → HasRun i a w → IsLike m (node_state w i)
     → (w' : World) × Step setup w (Event.Return i) w' (returned_answer i (Phase.Ran a) m) × IsPart setup i (returned_by setup i (Phase.Ran a) m) w'
 reply_by setup i count m p a w content sent room all q (inl here) =
-    let there : pending w i ≡ Some (pending_of m.generation p) = ap (λ (x : Member). x.pending) here ∙ ap (option_map (pending_of m.generation)) content in
+    let there : pending w i ≡ Some (pending_of m.generation p) = ap (λ (x : NodeState). x.pending) here ∙ ap (option_map (pending_of m.generation)) content in
     absurd (not_ran (pending_of m.generation p) q.call a (sym there ∙ q.is) sent q.ran)
 reply_by setup i count m p a w content sent room all q (inr u) =
     let c : Pending = record (pending_of m.generation p) { phase = Phase.Ran u.answer } in
     let there : pending w i ≡ Some c = stands setup i m p (Phase.Ran u.answer) content refl w u.ran in
     let same = ran_same c q.call a u.answer (sym there ∙ q.is) refl q.ran in
-    settles setup i m p (Phase.Ran a) content refl w count room all (u.ran ∙ ap (λ x. member_of (phased_state (Phase.Ran x) m)) same)
+    settles setup i m p (Phase.Ran a) content refl w count room all (u.ran ∙ ap (λ x. node_state_of (phased_state (Phase.Ran x) m)) same)
 
-pub reply_follows : (setup : Setup) (i count : ℕ) (m : MemberState) (a : Answer) → count < setup.events_max → CanReturn m.slot a → FollowsAt (HasRun i a) setup i m (Event.Return i) (returned_answer i (Phase.Ran a) m) (returned_by setup i (Phase.Ran a) m)
+pub reply_follows : (setup : Setup) (i count : ℕ) (m : StoredNode) (a : Answer) → count < setup.events_max → CanReturn m.slot a → FollowsAt (HasRun i a) setup i m (Event.Return i) (returned_answer i (Phase.Ran a) m) (returned_by setup i (Phase.Ran a) m)
 reply_follows setup i count m a room can w part q =
     let there = sent_call m.slot can.sent in
     reply_by setup i count m there.0 a w there.1 there.2 room part.fits q part.like
@@ -133,12 +133,12 @@ yes_or_no kind Answer.Done s = elim s [ ]
 yes_or_no kind Answer.Failed s = elim s [ ]
 yes_or_no kind Answer.Discarded s = elim s [ ]
 
-pub reply_agent : (setup : Setup) (i count : ℕ) (m : MemberState) (a : Answer) → count < setup.events_max → IsAgentOf setup i count m → CanReturn m.slot a → IsAgentOf setup i (count + 1) (returned_by setup i (Phase.Ran a) m)
+pub reply_agent : (setup : Setup) (i count : ℕ) (m : StoredNode) (a : Answer) → count < setup.events_max → IsAgentOf setup i count m → CanReturn m.slot a → IsAgentOf setup i (count + 1) (returned_by setup i (Phase.Ran a) m)
 reply_agent setup i count m a room is can =
     let there = sent_call m.slot can.sent in
     settled_agent setup i m there.0 (Phase.Ran a) there.1 refl count room is (suits_reply m.slot a there.0 can there.1)
 
-pub reply_outcome : (setup : Setup) (i : ℕ) (m : MemberState) (a : Answer) → CanReturn m.slot a → IsSome (outcome_in (phased_state (Phase.Ran a) m).slot)
+pub reply_outcome : (setup : Setup) (i : ℕ) (m : StoredNode) (a : Answer) → CanReturn m.slot a → IsSome (outcome_in (phased_state (Phase.Ran a) m).slot)
 reply_outcome setup i m a can =
     let there = sent_call m.slot can.sent in
     phased_outcome setup i m there.0 (Phase.Ran a) there.1 refl (some_outcome there.0.call.kind a (suits_reply m.slot a there.0 can there.1))
@@ -150,11 +150,11 @@ reply_answers s a can =
 
 -- A failure.
 
-lost_by : (setup : Setup) (i count : ℕ) (m : MemberState) (p : SlotCall) (w : World) → m.slot.content ≡ Some p → p.phase ≡ Phase.Sent → count < setup.events_max → WorldInvariant setup w → (vector w p.call.callee).status ≡ Down → IsLike m (member w i)
-    → (mid : World) × Step setup w (Event.Lose i) mid Answer.Done × WorldInvariant setup mid × (member mid i ≡ member_of (phased_state Phase.Failed m))
+lost_by : (setup : Setup) (i count : ℕ) (m : StoredNode) (p : SlotCall) (w : World) → m.slot.content ≡ Some p → p.phase ≡ Phase.Sent → count < setup.events_max → WorldInvariant setup w → (vector w p.call.callee).status ≡ Down → IsLike m (node_state w i)
+    → (mid : World) × Step setup w (Event.Lose i) mid Answer.Done × WorldInvariant setup mid × (node_state mid i ≡ node_state_of (phased_state Phase.Failed m))
 lost_by setup i count m p w content sent room all down (inl here) =
     let c = pending_of m.generation p in
-    let there : pending w i ≡ Some c = ap (λ (x : Member). x.pending) here ∙ ap (option_map (pending_of m.generation)) content in
+    let there : pending w i ≡ Some c = ap (λ (x : NodeState). x.pending) here ∙ ap (option_map (pending_of m.generation)) content in
     let unfailed : is_failed p.phase ≡ false = ap is_failed sent in
     exact_follows setup (Event.Lose i) w count m (lose_no_run i) (record { all = all; here = here; none = lose_free setup w count i c room all there unfailed down })
 lost_by setup i count m p w content sent room all down (inr u) =
@@ -162,9 +162,9 @@ lost_by setup i count m p w content sent room all down (inr u) =
     let c : Pending = record (pending_of m.generation p) { phase = f } in
     let there : pending w i ≡ Some c = stands setup i m p f content refl w u.ran in
     let next = exact_follows setup (Event.Lose i) w count (phased_state f m) (lose_no_run i) (record { all = all; here = u.ran; none = lose_free setup w count i c room all there refl down }) in
-    (next.0, next.1, next.2, next.3 ∙ ap member_of (phased_twice Phase.Failed f m))
+    (next.0, next.1, next.2, next.3 ∙ ap node_state_of (phased_twice Phase.Failed f m))
 
-pub failure_loses : (setup : Setup) (i count : ℕ) (m : MemberState) → count < setup.events_max → holds_call is_sent m.slot ≡ true
+pub failure_loses : (setup : Setup) (i count : ℕ) (m : StoredNode) → count < setup.events_max → holds_call is_sent m.slot ≡ true
     → FollowsAt (CalleeIsDown m.slot) setup i m (Event.Lose i) Answer.Done (phased_state Phase.Failed m)
 failure_loses setup i count m room sent w part down =
     let there = sent_call m.slot sent in
@@ -173,7 +173,7 @@ failure_loses setup i count m room sent w part down =
     (lost.0, lost.1, record { fits = lost.2; like = inl lost.3 })
 
 -- a call that failed has no reply under way
-lost_like : (m : MemberState) (p : SlotCall) (x : Member) → m.slot.content ≡ Some p → IsLike (phased_state Phase.Failed m) x → x ≡ member_of (phased_state Phase.Failed m)
+lost_like : (m : StoredNode) (p : SlotCall) (x : NodeState) → m.slot.content ≡ Some p → IsLike (phased_state Phase.Failed m) x → x ≡ node_state_of (phased_state Phase.Failed m)
 lost_like m p x content (inl here) = here
 lost_like m p x content (inr u) =
     absurd (not_both (ap (λ q. option_map_or (λ (y : SlotCall). is_sent y.phase) (option_map (phased Phase.Failed) q) false) (sym content) ∙ u.sent))
@@ -181,20 +181,20 @@ lost_like m p x content (inr u) =
     not_both : false ≡ true → ⊥
     not_both e = cc e
 
-pub failure_returns : (setup : Setup) (i count : ℕ) (m : MemberState) → count < setup.events_max → holds_call is_sent m.slot ≡ true
+pub failure_returns : (setup : Setup) (i count : ℕ) (m : StoredNode) → count < setup.events_max → holds_call is_sent m.slot ≡ true
     → FollowsAt Always setup i (phased_state Phase.Failed m) (Event.Return i) (returned_answer i Phase.Failed m) (returned_by setup i Phase.Failed m)
 failure_returns setup i count m room sent w part met =
     let there = sent_call m.slot sent in
-    settles setup i m there.0 Phase.Failed there.1 refl w count room part.fits (lost_like m there.0 (member w i) there.1 part.like)
+    settles setup i m there.0 Phase.Failed there.1 refl w count room part.fits (lost_like m there.0 (node_state w i) there.1 part.like)
 
-pub failure_agent : (setup : Setup) (i count : ℕ) (m : MemberState) → count + 1 < setup.events_max → IsAgentOf setup i count m → holds_call is_sent m.slot ≡ true → IsAgentOf setup i (count + 2) (returned_by setup i Phase.Failed m)
+pub failure_agent : (setup : Setup) (i count : ℕ) (m : StoredNode) → count + 1 < setup.events_max → IsAgentOf setup i count m → holds_call is_sent m.slot ≡ true → IsAgentOf setup i (count + 2) (returned_by setup i Phase.Failed m)
 failure_agent setup i count m room is sent =
     let there = sent_call m.slot sent in
     let later : IsAgentOf setup i (count + 1) m = record { is_node = is.is_node; fits = is.fits; kept = kept_later setup count i m is.kept } in
     let two : count + 1 + 1 ≡ count + 2 = omega arith in
     subst (λ n. IsAgentOf setup i n (returned_by setup i Phase.Failed m)) two (settled_agent setup i m there.0 Phase.Failed there.1 refl (count + 1) room later tt)
 
-pub failure_outcome : (setup : Setup) (i : ℕ) (m : MemberState) → holds_call is_sent m.slot ≡ true → IsSome (outcome_in (phased_state Phase.Failed m).slot)
+pub failure_outcome : (setup : Setup) (i : ℕ) (m : StoredNode) → holds_call is_sent m.slot ≡ true → IsSome (outcome_in (phased_state Phase.Failed m).slot)
 failure_outcome setup i m sent =
     let there = sent_call m.slot sent in
     phased_outcome setup i m there.0 Phase.Failed there.1 refl refl

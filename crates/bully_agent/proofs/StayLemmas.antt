@@ -14,26 +14,26 @@ use Rattle.bully_calls.specs.declared.event.Event.{Event}
 use Rattle.bully_calls.specs.Events.{node_of}
 use Rattle.bully_world.specs.NodeInvariant.{WorldInvariant}
 use Rattle.bully_world.specs.Step.{Step, IsUp, called, ran, stopped_by}
-use Rattle.bully_world.specs.World.{World, Member, member, pending, with_member}
+use Rattle.bully_world.specs.World.{World, NodeState, node_state, pending, with_node_state}
 use Rattle.bully_world.proofs.Events.{own_other}
-use Rattle.bully_world.proofs.MemberLemmas.{member_here, node_of_pending}
+use Rattle.bully_world.proofs.NodeStateLemmas.{node_state_here, node_of_pending}
 use Rattle.bully_world.proofs.RunInvariant.{ran_other, ran_there}
 use Rattle.bully_agent.specs.Calls.{HasRun}
 use Rattle.bully_agent.specs.Laws.{RunsStay, ends_call}
 
--- the member's call ran with this answer
-record Ran (answer : Answer) (x : Member) : Type 0 where
+-- the state's call ran with this answer
+record Ran (answer : Answer) (x : NodeState) : Type 0 where
   call : Pending
   is : x.pending ≡ Some call
   phase : call.phase ≡ Phase.Ran answer
 
-stays : (i : ℕ) (answer : Answer) (w w' : World) → HasRun i answer w → (Ran answer (member w i) → Ran answer (member w' i)) → HasRun i answer w'
+stays : (i : ℕ) (answer : Answer) (w w' : World) → HasRun i answer w → (Ran answer (node_state w i) → Ran answer (node_state w' i)) → HasRun i answer w'
 stays i answer w w' h more =
     let next = more (record { call = h.call; is = h.is; phase = h.ran }) in
     record { call = next.call; is = next.is; ran = next.phase }
 
 -- a call that comes to the node makes an orphan of its own one, at most
-heard_ran : (j : ℕ) (c : Pending) (answer : Answer) (x : Member) → Ran answer x → Ran answer (called j c x)
+heard_ran : (j : ℕ) (c : Pending) (answer : Answer) (x : NodeState) → Ran answer x → Ran answer (called j c x)
 heard_ran j c answer x r = by_kind c.call.kind (callee_after j c.call.kind c.table x.vector)
   where
     by_kind : (kind : CallKind) (v : Vector) → Ran answer (stopped_by kind (record x { vector = v }))
@@ -44,56 +44,56 @@ heard_ran j c answer x r = by_kind c.call.kind (callee_after j c.call.kind c.tab
     by_kind Ready v = record { call = r.call; is = r.is; phase = r.phase }
 
 -- what a node with such a call can't do, and what leaves its call as it is
-no_call : (answer : Answer) (x : Member) → Ran answer x → x.pending ≡ None → ⊥
+no_call : (answer : Answer) (x : NodeState) → Ran answer x → x.pending ≡ None → ⊥
 no_call answer x r none = grind (arith, r.is, none)
 
-not_sent : (answer : Answer) (x : Member) (c : Pending) → Ran answer x → x.pending ≡ Some c → c.phase ≡ Phase.Sent → ⊥
+not_sent : (answer : Answer) (x : NodeState) (c : Pending) → Ran answer x → x.pending ≡ Some c → c.phase ≡ Phase.Sent → ⊥
 not_sent answer x c r is sent = grind (arith, r.is, r.phase, is, sent)
 
-same_pending : (answer : Answer) (x y : Member) → y.pending ≡ x.pending → Ran answer x → Ran answer y
+same_pending : (answer : Answer) (x y : NodeState) → y.pending ≡ x.pending → Ran answer x → Ran answer y
 same_pending answer x y same r = record { call = r.call; is = same ∙ r.is; phase = r.phase }
 
 module _ (setup : Setup) (w : World) (i : ℕ) (answer : Answer) (all : WorldInvariant setup w) (h : HasRun i answer w) where
-  abbrev here : Ran answer (member w i)
+  abbrev here : Ran answer (node_state w i)
   here = record { call = h.call; is = h.is; phase = h.ran }
 
   node : IsNode setup i
   node = (node_of_pending setup w i h.call all h.is).0
 
   -- its node is written, and its call stays
-  written : (w' : World) (m : Member) → w' ≡ with_member w i m → m.pending ≡ pending w i → Ran answer (member w' i)
-  written w' m becomes same = same_pending answer (member w i) (member w' i) (ap (λ (v : World). pending v i) becomes ∙ (ap (λ (x : Member). x.pending) (member_here setup w i m all node) ∙ same)) here
+  written : (w' : World) (m : NodeState) → w' ≡ with_node_state w i m → m.pending ≡ pending w i → Ran answer (node_state w' i)
+  written w' m becomes same = same_pending answer (node_state w i) (node_state w' i) (ap (λ (v : World). pending v i) becomes ∙ (ap (λ (x : NodeState). x.pending) (node_state_here setup w i m all node) ∙ same)) here
 
   -- another call runs
-  other_ran : (j : ℕ) (c : Pending) → pending w j ≡ Some c → IsUp w c.call.callee → i ≢ j → (i ≡ c.call.callee) ⊎ (i ≢ c.call.callee) → Ran answer (member (ran w j c) i)
+  other_ran : (j : ℕ) (c : Pending) → pending w j ≡ Some c → IsUp w c.call.callee → i ≢ j → (i ≡ c.call.callee) ⊎ (i ≢ c.call.callee) → Ran answer (node_state (ran w j c) i)
   other_ran j c is up d (inl same) =
-      subst (λ k. Ran answer (member (ran w j c) k)) (sym same)
-      (subst (Ran answer) (sym (ran_there setup w j c all is up)) (heard_ran j c answer (member w c.call.callee) (subst (λ k. Ran answer (member w k)) same here)))
+      subst (λ k. Ran answer (node_state (ran w j c) k)) (sym same)
+      (subst (Ran answer) (sym (ran_there setup w j c all is up)) (heard_ran j c answer (node_state w c.call.callee) (subst (λ k. Ran answer (node_state w k)) same here)))
   other_ran j c is up d (inr e) = subst (Ran answer) (sym (ran_other setup w j c all is up i d e)) here
 
 is_itself : (i : ℕ) → i == i ≡ false → ⊥
 is_itself i e = absurd (grind (arith, nat_tests, e))
 
-own_stays : (setup : Setup) (w w' : World) (e : Event) (a : Answer) (answer : Answer) → WorldInvariant setup w → Step setup w e w' a → ends_call e (node_of e) ≡ false → HasRun (node_of e) answer w → Ran answer (member w' (node_of e))
+own_stays : (setup : Setup) (w w' : World) (e : Event) (a : Answer) (answer : Answer) → WorldInvariant setup w → Step setup w e w' a → ends_call e (node_of e) ≡ false → HasRun (node_of e) answer w → Ran answer (node_state w' (node_of e))
 own_stays setup w w' (Event.Recover i) a answer all s ends h = written setup w i answer all h w' _ s.2 refl
 own_stays setup w w' (Event.Crash i) a answer all s ends h = absurd (is_itself i ends)
 own_stays setup w w' (Event.Check i) a answer all s ends h = written setup w i answer all h w' _ s.2 refl
 own_stays setup w w' (Event.Timeout i) a answer all s ends h = written setup w i answer all h w' _ s.2 refl
-own_stays setup w w' (Event.Start i) a answer all s ends h = absurd (no_call answer (member w i) (here setup w i answer all h) s.1)
-own_stays setup w w' (Event.Run i) a answer all s ends h = absurd (not_sent answer (member w i) s.0 (here setup w i answer all h) s.1 s.2)
+own_stays setup w w' (Event.Start i) a answer all s ends h = absurd (no_call answer (node_state w i) (here setup w i answer all h) s.1)
+own_stays setup w w' (Event.Run i) a answer all s ends h = absurd (not_sent answer (node_state w i) s.0 (here setup w i answer all h) s.1 s.2)
 own_stays setup w w' (Event.Lose i) a answer all s ends h = absurd (is_itself i ends)
 own_stays setup w w' (Event.Return i) a answer all s ends h = absurd (is_itself i ends)
 own_stays setup w w' (Event.Drop i) a answer all s ends h = absurd (is_itself i ends)
-own_stays setup w w' (Event.Move i) a answer all s ends h = absurd (no_call answer (member w i) (here setup w i answer all h) s.1)
-own_stays setup w w' (Event.Plan i table) a answer all s ends h = absurd (no_call answer (member w i) (here setup w i answer all h) s.1)
+own_stays setup w w' (Event.Move i) a answer all s ends h = absurd (no_call answer (node_state w i) (here setup w i answer all h) s.1)
+own_stays setup w w' (Event.Plan i table) a answer all s ends h = absurd (no_call answer (node_state w i) (here setup w i answer all h) s.1)
 
-other_stays : (setup : Setup) (w w' : World) (e : Event) (a : Answer) (i : ℕ) (answer : Answer) → WorldInvariant setup w → Step setup w e w' a → i ≢ node_of e → HasRun i answer w → Ran answer (member w' i)
-other_stays setup w w' (Event.Run j) a i answer all s d h = subst (λ (v : World). Ran answer (member v i)) (sym s.4) (other_ran setup w i answer all h j s.0 s.1 s.3 d (grind arith))
+other_stays : (setup : Setup) (w w' : World) (e : Event) (a : Answer) (i : ℕ) (answer : Answer) → WorldInvariant setup w → Step setup w e w' a → i ≢ node_of e → HasRun i answer w → Ran answer (node_state w' i)
+other_stays setup w w' (Event.Run j) a i answer all s d h = subst (λ (v : World). Ran answer (node_state v i)) (sym s.4) (other_ran setup w i answer all h j s.0 s.1 s.3 d (grind arith))
 other_stays setup w w' e a i answer all s d h = subst (Ran answer) (sym (own_other setup w w' e a i (λ k same. absurd (cc same)) s d)) (here setup w i answer all h)
 
-by_node : (setup : Setup) (w w' : World) (e : Event) (a : Answer) (i : ℕ) (answer : Answer) → WorldInvariant setup w → Step setup w e w' a → ends_call e i ≡ false → HasRun i answer w → (i ≡ node_of e) ⊎ (i ≢ node_of e) → Ran answer (member w' i)
+by_node : (setup : Setup) (w w' : World) (e : Event) (a : Answer) (i : ℕ) (answer : Answer) → WorldInvariant setup w → Step setup w e w' a → ends_call e i ≡ false → HasRun i answer w → (i ≡ node_of e) ⊎ (i ≢ node_of e) → Ran answer (node_state w' i)
 by_node setup w w' e a i answer all s ends h (inl same) =
-    subst (λ k. Ran answer (member w' k)) (sym same) (own_stays setup w w' e a answer all s (subst (λ k. ends_call e k ≡ false) same ends) (subst (λ k. HasRun k answer w) same h))
+    subst (λ k. Ran answer (node_state w' k)) (sym same) (own_stays setup w w' e a answer all s (subst (λ k. ends_call e k ≡ false) same ends) (subst (λ k. HasRun k answer w) same h))
 by_node setup w w' e a i answer all s ends h (inr d) = other_stays setup w w' e a i answer all s d h
 
 pub runs_stay_lem : RunsStay

@@ -10,9 +10,9 @@ use Rattle.bully_calls.specs.declared.event.Event.{Event}
 use Rattle.bully_calls.specs.declared.event.Refused.{Refused}
 use Rattle.bully_world.specs.declared.take.TakenStep.{TakenStep}
 use Rattle.bully_world.specs.NodeInvariant.{NodeInvariant}
-use Rattle.bully_world.specs.State.{MemberState, member_of, IsKept}
+use Rattle.bully_world.specs.State.{StoredNode, node_state_of, IsKept}
 use Rattle.bully_world.specs.StateAfter.{down_state, node_after, node_answer}
-use Rattle.bully_world.specs.World.{World, Member}
+use Rattle.bully_world.specs.World.{World, NodeState}
 use Rattle.bully_agent.specs.Part.{IsPart, FollowsAt, IsRefusedAt, Always}
 
 -- the setup, the node, how many events the agent told, the number of its last call, and what it keeps of the node
@@ -21,38 +21,38 @@ pub record AgentState : Type 0 where
   pub node : ℕ
   pub events : ℕ
   pub number : ℕ
-  pub member : MemberState
+  pub node_state : StoredNode
 
 -- what is kept of node i, which told so many events, whatever the world is
-pub record IsAgentOf (setup : Setup) (i events : ℕ) (m : MemberState) : Type 0 where
+pub record IsAgentOf (setup : Setup) (i events : ℕ) (m : StoredNode) : Type 0 where
   pub is_node : IsNode setup i
-  pub fits : NodeInvariant setup i (member_of m)
+  pub fits : NodeInvariant setup i (node_state_of m)
   pub kept : IsKept setup events i m
 
 -- the agent may be its node in this world
 abbrev pub PartOf : AgentState → World → Type 0
-PartOf a w = IsPart a.setup a.node a.member w
+PartOf a w = IsPart a.setup a.node a.node_state w
 
 -- in every world of which the agent may be a part, and in which the premise holds, the event leads on with this answer,
 -- and the new agent is a part of the world that comes
 abbrev pub Follows : (World → Type 0) → AgentState → Event → Answer → AgentState → Type 0
-Follows Premise old e answer new = FollowsAt Premise old.setup old.node old.member e answer new.member
+Follows Premise old e answer new = FollowsAt Premise old.setup old.node old.node_state e answer new.node_state
 
 -- in every such world this is why the event is refused, with as many events applied as the agent told
 abbrev pub IsRefused : (World → Type 0) → AgentState → Event → Refused → Type 0
-IsRefused Premise old e why = IsRefusedAt Premise old.setup old.node old.events old.member e why
+IsRefused Premise old e why = IsRefusedAt Premise old.setup old.node old.events old.node_state e why
 
 -- an agent of node i, which is Down and has kept this task, with so many events told before
 abbrev pub new_agent : Setup → ℕ → ℕ → Option (List ℕ) → AgentState
-new_agent setup i events task = record { setup = setup; node = i; events = events; number = events; member = down_state setup.partitions task }
+new_agent setup i events task = record { setup = setup; node = i; events = events; number = events; node_state = down_state setup.partitions task }
 
 -- what a world has of such a node
-abbrev pub down_member : Option (List ℕ) → Member
-down_member task = record { vector = record empty_vector { task = task }; point = Idle; pending = None }
+abbrev pub down_node_state : Option (List ℕ) → NodeState
+down_node_state task = record { vector = record empty_vector { task = task }; point = Idle; pending = None }
 
 -- what it wants to do next: to await where a call is in its slot, else what its point offers
 abbrev pub wanted : AgentState → Want
-wanted a = if is_some a.member.slot.content then Want.Await else offered a.setup a.member.vector.vector.coordinator a.member.point
+wanted a = if is_some a.node_state.slot.content then Want.Await else offered a.setup a.node_state.vector.vector.coordinator a.node_state.point
 
 -- the event is one that a node takes by itself: it needs no other node, no request and no reply
 abbrev pub IsAlone : Event → Type 0
@@ -75,13 +75,13 @@ number_after e events number = number
 
 -- the agent after such an event
 abbrev pub agent_after : Event → AgentState → AgentState
-agent_after e a = record a { events = a.events + 1; number = number_after e a.events a.number; member = node_after a.setup e a.member }
+agent_after e a = record a { events = a.events + 1; number = number_after e a.events a.number; node_state = node_after a.setup e a.node_state }
 
 -- the agent took the event, for which there was room: it tells event and answer, is what the event makes of it, and the
 -- event leads on in every world of which it may be a part
 pub record IsTaken (old : AgentState) (e : Event) (new : AgentState) (taken : TakenStep) : Type 0 where
   pub room : old.events < old.setup.events_max
   pub event : taken.event ≡ e
-  pub answer : taken.answer ≡ node_answer e old.member
+  pub answer : taken.answer ≡ node_answer e old.node_state
   pub after : new ≡ agent_after e old
   pub follows : Follows Always old e taken.answer new

@@ -13,7 +13,7 @@ use Rattle.bully_calls.specs.declared.event.Event.{Event}
 use Rattle.bully_calls.specs.declared.event.Refused.{Refused}
 use Rattle.bully_world.specs.declared.take.TakenStep.{TakenStep}
 use Rattle.bully_world.specs.NodeInvariant.{SuitsCallee, SuitsPhase, SuitsTable}
-use Rattle.bully_world.specs.State.{MemberState}
+use Rattle.bully_world.specs.State.{StoredNode}
 use Rattle.bully_world.specs.StateAfter.{heard_state, node_after, node_answer, phased_state}
 use Rattle.bully_world.specs.Step.{Step}
 use Rattle.bully_world.specs.World.{World, pending, vector}
@@ -44,7 +44,7 @@ request_in a None = None
 request_in a (Some p) = if is_sent p.phase then Some (record { caller = a.node; number = a.number; call = p.call; table = p.table }) else None
 
 abbrev pub request_of : AgentState → Option Request
-request_of a = request_in a a.member.slot.content
+request_of a = request_in a a.node_state.slot.content
 
 -- node i's call was sent, and didn't run yet
 pub record IsWaiting (i : ℕ) (w : World) : Type 0 where
@@ -58,7 +58,7 @@ abbrev pub GivesOut : AgentState → Option Request → Type 0
 GivesOut a given = IfSome given (λ r. (w : World) → PartOf a w → IsWaiting a.node w → IsRequested r.call.callee r w)
 
 -- nothing refuses the request at node i, of which this is kept
-pub record CanServe (setup : Setup) (i events : ℕ) (m : MemberState) (request : Request) : Type 0 where
+pub record CanServe (setup : Setup) (i events : ℕ) (m : StoredNode) (request : Request) : Type 0 where
   pub room : events < setup.events_max
   pub caller : IsNode setup request.caller
   pub suits : SuitsNode setup i request
@@ -66,7 +66,7 @@ pub record CanServe (setup : Setup) (i events : ℕ) (m : MemberState) (request 
 
 -- why a request is refused, the first of these that holds: no room for the event, a caller above the setup's last node, a
 -- request that may not come to node i, a node that is Down
-abbrev pub RefusesRequest : Setup → ℕ → ℕ → MemberState → Request → Refused → Type 0
+abbrev pub RefusesRequest : Setup → ℕ → ℕ → StoredNode → Request → Refused → Type 0
 RefusesRequest setup i events m r Refused.Full = setup.events_max ≤ events
 RefusesRequest setup i events m r Refused.BadNode = (events < setup.events_max) × (setup.nodes < r.caller)
 RefusesRequest setup i events m r Refused.NoCall = (events < setup.events_max) × IsNode setup r.caller × (SuitsNode setup i r → ⊥)
@@ -76,10 +76,10 @@ RefusesRequest setup i events m r _ = ⊥
 -- the request ran at the agent, where nothing refused it: it tells the event and the reply, is what the call makes of it,
 -- and the event leads on in every world of which it may be a part, and in which this is the caller's call
 pub record IsServed (old : AgentState) (request : Request) (new : AgentState) (served : Served) : Type 0 where
-  pub can : CanServe old.setup old.node old.events old.member request
+  pub can : CanServe old.setup old.node old.events old.node_state request
   pub event : served.event ≡ Event.Run request.caller
-  pub answered : served.reply ≡ record { caller = request.caller; number = request.number; answer = reply request.call.kind old.member.vector.vector }
-  pub after : new ≡ record old { events = old.events + 1; member = heard_state request.caller request.call request.table old.member }
+  pub answered : served.reply ≡ record { caller = request.caller; number = request.number; answer = reply request.call.kind old.node_state.vector.vector }
+  pub after : new ≡ record old { events = old.events + 1; node_state = heard_state request.caller request.call request.table old.node_state }
   pub follows : Follows (IsRequested old.node request) old (Event.Run request.caller) served.reply.answer new
 
 -- node i's call ran with this answer
@@ -104,18 +104,18 @@ pub record CanReturn (slot : Slot) (answer : Answer) : Type 0 where
 pub record IsDue (a : AgentState) (reply : Reply) : Type 0 where
   pub caller : reply.caller ≡ a.node
   pub number : reply.number ≡ a.number
-  pub can : CanReturn a.member.slot reply.answer
+  pub can : CanReturn a.node_state.slot reply.answer
 
 -- the reply is one to the call of each agent that gives out this request
 abbrev pub IsReplyTo : Request → Reply → Type 0
 IsReplyTo request reply = (a : AgentState) → request_of a ≡ Some request → IsDue a reply
 
 -- what is kept of a node once its call came to this phase and returned
-abbrev pub returned_by : Setup → ℕ → Phase → MemberState → MemberState
+abbrev pub returned_by : Setup → ℕ → Phase → StoredNode → StoredNode
 returned_by setup i f m = node_after setup (Event.Return i) (phased_state f m)
 
 -- what that return is answered
-abbrev pub returned_answer : ℕ → Phase → MemberState → Answer
+abbrev pub returned_answer : ℕ → Phase → StoredNode → Answer
 returned_answer i f m = node_answer (Event.Return i) (phased_state f m)
 
 -- the agent's call returned with the reply, which is one to it, and for which there was room
@@ -123,8 +123,8 @@ pub record IsReturned (old : AgentState) (reply : Reply) (new : AgentState) (tak
   pub room : old.events < old.setup.events_max
   pub due : IsDue old reply
   pub event : taken.event ≡ Event.Return old.node
-  pub answer : taken.answer ≡ returned_answer old.node (Phase.Ran reply.answer) old.member
-  pub after : new ≡ record old { events = old.events + 1; member = returned_by old.setup old.node (Phase.Ran reply.answer) old.member }
+  pub answer : taken.answer ≡ returned_answer old.node (Phase.Ran reply.answer) old.node_state
+  pub after : new ≡ record old { events = old.events + 1; node_state = returned_by old.setup old.node (Phase.Ran reply.answer) old.node_state }
   pub follows : Follows (HasRun old.node reply.answer) old (Event.Return old.node) taken.answer new
 
 -- why a reply is refused: the agent told as many events as the setup bounds, or else it isn't one to its call
@@ -140,7 +140,7 @@ CalleeIsDown slot w = IfSome slot.content (λ p. (vector w p.call.callee).status
 -- the call of this number is the agent's, and under way
 pub record IsAwaited (a : AgentState) (number : ℕ) : Type 0 where
   pub number_is : number ≡ a.number
-  pub sent : holds_call is_sent a.member.slot ≡ true
+  pub sent : holds_call is_sent a.node_state.slot ≡ true
 
 -- the agent's call, the one of this number, failed, which leads on in every world of which the agent may be a part and where
 -- the callee is Down, and returned, which leads on from there; there was room for both events
@@ -149,10 +149,10 @@ pub record IsFailed (old : AgentState) (number : ℕ) (new : AgentState) (failed
   pub awaited : IsAwaited old number
   pub lost : failed.lost ≡ Event.Lose old.node
   pub event : failed.returned.event ≡ Event.Return old.node
-  pub answer : failed.returned.answer ≡ returned_answer old.node Phase.Failed old.member
-  pub after : new ≡ record old { events = old.events + 2; member = returned_by old.setup old.node Phase.Failed old.member }
-  pub loses : FollowsAt (CalleeIsDown old.member.slot) old.setup old.node old.member (Event.Lose old.node) Answer.Done (phased_state Phase.Failed old.member)
-  pub follows : FollowsAt Always old.setup old.node (phased_state Phase.Failed old.member) (Event.Return old.node) failed.returned.answer new.member
+  pub answer : failed.returned.answer ≡ returned_answer old.node Phase.Failed old.node_state
+  pub after : new ≡ record old { events = old.events + 2; node_state = returned_by old.setup old.node Phase.Failed old.node_state }
+  pub loses : FollowsAt (CalleeIsDown old.node_state.slot) old.setup old.node old.node_state (Event.Lose old.node) Answer.Done (phased_state Phase.Failed old.node_state)
+  pub follows : FollowsAt Always old.setup old.node (phased_state Phase.Failed old.node_state) (Event.Return old.node) failed.returned.answer new.node_state
 
 -- why a failure is refused: there isn't room for two events, or else no such call is under way
 abbrev pub RefusesFailure : AgentState → ℕ → Refused → Type 0

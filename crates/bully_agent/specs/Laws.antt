@@ -9,7 +9,7 @@ use Rattle.bully_calls.specs.declared.event.Event.{Event}
 use Rattle.bully_calls.specs.Events.{node_of}
 use Rattle.bully_world.specs.Lawful.{IsLawful}
 use Rattle.bully_world.specs.NodeInvariant.{TakesPart, WorldInvariant}
-use Rattle.bully_world.specs.State.{MemberState}
+use Rattle.bully_world.specs.State.{StoredNode}
 use Rattle.bully_world.specs.Step.{Step}
 use Rattle.bully_world.specs.World.{World, pending}
 use Rattle.bully_agent.specs.Calls.{HasRun}
@@ -26,22 +26,22 @@ place_of w e = node_of e
 
 -- what is kept of every node but the one at which a step takes place is a part of the world that comes
 abbrev pub KeepsOthers : Type 0
-KeepsOthers = (setup : Setup) (w w' : World) (e : Event) (a : Answer) (k : ℕ) (m : MemberState)
+KeepsOthers = (setup : Setup) (w w' : World) (e : Event) (a : Answer) (k : ℕ) (m : StoredNode)
     → Step setup w e w' a → k ≢ place_of w e → IsPart setup k m w → IsPart setup k m w'
 
 -- what is kept of each node is a part of the world
-abbrev pub AreParts : Setup → (ℕ → MemberState) → World → Type 0
+abbrev pub AreParts : Setup → (ℕ → StoredNode) → World → Type 0
 AreParts setup kept w = (k : ℕ) → IsNode setup k → IsPart setup k (kept k) w
 
 -- the same, with node i's written anew
-abbrev pub with_part : (ℕ → MemberState) → ℕ → MemberState → ℕ → MemberState
+abbrev pub with_part : (ℕ → StoredNode) → ℕ → StoredNode → ℕ → StoredNode
 with_part kept i next k = if k == i then next else kept k
 
 -- Where a lawful list leads to a world of which all nodes are parts, and with room for one event more: a step at node i,
 -- after which what comes of it is a part of the world, makes the list longer by one, and lawful still, and all nodes are
 -- parts of the world to which it leads.
 abbrev pub GroupGoesOn : Type 0
-GroupGoesOn = (setup : Setup) (events : List Event) (answers : List Answer) (w w' : World) (kept : ℕ → MemberState) (i : ℕ) (e : Event) (a : Answer) (next : MemberState)
+GroupGoesOn = (setup : Setup) (events : List Event) (answers : List Answer) (w w' : World) (kept : ℕ → StoredNode) (i : ℕ) (e : Event) (a : Answer) (next : StoredNode)
     → IsLawful setup events answers w → length events < setup.events_max → AreParts setup kept w
     → Step setup w e w' a → place_of w e ≡ i → IsPart setup i next w'
     → IsLawful setup (events ++ e ∷ []) (answers ++ a ∷ []) w' × AreParts setup (with_part kept i next) w'
@@ -69,4 +69,4 @@ pub record Agree (v u : Vector) : Type 0 where
 -- any two nodes that are parts of a world that a lawful list leads to agree; 'any two' is also a node and itself
 abbrev pub PartsAgree : Type 0
 PartsAgree = (setup : Setup) (events : List Event) (answers : List Answer) (w : World) → IsLawful setup events answers w
-    → (i j : ℕ) (m n : MemberState) → IsPart setup i m w → IsPart setup j n w → Agree m.vector.vector n.vector.vector
+    → (i j : ℕ) (m n : StoredNode) → IsPart setup i m w → IsPart setup j n w → Agree m.vector.vector n.vector.vector

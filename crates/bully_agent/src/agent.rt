@@ -1,11 +1,11 @@
 ghost use Rattle.std.specs.Prelude.{◌≡◌, ◌≤◌, ◌↔◌, None, length, IfOk, IfErr, IfSome, IsTrue};
 ghost use Rattle.std.specs.Option.{option_copied};
 ghost use Rattle.bully_world.specs.NodeInvariant.{WorldInvariant};
-ghost use Rattle.bully_world.specs.World.{World, member, first_world};
+ghost use Rattle.bully_world.specs.World.{World, node_state, first_world};
 ghost use Rattle.bully_base.specs.NodeSet.{with_node};
 ghost use Rattle.bully_table.specs.Planning.{planned};
 ghost use Rattle.bully_calls.specs.Events.{node_of};
-ghost use Rattle.bully_agent.specs.Agent.{IsAlone, IsRefused, IsTaken, PartOf, down_member, new_agent, number_after, wanted};
+ghost use Rattle.bully_agent.specs.Agent.{IsAlone, IsRefused, IsTaken, PartOf, down_node_state, new_agent, number_after, wanted};
 ghost use Rattle.bully_agent.specs.Calls.{GivesOut, IsAwaited, IsDue, IsFailed, IsReplyTo, IsRequested, IsReturned, IsServed, RefusesFailure, RefusesReply, RefusesRequest, TellsRun, request_of};
 ghost use Rattle.bully_agent.specs.Part.{Always};
 
@@ -19,7 +19,7 @@ use bully_calls::{Reply, Request, Slot};
 use bully_handlers::Vector;
 use bully_steps::{Point, Want};
 use bully_table::Table;
-use bully_world::{Event, Member, Refused, TakenStep};
+use bully_world::{Event, NodeState, Refused, TakenStep};
 use std::alloc::Global;
 use std::marker::Model;
 
@@ -34,7 +34,7 @@ pub struct Agent {
     node: Node,
     events: u32, // how many its calls told
     number: u32, // of its last call
-    member: Member,
+    node_state: NodeState,
 }
 
 impl Model for Agent {
@@ -42,9 +42,9 @@ impl Model for Agent {
 
     ghost Value = { AgentState };
 
-    ghost view = { λ a. record { setup = a.setup; node = a.node; events = a.events; number = a.number; member = a.member } };
+    ghost view = { λ a. record { setup = a.setup; node = a.node; events = a.events; number = a.number; node_state = a.node_state } };
 
-    ghost invariant = { λ a. IsAgentOf a.setup a.node a.events a.member };
+    ghost invariant = { λ a. IsAgentOf a.setup a.node a.events a.node_state };
 }
 
 /// A request that ran.
@@ -80,7 +80,7 @@ impl Agent {
         requires task { IfSome (option_copied task) (λ t. length t ≡ setup.now.partitions) }
         ensures state { IfOk result (λ a. a ≡ new_agent setup.now node events (option_copied task.entry)) }
         ensures first { IfOk result (λ a. option_copied task.entry ≡ None → PartOf a (first_world setup.now)) }
-        ensures part { IfOk result (λ a. (w : World) → WorldInvariant setup.now w → member w node ≡ down_member (option_copied task.entry) → PartOf a w) }
+        ensures part { IfOk result (λ a. (w : World) → WorldInvariant setup.now w → node_state w node ≡ down_node_state (option_copied task.entry) → PartOf a w) }
     {
         // `number` also shows the proof that this is a node.
         let _number = node.number();
@@ -89,7 +89,7 @@ impl Agent {
             node,
             events,
             number: events,
-            member: Member::restored(alloc, setup, task)?,
+            node_state: NodeState::restored(alloc, setup, task)?,
         })
     }
 
@@ -125,41 +125,41 @@ impl Agent {
 
     /// The node's vector. A task has the setup's partitions.
     pub fn vector(&self) -> &Vector
-        ensures vector { result.now ≡ self.now.member.vector }
+        ensures vector { result.now ≡ self.now.node_state.vector }
         ensures task { IfSome result.now.vector.task (λ t. length t ≡ self.now.setup.partitions) }
     {
-        self.member.vector()
+        self.node_state.vector()
     }
 
     /// Where its procedure stands.
     pub fn point(&self) -> Point
-        ensures { result ≡ self.now.member.point }
+        ensures { result ≡ self.now.node_state.point }
     {
-        self.member.point()
+        self.node_state.point()
     }
 
     /// Its call slot.
     pub fn slot(&self) -> &Slot
-        ensures { result.now ≡ self.now.member.slot }
+        ensures { result.now ≡ self.now.node_state.slot }
     {
-        self.member.slot()
+        self.node_state.slot()
     }
 
     /// How often the node was stopped or crashed since the agent was made.
     pub fn generation(&self) -> u32
-        ensures { result ≡ self.now.member.generation }
+        ensures { result ≡ self.now.node_state.generation }
     {
-        self.member.generation()
+        self.node_state.generation()
     }
 
     /// What the node wants to do next: to await where a call is in its slot, else what its point offers.
     pub fn wants(&self) -> Want
         ensures { result ≡ wanted self.now }
     {
-        if self.member.slot().call().is_some() {
+        if self.node_state.slot().call().is_some() {
             return Want::Await;
         }
-        self.member.offer(&self.setup, self.node)
+        self.node_state.offer(&self.setup, self.node)
     }
 
     /// The request of the node's call, while that is under way: to be sent to its callee, once. Only a Ready takes memory,
@@ -168,7 +168,7 @@ impl Agent {
         ensures request { IfOk result (λ request. request ≡ request_of self.now) }
         ensures requested { IfOk result (GivesOut self.now) }
     {
-        let slot = self.member.slot();
+        let slot = self.node_state.slot();
         let Some(call) = slot.call() else {
             return Ok(None);
         };
@@ -187,13 +187,13 @@ impl Agent {
     /// [`Agent::plan`] takes at Planning. Refused where an allocation fails.
     pub fn prepare(&self, alloc: Global, old: Option<&Table>) -> Result<Table, OutOfMemory>
         requires { IfSome (option_copied old) (λ t. length t ≡ self.now.setup.partitions) }
-        ensures { IfOk result (λ table. table ≡ planned self.now.setup (option_copied old.entry) (with_node self.now.node self.now.member.vector.vector.up)) }
+        ensures { IfOk result (λ table. table ≡ planned self.now.setup (option_copied old.entry) (with_node self.now.node self.now.node_state.vector.vector.up)) }
     {
         planned_table(
             alloc,
             &self.setup,
             self.node,
-            self.member.vector().up(),
+            self.node_state.vector().up(),
             old,
         )
     }
@@ -282,10 +282,10 @@ impl Agent {
         ensures told { IfOk result (λ served. TellsRun self.old request.now served.reply) }
         ensures due { IfOk result (λ served. IsReplyTo request.now served.reply) }
         ensures why { IfErr result (IsRefused (IsRequested self.old.node request.now) self.old (Event.Run request.now.caller)) }
-        ensures refusal { IfErr result (RefusesRequest self.old.setup self.old.node self.old.events self.old.member request.now) }
+        ensures refusal { IfErr result (RefusesRequest self.old.setup self.old.node self.old.events self.old.node_state request.now) }
         ensures unchanged { IfErr result (λ _. self.new ≡ self.old) }
     {
-        let cause = request_cause(&self.setup, self.node, self.events, &self.member, request);
+        let cause = request_cause(&self.setup, self.node, self.events, &self.node_state, request);
         if let Some(why) = cause {
             return Err(why);
         }
@@ -293,7 +293,7 @@ impl Agent {
             &self.setup,
             self.node,
             self.events,
-            &mut self.member,
+            &mut self.node_state,
             request,
         );
         self.events += 1;
@@ -323,7 +323,7 @@ impl Agent {
         if !self.is_due(reply) {
             return Err(Refused::NoCall);
         }
-        let answer = return_reply(&self.setup, self.node, self.events, &mut self.member, told);
+        let answer = return_reply(&self.setup, self.node, self.events, &mut self.node_state, told);
         self.events += 1;
         Ok(TakenStep {
             event: Event::Return(self.node),
@@ -346,7 +346,7 @@ impl Agent {
         if !self.awaits(number) {
             return Err(Refused::NoCall);
         }
-        let answer = return_failure(&self.setup, self.node, self.events, &mut self.member);
+        let answer = return_failure(&self.setup, self.node, self.events, &mut self.node_state);
         self.events += 2;
         Ok(FailedCall {
             lost: Event::Lose(self.node),
@@ -367,7 +367,7 @@ impl Agent {
         ensures why { IfErr result (IsRefused Always self.old event) }
         ensures unchanged { IfErr result (λ _. self.new ≡ self.old) }
     {
-        let answer = take_alone(&self.setup, self.events, &mut self.member, &event)?;
+        let answer = take_alone(&self.setup, self.events, &mut self.node_state, &event)?;
         self.number = number_after(&event, self.events, self.number);
         self.events += 1;
         Ok(TakenStep { event, answer })
@@ -379,14 +379,14 @@ impl Agent {
     {
         reply.caller == self.node
             && reply.number == self.number
-            && can_return(self.member.slot(), reply.answer)
+            && can_return(self.node_state.slot(), reply.answer)
     }
 
     // Whether the node has its call of this number under way.
     fn awaits(&self, number: u32) -> bool
         ensures { IsTrue result ↔ IsAwaited self.now number }
     {
-        number == self.number && is_under_way(self.member.slot())
+        number == self.number && is_under_way(self.node_state.slot())
     }
 }
 

@@ -12,19 +12,19 @@ ghost use Rattle.bully_agent.specs.Part.{FollowsAt, IsRefusedAt};
 use bully_base::{Node, Setup};
 use bully_calls::{Answer, CallKind, Request};
 use bully_table::Table;
-use bully_world::{Member, Refused};
+use bully_world::{NodeState, Refused};
 
 /// Why the request is refused at the node, whose agent told so many events; none where it isn't.
 pub fn request_cause(
     setup: &Setup,
     node: Node,
     events: u32,
-    member: &Member,
+    node_state: &NodeState,
     request: &Request,
 ) -> Option<Refused>
-    ensures why { IfSome result (IsRefusedAt (IsRequested node request.now) setup.now node events member.now (Event.Run request.now.caller)) }
-    ensures refusal { IfSome result (RefusesRequest setup.now node events member.now request.now) }
-    ensures can { IfNone result (CanServe setup.now node events member.now request.now) }
+    ensures why { IfSome result (IsRefusedAt (IsRequested node request.now) setup.now node events node_state.now (Event.Run request.now.caller)) }
+    ensures refusal { IfSome result (RefusesRequest setup.now node events node_state.now request.now) }
+    ensures can { IfNone result (CanServe setup.now node events node_state.now request.now) }
     ensures small { IfNone result (events + 1 < 2 ^ 32) }
 {
     if events >= setup.events_max() {
@@ -36,7 +36,7 @@ pub fn request_cause(
     if !suits_node(setup, node, request) {
         return Some(Refused::NoCall);
     }
-    if member.is_down() {
+    if node_state.is_down() {
         return Some(Refused::CalleeDown);
     }
     None
@@ -47,18 +47,18 @@ pub fn serve_request(
     setup: &Setup,
     node: Node,
     events: u32,
-    member: &mut Member,
+    node_state: &mut NodeState,
     request: &Request,
 ) -> Answer
-    requires is { IsAgentOf setup.now node events member.old }
-    requires can { CanServe setup.now node events member.old request.now }
+    requires is { IsAgentOf setup.now node events node_state.old }
+    requires can { CanServe setup.now node events node_state.old request.now }
     requires small { events + 1 < 2 ^ 32 }
-    ensures after { member.new ≡ heard_state request.now.caller request.now.call request.now.table member.old }
-    ensures answer { result ≡ reply request.now.call.kind member.old.vector.vector }
-    ensures is { IsAgentOf setup.now node (events + 1) member.new }
-    ensures follows { FollowsAt (IsRequested node request.now) setup.now node member.old (Event.Run request.now.caller) result member.new }
+    ensures after { node_state.new ≡ heard_state request.now.caller request.now.call request.now.table node_state.old }
+    ensures answer { result ≡ reply request.now.call.kind node_state.old.vector.vector }
+    ensures is { IsAgentOf setup.now node (events + 1) node_state.new }
+    ensures follows { FollowsAt (IsRequested node request.now) setup.now node node_state.old (Event.Run request.now.caller) result node_state.new }
 {
-    member.hear(request.caller, request.call, table_of(request))
+    node_state.hear(request.caller, request.call, table_of(request))
 }
 
 // The table that the request carries.

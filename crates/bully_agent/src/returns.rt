@@ -11,39 +11,39 @@ ghost use Rattle.bully_agent.specs.Part.{Always, FollowsAt};
 
 use bully_base::{Node, Setup};
 use bully_calls::Answer;
-use bully_world::Member;
+use bully_world::NodeState;
 
 /// The node's call was answered so, and returns. The agent told so many events.
 pub fn return_reply(
     setup: &Setup,
     node: Node,
     events: u32,
-    member: &mut Member,
+    node_state: &mut NodeState,
     answer: Answer,
 ) -> Answer
-    requires is { IsAgentOf setup.now node events member.old }
+    requires is { IsAgentOf setup.now node events node_state.old }
     requires room { events < setup.now.events_max }
-    requires can { CanReturn member.old.slot answer }
-    ensures after { member.new ≡ returned_by setup.now node (Phase.Ran answer) member.old }
-    ensures answer { result ≡ returned_answer node (Phase.Ran answer) member.old }
-    ensures is { IsAgentOf setup.now node (events + 1) member.new }
-    ensures follows { FollowsAt (HasRun node answer) setup.now node member.old (Event.Return node) result member.new }
+    requires can { CanReturn node_state.old.slot answer }
+    ensures after { node_state.new ≡ returned_by setup.now node (Phase.Ran answer) node_state.old }
+    ensures answer { result ≡ returned_answer node (Phase.Ran answer) node_state.old }
+    ensures is { IsAgentOf setup.now node (events + 1) node_state.new }
+    ensures follows { FollowsAt (HasRun node answer) setup.now node node_state.old (Event.Return node) result node_state.new }
 {
-    member.ran(answer);
-    member.take_back(setup, node)
+    node_state.ran(answer);
+    node_state.take_back(setup, node)
 }
 
 /// The node's call failed, and returns. The agent told so many events.
-pub fn return_failure(setup: &Setup, node: Node, events: u32, member: &mut Member) -> Answer
-    requires is { IsAgentOf setup.now node events member.old }
+pub fn return_failure(setup: &Setup, node: Node, events: u32, node_state: &mut NodeState) -> Answer
+    requires is { IsAgentOf setup.now node events node_state.old }
     requires room { events + 1 < setup.now.events_max }
-    requires sent { holds_call is_sent member.old.slot ≡ true }
-    ensures after { member.new ≡ returned_by setup.now node Phase.Failed member.old }
-    ensures answer { result ≡ returned_answer node Phase.Failed member.old }
-    ensures is { IsAgentOf setup.now node (events + 2) member.new }
-    ensures loses { FollowsAt (CalleeIsDown member.old.slot) setup.now node member.old (Event.Lose node) Answer.Done (phased_state Phase.Failed member.old) }
-    ensures follows { FollowsAt Always setup.now node (phased_state Phase.Failed member.old) (Event.Return node) result member.new }
+    requires sent { holds_call is_sent node_state.old.slot ≡ true }
+    ensures after { node_state.new ≡ returned_by setup.now node Phase.Failed node_state.old }
+    ensures answer { result ≡ returned_answer node Phase.Failed node_state.old }
+    ensures is { IsAgentOf setup.now node (events + 2) node_state.new }
+    ensures loses { FollowsAt (CalleeIsDown node_state.old.slot) setup.now node node_state.old (Event.Lose node) Answer.Done (phased_state Phase.Failed node_state.old) }
+    ensures follows { FollowsAt Always setup.now node (phased_state Phase.Failed node_state.old) (Event.Return node) result node_state.new }
 {
-    member.lose();
-    member.take_back(setup, node)
+    node_state.lose();
+    node_state.take_back(setup, node)
 }

@@ -7,26 +7,26 @@ ghost use Rattle.bully_agent.specs.Part.{Always, CauseAt, FollowsAt, IsRefusedAt
 
 use bully_base::Setup;
 use bully_calls::Answer;
-use bully_world::{Event, Member, Refused, own_cause};
+use bully_world::{Event, NodeState, Refused, own_cause};
 
-/// Why such an event is refused, with so many events told; none where it isn't. `member` is that of the event's node.
+/// Why such an event is refused, with so many events told; none where it isn't. `node_state` is that of the event's node.
 // (inlined, as `Agent::take_event` is)
 #[inline(always)]
-pub fn alone_cause(setup: &Setup, events: u32, member: &Member, event: &Event) -> Option<Refused>
+pub fn alone_cause(setup: &Setup, events: u32, node_state: &NodeState, event: &Event) -> Option<Refused>
     requires own { IsAlone event.now }
-    requires is { IsAgentOf setup.now (node_of event.now) events member.now }
-    ensures cause { CauseAt Always setup.now (node_of event.now) events member.now event.now result }
+    requires is { IsAgentOf setup.now (node_of event.now) events node_state.now }
+    ensures cause { CauseAt Always setup.now (node_of event.now) events node_state.now event.now result }
     ensures room { result ≡ None → events < setup.now.events_max }
     ensures small { result ≡ None → events + 1 < 2 ^ 32 }
 {
     if events >= setup.events_max() {
         return Some(Refused::Full);
     }
-    let is_down = member.is_down();
+    let is_down = node_state.is_down();
     match event {
         Event::Recover(_) => recover_cause(is_down),
         _ if is_down => Some(Refused::IsDown),
-        _ => own_cause(setup, member, event),
+        _ => own_cause(setup, node_state, event),
     }
 }
 
@@ -37,28 +37,28 @@ fn recover_cause(is_down: bool) -> Option<Refused>
     if is_down { None } else { Some(Refused::IsUp) }
 }
 
-/// Such an event is taken, where nothing refuses it. `member` is that of the event's node, which told so many events.
+/// Such an event is taken, where nothing refuses it. `node_state` is that of the event's node, which told so many events.
 // (inlined, as `Agent::take_event` is)
 #[inline(always)]
 pub fn take_alone(
     setup: &Setup,
     events: u32,
-    member: &mut Member,
+    node_state: &mut NodeState,
     event: &Event,
 ) -> Result<Answer, Refused>
     requires own { IsAlone event.now }
-    requires is { IsAgentOf setup.now (node_of event.now) events member.old }
-    ensures after { OnOk result (member.new ≡ node_after setup.now event.now member.old) }
-    ensures answer { IfOk result (λ answer. answer ≡ node_answer event.now member.old) }
+    requires is { IsAgentOf setup.now (node_of event.now) events node_state.old }
+    ensures after { OnOk result (node_state.new ≡ node_after setup.now event.now node_state.old) }
+    ensures answer { IfOk result (λ answer. answer ≡ node_answer event.now node_state.old) }
     ensures room { OnOk result (events < setup.now.events_max) }
     ensures small { OnOk result (events + 1 < 2 ^ 32) }
-    ensures is { OnOk result (IsAgentOf setup.now (node_of event.now) (events + 1) member.new) }
-    ensures follows { IfOk result (λ answer. FollowsAt Always setup.now (node_of event.now) member.old event.now answer member.new) }
-    ensures why { IfErr result (IsRefusedAt Always setup.now (node_of event.now) events member.old event.now) }
-    ensures unchanged { IfErr result (λ _. member.new ≡ member.old) }
+    ensures is { OnOk result (IsAgentOf setup.now (node_of event.now) (events + 1) node_state.new) }
+    ensures follows { IfOk result (λ answer. FollowsAt Always setup.now (node_of event.now) node_state.old event.now answer node_state.new) }
+    ensures why { IfErr result (IsRefusedAt Always setup.now (node_of event.now) events node_state.old event.now) }
+    ensures unchanged { IfErr result (λ _. node_state.new ≡ node_state.old) }
 {
-    match alone_cause(setup, events, member, event) {
+    match alone_cause(setup, events, node_state, event) {
         Some(why) => Err(why),
-        None => Ok(member.apply(setup, event)),
+        None => Ok(node_state.apply(setup, event)),
     }
 }

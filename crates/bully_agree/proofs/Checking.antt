@@ -9,7 +9,7 @@ use Rattle.bully_steps.specs.NextPoint.{checked, timed_out}
 use Rattle.bully_world.proofs.NodeInvariantLemmas.{node_of_up}
 use Rattle.bully_world.specs.NodeInvariant.{WorldInvariant, IsBeginning, SuitsPending}
 use Rattle.bully_world.specs.Step.{IsUp}
-use Rattle.bully_world.specs.World.{World, vector, point, pending, member, with_member}
+use Rattle.bully_world.specs.World.{World, vector, point, pending, node_state, with_node_state}
 use Rattle.bully_agree.proofs.Changes.Shrinks.{shrinks}
 use Rattle.bully_agree.proofs.Fitting.{has_failed, summary_of, written}
 use Rattle.bully_agree.proofs.NodeSummary.{Origin, GroupInvariant}
@@ -20,7 +20,7 @@ unfailed setup i v None suits = refl
 unfailed setup i v (Some c) suits = grind (arith, suits.live)
 
 begin_keeps : {last : Origin} (setup : Setup) (w : World) (i : ℕ) (q : Point) → WorldInvariant setup w → GroupInvariant last (summary_of setup w) → IsUp w i → point w i ≡ Idle → IsBeginning i q
-    → GroupInvariant last (summary_of setup (with_member w i (record (member w i) { point = q })))
+    → GroupInvariant last (summary_of setup (with_node_state w i (record (node_state w i) { point = q })))
 begin_keeps {last} setup w i q all kept up idle begins = shrinks (written setup w i _ all (node_of_up setup w i all up)) kept (record {
   asked = λ k l a. grind (arith, begins, no_failure);
   passed = λ k l a. grind (arith, idle);
@@ -36,9 +36,9 @@ begin_keeps {last} setup w i q all kept up idle begins = shrinks (written setup 
     no_failure = unfailed setup i (vector w i) (pending w i) (rw idle at (all.fits i).by_call)
 
 pub check_keeps : {last : Origin} (setup : Setup) (w : World) (i : ℕ) → WorldInvariant setup w → GroupInvariant last (summary_of setup w) → IsUp w i → point w i ≡ Idle
-    → GroupInvariant last (summary_of setup (with_member w i (record (member w i) { point = checked setup i (vector w i).status (vector w i).coordinator })))
+    → GroupInvariant last (summary_of setup (with_node_state w i (record (node_state w i) { point = checked setup i (vector w i).status (vector w i).coordinator })))
 check_keeps {last} setup w i all kept up idle = begin_keeps setup w i _ all kept up idle (grind arith)
 
 pub timeout_keeps : {last : Origin} (setup : Setup) (w : World) (i : ℕ) → WorldInvariant setup w → GroupInvariant last (summary_of setup w) → IsUp w i → point w i ≡ Idle
-    → GroupInvariant last (summary_of setup (with_member w i (record (member w i) { point = timed_out i (vector w i).status (vector w i).coordinator })))
+    → GroupInvariant last (summary_of setup (with_node_state w i (record (node_state w i) { point = timed_out i (vector w i).status (vector w i).coordinator })))
 timeout_keeps {last} setup w i all kept up idle = begin_keeps setup w i _ all kept up idle (grind arith)

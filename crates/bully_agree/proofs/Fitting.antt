@@ -9,9 +9,9 @@ use Rattle.bully_calls.specs.Pending.{Pending, is_sent, is_failed}
 use Rattle.bully_handlers.specs.Vector.{Vector}
 use Rattle.bully_steps.specs.declared.point.Point.{Point}
 use Rattle.bully_steps.specs.declared.point.Point.TheVariants.{Idle, Asking, Halting, Announcing, Planning, Readying, Checking, Inquiring}
-use Rattle.bully_world.proofs.NodeInvariantLemmas.{member_here, member_other}
+use Rattle.bully_world.proofs.NodeInvariantLemmas.{node_state_here, node_state_other}
 use Rattle.bully_world.specs.NodeInvariant.{NodeInvariant, WorldInvariant}
-use Rattle.bully_world.specs.World.{Member, World, member, vector, point, pending, with_member}
+use Rattle.bully_world.specs.World.{NodeState, World, node_state, vector, point, pending, with_node_state}
 use Rattle.bully_agree.proofs.NodeSummary.{Activity, Rests, Halts, Calls, Hands, NodeSummary, LocalInvariant, AllLocal, Turns}
 
 -- there is a live call that failed
@@ -120,12 +120,12 @@ local setup i v p c fits = record {
 pub all_local : (setup : Setup) (w : World) → WorldInvariant setup w → AllLocal setup.nodes (summary_of setup w)
 all_local setup w all i = local setup i (vector w i) (point w i) (pending w i) (all.fits i)
 
--- node i's summary, where it is this member
-abbrev pub summary_at : Setup → ℕ → Member → NodeSummary
+-- node i's summary, where it is this node state
+abbrev pub summary_at : Setup → ℕ → NodeState → NodeSummary
 summary_at setup i m = summary setup.nodes i m.vector m.point m.pending
 
--- w' is w with this member as node i
-pub turns : (setup : Setup) (w w' : World) (i : ℕ) (m : Member) → member w' i ≡ m → ((j : ℕ) → j ≢ i → member w' j ≡ member w j)
+-- w' is w with this node state as node i
+pub turns : (setup : Setup) (w w' : World) (i : ℕ) (m : NodeState) → node_state w' i ≡ m → ((j : ℕ) → j ≢ i → node_state w' j ≡ node_state w j)
     → Turns (summary_of setup w) (summary_of setup w') i (summary_at setup i m)
 turns setup w w' i m here others = record { same = λ j. by_case j (grind arith) }
   where
@@ -133,6 +133,6 @@ turns setup w w' i m here others = record { same = λ j. by_case j (grind arith)
     by_case j (inl e) = inl (e, rw e (ap (summary_at setup i) here))
     by_case j (inr d) = inr (d, ap (summary_at setup j) (others j d))
 
-pub written : (setup : Setup) (w : World) (i : ℕ) (m : Member) → WorldInvariant setup w → IsNode setup i
-    → Turns (summary_of setup w) (summary_of setup (with_member w i m)) i (summary_at setup i m)
-written setup w i m all node = turns setup w (with_member w i m) i m (member_here setup w i m all node) (λ j d. member_other w i j m d)
+pub written : (setup : Setup) (w : World) (i : ℕ) (m : NodeState) → WorldInvariant setup w → IsNode setup i
+    → Turns (summary_of setup w) (summary_of setup (with_node_state w i m)) i (summary_at setup i m)
+written setup w i m all node = turns setup w (with_node_state w i m) i m (node_state_here setup w i m all node) (λ j d. node_state_other w i j m d)

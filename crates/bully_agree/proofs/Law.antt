@@ -2,13 +2,13 @@
 use Rattle.std.proofs.Common.{◌≡◌, ◌<◌, ◌+◌, ℕ, List, [], ◌∷◌, Option, Some, None, true, arith, refl, ap, ◌↔◌}
 use Rattle.bully_base.specs.Setup.{Setup}
 use Rattle.bully_calls.specs.declared.call.Answer.{Answer}
-use Rattle.bully_world.proofs.NodeInvariantLemmas.{first_member, first_fits, step_fits, lawful_fits}
+use Rattle.bully_world.proofs.NodeInvariantLemmas.{first_node_state, first_fits, step_fits, lawful_fits}
 use Rattle.bully_calls.specs.declared.event.Event.{Event}
 use Rattle.bully_world.specs.Cause.{cause}
 use Rattle.bully_world.specs.Lawful.{LeadTo, IsLawful}
 use Rattle.bully_world.specs.NodeInvariant.{WorldInvariant, TakesPart}
 use Rattle.bully_world.specs.Step.{Step}
-use Rattle.bully_world.specs.World.{World, vector, empty_member, first_world}
+use Rattle.bully_world.specs.World.{World, vector, empty_node_state, first_world}
 use Rattle.bully_agree.specs.Agreement.{Agreement}
 use Rattle.bully_agree.specs.Fencing.{Planned, plan_then}
 use Rattle.bully_world.proofs.CauseLemmas.{no_cause_if_step, step_if_no_cause}
@@ -32,7 +32,7 @@ origin_of None = record { planner = None; table = None }
 origin_of (Some p) = record { planner = Some p.planner; table = Some p.table }
 
 -- where every node rests and is Down, there is nothing to keep
-all_down : (setup : Setup) (f : ℕ → NodeSummary) → ((i : ℕ) → f i ≡ summary_at setup i empty_member) → GroupInvariant (origin_of None) f
+all_down : (setup : Setup) (f : ℕ → NodeSummary) → ((i : ℕ) → f i ≡ summary_at setup i empty_node_state) → GroupInvariant (origin_of None) f
 all_down setup f none = record {
   elections = record {
     asked_unpassed = λ i k l a. grind (arith, none i);
@@ -70,7 +70,7 @@ all_down setup f none = record {
 }
 
 pub first_keeps : (setup : Setup) → GroupInvariant (origin_of None) (summary_of setup (first_world setup))
-first_keeps setup = all_down setup (summary_of setup (first_world setup)) (λ i. ap (summary_at setup i) (first_member setup i))
+first_keeps setup = all_down setup (summary_of setup (first_world setup)) (λ i. ap (summary_at setup i) (first_node_state setup i))
 
 -- so many events came before
 pub step_keeps : (count : ℕ) (last : Option Planned) (setup : Setup) (w : World) (e : Event) (w' : World) (a : Answer) → Step setup w e w' a → WorldInvariant setup w → GroupInvariant (origin_of last) (summary_of setup w)

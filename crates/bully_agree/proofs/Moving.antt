@@ -12,7 +12,7 @@ use Rattle.bully_steps.specs.Point.{offered}
 use Rattle.bully_world.proofs.NodeInvariantLemmas.{node_of_up}
 use Rattle.bully_world.specs.NodeInvariant.{WorldInvariant}
 use Rattle.bully_world.specs.Step.{IsUp, Proceeds, offer}
-use Rattle.bully_world.specs.World.{World, vector, point, pending, with_member}
+use Rattle.bully_world.specs.World.{World, vector, point, pending, with_node_state}
 use Rattle.bully_agree.proofs.Changes.Finishes.{finishes}
 use Rattle.bully_agree.proofs.Changes.Leads.{leads_now}
 use Rattle.bully_agree.proofs.Changes.Shrinks.{Shrinks, shrinks}
@@ -62,7 +62,7 @@ move_keeps {last} setup w w' i all kept up free offers (q, next, becomes) = rw b
     p = point w i
 
     now : World
-    now = with_member w i (record { vector = next_vector i p Outcome.Moved v; point = q; pending = None })
+    now = with_node_state w i (record { vector = next_vector i p Outcome.Moved v; point = q; pending = None })
 
     turn : Turns (summary_of setup w) (summary_of setup now) i (after setup i v p q offers next)
     turn = written setup w i _ all (node_of_up setup w i all up)

@@ -12,10 +12,10 @@ use Rattle.bully_handlers.specs.Handler.{callee_after, reply}
 use Rattle.bully_handlers.specs.Vector.{Vector, names, is_election, is_reorganization}
 use Rattle.bully_steps.specs.declared.point.Point.{Point}
 use Rattle.bully_steps.specs.declared.point.Point.TheVariants.{Idle}
-use Rattle.bully_world.proofs.NodeInvariantLemmas.{node_of_up, call_of_pending, member_here, member_other, callee_other, ran_here, ran_there, ran_other}
+use Rattle.bully_world.proofs.NodeInvariantLemmas.{node_of_up, call_of_pending, node_state_here, node_state_other, callee_other, ran_here, ran_there, ran_other}
 use Rattle.bully_world.specs.NodeInvariant.{WorldInvariant, SuitsCall}
 use Rattle.bully_world.specs.Step.{IsUp, called, stopped_by, ran}
-use Rattle.bully_world.specs.World.{World, Member, member, vector, point, pending, with_member}
+use Rattle.bully_world.specs.World.{World, NodeState, node_state, vector, point, pending, with_node_state}
 use Rattle.bully_agree.proofs.Changes.Follows.{follows}
 use Rattle.bully_agree.proofs.Changes.Joins.{joins}
 use Rattle.bully_agree.proofs.Changes.Passes.{passes}
@@ -73,11 +73,11 @@ module _ {last : Origin} (setup : Setup) (w : World) (i : ℕ) (c : Pending) (al
 
   -- the world where the callee has heard the call, and the caller doesn't know yet
   abbrev between : World
-  between = with_member w c.call.callee (called i c (member w c.call.callee))
+  between = with_node_state w c.call.callee (called i c (node_state w c.call.callee))
 
   -- the callee after a call of this kind
-  abbrev after_call : CallKind → Member
-  after_call kind = stopped_by kind (record (member w c.call.callee) { vector = callee_after i kind c.table (vector w c.call.callee) })
+  abbrev after_call : CallKind → NodeState
+  after_call kind = stopped_by kind (record (node_state w c.call.callee) { vector = callee_after i kind c.table (vector w c.call.callee) })
 
   abbrev Hears : CallKind → Type 0
   Hears kind = c.call.kind ≡ kind → Turns (summary_of setup w) (summary_of setup between) c.call.callee (summary_at setup c.call.callee (after_call kind)) → GroupInvariant last (summary_of setup between)
@@ -118,18 +118,18 @@ module _ {last : Origin} (setup : Setup) (w : World) (i : ℕ) (c : Pending) (al
   kept_between : GroupInvariant last (summary_of setup between)
   kept_between = hear c.call.kind refl callee_turn
 
-  others : (j : ℕ) → j ≢ i → member (ran w i c) j ≡ member between j
+  others : (j : ℕ) → j ≢ i → node_state (ran w i c) j ≡ node_state between j
   others j d = by_case (grind arith)
     where
-      by_case : (j ≡ c.call.callee) ⊎ (j ≢ c.call.callee) → member (ran w i c) j ≡ member between j
-      by_case (inl e) = rw e (ran_there setup w i c all is up ∙ sym (member_here setup w c.call.callee _ all there))
-      by_case (inr n) = ran_other setup w i c all is up j d n ∙ sym (member_other w c.call.callee j _ n)
+      by_case : (j ≡ c.call.callee) ⊎ (j ≢ c.call.callee) → node_state (ran w i c) j ≡ node_state between j
+      by_case (inl e) = rw e (ran_there setup w i c all is up ∙ sym (node_state_here setup w c.call.callee _ all there))
+      by_case (inr n) = ran_other setup w i c all is up j d n ∙ sym (node_state_other w c.call.callee j _ n)
 
   ran_turn : Turns (summary_of setup between) (summary_of setup (ran w i c)) i (after setup i (vector w i) (point w i) c answer suits was_sent)
   ran_turn = turns setup between (ran w i c) i _ (ran_here setup w i c all is up) others
 
   caller_between : summary_of setup between i ≡ summary setup.nodes i (vector w i) (point w i) (Some c)
-  caller_between = ap (summary_at setup i) (member_other w c.call.callee i _ other) ∙ ap (summary setup.nodes i (vector w i) (point w i)) is
+  caller_between = ap (summary_at setup i) (node_state_other w c.call.callee i _ other) ∙ ap (summary setup.nodes i (vector w i) (point w i)) is
 
   by_halt : (c.call.kind ≢ Halt) ⊎ ((c.is_live ≡ false) ⊎ ((c.call.kind ≡ Halt) × (c.is_live ≡ true))) → GroupInvariant last (summary_of setup (ran w i c))
   by_halt (inl n) = shrinks ran_turn kept_between (rw caller_between (quiet setup i (vector w i) (point w i) c answer suits was_sent (summary_of setup between) (inl n)))

@@ -11,7 +11,7 @@ use Rattle.bully_steps.specs.Point.{offered, IsPointOf}
 use Rattle.bully_world.proofs.NodeInvariantLemmas.{node_of_up}
 use Rattle.bully_world.specs.NodeInvariant.{WorldInvariant}
 use Rattle.bully_world.specs.Step.{IsUp, offer, sent}
-use Rattle.bully_world.specs.World.{World, vector, point, pending, member, with_member}
+use Rattle.bully_world.specs.World.{World, vector, point, pending, node_state, with_node_state}
 use Rattle.bully_agree.proofs.Changes.Announces.{announces}
 use Rattle.bully_agree.proofs.Changes.Readies.{readies}
 use Rattle.bully_agree.proofs.Changes.Shrinks.{Shrinks, calls_on, shrinks}
@@ -45,7 +45,7 @@ module _ (setup : Setup) (i : ℕ) (v : Vector) (p : Point) (call : Call) (offer
 
 pub start_keeps : {last : Origin} (setup : Setup) (w : World) (i : ℕ) (call : Call) → WorldInvariant setup w → GroupInvariant last (summary_of setup w) → IsUp w i → pending w i ≡ None
     → offer setup w i ≡ Want.Start call
-    → GroupInvariant last (summary_of setup (with_member w i (record (member w i) { pending = Some (sent call (vector w i)) })))
+    → GroupInvariant last (summary_of setup (with_node_state w i (record (node_state w i) { pending = Some (sent call (vector w i)) })))
 start_keeps {last} setup w i call all kept up free offers = by_kind call.kind refl
   where
     v : Vector
@@ -55,7 +55,7 @@ start_keeps {last} setup w i call all kept up free offers = by_kind call.kind re
     p = point w i
 
     now : World
-    now = with_member w i (record (member w i) { pending = Some (sent call (vector w i)) })
+    now = with_node_state w i (record (node_state w i) { pending = Some (sent call (vector w i)) })
 
     turn : Turns (summary_of setup w) (summary_of setup now) i (after setup i v p call offers)
     turn = written setup w i _ all (node_of_up setup w i all up)

@@ -8,21 +8,21 @@ use Rattle.bully_calls.specs.declared.call.Answer.{Answer}
 use Rattle.bully_world.proofs.NodeInvariantLemmas.{lawful_fits}
 use Rattle.bully_calls.specs.declared.event.Event.{Event}
 use Rattle.bully_world.specs.Lawful.{IsLawful}
-use Rattle.bully_world.specs.State.{MemberState, WorldState, IsReached, empty_state, member_of, world_of}
-use Rattle.bully_world.specs.World.{Member, World, empty_member, member}
+use Rattle.bully_world.specs.State.{StoredNode, WorldState, IsReached, empty_state, node_state_of, world_of}
+use Rattle.bully_world.specs.World.{NodeState, World, empty_node_state, node_state}
 use Rattle.bully_agree.specs.Agreement.{Agreement}
-use Rattle.bully_agree.specs.View.{Shown, IsView, ViewAgrees, nothing_shown, shown, shown_of, view_of}
+use Rattle.bully_agree.specs.View.{NodeView, IsView, ViewAgrees, nothing_shown, shown, shown_of, view_of}
 use Rattle.bully_agree.proofs.Law.{agreement_lem}
 
-index-shown : (ms : List Member) (k : ℕ) → slice_index_or (map shown_of ms) k nothing_shown ≡ shown_of (slice_index_or ms k empty_member)
+index-shown : (ms : List NodeState) (k : ℕ) → slice_index_or (map shown_of ms) k nothing_shown ≡ shown_of (slice_index_or ms k empty_node_state)
 index-shown [] k = refl
 index-shown (m ∷ ms) zero = refl
 index-shown (m ∷ ms) (suc k) = index-shown ms k
 
 -- of each number a view shows what the world has
-pub shown_there : (setup : Setup) (count : ℕ) (w : World) (i : ℕ) → shown (view_of setup count w) i ≡ shown_of (member w i)
+pub shown_there : (setup : Setup) (count : ℕ) (w : World) (i : ℕ) → shown (view_of setup count w) i ≡ shown_of (node_state w i)
 shown_there setup count w zero = refl
-shown_there setup count w (suc k) = index-shown w.members k
+shown_there setup count w (suc k) = index-shown w.states k
 
 pub agrees_of : (setup : Setup) (count : ℕ) (w : World) → Agreement w → ViewAgrees (view_of setup count w)
 agrees_of setup count w agreed = record {
@@ -32,7 +32,7 @@ agrees_of setup count w agreed = record {
   same_task = λ i j t u. grind (arith, there i, there j, t, u, agreed.same_task i j);
 }
   where
-    there : (i : ℕ) → shown (view_of setup count w) i ≡ shown_of (member w i)
+    there : (i : ℕ) → shown (view_of setup count w) i ≡ shown_of (node_state w i)
     there = shown_there setup count w
 
 -- of a world that a lawful list leads to
@@ -40,24 +40,24 @@ pub lawful_agrees : (setup : Setup) (count : ℕ) (events : List Event) (answers
 lawful_agrees setup count events answers w lawful = agrees_of setup count w (agreement_lem setup events answers w lawful)
 
 -- as many nodes are shown as the setup has
-pub count_of_reached : (w : WorldState) → IsReached w → length w.members ≡ w.setup.nodes
-count_of_reached w reached = sym (length-map w.members member_of) ∙ (lawful_fits w.setup reached.applied reached.answers (world_of w) reached.lawful).count
+pub count_of_reached : (w : WorldState) → IsReached w → length w.states ≡ w.setup.nodes
+count_of_reached w reached = sym (length-map w.states node_state_of) ∙ (lawful_fits w.setup reached.applied reached.answers (world_of w) reached.lawful).count
 
 pub view_keeps : (w : WorldState) → IsReached w → IsView (view_of w.setup w.events (world_of w))
 view_keeps w reached = record {
-  count = length-map (world_of w).members shown_of ∙ length-map w.members member_of ∙ count_of_reached w reached;
+  count = length-map (world_of w).states shown_of ∙ length-map w.states node_state_of ∙ count_of_reached w reached;
   agrees = lawful_agrees w.setup w.events reached.applied reached.answers (world_of w) reached.lawful;
   viewed = record { events = reached.applied; answers = reached.answers; world = world_of w; lawful = reached.lawful; view = ap (λ n. view_of w.setup n (world_of w)) (sym reached.counted) };
 }
 
-shown-place : (ms : List MemberState) (k : ℕ) → k < length ms → map shown_of (take (suc k) (map member_of ms)) ≡ map shown_of (take k (map member_of ms)) ++ shown_of (member_of (slice_index_or ms k (empty_state 0))) ∷ []
+shown-place : (ms : List StoredNode) (k : ℕ) → k < length ms → map shown_of (take (suc k) (map node_state_of ms)) ≡ map shown_of (take k (map node_state_of ms)) ++ shown_of (node_state_of (slice_index_or ms k (empty_state 0))) ∷ []
 shown-place [] k l = absurd (omega arith)
 shown-place (m ∷ ms) zero l = refl
-shown-place (m ∷ ms) (suc k) l = ap (λ xs. shown_of (member_of m) ∷ xs) (shown-place ms k (omega arith))
+shown-place (m ∷ ms) (suc k) l = ap (λ xs. shown_of (node_state_of m) ∷ xs) (shown-place ms k (omega arith))
 
 -- one node more is shown
-pub shown-more : (ms : List MemberState) (xs : List Shown) (s : Shown) (k i : ℕ) → k + 1 ≡ i → k < length ms → xs ≡ map shown_of (take k (map member_of ms)) → s ≡ shown_of (member_of (at_node (empty_state 0) ms i))
-    → xs ++ s ∷ [] ≡ map shown_of (take (k + 1) (map member_of ms))
+pub shown-more : (ms : List StoredNode) (xs : List NodeView) (s : NodeView) (k i : ℕ) → k + 1 ≡ i → k < length ms → xs ≡ map shown_of (take k (map node_state_of ms)) → s ≡ shown_of (node_state_of (at_node (empty_state 0) ms i))
+    → xs ++ s ∷ [] ≡ map shown_of (take (k + 1) (map node_state_of ms))
 shown-more ms xs s k zero e l so now = absurd (omega arith)
 shown-more ms xs s k (suc j) e l so now =
     let same : j ≡ k = omega arith in

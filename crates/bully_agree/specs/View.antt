@@ -8,10 +8,10 @@ use Rattle.bully_calls.specs.declared.call.Answer.{Answer}
 use Rattle.bully_handlers.specs.Vector.{Vector}
 use Rattle.bully_calls.specs.declared.event.Event.{Event}
 use Rattle.bully_world.specs.Lawful.{IsLawful}
-use Rattle.bully_world.specs.World.{World, Member}
+use Rattle.bully_world.specs.World.{World, NodeState}
 
 -- what is shown of one node
-pub record Shown : Type 0 where
+pub record NodeView : Type 0 where
   pub status : Status
   pub coordinator : Option ℕ
   pub task : Option (List ℕ)
@@ -20,27 +20,27 @@ pub record Shown : Type 0 where
 pub record View : Type 0 where
   pub setup : Setup
   pub events : ℕ
-  pub nodes : List Shown
+  pub nodes : List NodeView
 
-abbrev pub nothing_shown : Shown
+abbrev pub nothing_shown : NodeView
 nothing_shown = record { status = Down; coordinator = None; task = None }
 
 -- what is shown of node i; a number that is no node's shows a Down node
-abbrev pub shown : View → ℕ → Shown
+abbrev pub shown : View → ℕ → NodeView
 shown v i = at_node nothing_shown v.nodes i
 
-abbrev pub shown_by : Vector → Shown
+abbrev pub shown_by : Vector → NodeView
 shown_by v = record { status = v.status; coordinator = v.coordinator; task = v.task }
 
-abbrev pub shown_of : Member → Shown
+abbrev pub shown_of : NodeState → NodeView
 shown_of m = shown_by m.vector
 
 -- the view of a world in which so many events were applied
 abbrev pub view_of : Setup → ℕ → World → View
-view_of setup count w = record { setup = setup; events = count; nodes = map shown_of w.members }
+view_of setup count w = record { setup = setup; events = count; nodes = map shown_of w.states }
 
 -- the node is shown in Reorganization or Normal
-abbrev pub ShowsPart : Shown → Type 0
+abbrev pub ShowsPart : NodeView → Type 0
 ShowsPart s = (s.status ≡ Reorganization) ⊎ (s.status ≡ Normal)
 
 -- agreement, as far as a view shows it: any two nodes in Reorganization or Normal have a coordinator, and the

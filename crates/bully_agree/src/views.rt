@@ -12,16 +12,16 @@ use std::marker::Model;
 
 /// What is shown of one node.
 #[derive(Drop, Debug)]
-struct Shown {
+struct NodeView {
     status: Status,
     coordinator: Option<Node>,
     task: Option<Table>,
 }
 
-impl Model for Shown {
-    ghost use Rattle.bully_agree.specs.View.{Shown as ShownState};
+impl Model for NodeView {
+    ghost use Rattle.bully_agree.specs.View.{NodeView as NodeViewState};
 
-    ghost Value = { ShownState };
+    ghost Value = { NodeViewState };
 
     ghost view = { λ s. record { status = s.status; coordinator = s.coordinator; task = s.task } };
 }
@@ -32,7 +32,7 @@ impl Model for Shown {
 pub struct View {
     setup: KeptSetup,
     events: u32,
-    nodes: Vec<Shown>,
+    nodes: Vec<NodeView>,
 }
 
 impl Model for View {
@@ -96,7 +96,7 @@ impl View {
     }
 
     // What is shown of the node.
-    fn shown(&self, node: Node) -> &Shown
+    fn shown(&self, node: Node) -> &NodeView
         requires { node ≤ self.now.setup.nodes }
         ensures { result.now ≡ shown self.now node }
     {

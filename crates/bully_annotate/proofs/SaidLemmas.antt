@@ -21,7 +21,7 @@ use Rattle.bully_world.specs.NodeInvariant.{SuitsPending, WorldInvariant}
 use Rattle.bully_world.specs.Step.{Step, offer}
 use Rattle.bully_world.specs.StepOf.{step_of}
 use Rattle.bully_world.specs.Turn.{same_node}
-use Rattle.bully_world.specs.World.{World, first_world, member, pending, vector}
+use Rattle.bully_world.specs.World.{World, first_world, node_state, pending, vector}
 use Rattle.bully_world.proofs.ApplyLemmas.{node_in_setup, room_of}
 use Rattle.bully_world.proofs.CallInvariant.{start_fits}
 use Rattle.bully_world.proofs.LawfulLemmas.{lawful_more}
@@ -56,7 +56,7 @@ shown-true setup w i node =
 callee-node : (setup : Setup) (w : World) (i : ℕ) (c : Pending) → WorldInvariant setup w → pending w i ≡ Some c → IsNode setup c.call.callee
 callee-node setup w i c fits there = by_pending (pending w i) there (fits.fits i).by_call
   where
-    by_pending : (q : Option Pending) → q ≡ Some c → SuitsPending setup i (member w i).vector (member w i).point q → IsNode setup c.call.callee
+    by_pending : (q : Option Pending) → q ≡ Some c → SuitsPending setup i (node_state w i).vector (node_state w i).point q → IsNode setup c.call.callee
     by_pending None is suits = absurd (cc is)
     by_pending (Some d) is suits = let same : d ≡ c = cc is in subst (λ (d : Pending). IsNode setup d.call.callee) same suits.to_node
 
@@ -94,7 +94,7 @@ start-said setup w i w' a d fits node (up, free, call, offers, after, done) is =
     (λ call at. (refl, so-node setup w i (Detail.Start call) node (told-node call (offer setup w i) refl at) (rw at (call-itself call)))) is
   where
     told-node : (k : Call) (want : Want) → offer setup w i ≡ want → offered_call want ≡ Some k → IsNode setup k.callee
-    told-node k (Want.Start c) offers at = subst (λ (k : Call). IsNode setup k.callee) (same_Some c k at) (start_fits setup i (member w i) c (fits.fits i) up offers).by_call.to_node
+    told-node k (Want.Start c) offers at = subst (λ (k : Call). IsNode setup k.callee) (same_Some c k at) (start_fits setup i (node_state w i) c (fits.fits i) up offers).by_call.to_node
     told-node k Want.Nothing offers at = absurd (cc at)
     told-node k Want.Move offers at = absurd (cc at)
     told-node k Want.Plan offers at = absurd (cc at)

@@ -6,7 +6,7 @@ use Rattle.std.proofs.lemmas.Option.{slice_get_within, get_or_from_slice_get}
 use Rattle.std.proofs.lemmas.List.{append-nil, append_assoc, length-append, length-take-le, take_more, take_all}
 use Rattle.bully_handlers.specs.Vector.{StoredVector, Vector}
 use Rattle.bully_rows.specs.TraceText.{line_of, row_fields, rows_text}
-use Rattle.bully_world.proofs.MembersOf.{member-members_of}
+use Rattle.bully_world.proofs.WorldIn.{node_state-world_in}
 use Rattle.bully_base.specs.Setup.{IsNode, Setup}
 use Rattle.bully_calls.specs.declared.call.Answer.{Answer}
 use Rattle.bully_calls.specs.declared.event.Event.{Event}
@@ -14,7 +14,7 @@ use Rattle.bully_calls.specs.declared.event.Refused.{Refused}
 use Rattle.bully_world.specs.Cause.{cause}
 use Rattle.bully_world.specs.State.{WorldState, cause_in, state_at, world_of}
 use Rattle.bully_world.specs.Step.{Step}
-use Rattle.bully_world.specs.World.{Member, World, first_world, vector}
+use Rattle.bully_world.specs.World.{NodeState, World, first_world, vector}
 use Rattle.bully_world.proofs.StepOfLemmas.{step_is_one}
 use Rattle.bully_rows.specs.declared.detail.DetailedEvent.{DetailedEvent}
 use Rattle.bully_rows.specs.declared.trace.Claim.{Claim}
@@ -155,7 +155,7 @@ event-written old mid new said change first then =
 
 -- the node's vector in the world that the kept one stands for
 pub vector-there : (world : WorldState) (i : ℕ) (v : StoredVector) → v ≡ (state_at world i).vector → v.vector ≡ vector (world_of world) i
-vector-there world i v is = ap (λ (v : StoredVector). v.vector) is ∙ sym (ap (λ (m : Member). m.vector) (member-members_of world.members i))
+vector-there world i v is = ap (λ (v : StoredVector). v.vector) is ∙ sym (ap (λ (m : NodeState). m.vector) (node_state-world_in world.states i))
 
 -- ---- the loop over rows
 

@@ -15,7 +15,7 @@ use Rattle.bully_calls.specs.declared.event.Event.{Event}
 use Rattle.bully_world.specs.NodeInvariant.{WorldInvariant}
 use Rattle.bully_world.specs.Step.{Step, ran}
 use Rattle.bully_world.specs.Turn.{same_node}
-use Rattle.bully_world.specs.World.{Member, World, vector}
+use Rattle.bully_world.specs.World.{NodeState, World, vector}
 use Rattle.bully_world.proofs.Events.{own_other}
 use Rattle.bully_world.proofs.NodeInvariantLemmas.{lawful_fits, step_fits}
 use Rattle.bully_world.proofs.RunInvariant.{ran_here, ran_other}
@@ -64,12 +64,12 @@ run-stays setup w i w' a j fits (c, at, sent, up, is, answered) other = rw is (b
     callee e = other (e ∙ sym (ap (callee_or i) (ap (option_map (λ (p : Pending). p.call)) at)))
 
     by_case : (j ≡ i) ⊎ (j ≢ i) → Stays w (ran w i c) j
-    by_case (inl e) = rw e (ap (λ (n : Member). n.vector) (ran_here setup w i c fits at up))
-    by_case (inr apart) = ap (λ (n : Member). n.vector) (ran_other setup w i c fits at up j apart callee)
+    by_case (inl e) = rw e (ap (λ (n : NodeState). n.vector) (ran_here setup w i c fits at up))
+    by_case (inr apart) = ap (λ (n : NodeState). n.vector) (ran_other setup w i c fits at up j apart callee)
 
 others-stay : (setup : Setup) (w : World) (e : Event) (w' : World) (a : Answer) (j : ℕ) → WorldInvariant setup w → Step setup w e w' a → j ≢ place_of w e → Stays w w' j
 others-stay setup w (Event.Run i) w' a j fits step other = run-stays setup w i w' a j fits step other
-others-stay setup w e w' a j fits step other = ap (λ (n : Member). n.vector) (own_other setup w w' e a j (λ i same. absurd (cc same)) step other)
+others-stay setup w e w' a j fits step other = ap (λ (n : NodeState). n.vector) (own_other setup w w' e a j (λ i same. absurd (cc same)) step other)
 
 -- ---- the laws
 

@@ -4,7 +4,7 @@ use crate::lines::Lines;
 use crate::team::Team;
 use bully_base::{EVENTS_MAX, Setup};
 use bully_group::{Group, Naming};
-use bully_rows::Deed;
+use bully_rows::EventKind;
 use bully_table::Table;
 use bully_watch::Entry;
 use bully_world::Event;
@@ -66,7 +66,7 @@ fn lines_of(history: &[Entry]) -> Lines {
 
 fn with_entry(made: u64, entry: &Entry) -> u64 {
     let made = joined(made, u64::from(entry.actor));
-    let made = joined(made, Deed::of(&entry.event) as u64);
+    let made = joined(made, EventKind::of(&entry.event) as u64);
     let made = joined(made, u64::from(entry.event.node().number()));
     let made = joined(made, entry.answer as u64);
     match &entry.event {

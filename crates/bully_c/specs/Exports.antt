@@ -21,35 +21,35 @@ use Rattle.bully_table.specs.Planning.{planned}
 use Rattle.bully_calls.specs.declared.event.Event.{Event}
 use Rattle.bully_calls.specs.declared.event.Refused.{Refused}
 use Rattle.bully_c.specs.Arguments.{AreGiven, IsCopied, IsSetupRefusal, RefusesGiven, RefusesOwners, table_given}
-use Rattle.bully_c.specs.Held.{ServesRequest, call_in, Takes, TakesFailure, TakesReply, TellsEvent}
+use Rattle.bully_c.specs.AgentSession.{ServesRequest, call_in, Takes, TakesFailure, TakesReply, TellsEvent}
 use Rattle.bully_c.specs.Numbers.{answer_number, kind_number, reply_number, request_number, status_number, step_number, want_number}
 use Rattle.bully_c.specs.declared.status.TheConstants.{BAD_NODE, CLOSED, LINE_WORD, OK, OPEN, OUT_OF_MEMORY, SHORT, TABLE_LENGTH}
-use Rattle.bully_c.specs.declared.held.Held.{Held}
-use Rattle.bully_c.specs.declared.held.Told.{Told}
+use Rattle.bully_c.specs.declared.session.AgentSession.{AgentSession}
+use Rattle.bully_c.specs.declared.session.StepRows.{StepRows}
 use Rattle.bully_c.specs.declared.shown.CState.{CState}
 
 -- of what an open handle has this holds, and it stays open; a closed one is told, and stays closed
 abbrev pub AtOpenOf : (H : Type 0) → (H → ℕ → H → Type 0) → Option H → ℕ → Option H → Type 0
 AtOpenOf H Holds None status new = (status ≡ CLOSED) × (new ≡ None)
-AtOpenOf H Holds (Some held) status new = (after : H) × (new ≡ Some after) × Holds held status after
+AtOpenOf H Holds (Some session) status new = (after : H) × (new ≡ Some after) × Holds session status after
 
 -- and of an agent's
-abbrev pub AtOpen : (Held → ℕ → Held → Type 0) → Option Held → ℕ → Option Held → Type 0
-AtOpen = AtOpenOf Held
+abbrev pub AtOpen : (AgentSession → ℕ → AgentSession → Type 0) → Option AgentSession → ℕ → Option AgentSession → Type 0
+AtOpen = AtOpenOf AgentSession
 
 -- the status is that of a step which is taken or refused so
-abbrev pub IsStep : {A : Type 0} → (Held → Result A Refused → Held → Type 0) → Held → ℕ → Held → Type 0
-IsStep {A} Steps held status after = (said : Result A Refused) × (status ≡ step_number said) × Steps held said after
+abbrev pub IsStep : {A : Type 0} → (AgentSession → Result A Refused → AgentSession → Type 0) → AgentSession → ℕ → AgentSession → Type 0
+IsStep {A} Steps session status after = (said : Result A Refused) × (status ≡ step_number said) × Steps session said after
 
 -- an event that the node takes by itself
-abbrev pub IsEvent : (ℕ → Event) → (AgentState → AgentState → Told → Type 0) → Held → ℕ → Held → Type 0
+abbrev pub IsEvent : (ℕ → Event) → (AgentState → AgentState → StepRows → Type 0) → AgentSession → ℕ → AgentSession → Type 0
 IsEvent event Tells = IsStep (Takes event Tells)
 
 -- the plan of these owners, or why they are none of the setup
-abbrev pub IsPlan : List ℕ → Held → ℕ → Held → Type 0
-IsPlan owners held status after =
-    (AreOwners held.agent.setup owners × IsEvent (λ i. Event.Plan i owners) (TellsEvent (λ i. Event.Plan i owners)) held status after)
-    ⊎ (RefusesOwners held.agent.setup owners status × (after ≡ held))
+abbrev pub IsPlan : List ℕ → AgentSession → ℕ → AgentSession → Type 0
+IsPlan owners session status after =
+    (AreOwners session.agent.setup owners × IsEvent (λ i. Event.Plan i owners) (TellsEvent (λ i. Event.Plan i owners)) session status after)
+    ⊎ (RefusesOwners session.agent.setup owners status × (after ≡ session))
 
 -- why a line is no request, by its number
 abbrev pub RefusesRequestLine : Setup → List ℕ → ℕ → Type 0
@@ -66,41 +66,41 @@ abbrev pub IsRequestLine : Setup → List ℕ → Request → Type 0
 IsRequestLine s line request = IsUtf8 line × (request_of_text s line ≡ Ok request)
 
 -- the line of what the node answers it, where it runs
-abbrev pub answer_line : Held → Request → List ℕ
-answer_line held request = reply_text (record { caller = request.caller; number = request.number; answer = reply request.call.kind held.agent.member.vector.vector })
+abbrev pub answer_line : AgentSession → Request → List ℕ
+answer_line session request = reply_text (record { caller = request.caller; number = request.number; answer = reply request.call.kind session.agent.node_state.vector.vector })
 
 -- the request of a line runs, and the line of its reply is written. Nothing happens where there isn't room for that, where the line
 -- is no request, or where an allocation failed.
-pub record NothingServed (line : List ℕ) (room count : ℕ) (held : Held) (status count_after : ℕ) : Type 0 where
-  pub why : ((request : Request) × IsRequestLine held.agent.setup line request × (status ≡ SHORT) × (room < count_after) × (count_after ≡ length (answer_line held request)))
-      ⊎ ((request : Request) × IsRequestLine held.agent.setup line request × (status ≡ OUT_OF_MEMORY) × (count_after ≡ count))
-      ⊎ (RefusesRequestLine held.agent.setup line status × (count_after ≡ count))
+pub record NothingServed (line : List ℕ) (room count : ℕ) (session : AgentSession) (status count_after : ℕ) : Type 0 where
+  pub why : ((request : Request) × IsRequestLine session.agent.setup line request × (status ≡ SHORT) × (room < count_after) × (count_after ≡ length (answer_line session request)))
+      ⊎ ((request : Request) × IsRequestLine session.agent.setup line request × (status ≡ OUT_OF_MEMORY) × (count_after ≡ count))
+      ⊎ (RefusesRequestLine session.agent.setup line status × (count_after ≡ count))
 
 -- what was written of the reply, if there is one
 abbrev pub IsReplyCopied : Result Reply Refused → List ℕ → ℕ → List ℕ → ℕ → Type 0
 IsReplyCopied (Ok reply) before count_before after count = IsCopied (reply_text reply) before OK after count
 IsReplyCopied (Err why) before count_before after count = (after ≡ before) × (count ≡ count_before)
 
-abbrev pub IsServe : List ℕ → List ℕ → ℕ → List ℕ → ℕ → Held → ℕ → Held → Type 0
-IsServe line before count_before after_reply count held status after =
-    (NothingServed line (length before) count_before held status count × (after ≡ held) × (after_reply ≡ before))
-    ⊎ ((request : Request) × IsRequestLine held.agent.setup line request × (length (answer_line held request) ≤ length before)
-    × (said : Result Reply Refused) × (status ≡ step_number said) × ServesRequest request held said after × IsReplyCopied said before count_before after_reply count)
+abbrev pub IsServe : List ℕ → List ℕ → ℕ → List ℕ → ℕ → AgentSession → ℕ → AgentSession → Type 0
+IsServe line before count_before after_reply count session status after =
+    (NothingServed line (length before) count_before session status count × (after ≡ session) × (after_reply ≡ before))
+    ⊎ ((request : Request) × IsRequestLine session.agent.setup line request × (length (answer_line session request) ≤ length before)
+    × (said : Result Reply Refused) × (status ≡ step_number said) × ServesRequest request session said after × IsReplyCopied said before count_before after_reply count)
 
 -- what a call brought, in the place of what was there
 abbrev pub told_answer : ℕ → Result Answer Refused → ℕ
 told_answer before (Ok answer) = answer_number answer
 told_answer before (Err why) = before
 
-abbrev pub IsReply : List ℕ → ℕ → ℕ → Held → ℕ → Held → Type 0
-IsReply line before answer held status after =
-    (RefusesReplyLine held.agent.setup line status × (after ≡ held) × (answer ≡ before))
-    ⊎ ((reply : Reply) × IsUtf8 line × (reply_of_text held.agent.setup line ≡ Ok reply) × (said : Result Answer Refused) × (status ≡ step_number said)
-    × TakesReply reply held said after × (answer ≡ told_answer before said))
+abbrev pub IsReply : List ℕ → ℕ → ℕ → AgentSession → ℕ → AgentSession → Type 0
+IsReply line before answer session status after =
+    (RefusesReplyLine session.agent.setup line status × (after ≡ session) × (answer ≡ before))
+    ⊎ ((reply : Reply) × IsUtf8 line × (reply_of_text session.agent.setup line ≡ Ok reply) × (said : Result Answer Refused) × (status ≡ step_number said)
+    × TakesReply reply session said after × (answer ≡ told_answer before said))
 
-abbrev pub IsFailure : ℕ → ℕ → ℕ → Held → ℕ → Held → Type 0
-IsFailure number before answer held status after =
-    (said : Result Answer Refused) × (status ≡ step_number said) × TakesFailure number held said after × (answer ≡ told_answer before said)
+abbrev pub IsFailure : ℕ → ℕ → ℕ → AgentSession → ℕ → AgentSession → Type 0
+IsFailure number before answer session status after =
+    (said : Result Answer Refused) × (status ≡ step_number said) × TakesFailure number session said after × (answer ≡ told_answer before said)
 
 -- ---- what an agent shows
 
@@ -120,27 +120,27 @@ callee_in None = 0
 callee_in (Some call) = call.callee
 
 -- of a node with this vector and this slot, of which no number is told
-abbrev pub standing : Vector → Slot → ℕ → Want → CState
-standing v slot generation wants =
+abbrev pub node_shown : Vector → Slot → ℕ → Want → CState
+node_shown v slot generation wants =
     let call = call_in slot in
     record { status = status_number v.status; wants = want_number wants; events = 0; generation = generation; call = kind_in call; orphan = if is_orphan generation slot then 1 else 0; number = 0; node = 0; coordinator = number_or_none v.coordinator; halter = number_or_none v.halter; callee = callee_in call }
 
 abbrev pub shown : AgentState → CState
-shown a = record (standing a.member.vector.vector a.member.slot a.member.generation (wanted a)) { events = a.events; number = a.number; node = a.node }
+shown a = record (node_shown a.node_state.vector.vector a.node_state.slot a.node_state.generation (wanted a)) { events = a.events; number = a.number; node = a.node }
 
 -- nothing changes, and this is shown
 abbrev pub ShowsOf : (H : Type 0) → (H → ℕ → Type 0) → H → ℕ → H → Type 0
-ShowsOf H Says held status after = Says held status × (after ≡ held)
+ShowsOf H Says session status after = Says session status × (after ≡ session)
 
 -- and shown of the agent
-abbrev pub Shows : (Held → ℕ → Type 0) → Held → ℕ → Held → Type 0
-Shows = ShowsOf Held
+abbrev pub Shows : (AgentSession → ℕ → Type 0) → AgentSession → ℕ → AgentSession → Type 0
+Shows = ShowsOf AgentSession
 
 -- ---- what a node should plan
 
 -- the table that the agent prepares from these owners, if any
 abbrev pub IsPreparedTable : AgentState → List ℕ → List ℕ → Type 0
-IsPreparedTable a old table = AreGiven a.setup old × (table ≡ planned a.setup (table_given old) (with_node a.node a.member.vector.vector.up))
+IsPreparedTable a old table = AreGiven a.setup old × (table ≡ planned a.setup (table_given old) (with_node a.node a.node_state.vector.vector.up))
 
 -- why there is none: the room isn't that of a table, the old owners are none of the setup, or an allocation failed
 abbrev pub RefusesPrepare : AgentState → List ℕ → ℕ → ℕ → Type 0
@@ -148,9 +148,9 @@ RefusesPrepare a old room status =
     ((status ≡ TABLE_LENGTH) × (room ≢ a.setup.partitions)) ⊎ ((room ≡ a.setup.partitions) × RefusesGiven a.setup old status)
     ⊎ ((status ≡ OUT_OF_MEMORY) × (room ≡ a.setup.partitions) × AreGiven a.setup old)
 
-abbrev pub IsPrepared : List ℕ → List ℕ → List ℕ → Held → ℕ → Held → Type 0
-IsPrepared old before owners = Shows (λ held status.
-    ((status ≡ OK) × IsPreparedTable held.agent old owners) ⊎ (RefusesPrepare held.agent old (length before) status × (owners ≡ before)))
+abbrev pub IsPrepared : List ℕ → List ℕ → List ℕ → AgentSession → ℕ → AgentSession → Type 0
+IsPrepared old before owners = Shows (λ session status.
+    ((status ≡ OK) × IsPreparedTable session.agent old owners) ⊎ (RefusesPrepare session.agent old (length before) status × (owners ≡ before)))
 
 -- ---- opening and closing
 
@@ -168,14 +168,14 @@ pub record RefusesOpening (s : Setup) (node : ℕ) (task : List ℕ) (status : �
       ⊎ ((status ≡ OUT_OF_MEMORY) × IsSetup s × IsNode s node × AreGiven s task)
 
 -- the agent that took no step
-abbrev pub opened : Setup → ℕ → ℕ → List ℕ → Held
-opened s node events task = record { agent = new_agent s node events (table_given task); told = Told.Nothing }
+abbrev pub opened : Setup → ℕ → ℕ → List ℕ → AgentSession
+opened s node events task = record { agent = new_agent s node events (table_given task); told = StepRows.Nothing }
 
-abbrev pub IsOpening : Setup → ℕ → ℕ → List ℕ → Option Held → ℕ → Option Held → Type 0
-IsOpening s node events task (Some held) status new = (status ≡ OPEN) × (new ≡ Some held)
+abbrev pub IsOpening : Setup → ℕ → ℕ → List ℕ → Option AgentSession → ℕ → Option AgentSession → Type 0
+IsOpening s node events task (Some session) status new = (status ≡ OPEN) × (new ≡ Some session)
 IsOpening s node events task None status new =
     ((status ≡ OK) × CanOpen s node task × (new ≡ Some (opened s node events task))) ⊎ (RefusesOpening s node task status × (new ≡ None))
 
 abbrev pub IsClosing : {H : Type 0} → Option H → ℕ → Option H → Type 0
 IsClosing None status new = (status ≡ CLOSED) × (new ≡ None)
-IsClosing (Some held) status new = (status ≡ OK) × (new ≡ None)
+IsClosing (Some session) status new = (status ≡ OK) × (new ≡ None)

@@ -1,5 +1,5 @@
 pub mod Numbers
-pub mod Held
+pub mod AgentSession
 pub mod Arguments
 pub mod Exports
 pub mod Judged

@@ -22,33 +22,33 @@ use Rattle.bully_world.specs.State.{WorldState, cause_in, state_at}
 use Rattle.bully_c.specs.Arguments.{IsCopied, IsSetupRefusal}
 use Rattle.bully_c.specs.Exports.{AtOpenOf, ShowsOf, number_or_none, shown}
 use Rattle.bully_c.specs.Numbers.{event_numbered, follow_number, refusal_number, trace_number}
-use Rattle.bully_c.specs.declared.logs.HeldLog.{HeldLog}
+use Rattle.bully_c.specs.declared.logs.LogSession.{LogSession}
 use Rattle.bully_c.specs.declared.replicas.CGroup.{CGroup}
 use Rattle.bully_c.specs.declared.shown.CState.{CState}
 use Rattle.bully_c.specs.declared.status.TheConstants.{BAD_EVENT, BAD_HEADER, BAD_NODE, OK, OPEN, OUT_OF_MEMORY, ROW_END}
 
 -- ---- handles
 
-abbrev pub AtLog : (HeldLog → ℕ → HeldLog → Type 0) → Option HeldLog → ℕ → Option HeldLog → Type 0
-AtLog = AtOpenOf HeldLog
+abbrev pub AtLog : (LogSession → ℕ → LogSession → Type 0) → Option LogSession → ℕ → Option LogSession → Type 0
+AtLog = AtOpenOf LogSession
 
-abbrev pub ShowsLog : (HeldLog → ℕ → Type 0) → HeldLog → ℕ → HeldLog → Type 0
-ShowsLog = ShowsOf HeldLog
+abbrev pub ShowsLog : (LogSession → ℕ → Type 0) → LogSession → ℕ → LogSession → Type 0
+ShowsLog = ShowsOf LogSession
 
 -- the text is that of a header, and no row stands behind it
 abbrev pub IsHeaderAlone : List ℕ → Header → Type 0
 IsHeaderAlone text header = trace_of (records_of text) ≡ Ok (headed header [])
 
 -- the replica of a log with this header, before any row
-abbrev pub opened_log : Header → HeldLog
+abbrev pub opened_log : Header → LogSession
 opened_log header = record { follower = record { replica = first_replica header; rows = 0 } }
 
 -- why it isn't opened: there is no such header, or no memory
 abbrev pub RefusesHeader : List ℕ → ℕ → Type 0
 RefusesHeader text status = ((status ≡ BAD_HEADER) × ((header : Header) → ¬ IsHeaderAlone text header)) ⊎ (status ≡ OUT_OF_MEMORY)
 
-abbrev pub IsLogOpening : List ℕ → Option HeldLog → ℕ → Option HeldLog → Type 0
-IsLogOpening text (Some held) status new = (status ≡ OPEN) × (new ≡ Some held)
+abbrev pub IsLogOpening : List ℕ → Option LogSession → ℕ → Option LogSession → Type 0
+IsLogOpening text (Some session) status new = (status ≡ OPEN) × (new ≡ Some session)
 IsLogOpening text None status new =
     ((header : Header) × IsHeaderAlone text header × (status ≡ OK) × (new ≡ Some (opened_log header))) ⊎ (RefusesHeader text status × (new ≡ None))
 
@@ -75,12 +75,12 @@ abbrev pub mark_number : FollowerState → ℕ
 mark_number f = if f.rows == ROWS_MAX then trace_number TraceCause.TooManyRows else trace_number TraceCause.BadRow
 
 -- the rows of the text were learned up to that one, so many of them; nothing of a text that begins with a mark, or without its end
-abbrev pub IsLearning : List ℕ → ℕ → HeldLog → ℕ → HeldLog → Type 0
-IsLearning text taken held status after =
-    ((has_end text ≡ false) × (status ≡ ROW_END) × (taken ≡ 0) × (after ≡ held))
-    ⊎ ((has_end text ≡ true) × (has_mark text ≡ true) × (status ≡ mark_number held.follower) × (taken ≡ 0) × (after ≡ held))
-    ⊎ ((has_end text ≡ true) × (has_mark text ≡ false) × (left : List Record) × FollowsUpTo (records_of text) held.follower after.follower left
-    × (after.follower.rows ≡ held.follower.rows + taken) × EndsLearning left after.follower status)
+abbrev pub IsLearning : List ℕ → ℕ → LogSession → ℕ → LogSession → Type 0
+IsLearning text taken session status after =
+    ((has_end text ≡ false) × (status ≡ ROW_END) × (taken ≡ 0) × (after ≡ session))
+    ⊎ ((has_end text ≡ true) × (has_mark text ≡ true) × (status ≡ mark_number session.follower) × (taken ≡ 0) × (after ≡ session))
+    ⊎ ((has_end text ≡ true) × (has_mark text ≡ false) × (left : List Record) × FollowsUpTo (records_of text) session.follower after.follower left
+    × (after.follower.rows ≡ session.follower.rows + taken) × EndsLearning left after.follower status)
 
 -- ---- rows to be appended
 
@@ -135,7 +135,7 @@ RefusesHeaderRow s status = IsSetupRefusal s status ⊎ (IsSetup s × (status �
 
 -- what an agent of node i would keep in this world
 abbrev pub agent_in : WorldState → ℕ → AgentState
-agent_in w i = record { setup = w.setup; node = i; events = w.events; number = 0; member = state_at w i }
+agent_in w i = record { setup = w.setup; node = i; events = w.events; number = 0; node_state = state_at w i }
 
 -- of a node this is shown; of another number it is told that there is no such node, and nothing is written
 abbrev pub ShowsNode : Setup → ℕ → ℕ → Type 0 → Type 0 → Type 0

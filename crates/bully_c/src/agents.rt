@@ -8,13 +8,13 @@ ghost use Rattle.bully_rows.specs.declared.trace.Row.{Row as RowState};
 ghost use Rattle.bully_calls.specs.declared.event.Event.{Event as EventState};
 ghost use Rattle.bully_c.specs.Arguments.{IsCopied, IsMadeAndCopied, setup_given};
 ghost use Rattle.bully_c.specs.Exports.{AtOpen, CanOpen, IsClosing, IsEvent, IsOpening, IsPlan, IsPrepared, IsPreparedTable, RefusesOpening, RefusesPrepare, Shows, opened, shown};
-ghost use Rattle.bully_c.specs.Held.{TellsDrop, TellsEvent, TellsStart, rows_told};
+ghost use Rattle.bully_c.specs.AgentSession.{TellsDrop, TellsEvent, TellsStart, rows_told};
 ghost use Rattle.bully_c.specs.Numbers.{step_number};
 ghost use Rattle.bully_c.specs.declared.status.TheConstants.{OK as OkNumber};
-ghost use Rattle.bully_c.specs.declared.held.Told.{Told as ToldState};
+ghost use Rattle.bully_c.specs.declared.session.StepRows.{StepRows as StepRowsState};
 
 use crate::handle::AgentHandle;
-use crate::held::Held;
+use crate::session::AgentSession;
 use crate::shown::{CState, copy_owners, copy_text, copy_up, state_of};
 use crate::status::{self, CLOSED, OK, OPEN, OUT_OF_MEMORY, TABLE_LENGTH};
 use crate::tables::{CSetup, node_of, put_owners, read_table, setup_of, table_of};
@@ -49,13 +49,13 @@ pub extern "C" fn bully_c_agent_open(
 ) -> u32
     ensures { IsOpening (setup_given setup.now weights.now) node events task.now agent.old.value result agent.new.value }
 {
-    if let Some(held) = agent.take(alloc) {
-        agent.put(alloc, held);
+    if let Some(session) = agent.take(alloc) {
+        agent.put(alloc, session);
         return OPEN;
     }
     match opened(alloc, setup, weights, node, events, task) {
-        Ok(held) => {
-            agent.put(alloc, held);
+        Ok(session) => {
+            agent.put(alloc, session);
             OK
         }
         Err(status) => status,
@@ -70,8 +70,8 @@ fn opened(
     node: u16,
     events: u32,
     task: &[u16],
-) -> Result<Box<Held>, u32>
-    ensures ok { IfOk result (λ held. held.value ≡ opened (setup_given setup.now weights.now) node events task.now) }
+) -> Result<Box<AgentSession>, u32>
+    ensures ok { IfOk result (λ session. session.value ≡ opened (setup_given setup.now weights.now) node events task.now) }
     ensures can { IfOk result (λ _. CanOpen (setup_given setup.now weights.now) node task.now) }
     ensures err { IfErr result (RefusesOpening (setup_given setup.now weights.now) node task.now) }
 {
@@ -79,7 +79,7 @@ fn opened(
     let node = node_of(&setup, node)?;
     let task = table_of(alloc, &setup, task)?;
     match boxed(alloc, &setup, node, events, task.as_ref()) {
-        Ok(held) => Ok(held),
+        Ok(session) => Ok(session),
         Err(_) => Err(OUT_OF_MEMORY),
     }
 }
@@ -91,13 +91,13 @@ fn boxed(
     node: Node,
     events: u32,
     task: Option<&Table>,
-) -> Result<Box<Held>, OutOfMemory>
+) -> Result<Box<AgentSession>, OutOfMemory>
     requires node { node ≤ setup.now.nodes }
     requires task { IfSome (option_copied task) (λ t. length t ≡ setup.now.partitions) }
-    ensures { IfOk result (λ held. held.value ≡ record { agent = new_agent setup.now node events (option_copied task.entry); told = ToldState.Nothing }) }
+    ensures { IfOk result (λ session. session.value ≡ record { agent = new_agent setup.now node events (option_copied task.entry); told = StepRowsState.Nothing }) }
 {
     let agent = Agent::new(alloc, setup, node, events, task)?;
-    Ok(Box::new(alloc, Held::new(agent))?)
+    Ok(Box::new(alloc, AgentSession::new(agent))?)
 }
 
 /// Closes the handle, and gives back what it kept.
@@ -116,11 +116,11 @@ pub extern "C" fn bully_c_agent_close(alloc: Global, agent: &mut AgentHandle) ->
 pub extern "C" fn bully_c_agent_recover(alloc: Global, agent: &mut AgentHandle) -> u32
     ensures { AtOpen (IsEvent EventState.Recover (TellsEvent EventState.Recover)) agent.old.value result agent.new.value }
 {
-    let Some(mut held) = agent.take(alloc) else {
+    let Some(mut session) = agent.take(alloc) else {
         return CLOSED;
     };
-    let status = done(held.recover());
-    agent.put(alloc, held);
+    let status = done(session.recover());
+    agent.put(alloc, session);
     status
 }
 
@@ -129,11 +129,11 @@ pub extern "C" fn bully_c_agent_recover(alloc: Global, agent: &mut AgentHandle) 
 pub extern "C" fn bully_c_agent_crash(alloc: Global, agent: &mut AgentHandle) -> u32
     ensures { AtOpen (IsEvent EventState.Crash (TellsEvent EventState.Crash)) agent.old.value result agent.new.value }
 {
-    let Some(mut held) = agent.take(alloc) else {
+    let Some(mut session) = agent.take(alloc) else {
         return CLOSED;
     };
-    let status = done(held.crash());
-    agent.put(alloc, held);
+    let status = done(session.crash());
+    agent.put(alloc, session);
     status
 }
 
@@ -142,11 +142,11 @@ pub extern "C" fn bully_c_agent_crash(alloc: Global, agent: &mut AgentHandle) ->
 pub extern "C" fn bully_c_agent_check(alloc: Global, agent: &mut AgentHandle) -> u32
     ensures { AtOpen (IsEvent EventState.Check (TellsEvent EventState.Check)) agent.old.value result agent.new.value }
 {
-    let Some(mut held) = agent.take(alloc) else {
+    let Some(mut session) = agent.take(alloc) else {
         return CLOSED;
     };
-    let status = done(held.check());
-    agent.put(alloc, held);
+    let status = done(session.check());
+    agent.put(alloc, session);
     status
 }
 
@@ -155,11 +155,11 @@ pub extern "C" fn bully_c_agent_check(alloc: Global, agent: &mut AgentHandle) ->
 pub extern "C" fn bully_c_agent_timeout(alloc: Global, agent: &mut AgentHandle) -> u32
     ensures { AtOpen (IsEvent EventState.Timeout (TellsEvent EventState.Timeout)) agent.old.value result agent.new.value }
 {
-    let Some(mut held) = agent.take(alloc) else {
+    let Some(mut session) = agent.take(alloc) else {
         return CLOSED;
     };
-    let status = done(held.timeout());
-    agent.put(alloc, held);
+    let status = done(session.timeout());
+    agent.put(alloc, session);
     status
 }
 
@@ -168,11 +168,11 @@ pub extern "C" fn bully_c_agent_timeout(alloc: Global, agent: &mut AgentHandle) 
 pub extern "C" fn bully_c_agent_start(alloc: Global, agent: &mut AgentHandle) -> u32
     ensures { AtOpen (IsEvent EventState.Start TellsStart) agent.old.value result agent.new.value }
 {
-    let Some(mut held) = agent.take(alloc) else {
+    let Some(mut session) = agent.take(alloc) else {
         return CLOSED;
     };
-    let status = done(held.start());
-    agent.put(alloc, held);
+    let status = done(session.start());
+    agent.put(alloc, session);
     status
 }
 
@@ -181,11 +181,11 @@ pub extern "C" fn bully_c_agent_start(alloc: Global, agent: &mut AgentHandle) ->
 pub extern "C" fn bully_c_agent_advance(alloc: Global, agent: &mut AgentHandle) -> u32
     ensures { AtOpen (IsEvent EventState.Move (TellsEvent EventState.Move)) agent.old.value result agent.new.value }
 {
-    let Some(mut held) = agent.take(alloc) else {
+    let Some(mut session) = agent.take(alloc) else {
         return CLOSED;
     };
-    let status = done(held.advance());
-    agent.put(alloc, held);
+    let status = done(session.advance());
+    agent.put(alloc, session);
     status
 }
 
@@ -194,11 +194,11 @@ pub extern "C" fn bully_c_agent_advance(alloc: Global, agent: &mut AgentHandle) 
 pub extern "C" fn bully_c_agent_drop_orphan(alloc: Global, agent: &mut AgentHandle) -> u32
     ensures { AtOpen (IsEvent EventState.Drop TellsDrop) agent.old.value result agent.new.value }
 {
-    let Some(mut held) = agent.take(alloc) else {
+    let Some(mut session) = agent.take(alloc) else {
         return CLOSED;
     };
-    let status = done(held.drop_orphan());
-    agent.put(alloc, held);
+    let status = done(session.drop_orphan());
+    agent.put(alloc, session);
     status
 }
 
@@ -207,20 +207,20 @@ pub extern "C" fn bully_c_agent_drop_orphan(alloc: Global, agent: &mut AgentHand
 pub extern "C" fn bully_c_agent_plan(alloc: Global, agent: &mut AgentHandle, owners: &[u16]) -> u32
     ensures { AtOpen (IsPlan owners.now) agent.old.value result agent.new.value }
 {
-    let Some(mut held) = agent.take(alloc) else {
+    let Some(mut session) = agent.take(alloc) else {
         return CLOSED;
     };
-    let status = planned(alloc, &mut held, owners);
-    agent.put(alloc, held);
+    let status = planned(alloc, &mut session, owners);
+    agent.put(alloc, session);
     status
 }
 
 // The agent has planned the table of these owners.
-fn planned(alloc: Global, held: &mut Held, owners: &[u16]) -> u32
-    ensures { IsPlan owners.now held.old result held.new }
+fn planned(alloc: Global, session: &mut AgentSession, owners: &[u16]) -> u32
+    ensures { IsPlan owners.now session.old result session.new }
 {
-    match read_table(alloc, held.agent.setup(), owners) {
-        Ok(table) => done(held.plan(table)),
+    match read_table(alloc, session.agent.setup(), owners) {
+        Ok(table) => done(session.plan(table)),
         Err(status) => status,
     }
 }
@@ -236,17 +236,17 @@ pub extern "C" fn bully_c_agent_prepare(
     ensures open { AtOpen (IsPrepared old.now owners.old owners.new) agent.old.value result agent.new.value }
     ensures closed { agent.old.value ≡ None → owners.new ≡ owners.old }
 {
-    let Some(held) = agent.take(alloc) else {
+    let Some(session) = agent.take(alloc) else {
         return CLOSED;
     };
-    let status = match prepared(alloc, &held.agent, old, owners.len()) {
+    let status = match prepared(alloc, &session.agent, old, owners.len()) {
         Ok(table) => {
             put_owners(&table, owners);
             OK
         }
         Err(status) => status,
     };
-    agent.put(alloc, held);
+    agent.put(alloc, session);
     status
 }
 
@@ -274,14 +274,14 @@ pub extern "C" fn bully_c_agent_show(
     agent: &mut AgentHandle,
     state: &mut CState,
 ) -> u32
-    ensures open { AtOpen (Shows (λ held status. (status ≡ OkNumber) × (state.new ≡ shown held.agent))) agent.old.value result agent.new.value }
+    ensures open { AtOpen (Shows (λ session status. (status ≡ OkNumber) × (state.new ≡ shown session.agent))) agent.old.value result agent.new.value }
     ensures closed { agent.old.value ≡ None → state.new ≡ state.old }
 {
-    let Some(held) = agent.take(alloc) else {
+    let Some(session) = agent.take(alloc) else {
         return CLOSED;
     };
-    *state = state_of(&held.agent);
-    agent.put(alloc, held);
+    *state = state_of(&session.agent);
+    agent.put(alloc, session);
     OK
 }
 
@@ -293,14 +293,14 @@ pub extern "C" fn bully_c_agent_up(
     nodes: &mut [u16],
     count: &mut usize,
 ) -> u32
-    ensures open { AtOpen (Shows (λ held status. IsCopied (reverse held.agent.member.vector.vector.up) nodes.old status nodes.new count.new)) agent.old.value result agent.new.value }
+    ensures open { AtOpen (Shows (λ session status. IsCopied (reverse session.agent.node_state.vector.vector.up) nodes.old status nodes.new count.new)) agent.old.value result agent.new.value }
     ensures closed { agent.old.value ≡ None → (nodes.new ≡ nodes.old) × (count.new ≡ count.old) }
 {
-    let Some(held) = agent.take(alloc) else {
+    let Some(session) = agent.take(alloc) else {
         return CLOSED;
     };
-    let status = copy_up(held.agent.vector().up(), nodes, count);
-    agent.put(alloc, held);
+    let status = copy_up(session.agent.vector().up(), nodes, count);
+    agent.put(alloc, session);
     status
 }
 
@@ -312,14 +312,14 @@ pub extern "C" fn bully_c_agent_task(
     owners: &mut [u16],
     count: &mut usize,
 ) -> u32
-    ensures open { AtOpen (Shows (λ held status. IsCopied (unwrap_or held.agent.member.vector.vector.task []) owners.old status owners.new count.new)) agent.old.value result agent.new.value }
+    ensures open { AtOpen (Shows (λ session status. IsCopied (unwrap_or session.agent.node_state.vector.vector.task []) owners.old status owners.new count.new)) agent.old.value result agent.new.value }
     ensures closed { agent.old.value ≡ None → (owners.new ≡ owners.old) × (count.new ≡ count.old) }
 {
-    let Some(held) = agent.take(alloc) else {
+    let Some(session) = agent.take(alloc) else {
         return CLOSED;
     };
-    let status = copy_owners(held.agent.vector().task(), owners, count);
-    agent.put(alloc, held);
+    let status = copy_owners(session.agent.vector().task(), owners, count);
+    agent.put(alloc, session);
     status
 }
 
@@ -331,18 +331,18 @@ pub extern "C" fn bully_c_agent_rows(
     rows: &mut [u8],
     length: &mut usize,
 ) -> u32
-    ensures open { AtOpen (Shows (λ held status. IsMadeAndCopied (rows_text (rows_told held.told)) rows.old length.old status rows.new length.new)) agent.old.value result agent.new.value }
+    ensures open { AtOpen (Shows (λ session status. IsMadeAndCopied (rows_text (rows_told session.told)) rows.old length.old status rows.new length.new)) agent.old.value result agent.new.value }
     ensures closed { agent.old.value ≡ None → (rows.new ≡ rows.old) × (length.new ≡ length.old) }
 {
-    let Some(held) = agent.take(alloc) else {
+    let Some(session) = agent.take(alloc) else {
         return CLOSED;
     };
     let mut text = String::new(alloc);
-    let status = match held.push_rows(&mut text) {
+    let status = match session.push_rows(&mut text) {
         Ok(()) => copy_text(&text, rows, length),
         Err(_) => OUT_OF_MEMORY,
     };
-    agent.put(alloc, held);
+    agent.put(alloc, session);
     status
 }
 
@@ -354,17 +354,17 @@ pub extern "C" fn bully_c_agent_claim(
     row: &mut [u8],
     length: &mut usize,
 ) -> u32
-    ensures open { AtOpen (Shows (λ held status. IsMadeAndCopied (line_of (row_fields (RowState.Whole (whole_of held.agent.node held.agent.member.vector.vector)))) row.old length.old status row.new length.new)) agent.old.value result agent.new.value }
+    ensures open { AtOpen (Shows (λ session status. IsMadeAndCopied (line_of (row_fields (RowState.Whole (whole_of session.agent.node session.agent.node_state.vector.vector)))) row.old length.old status row.new length.new)) agent.old.value result agent.new.value }
     ensures closed { agent.old.value ≡ None → (row.new ≡ row.old) × (length.new ≡ length.old) }
 {
-    let Some(held) = agent.take(alloc) else {
+    let Some(session) = agent.take(alloc) else {
         return CLOSED;
     };
     let mut text = String::new(alloc);
-    let status = match push_vector(&mut text, held.agent.node(), held.agent.vector()) {
+    let status = match push_vector(&mut text, session.agent.node(), session.agent.vector()) {
         Ok(()) => copy_text(&text, row, length),
         Err(_) => OUT_OF_MEMORY,
     };
-    agent.put(alloc, held);
+    agent.put(alloc, session);
     status
 }

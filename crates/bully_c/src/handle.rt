@@ -1,8 +1,8 @@
 //! What C holds of an agent.
 ghost use Rattle.std.specs.Prelude.{◌≡◌, Option, None, Some, MatchOption};
-ghost use Rattle.bully_c.specs.declared.held.Held.{Held};
+ghost use Rattle.bully_c.specs.declared.session.AgentSession.{AgentSession};
 
-use crate::held::Held;
+use crate::session::AgentSession;
 use bully_handle::Loose;
 use std::alloc::Global;
 use std::marker::Model;
@@ -11,41 +11,41 @@ use std::marker::Model;
 #[repr(C)]
 pub struct AgentHandle {
     at: *mut u8,
-    pub ghost value: { Option Held },
+    pub ghost value: { Option AgentSession },
 }
 
 impl Model for AgentHandle {
     ghost use Rattle.std.specs.Prelude.{Option};
     ghost use Rattle.bully_handle.specs.Ownership.{loose_owns};
-    ghost use Rattle.bully_c.specs.contracts.held.Held.{the_row};
+    ghost use Rattle.bully_c.specs.contracts.session.AgentSession.{the_row};
 
     ghost also_owns = { λ h. loose_owns the_row h.at h.value };
 }
 
 impl AgentHandle {
     // Puts `with` in the place of what the handle has.
-    fn swap(&mut self, with: Loose<Held>) -> Loose<Held>
+    fn swap(&mut self, with: Loose<AgentSession>) -> Loose<AgentSession>
         ensures now { self.new.value ≡ with.value }
         ensures before { result.value ≡ self.old.value }
     {
         let Loose { at } = with;
-        let before = self.at as *mut Held;
+        let before = self.at as *mut AgentSession;
         self.at = at as *mut u8;
         Loose { at: before }
     }
 
     /// Takes what the handle has, and leaves it closed.
-    pub fn take(&mut self, alloc: Global) -> Option<Box<Held>>
-        ensures taken { MatchOption result (self.old.value ≡ None) (λ held. self.old.value ≡ Some held.value) }
+    pub fn take(&mut self, alloc: Global) -> Option<Box<AgentSession>>
+        ensures taken { MatchOption result (self.old.value ≡ None) (λ session. self.old.value ≡ Some session.value) }
         ensures closed { self.new.value ≡ None }
     {
         self.swap(Loose::none()).into_box(alloc)
     }
 
     /// Puts this in, and drops what was there.
-    pub fn put(&mut self, alloc: Global, held: Box<Held>)
-        ensures { self.new.value ≡ Some held.value }
+    pub fn put(&mut self, alloc: Global, session: Box<AgentSession>)
+        ensures { self.new.value ≡ Some session.value }
     {
-        drop(self.swap(Loose::of(held)).into_box(alloc));
+        drop(self.swap(Loose::of(session)).into_box(alloc));
     }
 }

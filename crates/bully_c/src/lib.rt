@@ -7,7 +7,7 @@
 
 mod agents;
 mod handle;
-mod held;
+mod session;
 mod logs;
 mod replica_handle;
 mod replicas;

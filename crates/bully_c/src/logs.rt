@@ -18,19 +18,19 @@ use std::alloc::Global;
 
 /// The replica of a log, and how many rows it learned.
 #[derive(Drop)]
-pub struct HeldLog {
+pub struct LogSession {
     pub follower: Follower,
 }
 
 /// The replica of a log with the header of this text, on the heap. Refused if that is no header, if a row stands behind it,
 /// and if an allocation fails.
-pub fn opened(alloc: Global, text: &[u8]) -> Result<Box<HeldLog>, u32>
-    ensures ok { IfOk result (λ held. (header : HeaderState) × IsHeaderAlone text.now header × (held.value ≡ opened_log header)) }
+pub fn opened(alloc: Global, text: &[u8]) -> Result<Box<LogSession>, u32>
+    ensures ok { IfOk result (λ session. (header : HeaderState) × IsHeaderAlone text.now header × (session.value ≡ opened_log header)) }
     ensures err { IfErr result (RefusesHeader text.now) }
 {
     let header = header_in(alloc, text)?;
     match boxed(alloc, header) {
-        Ok(held) => Ok(held),
+        Ok(session) => Ok(session),
         Err(_) => Err(OUT_OF_MEMORY),
     }
 }
@@ -63,27 +63,27 @@ fn of_header(cause: TraceCause) -> u32
 }
 
 // The replica of a log with this header, on the heap.
-fn boxed(alloc: Global, header: Header) -> Result<Box<HeldLog>, OutOfMemory>
-    ensures { IfOk result (λ held. held.value ≡ opened_log header) }
+fn boxed(alloc: Global, header: Header) -> Result<Box<LogSession>, OutOfMemory>
+    ensures { IfOk result (λ session. session.value ≡ opened_log header) }
 {
     let follower = Follower::new(alloc, header)?;
-    Ok(Box::new(alloc, HeldLog { follower })?)
+    Ok(Box::new(alloc, LogSession { follower })?)
 }
 
 /// Learns the rows of the text, and tells how many, and why the next one wasn't learned.
-pub fn learn(alloc: Global, held: &mut HeldLog, text: &[u8], taken: &mut usize) -> u32
-    ensures { IsLearning text.now taken.new held.old result held.new }
+pub fn learn(alloc: Global, session: &mut LogSession, text: &[u8], taken: &mut usize) -> u32
+    ensures { IsLearning text.now taken.new session.old result session.new }
 {
     *taken = 0;
     if !has_end(text) {
         return ROW_END;
     }
     if has_mark(text) {
-        return of_mark(&held.follower);
+        return of_mark(&session.follower);
     }
-    let before = held.follower.rows();
-    let status = learn_rows(alloc, &mut held.follower, text);
-    *taken = (held.follower.rows() - before) as usize;
+    let before = session.follower.rows();
+    let status = learn_rows(alloc, &mut session.follower, text);
+    *taken = (session.follower.rows() - before) as usize;
     status
 }
 

@@ -67,13 +67,13 @@ pub extern "C" fn bully_c_replica_open(
 ) -> u32
     ensures { IsLogOpening header.now replica.old.value result replica.new.value }
 {
-    if let Some(held) = replica.take(alloc) {
-        replica.put(alloc, held);
+    if let Some(session) = replica.take(alloc) {
+        replica.put(alloc, session);
         return OPEN;
     }
     match opened(alloc, header) {
-        Ok(held) => {
-            replica.put(alloc, held);
+        Ok(session) => {
+            replica.put(alloc, session);
             OK
         }
         Err(status) => status,
@@ -102,11 +102,11 @@ pub extern "C" fn bully_c_replica_learn(
     ensures open { AtLog (IsLearning rows.now taken.new) replica.old.value result replica.new.value }
     ensures closed { replica.old.value ≡ None → taken.new ≡ taken.old }
 {
-    let Some(mut held) = replica.take(alloc) else {
+    let Some(mut session) = replica.take(alloc) else {
         return CLOSED;
     };
-    let status = learn(alloc, &mut held, rows, taken);
-    replica.put(alloc, held);
+    let status = learn(alloc, &mut session, rows, taken);
+    replica.put(alloc, session);
     status
 }
 
@@ -119,14 +119,14 @@ pub extern "C" fn bully_c_replica_next(
     row: &mut [u8],
     length: &mut usize,
 ) -> u32
-    ensures open { AtLog (ShowsLog (λ held status. IsWritten (IsNextRow held.follower node) (RefusesNext held.follower node) row.old length.old status row.new length.new)) replica.old.value result replica.new.value }
+    ensures open { AtLog (ShowsLog (λ session status. IsWritten (IsNextRow session.follower node) (RefusesNext session.follower node) row.old length.old status row.new length.new)) replica.old.value result replica.new.value }
     ensures closed { replica.old.value ≡ None → (row.new ≡ row.old) × (length.new ≡ length.old) }
 {
-    let Some(held) = replica.take(alloc) else {
+    let Some(session) = replica.take(alloc) else {
         return CLOSED;
     };
-    let status = write_next(alloc, &held.follower, node, row, length);
-    replica.put(alloc, held);
+    let status = write_next(alloc, &session.follower, node, row, length);
+    replica.put(alloc, session);
     status
 }
 
@@ -140,14 +140,14 @@ pub extern "C" fn bully_c_replica_event(
     row: &mut [u8],
     length: &mut usize,
 ) -> u32
-    ensures open { AtLog (ShowsLog (λ held status. IsWritten (IsEventRow held.follower node event) (RefusesEvent held.follower node event) row.old length.old status row.new length.new)) replica.old.value result replica.new.value }
+    ensures open { AtLog (ShowsLog (λ session status. IsWritten (IsEventRow session.follower node event) (RefusesEvent session.follower node event) row.old length.old status row.new length.new)) replica.old.value result replica.new.value }
     ensures closed { replica.old.value ≡ None → (row.new ≡ row.old) × (length.new ≡ length.old) }
 {
-    let Some(held) = replica.take(alloc) else {
+    let Some(session) = replica.take(alloc) else {
         return CLOSED;
     };
-    let status = write_event(alloc, &held.follower, node, event, row, length);
-    replica.put(alloc, held);
+    let status = write_event(alloc, &session.follower, node, event, row, length);
+    replica.put(alloc, session);
     status
 }
 
@@ -159,14 +159,14 @@ pub extern "C" fn bully_c_replica_show(
     node: u16,
     state: &mut CState,
 ) -> u32
-    ensures open { AtLog (ShowsLog (λ held status. IsStateShown held.follower.replica.world node state.old status state.new)) replica.old.value result replica.new.value }
+    ensures open { AtLog (ShowsLog (λ session status. IsStateShown session.follower.replica.world node state.old status state.new)) replica.old.value result replica.new.value }
     ensures closed { replica.old.value ≡ None → state.new ≡ state.old }
 {
-    let Some(held) = replica.take(alloc) else {
+    let Some(session) = replica.take(alloc) else {
         return CLOSED;
     };
-    let status = show_node(held.follower.replica().world(), node, state);
-    replica.put(alloc, held);
+    let status = show_node(session.follower.replica().world(), node, state);
+    replica.put(alloc, session);
     status
 }
 
@@ -192,14 +192,14 @@ pub extern "C" fn bully_c_replica_up(
     nodes: &mut [u16],
     count: &mut usize,
 ) -> u32
-    ensures open { AtLog (ShowsLog (λ held status. let w = held.follower.replica.world in IsListShown w node (up_in w node) nodes.old count.old status nodes.new count.new)) replica.old.value result replica.new.value }
+    ensures open { AtLog (ShowsLog (λ session status. let w = session.follower.replica.world in IsListShown w node (up_in w node) nodes.old count.old status nodes.new count.new)) replica.old.value result replica.new.value }
     ensures closed { replica.old.value ≡ None → (nodes.new ≡ nodes.old) × (count.new ≡ count.old) }
 {
-    let Some(held) = replica.take(alloc) else {
+    let Some(session) = replica.take(alloc) else {
         return CLOSED;
     };
-    let status = show_up(held.follower.replica().world(), node, nodes, count);
-    replica.put(alloc, held);
+    let status = show_up(session.follower.replica().world(), node, nodes, count);
+    replica.put(alloc, session);
     status
 }
 
@@ -222,14 +222,14 @@ pub extern "C" fn bully_c_replica_task(
     owners: &mut [u16],
     count: &mut usize,
 ) -> u32
-    ensures open { AtLog (ShowsLog (λ held status. let w = held.follower.replica.world in IsListShown w node (task_in w node) owners.old count.old status owners.new count.new)) replica.old.value result replica.new.value }
+    ensures open { AtLog (ShowsLog (λ session status. let w = session.follower.replica.world in IsListShown w node (task_in w node) owners.old count.old status owners.new count.new)) replica.old.value result replica.new.value }
     ensures closed { replica.old.value ≡ None → (owners.new ≡ owners.old) × (count.new ≡ count.old) }
 {
-    let Some(held) = replica.take(alloc) else {
+    let Some(session) = replica.take(alloc) else {
         return CLOSED;
     };
-    let status = show_task(held.follower.replica().world(), node, owners, count);
-    replica.put(alloc, held);
+    let status = show_task(session.follower.replica().world(), node, owners, count);
+    replica.put(alloc, session);
     status
 }
 
@@ -250,14 +250,14 @@ pub extern "C" fn bully_c_replica_group(
     replica: &mut ReplicaHandle,
     group: &mut CGroup,
 ) -> u32
-    ensures open { AtLog (ShowsLog (λ held status. (status ≡ OkNumber) × (group.new ≡ group_shown held.follower))) replica.old.value result replica.new.value }
+    ensures open { AtLog (ShowsLog (λ session status. (status ≡ OkNumber) × (group.new ≡ group_shown session.follower))) replica.old.value result replica.new.value }
     ensures closed { replica.old.value ≡ None → group.new ≡ group.old }
 {
-    let Some(held) = replica.take(alloc) else {
+    let Some(session) = replica.take(alloc) else {
         return CLOSED;
     };
-    *group = group_of(&held.follower);
-    replica.put(alloc, held);
+    *group = group_of(&session.follower);
+    replica.put(alloc, session);
     OK
 }
 
@@ -286,13 +286,13 @@ pub extern "C" fn bully_c_replica_planned(
     owners: &mut [u16],
     count: &mut usize,
 ) -> u32
-    ensures open { AtLog (ShowsLog (λ held status. IsCopied (table_shown held.follower.replica) owners.old status owners.new count.new)) replica.old.value result replica.new.value }
+    ensures open { AtLog (ShowsLog (λ session status. IsCopied (table_shown session.follower.replica) owners.old status owners.new count.new)) replica.old.value result replica.new.value }
     ensures closed { replica.old.value ≡ None → (owners.new ≡ owners.old) × (count.new ≡ count.old) }
 {
-    let Some(held) = replica.take(alloc) else {
+    let Some(session) = replica.take(alloc) else {
         return CLOSED;
     };
-    let status = copy_owners(held.follower.replica().last_table(), owners, count);
-    replica.put(alloc, held);
+    let status = copy_owners(session.follower.replica().last_table(), owners, count);
+    replica.put(alloc, session);
     status
 }

@@ -8,7 +8,7 @@ ghost use Rattle.bully_c.specs.Exports.{AtOpen, IsFailure, IsReply, IsRequestLin
 ghost use Rattle.bully_c.specs.Numbers.{step_number};
 
 use crate::handle::AgentHandle;
-use crate::held::Held;
+use crate::session::AgentSession;
 use crate::shown::copy_text;
 use crate::status::{self, CLOSED, LINE_WORD, OK, OUT_OF_MEMORY, SHORT};
 use bully_agent::Agent;
@@ -45,17 +45,17 @@ pub extern "C" fn bully_c_agent_request(
     line: &mut [u8],
     length: &mut usize,
 ) -> u32
-    ensures open { AtOpen (Shows (λ held status. IsMadeAndCopied (request_line held.agent) line.old length.old status line.new length.new)) agent.old.value result agent.new.value }
+    ensures open { AtOpen (Shows (λ session status. IsMadeAndCopied (request_line session.agent) line.old length.old status line.new length.new)) agent.old.value result agent.new.value }
     ensures closed { agent.old.value ≡ None → (line.new ≡ line.old) × (length.new ≡ length.old) }
 {
-    let Some(held) = agent.take(alloc) else {
+    let Some(session) = agent.take(alloc) else {
         return CLOSED;
     };
-    let status = match request_line(alloc, &held.agent) {
+    let status = match request_line(alloc, &session.agent) {
         Ok(text) => copy_text(&text, line, length),
         Err(_) => OUT_OF_MEMORY,
     };
-    agent.put(alloc, held);
+    agent.put(alloc, session);
     status
 }
 
@@ -83,23 +83,23 @@ pub extern "C" fn bully_c_agent_serve(
     ensures open { AtOpen (IsServe line.now reply.old length.old reply.new length.new) agent.old.value result agent.new.value }
     ensures closed { agent.old.value ≡ None → (reply.new ≡ reply.old) × (length.new ≡ length.old) }
 {
-    let Some(mut held) = agent.take(alloc) else {
+    let Some(mut session) = agent.take(alloc) else {
         return CLOSED;
     };
-    let status = served(alloc, &mut held, line, reply, length);
-    agent.put(alloc, held);
+    let status = served(alloc, &mut session, line, reply, length);
+    agent.put(alloc, session);
     status
 }
 
 // The request of this line runs, where there is room for the reply.
-fn served(alloc: Global, held: &mut Held, line: &[u8], reply: &mut [u8], length: &mut usize) -> u32
-    ensures { IsServe line.now reply.old length.old reply.new length.new held.old result held.new }
+fn served(alloc: Global, session: &mut AgentSession, line: &[u8], reply: &mut [u8], length: &mut usize) -> u32
+    ensures { IsServe line.now reply.old length.old reply.new length.new session.old result session.new }
 {
-    let request = match request_in(alloc, held.agent.setup(), line) {
+    let request = match request_in(alloc, session.agent.setup(), line) {
         Ok(request) => request,
         Err(status) => return status,
     };
-    let answer = answer_to(&request, held.agent.vector());
+    let answer = answer_to(&request, session.agent.vector());
     let Ok(text) = reply_line(alloc, &request, answer) else {
         return OUT_OF_MEMORY;
     };
@@ -107,7 +107,7 @@ fn served(alloc: Global, held: &mut Held, line: &[u8], reply: &mut [u8], length:
         *length = text.len();
         return SHORT;
     }
-    match held.serve(&request) {
+    match session.serve(&request) {
         Ok(_) => copy_text(&text, reply, length),
         Err(why) => status::of_refusal(why),
     }
@@ -173,14 +173,14 @@ pub extern "C" fn bully_c_agent_replied(
     ensures open { AtOpen (IsReply line.now answer.old answer.new) agent.old.value result agent.new.value }
     ensures closed { agent.old.value ≡ None → answer.new ≡ answer.old }
 {
-    let Some(mut held) = agent.take(alloc) else {
+    let Some(mut session) = agent.take(alloc) else {
         return CLOSED;
     };
-    let status = match reply_in(held.agent.setup(), line) {
-        Ok(reply) => answered(held.replied(reply), answer),
+    let status = match reply_in(session.agent.setup(), line) {
+        Ok(reply) => answered(session.replied(reply), answer),
         Err(status) => status,
     };
-    agent.put(alloc, held);
+    agent.put(alloc, session);
     status
 }
 
@@ -209,10 +209,10 @@ pub extern "C" fn bully_c_agent_failed(
     ensures open { AtOpen (IsFailure number answer.old answer.new) agent.old.value result agent.new.value }
     ensures closed { agent.old.value ≡ None → answer.new ≡ answer.old }
 {
-    let Some(mut held) = agent.take(alloc) else {
+    let Some(mut session) = agent.take(alloc) else {
         return CLOSED;
     };
-    let status = answered(held.failed(number), answer);
-    agent.put(alloc, held);
+    let status = answered(session.failed(number), answer);
+    agent.put(alloc, session);
     status
 }

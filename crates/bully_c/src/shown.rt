@@ -2,7 +2,7 @@
 ghost use Rattle.std.specs.Prelude.{◌≡◌, ◌≤◌, ◌++◌, [], drop, length, reverse, unwrap_or};
 ghost use Rattle.std.specs.Option.{option_copied};
 ghost use Rattle.bully_c.specs.Arguments.{IsCopied};
-ghost use Rattle.bully_c.specs.Exports.{callee_in, kind_in, number_or_none, shown, standing};
+ghost use Rattle.bully_c.specs.Exports.{callee_in, kind_in, number_or_none, shown, node_shown};
 ghost use Rattle.bully_c.specs.Replicas.{agent_in};
 ghost use Rattle.bully_agent.specs.Agent.{wanted};
 
@@ -39,7 +39,7 @@ pub fn state_of(agent: &Agent) -> CState
     ensures { result ≡ shown agent.now }
 {
     let wants = agent.wants();
-    let mut state = standing(agent.vector(), agent.slot(), agent.generation(), wants);
+    let mut state = node_shown(agent.vector(), agent.slot(), agent.generation(), wants);
     state.events = agent.events();
     state.number = agent.number();
     state.node = agent.node().number();
@@ -52,7 +52,7 @@ pub fn state_in(world: &World, node: Node) -> CState
     ensures { result ≡ shown (agent_in world.now node) }
 {
     let wants = wanted_in(world, node);
-    let mut state = standing(
+    let mut state = node_shown(
         world.vector(node),
         world.slot(node),
         world.generation(node),
@@ -75,8 +75,8 @@ fn wanted_in(world: &World, node: Node) -> Want
 }
 
 // How a node of this vector and this slot stands, of which no number was told yet.
-fn standing(vector: &Vector, slot: &Slot, generation: u32, wants: Want) -> CState
-    ensures { result ≡ standing vector.now.vector slot.now generation wants }
+fn node_shown(vector: &Vector, slot: &Slot, generation: u32, wants: Want) -> CState
+    ensures { result ≡ node_shown vector.now.vector slot.now generation wants }
 {
     CState {
         status: status::of_status(vector.status()),

@@ -3,7 +3,7 @@
 use crate::draft::Draft;
 use crate::sentences::push_no_node;
 use crate::sides::{push_heads, push_nodes, push_sets, push_tasks, push_words};
-use bully_account::{NodeSheet, Shown};
+use bully_account::{NodeSheet, NodeSummary};
 use bully_base::{Node, Setup};
 use bully_calls::Call;
 use bully_rows::{Claim, Detail, DetailedEvent, WholeClaim, answer_word, call_word, status_word};
@@ -25,7 +25,7 @@ pub fn push_claimed(text: &mut Draft, setup: &Setup, claim: Claim, sheet: Option
 }
 
 // Appends the status and the coordinator that are claimed of the node, and beside them what the group shows.
-fn push_claim(text: &mut Draft, claim: Claim, shown: &Shown) {
+fn push_claim(text: &mut Draft, claim: Claim, shown: &NodeSummary) {
     text.push_between("node ", claim.node.number(), " isn't as it is claimed\n");
     push_heads(text, "claimed");
     push_words(
@@ -52,7 +52,7 @@ pub fn push_whole_claimed(
 }
 
 // Appends the halter and the up set that are claimed, and beside them what the group shows.
-fn push_rest(text: &mut Draft, whole: &WholeClaim, shown: &Shown) {
+fn push_rest(text: &mut Draft, whole: &WholeClaim, shown: &NodeSummary) {
     push_nodes(text, "halter", whole.halter(), shown.halter);
     push_sets(text, "up", whole.up(), &shown.up);
 }

@@ -1,11 +1,11 @@
 ghost use Rattle.std.specs.Prelude.{◌≡◌, ℕ, List, [], None, Option, true, IfErr, IfOk, IsSome};
-ghost use Rattle.bully_account.specs.Told.{IsToldOf, IsUntold};
+ghost use Rattle.bully_account.specs.TraceReport.{IsToldOf, IsUntold};
 ghost use Rattle.bully_rows.specs.RecordsLeft.{EndsReading, IsUnread};
 ghost use Rattle.bully_rows.specs.Rows.{is_of_form};
 
 use crate::form_text::form_text;
 use crate::sheet_text::sheet_text;
-use bully_account::{Account, Lines, NodeSheet, Told, tell};
+use bully_account::{Account, Lines, NodeSheet, TraceReport, tell};
 use bully_base::OutOfMemory;
 use bully_rows::{RowReader, TraceFault};
 use bully_trace::Verdict;
@@ -64,7 +64,7 @@ fn text_of<R: Read + Drop>(
     alloc: Global,
     rows: &RowReader<Lines<R>>,
     account: &Option<Account>,
-    told: &Told,
+    told: &TraceReport,
 ) -> Result<String, OutOfMemory>
     requires { IfOk told.now.verdict (λ verdict. IsSome account.now) }
 {

@@ -2,7 +2,7 @@
 
 use bully_base::NODES_MAX;
 use bully_rows::{
-    EventKind, PLAN, RUN, SAW, Version, call_named, is_word, kind_named, number_within,
+    NodeEventKind, PLAN, RUN, SAW, Version, call_named, is_word, kind_named, number_within,
     read_coordinator, read_node, read_set, read_weights, status_named,
 };
 use csv::ByteRecord;
@@ -107,8 +107,8 @@ fn fields_wanted(word: &[u8]) -> Option<usize> {
 // How many it has where it says more; none where it never does.
 fn more_wanted(word: &[u8]) -> Option<usize> {
     match kind_named(word) {
-        Some(EventKind::Start | EventKind::Lose | EventKind::Drop) => Some(4),
-        Some(EventKind::Run | EventKind::Return) => Some(5),
+        Some(NodeEventKind::Start | NodeEventKind::Lose | NodeEventKind::Drop) => Some(4),
+        Some(NodeEventKind::Run | NodeEventKind::Return) => Some(5),
         None if is_word(word, SAW) => Some(7),
         _ => None,
     }

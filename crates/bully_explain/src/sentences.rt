@@ -3,7 +3,7 @@ ghost use Rattle.std.specs.Prelude.{◌<◌, length, IfSome};
 
 use crate::draft::Draft;
 use crate::words::{push_held, push_offer, push_point};
-use bully_account::{NodeSheet, Shown};
+use bully_account::{NodeSheet, NodeSummary};
 use bully_base::{NODES_MAX, Node, NodeSet, Setup};
 use bully_rows::{cause_word, status_word};
 use bully_table::Table;
@@ -37,7 +37,7 @@ pub fn push_no_node(text: &mut Draft, setup: &Setup, node: Node) {
 }
 
 // Appends the sentence of a cause at a node of which this is shown.
-fn push_cause(text: &mut Draft, setup: &Setup, event: &Event, cause: Refused, shown: &Shown) {
+fn push_cause(text: &mut Draft, setup: &Setup, event: &Event, cause: Refused, shown: &NodeSummary) {
     let number = event.node().number();
     match cause {
         Refused::Full => push_full(text, setup),
@@ -66,19 +66,19 @@ fn push_full(text: &mut Draft, setup: &Setup) {
 }
 
 // Appends that the node is up.
-fn push_up(text: &mut Draft, number: u16, shown: &Shown) {
+fn push_up(text: &mut Draft, number: u16, shown: &NodeSummary) {
     text.push_between("node ", number, " is up, with the status ");
     text.push_str(status_word(shown.status));
 }
 
 // Appends that a procedure runs at the node.
-fn push_busy(text: &mut Draft, number: u16, shown: &Shown) {
+fn push_busy(text: &mut Draft, number: u16, shown: &NodeSummary) {
     text.push_between("node ", number, " isn't Idle: it stands at ");
     push_point(text, &shown.point);
 }
 
 // Appends what the point offers in place of what the event takes.
-fn push_no_step(text: &mut Draft, event: &Event, shown: &Shown) {
+fn push_no_step(text: &mut Draft, event: &Event, shown: &NodeSummary) {
     text.push_between("node ", event.node().number(), " stands at ");
     push_point(text, &shown.point);
     text.push_str(", which offers ");
@@ -91,7 +91,7 @@ fn push_no_step(text: &mut Draft, event: &Event, shown: &Shown) {
 }
 
 // Appends what the slot holds in place of the call that the event takes.
-fn push_no_call(text: &mut Draft, event: &Event, shown: &Shown) {
+fn push_no_call(text: &mut Draft, event: &Event, shown: &NodeSummary) {
     text.push_between("the slot of node ", event.node().number(), " holds ");
     text.push_str(match event {
         Event::Run(_) => "no call that was sent and didn't run: ",
@@ -106,7 +106,7 @@ fn push_no_call(text: &mut Draft, event: &Event, shown: &Shown) {
 }
 
 // Appends whom the call goes to, and how that node is.
-fn push_callee(text: &mut Draft, number: u16, shown: &Shown, state: &str) {
+fn push_callee(text: &mut Draft, number: u16, shown: &NodeSummary, state: &str) {
     if let Some(held) = shown.call {
         let callee = held.call.callee.number();
         write!(
@@ -117,7 +117,7 @@ fn push_callee(text: &mut Draft, number: u16, shown: &Shown, state: &str) {
 }
 
 // Appends what is wrong with the table of a plan.
-fn push_bad_table(text: &mut Draft, setup: &Setup, event: &Event, shown: &Shown) {
+fn push_bad_table(text: &mut Draft, setup: &Setup, event: &Event, shown: &NodeSummary) {
     let Event::Plan(node, table) = event else {
         return;
     };

@@ -2,7 +2,7 @@ use crate::differing::{push_claimed, push_detailed, push_whole_claimed};
 use crate::draft::Draft;
 use crate::sentences::push_refused;
 use crate::words::{push_held, push_offer, push_point, push_vector, push_what};
-use bully_account::{Account, Deed, Memory, NodeSheet, Note, Shown, ShownCall, Stop, node_sheet};
+use bully_account::{Account, EventKind, Memory, NodeSheet, Note, NodeSummary, CallSummary, Stop, node_sheet};
 use bully_base::{NODES_MAX, Node, OutOfMemory, Status};
 use bully_rows::Row;
 use bully_steps::Point;
@@ -167,7 +167,7 @@ fn highest_up(nodes: &[NodeSheet]) -> Option<Node> {
 }
 
 // Whether the node is at rest, where this is the highest node that is up.
-fn rests(shown: &Shown, highest: &Option<Node>) -> bool {
+fn rests(shown: &NodeSummary, highest: &Option<Node>) -> bool {
     match shown.status {
         Status::Down => true,
         Status::Normal => shown.coordinator == *highest,
@@ -185,7 +185,7 @@ fn push_node(text: &mut Draft, node: Node, sheet: &NodeSheet, memory: Option<&Me
 }
 
 // Appends the line of the node's vector.
-fn push_vector_line(text: &mut Draft, node: Node, shown: &Shown) {
+fn push_vector_line(text: &mut Draft, node: Node, shown: &NodeSummary) {
     let number = node.number();
     write!(text, "  node {number:<9}");
     push_vector(text, shown);
@@ -193,7 +193,7 @@ fn push_vector_line(text: &mut Draft, node: Node, shown: &Shown) {
 }
 
 // Appends the line of the node's point: since when it stands there, and what that offers.
-fn push_point_line(text: &mut Draft, shown: &Shown, memory: Option<&Memory>) {
+fn push_point_line(text: &mut Draft, shown: &NodeSummary, memory: Option<&Memory>) {
     text.push_str("  point         ");
     push_point(text, &shown.point);
     if let Some(memory) = memory {
@@ -226,7 +226,7 @@ fn last_move(notes: &[Note]) -> Option<u32> {
 }
 
 // Appends the line of the node's slot.
-fn push_slot_line(text: &mut Draft, call: Option<ShownCall>, memory: Option<&Memory>) {
+fn push_slot_line(text: &mut Draft, call: Option<CallSummary>, memory: Option<&Memory>) {
     text.push_str("  slot          ");
     match call {
         Some(held) => {
@@ -248,13 +248,13 @@ fn push_started(text: &mut Draft, memory: Option<&Memory>) {
     }
 }
 
-// Appends the line of the deeds that nothing refuses now, two spaces before each. A plan is its word alone.
-fn push_possible_line(text: &mut Draft, node: Node, deeds: &[Deed]) {
+// Appends the line of the kinds of event that nothing refuses now, two spaces before each. A plan is its word alone.
+fn push_possible_line(text: &mut Draft, node: Node, event_kinds: &[EventKind]) {
     let number = node.number();
     text.push_str("  possible now");
-    for deed in deeds {
-        text.push_behind("  ", deed.word());
-        if *deed != Deed::Plan {
+    for event_kind in event_kinds {
+        text.push_behind("  ", event_kind.word());
+        if *event_kind != EventKind::Plan {
             text.push_behind(",", number);
         }
     }
@@ -295,7 +295,7 @@ fn push_others(text: &mut Draft, nodes: &[NodeSheet], node: Node) {
 }
 
 // Appends the line of the node of this number, which isn't the one at hand.
-fn push_other(text: &mut Draft, number: usize, shown: &Shown) {
+fn push_other(text: &mut Draft, number: usize, shown: &NodeSummary) {
     write!(text, "  node {number:<9}");
     if shown.status == Status::Down {
         return text.push_str("down\n");

@@ -1,7 +1,7 @@
 //! The pieces of a sheet: nodes, points, calls and slots, as text.
 
 use crate::draft::Draft;
-use bully_account::{Deed, Memory, Shown, ShownCall, What};
+use bully_account::{EventKind, Memory, NodeSummary, CallSummary, What};
 use bully_base::{NODES_MAX, Node, NodeSet};
 use bully_calls::{Answer, Call, CallKind, Phase};
 use bully_rows::status_word;
@@ -92,7 +92,7 @@ fn phase_text(phase: Phase) -> &'static str {
 }
 
 /// Appends the call in a slot, as `Ready to 1, sent, an orphan`.
-pub fn push_held(text: &mut Draft, held: ShownCall) {
+pub fn push_held(text: &mut Draft, held: CallSummary) {
     push_call(text, held.call);
     text.push_str(", ");
     text.push_str(phase_text(held.phase));
@@ -104,7 +104,7 @@ pub fn push_held(text: &mut Draft, held: ShownCall) {
 }
 
 /// Appends the vector but for the task, as `election, coordinator 2, halter 3, up 1`. What there is none of isn't named.
-pub fn push_vector(text: &mut Draft, shown: &Shown) {
+pub fn push_vector(text: &mut Draft, shown: &NodeSummary) {
     text.push_str(status_word(shown.status));
     push_named(text, ", coordinator ", shown.coordinator);
     push_named(text, ", halter ", shown.halter);
@@ -124,9 +124,9 @@ fn push_named(text: &mut Draft, part: &str, node: Option<Node>) {
 /// Appends what a row that a node has remembered did to it, as `start (Ready to 1)`.
 pub fn push_what(text: &mut Draft, memory: &Memory, what: &What) {
     match what {
-        What::Did(deed) => {
-            text.push_str(deed.word());
-            push_planned(text, memory, *deed);
+        What::Did(event_kind) => {
+            text.push_str(event_kind.word());
+            push_planned(text, memory, *event_kind);
         }
         What::Started(call) => {
             text.push_str("start (");
@@ -139,9 +139,9 @@ pub fn push_what(text: &mut Draft, memory: &Memory, what: &What) {
 
 // Appends the owners behind a plan. Between two plans of a node there are as many rows as it remembers, or more, so the table
 // of its last plan is that of the plan among them.
-fn push_planned(text: &mut Draft, memory: &Memory, deed: Deed) {
+fn push_planned(text: &mut Draft, memory: &Memory, event_kind: EventKind) {
     let planned = memory.planned();
-    if deed == Deed::Plan && planned.is_some() {
+    if event_kind == EventKind::Plan && planned.is_some() {
         text.push(' ');
         text.push_task(planned);
     }

@@ -14,7 +14,7 @@ use Rattle.bully_base.proofs.PlaceLemmas.{at_node_past}
 use Rattle.bully_world.specs.State.{IsReached, WorldState, world_of}
 use Rattle.bully_world.specs.Step.{Step}
 use Rattle.bully_world.specs.StepOf.{StepResult, step_of}
-use Rattle.bully_world.specs.World.{World, empty_member, first_world, member}
+use Rattle.bully_world.specs.World.{World, empty_node_state, first_world, node_state}
 use Rattle.bully_world.proofs.Events.{own_other}
 use Rattle.bully_world.proofs.NodeInvariantLemmas.{first_fits, lawful_fits, step_fits}
 use Rattle.bully_world.proofs.RunInvariant.{ran_other}
@@ -28,9 +28,9 @@ use Rattle.bully_trace.specs.Details.{callee_or, is_so, is_true, is_whole}
 use Rattle.bully_trace.specs.Judging.{HasJudged, JudgeState}
 use Rattle.bully_trace.specs.Verdict.{IsJudged}
 use Rattle.bully_trace.proofs.JudgeLemmas.{judged-all}
-use Rattle.bully_rows.specs.Kinds.{deed_of}
+use Rattle.bully_rows.specs.Kinds.{event_kind_of}
 use Rattle.bully_film.specs.Behind.{LeadsBehind, decides, next_count, next_world, stepped, taken, world_behind}
-use Rattle.bully_film.specs.Scene.{deed_in, node_in, place_at, seen_of, sight}
+use Rattle.bully_film.specs.Scene.{event_kind_in, node_in, place_at, seen_of, snapshot}
 
 -- ---- rows that are judged lead to it
 
@@ -92,7 +92,7 @@ judged-world setup rows judge judged = by_stop judge.stopped refl
 
 -- a run changes its caller and its callee alone
 run-stays : (setup : Setup) (w : World) (i : ℕ) (w' : World) (a : Answer) (j : ℕ) → WorldInvariant setup w → Step setup w (Event.Run i) w' a
-    → j ≢ i → j ≢ place_at w i (Some (deed_of (Event.Run i))) → member w' j ≡ member w j
+    → j ≢ i → j ≢ place_at w i (Some (event_kind_of (Event.Run i))) → node_state w' j ≡ node_state w j
 run-stays setup w i w' a j fits (c, at, sent, up, is, answered) apart other = rw is (ran_other setup w i c fits at up j apart callee)
   where
     callee : j ≢ c.call.callee
@@ -100,16 +100,16 @@ run-stays setup w i w' a j fits (c, at, sent, up, is, answered) apart other = rw
 
 -- an event leaves each node but its own and the one whose vector it may change
 pub event-stays : (setup : Setup) (w : World) (e : Event) (w' : World) (a : Answer) (j : ℕ) → WorldInvariant setup w → Step setup w e w' a
-    → j ≢ node_of e → j ≢ place_at w (node_of e) (Some (deed_of e)) → member w' j ≡ member w j
+    → j ≢ node_of e → j ≢ place_at w (node_of e) (Some (event_kind_of e)) → node_state w' j ≡ node_state w j
 event-stays setup w (Event.Run i) w' a j fits step apart other = run-stays setup w i w' a j fits step apart other
 event-stays setup w e w' a j fits step apart other = own_other setup w w' e a j (λ i same. absurd (cc same)) step apart
 
 -- the same of the world behind it, if it is possible
-stepped-stays : (setup : Setup) (w : World) (e : Event) (j : ℕ) → WorldInvariant setup w → j ≢ node_of e → j ≢ place_at w (node_of e) (Some (deed_of e))
-    → member (stepped setup w e) j ≡ member w j
+stepped-stays : (setup : Setup) (w : World) (e : Event) (j : ℕ) → WorldInvariant setup w → j ≢ node_of e → j ≢ place_at w (node_of e) (Some (event_kind_of e))
+    → node_state (stepped setup w e) j ≡ node_state w j
 stepped-stays setup w e j fits apart other = by_step (step_of setup w e) refl
   where
-    by_step : (q : StepResult) → step_of setup w e ≡ q → member (elim q as (λ _. World) [ None ↦ w | Some r ↦ r.0 ]) j ≡ member w j
+    by_step : (q : StepResult) → step_of setup w e ≡ q → node_state (elim q as (λ _. World) [ None ↦ w | Some r ↦ r.0 ]) j ≡ node_state w j
     by_step None is = refl
     by_step (Some (w', a)) is = event-stays setup w e w' a j fits (computed_steps setup w e w' a is) apart other
 
@@ -137,42 +137,42 @@ told-node d = by_detail d.detail
     by_detail (Detail.Return call a) = refl
     by_detail (Detail.Drop call) = refl
 
-next-stays : (setup : Setup) (w : World) (row : Row) (j : ℕ) → WorldInvariant setup w → j ≢ node_in row → j ≢ place_at w (node_in row) (deed_in row)
-    → member (next_world setup w row) j ≡ member w j
+next-stays : (setup : Setup) (w : World) (row : Row) (j : ℕ) → WorldInvariant setup w → j ≢ node_in row → j ≢ place_at w (node_in row) (event_kind_in row)
+    → node_state (next_world setup w row) j ≡ node_state w j
 next-stays setup w (Row.Event e) j fits apart other = stepped-stays setup w e j fits apart other
 next-stays setup w (Row.Detailed d) j fits apart other =
-    stepped-stays setup w (event_of_detailed d) j fits (λ e. apart (e ∙ told-node d)) (λ e. other (e ∙ ap (λ i. place_at w i (Some (deed_of (event_of_detailed d)))) (told-node d)))
+    stepped-stays setup w (event_of_detailed d) j fits (λ e. apart (e ∙ told-node d)) (λ e. other (e ∙ ap (λ i. place_at w i (Some (event_kind_of (event_of_detailed d)))) (told-node d)))
 next-stays setup w (Row.Claim claim) j fits apart other = refl
 next-stays setup w (Row.Whole whole) j fits apart other = refl
 
 -- one more row leaves each node but its own and the one whose vector it may change
 taken-stays : (setup : Setup) (w : World) (count : ℕ) (rows : List Row) (row : Row) (j : ℕ) → WorldInvariant setup w
-    → j ≢ node_in row → j ≢ place_at (taken setup w count rows) (node_in row) (deed_in row)
-    → member (taken setup w count (rows ++ row ∷ [])) j ≡ member (taken setup w count rows) j
+    → j ≢ node_in row → j ≢ place_at (taken setup w count rows) (node_in row) (event_kind_in row)
+    → node_state (taken setup w count (rows ++ row ∷ [])) j ≡ node_state (taken setup w count rows) j
 taken-stays setup w count [] row j fits apart other = by_test (decides setup w count row)
   where
-    by_test : (b : Bool) → member (if b then w else next_world setup w row) j ≡ member w j
+    by_test : (b : Bool) → node_state (if b then w else next_world setup w row) j ≡ node_state w j
     by_test true = refl
     by_test false = next-stays setup w row j fits apart other
 taken-stays setup w count (first ∷ rows) row j fits apart other =
     by_test (decides setup w count first) other (taken-stays setup (next_world setup w first) (next_count count first) rows row j (next-fits setup w first fits) apart)
   where
-    by_test : (b : Bool) → j ≢ place_at (if b then w else taken setup (next_world setup w first) (next_count count first) rows) (node_in row) (deed_in row)
-        → (j ≢ place_at (taken setup (next_world setup w first) (next_count count first) rows) (node_in row) (deed_in row)
-        → member (taken setup (next_world setup w first) (next_count count first) (rows ++ row ∷ [])) j ≡ member (taken setup (next_world setup w first) (next_count count first) rows) j)
-        → member (if b then w else taken setup (next_world setup w first) (next_count count first) (rows ++ row ∷ [])) j
-        ≡ member (if b then w else taken setup (next_world setup w first) (next_count count first) rows) j
+    by_test : (b : Bool) → j ≢ place_at (if b then w else taken setup (next_world setup w first) (next_count count first) rows) (node_in row) (event_kind_in row)
+        → (j ≢ place_at (taken setup (next_world setup w first) (next_count count first) rows) (node_in row) (event_kind_in row)
+        → node_state (taken setup (next_world setup w first) (next_count count first) (rows ++ row ∷ [])) j ≡ node_state (taken setup (next_world setup w first) (next_count count first) rows) j)
+        → node_state (if b then w else taken setup (next_world setup w first) (next_count count first) (rows ++ row ∷ [])) j
+        ≡ node_state (if b then w else taken setup (next_world setup w first) (next_count count first) rows) j
     by_test true other more = refl
     by_test false other more = more other
 
-pub behind-stays : (setup : Setup) (before : List Row) (row : Row) (j : ℕ) → j ≢ node_in row → j ≢ place_at (world_behind setup before) (node_in row) (deed_in row)
-    → sight (world_behind setup (before ++ row ∷ [])) j ≡ sight (world_behind setup before) j
+pub behind-stays : (setup : Setup) (before : List Row) (row : Row) (j : ℕ) → j ≢ node_in row → j ≢ place_at (world_behind setup before) (node_in row) (event_kind_in row)
+    → snapshot (world_behind setup (before ++ row ∷ [])) j ≡ snapshot (world_behind setup before) j
 behind-stays setup before row j apart other =
     ap seen_of (taken-stays setup (first_world setup) 0 before row j (first_fits setup) apart other)
 
 -- ---- a node that the group doesn't have
 
-pub beyond-empty : (world : WorldState) (i : ℕ) → IsReached world → world.setup.nodes < i → member (world_of world) i ≡ empty_member
+pub beyond-empty : (world : WorldState) (i : ℕ) → IsReached world → world.setup.nodes < i → node_state (world_of world) i ≡ empty_node_state
 beyond-empty world i reached past =
     let fits = lawful_fits world.setup reached.applied reached.answers (world_of world) reached.lawful in
-    at_node_past empty_member (world_of world).members i (omega (arith, fits.count, past))
+    at_node_past empty_node_state (world_of world).states i (omega (arith, fits.count, past))

@@ -5,7 +5,7 @@ use Rattle.std.specs.Prelude.{is_none, is_some, nat_lt, nat_le, OnOk, Result, Ok
 use Rattle.std.proofs.lemmas.Bool.Decides.{nat_tests}
 use Rattle.std.proofs.lemmas.List.{append_assoc, append-nil, length-append}
 use Rattle.bully_base.specs.Setup.{Setup}
-use Rattle.bully_rows.specs.declared.kind.EventKind.{EventKind}
+use Rattle.bully_rows.specs.declared.kind.NodeEventKind.{NodeEventKind}
 use Rattle.bully_rows.specs.declared.trace.Row.{Row}
 use Rattle.bully_rows.specs.Kinds.{event_at}
 use Rattle.bully_rows.proofs.KindLemmas.{kind-node}
@@ -14,12 +14,12 @@ use Rattle.bully_trace.specs.Judging.{HasJudged, JudgeState}
 use Rattle.bully_trace.specs.Verdict.{IsJudged}
 use Rattle.bully_world.specs.State.{world_of}
 use Rattle.bully_world.specs.World.{first_world}
-use Rattle.bully_film.specs.declared.scene.Opening.{Opening}
+use Rattle.bully_film.specs.declared.scene.SceneStart.{SceneStart}
 use Rattle.bully_film.specs.declared.scene.Scene.{Scene}
-use Rattle.bully_film.specs.declared.sight.Sight.{Sight}
+use Rattle.bully_film.specs.declared.snapshot.NodeSnapshot.{NodeSnapshot}
 use Rattle.bully_film.specs.Behind.{world_behind}
 use Rattle.bully_film.specs.Film.{FilmState, GoesOn, HasFilmed, HasShot, IsInWindow, IsLook, closed, kept}
-use Rattle.bully_film.specs.Scene.{deed_in, node_in, scene_at, scene_of, scenes_from, sights_of}
+use Rattle.bully_film.specs.Scene.{event_kind_in, node_in, scene_at, scene_of, scenes_from, snapshots_of}
 use Rattle.bully_film.specs.Window.{IsWindow, WindowState}
 use Rattle.bully_film.proofs.BehindLemmas.{judged-world}
 
@@ -154,27 +154,27 @@ filmed-stopped setup rows row film verdict is filmed = record {
   judged = stopped-on setup rows row film.judge verdict is filmed.judged;
   scenes = filmed.scenes;
   window = filmed.window;
-  still = by_still film.still filmed.still;
+  at_end = by_at_end film.at_end filmed.at_end;
 }
   where
     last : ℕ
     last = length filmed.before + length filmed.shown + 1
 
-    by_still : (still : Option (List Sight))
-        → MatchOption still
+    by_at_end : (at_end : Option (List NodeSnapshot))
+        → MatchOption at_end
         (HasJudged setup (filmed.before ++ filmed.shown) film.judge × (film.judge.stopped ≡ None → filmed.beyond ≡ []) × (length filmed.before + length filmed.shown + 1 < film.window.to))
-        (λ s. (length filmed.before + length filmed.shown + 1 ≡ film.window.to) × (s ≡ sights_of (world_behind setup (filmed.before ++ filmed.shown)) 1 setup.nodes))
-        → MatchOption still
+        (λ s. (length filmed.before + length filmed.shown + 1 ≡ film.window.to) × (s ≡ snapshots_of (world_behind setup (filmed.before ++ filmed.shown)) 1 setup.nodes))
+        → MatchOption at_end
         (HasJudged setup (filmed.before ++ filmed.shown) film.judge × (film.judge.stopped ≡ None → filmed.beyond ++ row ∷ [] ≡ []) × (length filmed.before + length filmed.shown + 1 < film.window.to))
-        (λ s. (length filmed.before + length filmed.shown + 1 ≡ film.window.to) × (s ≡ sights_of (world_behind setup (filmed.before ++ filmed.shown)) 1 setup.nodes))
-    by_still None (judged, going, upto) = (judged, λ none. absurd (cc (sym is ∙ none)), upto)
-    by_still (Some s) at = at
+        (λ s. (length filmed.before + length filmed.shown + 1 ≡ film.window.to) × (s ≡ snapshots_of (world_behind setup (filmed.before ++ filmed.shown)) 1 setup.nodes))
+    by_at_end None (judged, going, upto) = (judged, λ none. absurd (cc (sym is ∙ none)), upto)
+    by_at_end (Some s) at = at
 
 -- behind the window
-pub filmed-beyond : (setup : Setup) (rows : List Row) (row : Row) (film after : FilmState) → is_none film.still ≡ false
-    → after.still ≡ film.still → after.scenes ≡ film.scenes → after.window ≡ film.window → HasJudged setup (rows ++ row ∷ []) after.judge
+pub filmed-beyond : (setup : Setup) (rows : List Row) (row : Row) (film after : FilmState) → is_none film.at_end ≡ false
+    → after.at_end ≡ film.at_end → after.scenes ≡ film.scenes → after.window ≡ film.window → HasJudged setup (rows ++ row ∷ []) after.judge
     → HasFilmed setup rows film → HasFilmed setup (rows ++ row ∷ []) after
-filmed-beyond setup rows row film after is same_still same_scenes same_window judged filmed = record {
+filmed-beyond setup rows row film after is same_at_end same_scenes same_window judged filmed = record {
   before = filmed.before;
   shown = filmed.shown;
   beyond = filmed.beyond ++ row ∷ [];
@@ -183,26 +183,26 @@ filmed-beyond setup rows row film after is same_still same_scenes same_window ju
   judged = judged;
   scenes = same_scenes ∙ filmed.scenes;
   window = rw same_window filmed.window;
-  still = rw (same_still, same_window) (by_still film.still is filmed.still);
+  at_end = rw (same_at_end, same_window) (by_at_end film.at_end is filmed.at_end);
 }
   where
-    by_still : (still : Option (List Sight)) → is_none still ≡ false
-        → MatchOption still
+    by_at_end : (at_end : Option (List NodeSnapshot)) → is_none at_end ≡ false
+        → MatchOption at_end
         (HasJudged setup (filmed.before ++ filmed.shown) film.judge × (film.judge.stopped ≡ None → filmed.beyond ≡ []) × (length filmed.before + length filmed.shown + 1 < film.window.to))
-        (λ s. (length filmed.before + length filmed.shown + 1 ≡ film.window.to) × (s ≡ sights_of (world_behind setup (filmed.before ++ filmed.shown)) 1 setup.nodes))
-        → MatchOption still
+        (λ s. (length filmed.before + length filmed.shown + 1 ≡ film.window.to) × (s ≡ snapshots_of (world_behind setup (filmed.before ++ filmed.shown)) 1 setup.nodes))
+        → MatchOption at_end
         (HasJudged setup (filmed.before ++ filmed.shown) after.judge × (after.judge.stopped ≡ None → filmed.beyond ++ row ∷ [] ≡ []) × (length filmed.before + length filmed.shown + 1 < film.window.to))
-        (λ s. (length filmed.before + length filmed.shown + 1 ≡ film.window.to) × (s ≡ sights_of (world_behind setup (filmed.before ++ filmed.shown)) 1 setup.nodes))
-    by_still None none at = absurd (cc none)
-    by_still (Some s) some at = at
+        (λ s. (length filmed.before + length filmed.shown + 1 ≡ film.window.to) × (s ≡ snapshots_of (world_behind setup (filmed.before ++ filmed.shown)) 1 setup.nodes))
+    by_at_end None none at = absurd (cc none)
+    by_at_end (Some s) some at = at
 
 -- within the window
-pub filmed-shot : (setup : Setup) (rows : List Row) (row : Row) (number : ℕ) (film after : FilmState) → film.judge.stopped ≡ None → film.still ≡ None
-    → after.still ≡ film.still → after.window ≡ film.window → length rows + 2 ≡ number
+pub filmed-shot : (setup : Setup) (rows : List Row) (row : Row) (number : ℕ) (film after : FilmState) → film.judge.stopped ≡ None → film.at_end ≡ None
+    → after.at_end ≡ film.at_end → after.window ≡ film.window → length rows + 2 ≡ number
     → HasJudged setup (rows ++ row ∷ []) after.judge
     → after.scenes ≡ kept film.window film.scenes (scene_of after.judge.world.setup (world_of film.judge.world) (world_of after.judge.world) number row)
     → HasFilmed setup rows film → HasShot setup (rows ++ row ∷ []) after
-filmed-shot setup rows row number film after going unclosed same_still same_window at judged shot filmed = record {
+filmed-shot setup rows row number film after going unclosed same_at_end same_window at judged shot filmed = record {
   before = next.before';
   shown = next.shown';
   beyond = [];
@@ -211,11 +211,11 @@ filmed-shot setup rows row number film after going unclosed same_still same_wind
   judged = judged;
   scenes = shot ∙ ap (λ s. kept film.window film.scenes s) seen ∙ ap (λ l. kept film.window l (scene_at setup (filmed.before ++ filmed.shown) row)) filmed.scenes ∙ next.scenes_are;
   window = rw same_window next.in_window;
-  still = rw (same_still, unclosed, same_window) (subst (λ all. HasJudged setup all after.judge) rows_are judged, λ _. refl, upto);
+  at_end = rw (same_at_end, unclosed, same_window) (subst (λ all. HasJudged setup all after.judge) rows_are judged, λ _. refl, upto);
 }
   where
     state : HasJudged setup (filmed.before ++ filmed.shown) film.judge × (film.judge.stopped ≡ None → filmed.beyond ≡ []) × (length filmed.before + length filmed.shown + 1 < film.window.to)
-    state = rw unclosed at filmed.still
+    state = rw unclosed at filmed.at_end
 
     whole : rows ≡ filmed.before ++ filmed.shown
     whole = filmed.all ∙ ap (λ beyond. (filmed.before ++ filmed.shown) ++ beyond) (state.1 going) ∙ append-nil (filmed.before ++ filmed.shown)
@@ -244,21 +244,21 @@ filmed-shot setup rows row number film after going unclosed same_still same_wind
     )
 
 -- and then how the nodes stand is kept, where this was the window's last row
-pub filmed-closed : (setup : Setup) (rows : List Row) (row : Row) (number : ℕ) (film after : FilmState) → film.still ≡ None → length rows + 2 ≡ number
+pub filmed-closed : (setup : Setup) (rows : List Row) (row : Row) (number : ℕ) (film after : FilmState) → film.at_end ≡ None → length rows + 2 ≡ number
     → after ≡ (if number == film.window.to then closed film else film) → HasShot setup (rows ++ row ∷ []) film → HasFilmed setup (rows ++ row ∷ []) after
 filmed-closed setup rows row number film after unclosed at is shot = rw is (by_test (number == film.window.to) refl)
   where
     state : HasJudged setup (shot.before ++ shot.shown) film.judge × (film.judge.stopped ≡ None → shot.beyond ≡ [])
         × ((length shot.before + length shot.shown + 1 ≡ length (rows ++ row ∷ []) + 1) × (length shot.before + length shot.shown + 1 ≤ film.window.to))
-    state = rw unclosed at shot.still
+    state = rw unclosed at shot.at_end
 
     size : length (rows ++ row ∷ []) ≡ length rows + 1
     size = length-append rows (row ∷ [])
 
-    nodes : sights_of (world_of film.judge.world) 1 film.judge.world.setup.nodes ≡ sights_of (world_behind setup (shot.before ++ shot.shown)) 1 setup.nodes
+    nodes : snapshots_of (world_of film.judge.world) 1 film.judge.world.setup.nodes ≡ snapshots_of (world_behind setup (shot.before ++ shot.shown)) 1 setup.nodes
     nodes =
-        ap (λ (s : Setup). sights_of (world_of film.judge.world) 1 s.nodes) state.0.same
-        ∙ ap (λ w. sights_of w 1 setup.nodes) (judged-world setup (shot.before ++ shot.shown) film.judge state.0)
+        ap (λ (s : Setup). snapshots_of (world_of film.judge.world) 1 s.nodes) state.0.same
+        ∙ ap (λ w. snapshots_of w 1 setup.nodes) (judged-world setup (shot.before ++ shot.shown) film.judge state.0)
 
     by_test : (b : Bool) → (number == film.window.to) ≡ b → HasFilmed setup (rows ++ row ∷ []) (if b then closed film else film)
     by_test true last =
@@ -272,7 +272,7 @@ filmed-closed setup rows row number film after unclosed at is shot = rw is (by_t
           judged = shot.judged;
           scenes = shot.scenes;
           window = shot.window;
-          still = rw unclosed (omega (arith, to, at, size, state.2.0), nodes);
+          at_end = rw unclosed (omega (arith, to, at, size, state.2.0), nodes);
         }
     by_test false inner =
         let other : number ≢ film.window.to = λ e. grind (arith, nat_tests, inner, e) in
@@ -285,23 +285,23 @@ filmed-closed setup rows row number film after unclosed at is shot = rw is (by_t
           judged = shot.judged;
           scenes = shot.scenes;
           window = shot.window;
-          still = rw unclosed (state.0, state.1, grind (arith, other, at, size, state.2.0, state.2.1));
+          at_end = rw unclosed (state.0, state.1, grind (arith, other, at, size, state.2.0, state.2.1));
         }
 
 -- both
-pub shown-filmed : (setup : Setup) (rows : List Row) (row : Row) (number : ℕ) (film shot after : FilmState) (done : Result (Unit {0}) AllocError) → film.judge.stopped ≡ None → is_none film.still ≡ true
-    → shot.still ≡ film.still → shot.window ≡ film.window → length rows + 2 ≡ number
+pub shown-filmed : (setup : Setup) (rows : List Row) (row : Row) (number : ℕ) (film shot after : FilmState) (done : Result (Unit {0}) AllocError) → film.judge.stopped ≡ None → is_none film.at_end ≡ true
+    → shot.at_end ≡ film.at_end → shot.window ≡ film.window → length rows + 2 ≡ number
     → ((setup : Setup) (rows : List Row) → length rows + 2 ≡ number → HasJudged setup rows film.judge → HasJudged setup (rows ++ row ∷ []) shot.judge)
     → shot.scenes ≡ kept film.window film.scenes (scene_of shot.judge.world.setup (world_of film.judge.world) (world_of shot.judge.world) number row)
     → OnOk done (after ≡ (if number == shot.window.to then closed shot else shot))
     → HasFilmed setup rows film → OnOk done (HasFilmed setup (rows ++ row ∷ []) after)
-shown-filmed setup rows row number film shot after (Err e) going unclosed same_still same_window at judges scenes is filmed = tt
-shown-filmed setup rows row number film shot after (Ok x) going unclosed same_still same_window at judges scenes is filmed =
-    let none : film.still ≡ None = none-is film.still unclosed in
-    filmed-closed setup rows row number shot after (same_still ∙ none) at is
-    (filmed-shot setup rows row number film shot going none same_still same_window at (judges setup rows at filmed.judged) scenes filmed)
+shown-filmed setup rows row number film shot after (Err e) going unclosed same_at_end same_window at judges scenes is filmed = tt
+shown-filmed setup rows row number film shot after (Ok x) going unclosed same_at_end same_window at judges scenes is filmed =
+    let none : film.at_end ≡ None = none-is film.at_end unclosed in
+    filmed-closed setup rows row number shot after (same_at_end ∙ none) at is
+    (filmed-shot setup rows row number film shot going none same_at_end same_window at (judges setup rows at filmed.judged) scenes filmed)
   where
-    none-is : (still : Option (List Sight)) → is_none still ≡ true → still ≡ None
+    none-is : (at_end : Option (List NodeSnapshot)) → is_none at_end ≡ true → at_end ≡ None
     none-is None e = refl
     none-is (Some s) e = absurd (cc e)
 
@@ -321,23 +321,23 @@ filmed-over setup rows row film over filmed = by_stop film.judge.stopped refl ov
     by_stop (Some verdict) is some = filmed-stopped setup rows row film verdict is filmed
 
 -- in the window and behind it
-pub filmed-on : (setup : Setup) (rows : List Row) (row : Row) (number : ℕ) (film judged after : FilmState) (opening : Option Opening) (done : Result (Unit {0}) AllocError)
-    → is_some film.judge.stopped ≡ false → IsLook film (node_in row) (deed_in row) opening
-    → judged.window ≡ film.window → judged.still ≡ film.still → judged.scenes ≡ film.scenes
+pub filmed-on : (setup : Setup) (rows : List Row) (row : Row) (number : ℕ) (film judged after : FilmState) (scene_start : Option SceneStart) (done : Result (Unit {0}) AllocError)
+    → is_some film.judge.stopped ≡ false → IsLook film (node_in row) (event_kind_in row) scene_start
+    → judged.window ≡ film.window → judged.at_end ≡ film.at_end → judged.scenes ≡ film.scenes
     → ((setup : Setup) (rows : List Row) → length rows + 2 ≡ number → HasJudged setup rows film.judge → HasJudged setup (rows ++ row ∷ []) judged.judge)
-    → OnOk done (GoesOn number opening judged after) → length rows + 2 ≡ number
+    → OnOk done (GoesOn number scene_start judged after) → length rows + 2 ≡ number
     → HasFilmed setup rows film → OnOk done (HasFilmed setup (rows ++ row ∷ []) after)
-filmed-on setup rows row number film judged after opening (Err e) going look same_window same_still same_scenes judges on at filmed = tt
-filmed-on setup rows row number film judged after None (Ok x) going look same_window same_still same_scenes judges on at filmed =
-    rw on (filmed-beyond setup rows row film judged look same_still same_scenes same_window (judges setup rows at filmed.judged) filmed)
-filmed-on setup rows row number film judged after (Some opening) (Ok x) going look same_window same_still same_scenes judges on at filmed =
+filmed-on setup rows row number film judged after scene_start (Err e) going look same_window same_at_end same_scenes judges on at filmed = tt
+filmed-on setup rows row number film judged after None (Ok x) going look same_window same_at_end same_scenes judges on at filmed =
+    rw on (filmed-beyond setup rows row film judged look same_at_end same_scenes same_window (judges setup rows at filmed.judged) filmed)
+filmed-on setup rows row number film judged after (Some scene_start) (Ok x) going look same_window same_at_end same_scenes judges on at filmed =
     let (shot, is, closes) = on (world_of film.judge.world) row look.1 in
     let s = scene_of judged.judge.world.setup (world_of film.judge.world) (world_of judged.judge.world) number row in
     let keeps : shot.scenes ≡ kept film.window film.scenes (scene_of shot.judge.world.setup (world_of film.judge.world) (world_of shot.judge.world) number row) =
     rw is (ap (λ window. kept window judged.scenes s) same_window ∙ ap (λ scenes. kept film.window scenes s) same_scenes) in
     let shows : (setup : Setup) (rows : List Row) → length rows + 2 ≡ number → HasJudged setup rows film.judge → HasJudged setup (rows ++ row ∷ []) shot.judge = rw is judges in
-    shown-filmed setup rows row number film shot after (Ok x) (going-is film.judge.stopped going) look.0 (rw is same_still) (rw is same_window) at shows keeps closes filmed
+    shown-filmed setup rows row number film shot after (Ok x) (going-is film.judge.stopped going) look.0 (rw is same_at_end) (rw is same_window) at shows keeps closes filmed
 
 -- a row of an event that names a node and no more names that node
-pub node-told : (kind : EventKind) (i : ℕ) → node_in (Row.Event (event_at kind i)) ≡ i
+pub node-told : (kind : NodeEventKind) (i : ℕ) → node_in (Row.Event (event_at kind i)) ≡ i
 node-told kind i = kind-node kind i

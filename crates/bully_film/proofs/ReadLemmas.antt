@@ -16,11 +16,11 @@ use Rattle.bully_rows.proofs.TraceLemmas.{header-bad, header-missing, header-rea
 use Rattle.bully_trace.specs.declared.verdict.Verdict.{Verdict}
 use Rattle.bully_trace.specs.Judging.{HasJudged, IsNoRow, IsNoStart}
 use Rattle.bully_trace.specs.Verdict.{IsJudged}
-use Rattle.bully_film.specs.declared.film.Reel.{Reel}
-use Rattle.bully_film.specs.declared.sight.Sight.{Sight}
+use Rattle.bully_film.specs.declared.film.FinishedFilm.{FinishedFilm}
+use Rattle.bully_film.specs.declared.snapshot.NodeSnapshot.{NodeSnapshot}
 use Rattle.bully_film.specs.Behind.{world_behind}
-use Rattle.bully_film.specs.Film.{AreAllFilmed, AreFilmed, Begins, FilmState, HasFilmed, IsFilmedSoFar, IsFilmedToEnd, IsReelOf, TakesRow, closed}
-use Rattle.bully_film.specs.Scene.{sights_of}
+use Rattle.bully_film.specs.Film.{AreAllFilmed, AreFilmed, Begins, FilmState, HasFilmed, IsFilmedSoFar, IsFilmedToEnd, IsFilmOf, TakesRow, closed}
+use Rattle.bully_film.specs.Scene.{snapshots_of}
 use Rattle.bully_film.specs.Window.{WindowState}
 use Rattle.bully_film.proofs.BehindLemmas.{judged-world}
 
@@ -104,20 +104,20 @@ pub filmed-fault : (known : Option (List ℕ)) (window : WindowState) (reader : 
 filmed-fault known window reader None fault first later unread = first unread
 filmed-fault known window reader (Some film) fault first later (rows, read, filmed, in_window) = later rows (header_with film.judge.version film.judge.world.setup) read
 
--- ---- the reel
+-- ---- the finished film
 
 -- what a film shows, once how the nodes stand is kept
-reel-rows : (setup : Setup) (version : Version) (window : WindowState) (rows : List Row) (film : FilmState) (reel : Reel) → HasFilmed setup rows film → film.window ≡ window
-    → reel.setup ≡ film.judge.world.setup → reel.scenes.items ≡ film.scenes
-    → IfSome (closed film).still (λ still. reel.still.items ≡ still)
-    → ((setup : Setup) (rows : List Row) → HasJudged setup rows film.judge → IsJudged setup (first_world setup) 0 2 rows reel.verdict (world_of film.judge.world))
-    → IsReelOf window reel (record { version = version; setup = setup; rows = rows })
-reel-rows setup version window rows film reel filmed same_window same_setup scenes still verdict = by_still film.still refl filmed.still
+finished-rows : (setup : Setup) (version : Version) (window : WindowState) (rows : List Row) (film : FilmState) (finished : FinishedFilm) → HasFilmed setup rows film → film.window ≡ window
+    → finished.setup ≡ film.judge.world.setup → finished.scenes.items ≡ film.scenes
+    → IfSome (closed film).at_end (λ at_end. finished.at_end.items ≡ at_end)
+    → ((setup : Setup) (rows : List Row) → HasJudged setup rows film.judge → IsJudged setup (first_world setup) 0 2 rows finished.verdict (world_of film.judge.world))
+    → IsFilmOf window finished (record { version = version; setup = setup; rows = rows })
+finished-rows setup version window rows film finished filmed same_window same_setup scenes at_end verdict = by_at_end film.at_end refl filmed.at_end
   where
-    reel_with : reel.still.items ≡ sights_of (world_behind setup (filmed.before ++ filmed.shown)) 1 setup.nodes
-        → (filmed.beyond ≡ []) ⊎ (length filmed.before + length filmed.shown + 1 ≡ window.to) ⊎ ((w : World) × IsJudged setup (first_world setup) 0 2 (filmed.before ++ filmed.shown) reel.verdict w)
-        → IsReelOf window reel (record { version = version; setup = setup; rows = rows })
-    reel_with nodes ends = record {
+    finished_with : finished.at_end.items ≡ snapshots_of (world_behind setup (filmed.before ++ filmed.shown)) 1 setup.nodes
+        → (filmed.beyond ≡ []) ⊎ (length filmed.before + length filmed.shown + 1 ≡ window.to) ⊎ ((w : World) × IsJudged setup (first_world setup) 0 2 (filmed.before ++ filmed.shown) finished.verdict w)
+        → IsFilmOf window finished (record { version = version; setup = setup; rows = rows })
+    finished_with nodes ends = record {
       same = same_setup ∙ filmed.judged.same;
       judged = (world_of film.judge.world, verdict setup rows filmed.judged);
       before = filmed.before;
@@ -126,38 +126,38 @@ reel-rows setup version window rows film reel filmed same_window same_setup scen
       all = filmed.all;
       scenes = scenes ∙ filmed.scenes;
       window = rw (← same_window) filmed.window;
-      still = nodes;
+      at_end = nodes;
       ends = ends;
     }
 
     by_stop : (stopped : Option Verdict) → film.judge.stopped ≡ stopped → HasJudged setup (filmed.before ++ filmed.shown) film.judge → (film.judge.stopped ≡ None → filmed.beyond ≡ [])
-        → (filmed.beyond ≡ []) ⊎ (length filmed.before + length filmed.shown + 1 ≡ window.to) ⊎ ((w : World) × IsJudged setup (first_world setup) 0 2 (filmed.before ++ filmed.shown) reel.verdict w)
+        → (filmed.beyond ≡ []) ⊎ (length filmed.before + length filmed.shown + 1 ≡ window.to) ⊎ ((w : World) × IsJudged setup (first_world setup) 0 2 (filmed.before ++ filmed.shown) finished.verdict w)
     by_stop None is judged going = inl (going is)
     by_stop (Some told) is judged going = inr (inr (world_of film.judge.world, verdict setup (filmed.before ++ filmed.shown) judged))
 
-    by_still : (kept : Option (List Sight)) → film.still ≡ kept
+    by_at_end : (kept : Option (List NodeSnapshot)) → film.at_end ≡ kept
         → MatchOption kept
         (HasJudged setup (filmed.before ++ filmed.shown) film.judge × (film.judge.stopped ≡ None → filmed.beyond ≡ []) × (length filmed.before + length filmed.shown + 1 < film.window.to))
-        (λ s. (length filmed.before + length filmed.shown + 1 ≡ film.window.to) × (s ≡ sights_of (world_behind setup (filmed.before ++ filmed.shown)) 1 setup.nodes))
-        → IsReelOf window reel (record { version = version; setup = setup; rows = rows })
-    by_still None is (judged, going, upto) =
-        let now : reel.still.items ≡ sights_of (world_of film.judge.world) 1 film.judge.world.setup.nodes = rw is at still in
-        reel_with (now
-        ∙ ap (λ (s : Setup). sights_of (world_of film.judge.world) 1 s.nodes) judged.same
-        ∙ ap (λ w. sights_of w 1 setup.nodes) (judged-world setup (filmed.before ++ filmed.shown) film.judge judged))
+        (λ s. (length filmed.before + length filmed.shown + 1 ≡ film.window.to) × (s ≡ snapshots_of (world_behind setup (filmed.before ++ filmed.shown)) 1 setup.nodes))
+        → IsFilmOf window finished (record { version = version; setup = setup; rows = rows })
+    by_at_end None is (judged, going, upto) =
+        let now : finished.at_end.items ≡ snapshots_of (world_of film.judge.world) 1 film.judge.world.setup.nodes = rw is at at_end in
+        finished_with (now
+        ∙ ap (λ (s : Setup). snapshots_of (world_of film.judge.world) 1 s.nodes) judged.same
+        ∙ ap (λ w. snapshots_of w 1 setup.nodes) (judged-world setup (filmed.before ++ filmed.shown) film.judge judged))
         (by_stop film.judge.stopped refl judged going)
-    by_still (Some s) is (last, nodes) =
-        let now : reel.still.items ≡ s = rw is at still in
-        reel_with (now ∙ nodes) (inr (inl (rw (← same_window) last)))
+    by_at_end (Some s) is (last, nodes) =
+        let now : finished.at_end.items ≡ s = rw is at at_end in
+        finished_with (now ∙ nodes) (inr (inl (rw (← same_window) last)))
 
-pub reel-is : (known : Option (List ℕ)) (window : WindowState) (film after : FilmState) (reel : Reel) → AreAllFilmed known window film → after ≡ closed film
-    → reel.setup ≡ after.judge.world.setup → reel.scenes.items ≡ after.scenes
-    → IfSome after.still (λ still. reel.still.items ≡ still)
-    → ((setup : Setup) (rows : List Row) → HasJudged setup rows after.judge → IsJudged setup (first_world setup) 0 2 rows reel.verdict (world_of after.judge.world))
-    → OfTrace known (IsReelOf window reel)
-reel-is None window film after reel all is same_setup scenes still verdict = tt
-reel-is (Some bytes) window film after reel (version, rows, means, filmed, in_window) is same_setup scenes still verdict = (
+pub finished-is : (known : Option (List ℕ)) (window : WindowState) (film after : FilmState) (finished : FinishedFilm) → AreAllFilmed known window film → after ≡ closed film
+    → finished.setup ≡ after.judge.world.setup → finished.scenes.items ≡ after.scenes
+    → IfSome after.at_end (λ at_end. finished.at_end.items ≡ at_end)
+    → ((setup : Setup) (rows : List Row) → HasJudged setup rows after.judge → IsJudged setup (first_world setup) 0 2 rows finished.verdict (world_of after.judge.world))
+    → OfTrace known (IsFilmOf window finished)
+finished-is None window film after finished all is same_setup scenes at_end verdict = tt
+finished-is (Some bytes) window film after finished (version, rows, means, filmed, in_window) is same_setup scenes at_end verdict = (
   record { version = version; setup = film.judge.world.setup; rows = rows },
   means,
-  reel-rows film.judge.world.setup version window rows film reel filmed in_window (rw is at same_setup) (rw is at scenes) (rw is at still) (rw is at verdict),
+  finished-rows film.judge.world.setup version window rows film finished filmed in_window (rw is at same_setup) (rw is at scenes) (rw is at at_end) (rw is at verdict),
 )

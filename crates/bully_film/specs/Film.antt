@@ -13,13 +13,13 @@ use Rattle.bully_trace.specs.Judging.{HasJudged, JudgeState}
 use Rattle.bully_trace.specs.Verdict.{IsJudged, IsVerdict}
 use Rattle.bully_world.specs.State.{world_of}
 use Rattle.bully_world.specs.World.{World, first_world}
-use Rattle.bully_film.specs.declared.film.Reel.{Reel}
-use Rattle.bully_rows.specs.declared.kind.Deed.{Deed}
-use Rattle.bully_film.specs.declared.scene.Opening.{Opening}
+use Rattle.bully_film.specs.declared.film.FinishedFilm.{FinishedFilm}
+use Rattle.bully_rows.specs.declared.kind.EventKind.{EventKind}
+use Rattle.bully_film.specs.declared.scene.SceneStart.{SceneStart}
 use Rattle.bully_film.specs.declared.scene.Scene.{Scene}
-use Rattle.bully_film.specs.declared.sight.Sight.{Sight}
+use Rattle.bully_film.specs.declared.snapshot.NodeSnapshot.{NodeSnapshot}
 use Rattle.bully_film.specs.Behind.{world_behind}
-use Rattle.bully_film.specs.Scene.{IsOpening, deed_in, node_in, scene_of, scenes_from, sights_of}
+use Rattle.bully_film.specs.Scene.{IsSceneStart, event_kind_in, node_in, scene_of, scenes_from, snapshots_of}
 use Rattle.bully_film.specs.Window.{IsWindow, WindowState}
 
 -- a film: the judge that takes the rows, the window, what each row that is kept shows, and, once the window's last row was taken,
@@ -28,7 +28,7 @@ pub record FilmState : Type 0 where
   pub judge : JudgeState
   pub window : WindowState
   pub scenes : List Scene
-  pub still : Option (List Sight)
+  pub at_end : Option (List NodeSnapshot)
 
 -- one more scene is kept, where its row isn't before the window; the oldest one goes where as many are kept as may be
 abbrev pub kept : WindowState → List Scene → Scene → List Scene
@@ -39,22 +39,22 @@ kept window scenes s =
 -- how the nodes stand now is kept, where it wasn't yet
 abbrev pub closed : FilmState → FilmState
 closed film = record film {
-  still = elim film.still as (λ _. Option (List Sight)) [
-    | None ↦ Some (sights_of (world_of film.judge.world) 1 film.judge.world.setup.nodes)
-    | Some still ↦ Some still
+  at_end = elim film.at_end as (λ _. Option (List NodeSnapshot)) [
+    | None ↦ Some (snapshots_of (world_of film.judge.world) 1 film.judge.world.setup.nodes)
+    | Some at_end ↦ Some at_end
   ];
 }
 
--- what is seen of a row before it is taken, with this deed, that names node i; nothing where the window's last row was taken
-abbrev pub IsLook : FilmState → ℕ → Option Deed → Option Opening → Type 0
-IsLook film i deed None = is_none film.still ≡ false
-IsLook film i deed (Some opening) = (is_none film.still ≡ true) × IsOpening (world_of film.judge.world) i deed opening
+-- what is seen of a row before it is taken, with this kind of event, that names node i; nothing where the window's last row was taken
+abbrev pub IsLook : FilmState → ℕ → Option EventKind → Option SceneStart → Type 0
+IsLook film i event_kind None = is_none film.at_end ≡ false
+IsLook film i event_kind (Some scene_start) = (is_none film.at_end ≡ true) × IsSceneStart (world_of film.judge.world) i event_kind scene_start
 
 -- behind a row of this number that was judged, of which this was seen before it, what it shows is kept, and how the nodes stand at the
 -- window's last row; nothing of a row of which nothing was seen
-abbrev pub GoesOn : ℕ → Option Opening → FilmState → FilmState → Type 0
+abbrev pub GoesOn : ℕ → Option SceneStart → FilmState → FilmState → Type 0
 GoesOn number None film after = after ≡ film
-GoesOn number (Some opening) film after = (w : World) (row : Row) → IsOpening w (node_in row) (deed_in row) opening
+GoesOn number (Some scene_start) film after = (w : World) (row : Row) → IsSceneStart w (node_in row) (event_kind_in row) scene_start
     → (shot : FilmState)
     × (shot ≡ record film { scenes = kept film.window film.scenes (scene_of film.judge.world.setup w (world_of film.judge.world) number row) })
     × (after ≡ (if number == shot.window.to then closed shot else shot))
@@ -78,9 +78,9 @@ pub record HasFilmedUp (setup : Setup) (rows : List Row) (film : FilmState) (P :
   pub judged : HasJudged setup rows film.judge
   pub scenes : film.scenes ≡ scenes_from setup before shown
   pub window : IsInWindow film.window before shown
-  pub still : MatchOption film.still
+  pub at_end : MatchOption film.at_end
       (HasJudged setup (before ++ shown) film.judge × (film.judge.stopped ≡ None → beyond ≡ []) × P (length before + length shown + 1))
-      (λ still. (length before + length shown + 1 ≡ film.window.to) × (still ≡ sights_of (world_behind setup (before ++ shown)) 1 setup.nodes))
+      (λ at_end. (length before + length shown + 1 ≡ film.window.to) × (at_end ≡ snapshots_of (world_behind setup (before ++ shown)) 1 setup.nodes))
 
 abbrev pub HasFilmed : Setup → List Row → FilmState → Type 0
 HasFilmed setup rows film = HasFilmedUp setup rows film (λ last. last < film.window.to)
@@ -92,17 +92,17 @@ HasShot setup rows film = HasFilmedUp setup rows film (λ last. (last ≡ length
 -- what a film shows is that of the rows of a trace in a window: the verdict is the trace's; of each row in the window what it shows, and
 -- how the nodes stand behind the last of them. They end with the trace, with the window, or with the row that decided, up to which the
 -- rows come to the same verdict
-pub record IsReelOf (asked : WindowState) (reel : Reel) (trace : Trace) : Type 0 where
-  pub same : reel.setup ≡ trace.setup
-  pub judged : (w : World) × IsVerdict trace reel.verdict w
+pub record IsFilmOf (asked : WindowState) (finished : FinishedFilm) (trace : Trace) : Type 0 where
+  pub same : finished.setup ≡ trace.setup
+  pub judged : (w : World) × IsVerdict trace finished.verdict w
   pub before : List Row
   pub shown : List Row
   pub beyond : List Row
   pub all : trace.rows ≡ before ++ shown ++ beyond
-  pub scenes : reel.scenes.items ≡ scenes_from trace.setup before shown
+  pub scenes : finished.scenes.items ≡ scenes_from trace.setup before shown
   pub window : IsInWindow asked before shown
-  pub still : reel.still.items ≡ sights_of (world_behind trace.setup (before ++ shown)) 1 trace.setup.nodes
-  pub ends : (beyond ≡ []) ⊎ (length before + length shown + 1 ≡ asked.to) ⊎ ((w : World) × IsJudged trace.setup (first_world trace.setup) 0 2 (before ++ shown) reel.verdict w)
+  pub at_end : finished.at_end.items ≡ snapshots_of (world_behind trace.setup (before ++ shown)) 1 trace.setup.nodes
+  pub ends : (beyond ≡ []) ⊎ (length before + length shown + 1 ≡ asked.to) ⊎ ((w : World) × IsJudged trace.setup (first_world trace.setup) 0 2 (before ++ shown) finished.verdict w)
 
 -- rows of a text, behind the film's header, were filmed
 abbrev pub AreFilmed : Option (List ℕ) → WindowState → ReadSoFar → FilmState → Type 0

@@ -8,18 +8,18 @@ use Rattle.bully_handlers.specs.Vector.{is_normal}
 use Rattle.bully_calls.specs.Events.{node_of}
 use Rattle.bully_world.specs.Cause.{is_idle}
 use Rattle.bully_world.specs.State.{is_halt}
-use Rattle.bully_world.specs.World.{Member, World, member, point, vector}
+use Rattle.bully_world.specs.World.{NodeState, World, node_state, point, vector}
 use Rattle.bully_rows.specs.declared.trace.Row.{Row}
 use Rattle.bully_rows.specs.EventsTold.{event_of_detailed}
 use Rattle.bully_trace.specs.Details.{call_at, callee_or}
-use Rattle.bully_rows.specs.declared.kind.Deed.{Deed}
-use Rattle.bully_rows.specs.Kinds.{deed_of}
+use Rattle.bully_rows.specs.declared.kind.EventKind.{EventKind}
+use Rattle.bully_rows.specs.Kinds.{event_kind_of}
 use Rattle.bully_film.specs.declared.TheConstants.{OWNERS_SHOWN}
 use Rattle.bully_film.specs.declared.scene.Change.{Change}
-use Rattle.bully_film.specs.declared.scene.Opening.{Opening}
+use Rattle.bully_film.specs.declared.scene.SceneStart.{SceneStart}
 use Rattle.bully_film.specs.declared.scene.Scene.{Scene}
-use Rattle.bully_film.specs.declared.sight.Sight.{Sight}
-use Rattle.bully_film.specs.declared.sight.SlotCall.{SlotCall}
+use Rattle.bully_film.specs.declared.snapshot.NodeSnapshot.{NodeSnapshot}
+use Rattle.bully_film.specs.declared.snapshot.SlotCall.{SlotCall}
 use Rattle.bully_film.specs.Behind.{world_behind}
 
 -- the call in a slot, without its table
@@ -27,19 +27,19 @@ abbrev pub slot_call : Pending → SlotCall
 slot_call c = record { call = c.call; phase = c.phase; is_live = c.is_live }
 
 -- node i as the world shows it: its status, its coordinator, and the call in its slot
-abbrev pub seen_of : Member → Sight
+abbrev pub seen_of : NodeState → NodeSnapshot
 seen_of m = record { status = m.vector.status; coordinator = m.vector.coordinator; call = option_map slot_call m.pending }
 
-abbrev pub sight : World → ℕ → Sight
-sight w i = seen_of (member w i)
+abbrev pub snapshot : World → ℕ → NodeSnapshot
+snapshot w i = seen_of (node_state w i)
 
 -- what is seen of a node that the group doesn't have
-abbrev pub unseen : Sight
+abbrev pub unseen : NodeSnapshot
 unseen = record { status = Status.Down; coordinator = None; call = None }
 
 -- what a step from w to w' makes of node i
 abbrev pub change : World → World → ℕ → Change
-change w w' i = record { node = i; before = sight w i; after = sight w' i }
+change w w' i = record { node = i; before = snapshot w i; after = snapshot w' i }
 
 -- the node that the row names
 abbrev pub node_in : Row → ℕ
@@ -49,47 +49,47 @@ node_in (Row.Claim claim) = claim.node
 node_in (Row.Whole whole) = whole.claim.node
 
 -- what the row's event is; none for a claim
-abbrev pub deed_in : Row → Option Deed
-deed_in (Row.Event e) = Some (deed_of e)
-deed_in (Row.Detailed d) = Some (deed_of (event_of_detailed d))
-deed_in (Row.Claim claim) = None
-deed_in (Row.Whole whole) = None
+abbrev pub event_kind_in : Row → Option EventKind
+event_kind_in (Row.Event e) = Some (event_kind_of e)
+event_kind_in (Row.Detailed d) = Some (event_kind_of (event_of_detailed d))
+event_kind_in (Row.Claim claim) = None
+event_kind_in (Row.Whole whole) = None
 
-abbrev pub is_run : Option Deed → Bool
-is_run (Some Deed.Run) = true
+abbrev pub is_run : Option EventKind → Bool
+is_run (Some EventKind.Run) = true
 is_run _ = false
 
--- the node whose vector a deed of node i may change: the callee of a Run, and else node i
-abbrev pub place_at : World → ℕ → Option Deed → ℕ
-place_at w i deed = if is_run deed then callee_or i (call_at w i) else i
+-- the node whose vector a kind of event of node i may change: the callee of a Run, and else node i
+abbrev pub place_at : World → ℕ → Option EventKind → ℕ
+place_at w i event_kind = if is_run event_kind then callee_or i (call_at w i) else i
 
 abbrev pub is_halting : Option Call → Bool
 is_halting None = false
 is_halting (Some call) = is_halt call.kind
 
 -- a Halt of node i runs at node j, and cuts a procedure off
-abbrev pub cuts : World → ℕ → ℕ → Option Deed → Bool
-cuts w i j deed = is_run deed && is_halting (call_at w i) && not (is_idle (point w j))
+abbrev pub cuts : World → ℕ → ℕ → Option EventKind → Bool
+cuts w i j event_kind = is_run event_kind && is_halting (call_at w i) && not (is_idle (point w j))
 
--- what is seen, in this world, of a row with this deed that names node i
-pub record IsOpening (w : World) (i : ℕ) (deed : Option Deed) (opening : Opening) : Type 0 where
-  pub deed_is : opening.deed ≡ deed
-  pub own : opening.own ≡ i
-  pub own_before : opening.own_before ≡ sight w i
-  pub other : opening.other ≡ place_at w i deed
-  pub other_before : opening.other_before ≡ sight w (place_at w i deed)
-  pub cut : opening.cuts ≡ cuts w i (place_at w i deed) deed
+-- what is seen, in this world, of a row with this kind of event that names node i
+pub record IsSceneStart (w : World) (i : ℕ) (event_kind : Option EventKind) (scene_start : SceneStart) : Type 0 where
+  pub event_kind_is : scene_start.event_kind ≡ event_kind
+  pub own : scene_start.own ≡ i
+  pub own_before : scene_start.own_before ≡ snapshot w i
+  pub other : scene_start.other ≡ place_at w i event_kind
+  pub other_before : scene_start.other_before ≡ snapshot w (place_at w i event_kind)
+  pub cut : scene_start.cuts ≡ cuts w i (place_at w i event_kind) event_kind
 
 -- a table is planned, or comes with a Ready to a node that is Normal by it
-abbrev pub gets_table : Option Deed → Sight → Sight → Bool
-gets_table (Some Deed.Plan) before after = true
-gets_table (Some Deed.Run) before after = not (is_normal before.status) && is_normal after.status
+abbrev pub gets_table : Option EventKind → NodeSnapshot → NodeSnapshot → Bool
+gets_table (Some EventKind.Plan) before after = true
+gets_table (Some EventKind.Run) before after = not (is_normal before.status) && is_normal after.status
 gets_table _ before after = false
 
 -- neither a second node may be changed by it, nor does a node get a table
-abbrev pub is_quiet : Option Deed → Bool
-is_quiet (Some Deed.Run) = false
-is_quiet (Some Deed.Plan) = false
+abbrev pub is_quiet : Option EventKind → Bool
+is_quiet (Some EventKind.Run) = false
+is_quiet (Some EventKind.Plan) = false
 is_quiet _ = true
 
 -- the task, where a table is got and has so few owners that they are shown
@@ -100,14 +100,14 @@ table_shown setup gets task = if gets && nat_le setup.partitions OWNERS_SHOWN th
 abbrev pub scene_of : Setup → World → World → ℕ → Row → Scene
 scene_of setup w w' number row =
     let i = node_in row in
-    let j = place_at w i (deed_in row) in
-    let gets = gets_table (deed_in row) (sight w j) (sight w' j) in
+    let j = place_at w i (event_kind_in row) in
+    let gets = gets_table (event_kind_in row) (snapshot w j) (snapshot w' j) in
     record {
       number = number;
-      deed = deed_in row;
+      event_kind = event_kind_in row;
       own = change w w' i;
       other = change w w' j;
-      cuts = cuts w i j (deed_in row);
+      cuts = cuts w i j (event_kind_in row);
       gets_table = gets;
       table = table_shown setup gets (vector w' j).task;
     }
@@ -122,15 +122,15 @@ scenes_from setup before [] = []
 scenes_from setup before (row ∷ rows) = scene_at setup before row ∷ scenes_from setup (before ++ row ∷ []) rows
 
 -- node i behind each of these rows
-abbrev pub sights_from : Setup → List Row → ℕ → List Row → List Sight
-sights_from setup before i [] = []
-sights_from setup before i (row ∷ rows) = sight (world_behind setup (before ++ row ∷ [])) i ∷ sights_from setup (before ++ row ∷ []) i rows
+abbrev pub snapshots_from : Setup → List Row → ℕ → List Row → List NodeSnapshot
+snapshots_from setup before i [] = []
+snapshots_from setup before i (row ∷ rows) = snapshot (world_behind setup (before ++ row ∷ [])) i ∷ snapshots_from setup (before ++ row ∷ []) i rows
 
 -- node i before these rows, and behind each of them
-abbrev pub lane_of : Setup → List Row → ℕ → List Row → List Sight
-lane_of setup before i rows = sight (world_behind setup before) i ∷ sights_from setup before i rows
+abbrev pub lane_of : Setup → List Row → ℕ → List Row → List NodeSnapshot
+lane_of setup before i rows = snapshot (world_behind setup before) i ∷ snapshots_from setup before i rows
 
 -- the nodes from node i on, so many, in rising order
-abbrev pub sights_of : World → ℕ → ℕ → List Sight
-sights_of w i zero = []
-sights_of w i (suc k) = sight w i ∷ sights_of w (i + 1) k
+abbrev pub snapshots_of : World → ℕ → ℕ → List NodeSnapshot
+snapshots_of w i zero = []
+snapshots_of w i (suc k) = snapshot w i ∷ snapshots_of w (i + 1) k

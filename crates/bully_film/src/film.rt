@@ -2,12 +2,12 @@ ghost use Rattle.std.specs.Prelude.{◌≡◌, IfSome, OnOk};
 ghost use Rattle.bully_film.specs.Film.{kept};
 
 use crate::scene::{
-    Opening, Scene, deed_at, deed_in, is_quiet, node_in, open_on, quiet_shot, shot,
+    SceneStart, Scene, event_kind_at, event_kind_in, is_quiet, node_in, open_on, quiet_shot, shot,
 };
-use crate::sight::{Sight, sights};
+use crate::snapshot::{NodeSnapshot, snapshots};
 use crate::window::Window;
 use bully_base::{Node, OutOfMemory, Setup};
-use bully_rows::{Deed, EventKind, Header, NodeEvent, Row, Version};
+use bully_rows::{EventKind, NodeEventKind, Header, NodeEvent, Row, Version};
 use bully_trace::{Judge, Verdict};
 use bully_world::World;
 use std::alloc::Global;
@@ -17,13 +17,13 @@ use std::marker::Model;
 /// What a film shows: the judge that took the rows, the setup and the verdict of its trace, the row that decided, what each row of the window shows, and how the
 /// nodes stand behind the last of them, from node 1 on.
 #[derive(Drop)]
-pub struct Reel {
+pub struct FinishedFilm {
     pub judge: Judge,
     pub setup: Setup,
     pub verdict: Verdict,
     pub stop: Option<Row>,
     pub scenes: Vec<Scene>,
-    pub still: Vec<Sight>,
+    pub at_end: Vec<NodeSnapshot>,
 }
 
 /// What takes the rows of a trace one by one and keeps what those of a window show. Its memory is that of a world and of the window.
@@ -35,7 +35,7 @@ pub struct Film {
     // The row that decided.
     stop: Option<Row>,
     // How the nodes stand behind the window's last row, once that was taken.
-    still: Option<Vec<Sight>>,
+    at_end: Option<Vec<NodeSnapshot>>,
 }
 
 impl Model for Film {
@@ -44,14 +44,14 @@ impl Model for Film {
 
     ghost Value = { FilmState };
 
-    ghost view = { λ f. record { judge = f.judge; window = f.window; scenes = f.scenes.items; still = option_map (λ v. v.items) f.still } };
+    ghost view = { λ f. record { judge = f.judge; window = f.window; scenes = f.scenes.items; at_end = option_map (λ v. v.items) f.at_end } };
 }
 
 impl Film {
     ghost use Rattle.std.specs.Prelude.{◌≡◌, ◌+◌, ◌++◌, ◌==◌, ◌∷◌, [], List, Option, None, Some, true, false, is_none, is_some, length, IfOk, IfSome, OnOk, if◌then◌else◌};
     ghost use Rattle.bully_base.specs.Setup.{Setup as SetupState};
     ghost use Rattle.bully_film.specs.Film.{GoesOn, HasFilmed, IsLook, closed, kept};
-    ghost use Rattle.bully_film.specs.Scene.{IsOpening, deed_in, node_in, scene_of};
+    ghost use Rattle.bully_film.specs.Scene.{IsSceneStart, event_kind_in, node_in, scene_of};
     ghost use Rattle.bully_trace.specs.Judging.{HasJudged};
     ghost use Rattle.bully_trace.specs.Verdict.{IsJudged};
     ghost use Rattle.bully_world.specs.World.{World as WorldOf, first_world};
@@ -71,7 +71,7 @@ impl Film {
             window,
             scenes: VecDeque::with_capacity(alloc, window.most() as usize)?,
             stop: None,
-            still: None,
+            at_end: None,
         })
     }
 
@@ -98,9 +98,9 @@ impl Film {
         if self.is_over() {
             return Ok(());
         }
-        let opening = self.look(deed_in(&row), node_in(&row));
+        let scene_start = self.look(event_kind_in(&row), node_in(&row));
         self.judge_row(number, row);
-        self.keep_shown(alloc, number, &opening)
+        self.keep_shown(alloc, number, &scene_start)
     }
 
     /// Takes the row of this number, which tells this event, as `take_row` does.
@@ -121,9 +121,9 @@ impl Film {
             return Ok(());
         }
         let NodeEvent { kind, node } = event;
-        let opening = self.look(Some(deed_at(kind, node)), node);
+        let scene_start = self.look(Some(event_kind_at(kind, node)), node);
         self.judge_event(number, kind, node);
-        self.keep_shown(alloc, number, &opening)
+        self.keep_shown(alloc, number, &scene_start)
     }
 
     // Whether a row decided.
@@ -135,13 +135,13 @@ impl Film {
 
     // What is seen of a row before it is taken, whose event is this and which names this node; nothing behind the window.
     #[inline(always)]
-    fn look(&self, deed: Option<Deed>, node: Node) -> Option<Opening>
-        ensures { IsLook self.now node deed result }
+    fn look(&self, event_kind: Option<EventKind>, node: Node) -> Option<SceneStart>
+        ensures { IsLook self.now node event_kind result }
     {
-        if self.still.is_some() {
+        if self.at_end.is_some() {
             return None;
         }
-        Some(open_on(self.judge.world(), deed, node))
+        Some(open_on(self.judge.world(), event_kind, node))
     }
 
     // Has the row judged, and keeps it where it decided.
@@ -149,7 +149,7 @@ impl Film {
     fn judge_row(&mut self, number: u32, row: Row)
         ensures version { self.new.judge.version ≡ self.old.judge.version }
         ensures window { self.new.window ≡ self.old.window }
-        ensures still { self.new.still ≡ self.old.still }
+        ensures at_end { self.new.at_end ≡ self.old.at_end }
         ensures scenes { self.new.scenes ≡ self.old.scenes }
         ensures judged { (setup : SetupState) (rows : List RowState) → length rows + 2 ≡ number → HasJudged setup rows self.old.judge → HasJudged setup (rows ++ row ∷ []) self.new.judge }
     {
@@ -159,10 +159,10 @@ impl Film {
 
     // Has the row judged that tells an event of this kind, and keeps it where it decided.
     #[inline(always)]
-    fn judge_event(&mut self, number: u32, kind: EventKind, node: Node)
+    fn judge_event(&mut self, number: u32, kind: NodeEventKind, node: Node)
         ensures version { self.new.judge.version ≡ self.old.judge.version }
         ensures window { self.new.window ≡ self.old.window }
-        ensures still { self.new.still ≡ self.old.still }
+        ensures at_end { self.new.at_end ≡ self.old.at_end }
         ensures scenes { self.new.scenes ≡ self.old.scenes }
         ensures judged { (setup : SetupState) (rows : List RowState) → length rows + 2 ≡ number → HasJudged setup rows self.old.judge
             → HasJudged setup (rows ++ Row.Event (event_at kind node) ∷ []) self.new.judge }
@@ -176,7 +176,7 @@ impl Film {
     // Keeps the row that decided, which tells an event of this kind.
     // (out of line, as it comes once)
     #[inline(never)]
-    fn stop_at(&mut self, kind: EventKind, node: Node)
+    fn stop_at(&mut self, kind: NodeEventKind, node: Node)
         ensures { self.new ≡ self.old }
     {
         self.stop = Some(Row::Event(NodeEvent { kind, node }.event()));
@@ -189,14 +189,14 @@ impl Film {
         &mut self,
         alloc: Global,
         number: u32,
-        opening: &Option<Opening>,
+        scene_start: &Option<SceneStart>,
     ) -> Result<(), OutOfMemory>
         ensures version { OnOk result (self.new.judge.version ≡ self.old.judge.version) }
         ensures window { self.new.window ≡ self.old.window }
-        ensures on { OnOk result (GoesOn number opening.now self.old self.new) }
+        ensures on { OnOk result (GoesOn number scene_start.now self.old self.new) }
     {
-        if let Some(opening) = opening {
-            self.keep_shot(number, opening)?;
+        if let Some(scene_start) = scene_start {
+            self.keep_shot(number, scene_start)?;
             self.close_at(alloc, number)?;
         }
         Ok(())
@@ -204,30 +204,30 @@ impl Film {
 
     // Keeps what the row shows that was judged last, of which this was seen before.
     #[inline(always)]
-    fn keep_shot(&mut self, number: u32, opening: &Opening) -> Result<(), OutOfMemory>
+    fn keep_shot(&mut self, number: u32, scene_start: &SceneStart) -> Result<(), OutOfMemory>
         ensures judge { self.new.judge ≡ self.old.judge }
         ensures window { self.new.window ≡ self.old.window }
-        ensures still { self.new.still ≡ self.old.still }
-        ensures scenes { OnOk result ((w : WorldOf) (row : RowState) → IsOpening w (node_in row) (deed_in row) opening.now
+        ensures at_end { self.new.at_end ≡ self.old.at_end }
+        ensures scenes { OnOk result ((w : WorldOf) (row : RowState) → IsSceneStart w (node_in row) (event_kind_in row) scene_start.now
             → self.new.scenes ≡ kept self.old.window self.old.scenes (scene_of self.old.judge.world.setup w (world_of self.old.judge.world) number row)) }
     {
-        if !is_quiet(opening) {
-            return self.keep_wide_shot(number, opening);
+        if !is_quiet(scene_start) {
+            return self.keep_wide_shot(number, scene_start);
         }
-        let scene = quiet_shot(number, opening, self.judge.world());
+        let scene = quiet_shot(number, scene_start, self.judge.world());
         keep(&mut self.scenes, self.window, scene)
     }
 
     // The same, where a second node may be changed, or a table comes with the row.
     #[inline(never)]
-    fn keep_wide_shot(&mut self, number: u32, opening: &Opening) -> Result<(), OutOfMemory>
+    fn keep_wide_shot(&mut self, number: u32, scene_start: &SceneStart) -> Result<(), OutOfMemory>
         ensures judge { self.new.judge ≡ self.old.judge }
         ensures window { self.new.window ≡ self.old.window }
-        ensures still { self.new.still ≡ self.old.still }
-        ensures scenes { OnOk result ((w : WorldOf) (row : RowState) → IsOpening w (node_in row) (deed_in row) opening.now
+        ensures at_end { self.new.at_end ≡ self.old.at_end }
+        ensures scenes { OnOk result ((w : WorldOf) (row : RowState) → IsSceneStart w (node_in row) (event_kind_in row) scene_start.now
             → self.new.scenes ≡ kept self.old.window self.old.scenes (scene_of self.old.judge.world.setup w (world_of self.old.judge.world) number row)) }
     {
-        let scene = shot(number, opening, self.judge.world())?;
+        let scene = shot(number, scene_start, self.judge.world())?;
         keep(&mut self.scenes, self.window, scene)
     }
 
@@ -250,17 +250,17 @@ impl Film {
         ensures closed { OnOk result (self.new ≡ closed self.old) }
         ensures window { self.new.window ≡ self.old.window }
     {
-        if self.still.is_none() {
-            self.still = Some(sights(alloc, self.judge.world())?);
+        if self.at_end.is_none() {
+            self.at_end = Some(snapshots(alloc, self.judge.world())?);
         }
         Ok(())
     }
 
     /// What the film shows, once it is closed.
-    pub fn into_reel(self, alloc: Global) -> Reel
+    pub fn into_finished(self, alloc: Global) -> FinishedFilm
         ensures scenes { result.scenes.items ≡ self.scenes }
         ensures setup { result.setup ≡ self.judge.world.setup }
-        ensures still { IfSome self.still (λ still. result.still.items ≡ still) }
+        ensures at_end { IfSome self.at_end (λ at_end. result.at_end.items ≡ at_end) }
         ensures verdict { (setup : SetupState) (rows : List RowState) → HasJudged setup rows self.judge → IsJudged setup (first_world setup) 0 2 rows result.verdict (world_of self.judge.world) }
     {
         let Film {
@@ -268,17 +268,17 @@ impl Film {
             window: _,
             scenes,
             stop,
-            still,
+            at_end,
         } = self;
         let setup = *judge.world().setup();
         let verdict = judge.verdict();
-        Reel {
+        FinishedFilm {
             judge,
             setup,
             verdict,
             stop,
             scenes: scenes.into_vec(),
-            still: or_empty(alloc, still),
+            at_end: or_empty(alloc, at_end),
         }
     }
 
@@ -311,12 +311,12 @@ fn keep(scenes: &mut VecDeque<Scene>, window: Window, scene: Scene) -> Result<()
     Ok(())
 }
 
-// The sights, or none.
-fn or_empty(alloc: Global, still: Option<Vec<Sight>>) -> Vec<Sight>
-    ensures { IfSome still (λ v. result.items ≡ v.items) }
+// The snapshots, or none.
+fn or_empty(alloc: Global, at_end: Option<Vec<NodeSnapshot>>) -> Vec<NodeSnapshot>
+    ensures { IfSome at_end (λ v. result.items ≡ v.items) }
 {
-    match still {
-        Some(sights) => sights,
+    match at_end {
+        Some(snapshots) => snapshots,
         None => Vec::new(alloc),
     }
 }

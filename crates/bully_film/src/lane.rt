@@ -1,42 +1,42 @@
 ghost use Rattle.std.specs.Prelude.{◌≡◌, ◌≤◌, IfOk, OnOk, ◌++◌, ◌∷◌, [], Some, slice_get};
-ghost use Rattle.bully_film.specs.Film.{IsReelOf};
-ghost use Rattle.bully_film.specs.Lane.{lane_in, sight_after, sight_before, sights_after, start_sight};
+ghost use Rattle.bully_film.specs.Film.{IsFilmOf};
+ghost use Rattle.bully_film.specs.Lane.{lane_in, snapshot_after, snapshot_before, snapshots_after, start_snapshot};
 ghost use Rattle.bully_film.specs.Behind.{world_behind};
-ghost use Rattle.bully_film.specs.Scene.{lane_of as lane_seen, sight};
+ghost use Rattle.bully_film.specs.Scene.{lane_of as lane_seen, snapshot};
 ghost use Rattle.bully_film.specs.Window.{WindowState};
-ghost use Rattle.bully_film.specs.declared.sight.Sight.{Sight as SightState};
+ghost use Rattle.bully_film.specs.declared.snapshot.NodeSnapshot.{NodeSnapshot as SnapshotState};
 ghost use Rattle.bully_rows.specs.Trace.{Trace};
 
-use crate::film::Reel;
+use crate::film::FinishedFilm;
 use crate::scene::Scene;
-use crate::sight::{Sight, unseen};
+use crate::snapshot::{NodeSnapshot, unseen};
 use bully_base::{Node, OutOfMemory};
 use std::alloc::Global;
 
-/// How the node stood before the rows that the reel shows, and behind each of them. The node is at most the setup's last. Refused
+/// How the node stood before the rows that the finished film shows, and behind each of them. The node is at most the setup's last. Refused
 /// where an allocation fails.
-pub fn lane_of(alloc: Global, reel: &Reel, node: Node) -> Result<Vec<Sight>, OutOfMemory>
-    requires { node ≤ reel.now.setup.nodes }
-    ensures { (window : WindowState) (trace : Trace) (is : IsReelOf window reel.now trace) → IfOk result (λ sights. sights.items ≡ lane_seen trace.setup is.before node is.shown) }
+pub fn lane_of(alloc: Global, finished: &FinishedFilm, node: Node) -> Result<Vec<NodeSnapshot>, OutOfMemory>
+    requires { node ≤ finished.now.setup.nodes }
+    ensures { (window : WindowState) (trace : Trace) (is : IsFilmOf window finished.now trace) → IfOk result (λ snapshots. snapshots.items ≡ lane_seen trace.setup is.before node is.shown) }
 {
-    let still = still_at(reel, node);
-    lane_in(alloc, reel.scenes.as_slice(), node, &still)
+    let at_end = snapshot_at_end(finished, node);
+    lane_in(alloc, finished.scenes.as_slice(), node, &at_end)
 }
 
 // How the node stands behind the last row.
-fn still_at(reel: &Reel, node: Node) -> Sight
-    requires { node ≤ reel.now.setup.nodes }
-    ensures { (window : WindowState) (trace : Trace) (is : IsReelOf window reel.now trace) → result ≡ sight (world_behind trace.setup (is.before ++ is.shown)) node }
+fn snapshot_at_end(finished: &FinishedFilm, node: Node) -> NodeSnapshot
+    requires { node ≤ finished.now.setup.nodes }
+    ensures { (window : WindowState) (trace : Trace) (is : IsFilmOf window finished.now trace) → result ≡ snapshot (world_behind trace.setup (is.before ++ is.shown)) node }
 {
-    sight_at(reel.still.as_slice(), usize::from(node.number() - 1))
+    snapshot_at(finished.at_end.as_slice(), usize::from(node.number() - 1))
 }
 
-// The sight at this place of all of them.
-fn sight_at(still: &[Sight], place: usize) -> Sight
-    ensures { (x : SightState) → slice_get still.now place ≡ Some x → result ≡ x }
+// The snapshot at this place of all of them.
+fn snapshot_at(at_end: &[NodeSnapshot], place: usize) -> NodeSnapshot
+    ensures { (x : SnapshotState) → slice_get at_end.now place ≡ Some x → result ≡ x }
 {
-    match still.get(place) {
-        Some(sight) => *sight,
+    match at_end.get(place) {
+        Some(snapshot) => *snapshot,
         None => unseen(),
     }
 }
@@ -46,49 +46,49 @@ fn lane_in(
     alloc: Global,
     scenes: &[Scene],
     node: Node,
-    still: &Sight,
-) -> Result<Vec<Sight>, OutOfMemory>
-    ensures { IfOk result (λ sights. sights.items ≡ lane_in node scenes.now still.now) }
+    at_end: &NodeSnapshot,
+) -> Result<Vec<NodeSnapshot>, OutOfMemory>
+    ensures { IfOk result (λ snapshots. snapshots.items ≡ lane_in node scenes.now at_end.now) }
 {
-    let mut sights = Vec::new(alloc);
-    push_lane(&mut sights, scenes, node, start_sight(scenes, node, still))?;
-    Ok(sights)
+    let mut snapshots = Vec::new(alloc);
+    push_lane(&mut snapshots, scenes, node, start_snapshot(scenes, node, at_end))?;
+    Ok(snapshots)
 }
 
 // Appends how the node stood, first so, and then behind each of these rows.
 fn push_lane(
-    sights: &mut Vec<Sight>,
+    snapshots: &mut Vec<NodeSnapshot>,
     scenes: &[Scene],
     node: Node,
-    start: Sight,
+    start: NodeSnapshot,
 ) -> Result<(), OutOfMemory>
-    requires { sights.old.items ≡ [] }
-    ensures { OnOk result (sights.new.items ≡ start ∷ sights_after node start scenes.now) }
+    requires { snapshots.old.items ≡ [] }
+    ensures { OnOk result (snapshots.new.items ≡ start ∷ snapshots_after node start scenes.now) }
 {
     let mut now = start;
-    sights.push(now)?;
+    snapshots.push(now)?;
     for scene in scenes {
-        now = sight_after(node, &now, scene);
-        sights.push(now)?;
+        now = snapshot_after(node, &now, scene);
+        snapshots.push(now)?;
     }
     Ok(())
 }
 
 // How the node stood before these rows, where it stands so at their end.
-fn start_sight(scenes: &[Scene], node: Node, still: &Sight) -> Sight
-    ensures { result ≡ start_sight node scenes.now still.now }
+fn start_snapshot(scenes: &[Scene], node: Node, at_end: &NodeSnapshot) -> NodeSnapshot
+    ensures { result ≡ start_snapshot node scenes.now at_end.now }
 {
     for scene in scenes {
         if scene.own.node == node || scene.other.node == node {
-            return sight_before(node, still, scene);
+            return snapshot_before(node, at_end, scene);
         }
     }
-    *still
+    *at_end
 }
 
 // How the node was before the row; this, where the row doesn't speak of it.
-fn sight_before(node: Node, now: &Sight, scene: &Scene) -> Sight
-    ensures { result ≡ sight_before node now.now scene.now }
+fn snapshot_before(node: Node, now: &NodeSnapshot, scene: &Scene) -> NodeSnapshot
+    ensures { result ≡ snapshot_before node now.now scene.now }
 {
     if scene.own.node == node {
         scene.own.before
@@ -100,8 +100,8 @@ fn sight_before(node: Node, now: &Sight, scene: &Scene) -> Sight
 }
 
 // How the node is behind the row; this, where the row doesn't speak of it.
-fn sight_after(node: Node, now: &Sight, scene: &Scene) -> Sight
-    ensures { result ≡ sight_after node now.now scene.now }
+fn snapshot_after(node: Node, now: &NodeSnapshot, scene: &Scene) -> NodeSnapshot
+    ensures { result ≡ snapshot_after node now.now scene.now }
 {
     if scene.own.node == node {
         scene.own.after

@@ -1,10 +1,10 @@
 ghost use Rattle.std.specs.Prelude.{◌≡◌, ℕ, List, length, Option, None, IfErr, IfOk, MatchOption, OnOk};
-ghost use Rattle.bully_film.specs.Film.{AreAllFilmed, Begins, IsFilmedToEnd, IsReelOf, TakesRow};
+ghost use Rattle.bully_film.specs.Film.{AreAllFilmed, Begins, IsFilmedToEnd, IsFilmOf, TakesRow};
 ghost use Rattle.bully_rows.specs.RecordsLeft.{EndsReading, IsUnread};
 ghost use Rattle.bully_rows.specs.Rows.{OfTrace, row_of};
 ghost use Rattle.bully_trace.specs.Judging.{IsNoRow, IsNoStart};
 
-use crate::film::{Film, Reel};
+use crate::film::{Film, FinishedFilm};
 use crate::window::Window;
 use bully_rows::{RowReader, TraceFault, no_header};
 use std::alloc::Global;
@@ -12,13 +12,13 @@ use std::io::Read;
 
 /// Judges a trace as [`bully_trace::check`] does, and tells what the rows of the window show. Each row is judged as it is read, and
 /// none is kept but the one that decides. Refused as [`bully_trace::check`] refuses the trace, where it isn't for writing.
-pub fn film_of<R: Read + Drop>(alloc: Global, reader: R, window: Window) -> Result<Reel, TraceFault>
-    ensures told { IfOk result (λ reel. OfTrace (R.remaining reader) (IsReelOf window reel)) }
+pub fn film_of<R: Read + Drop>(alloc: Global, reader: R, window: Window) -> Result<FinishedFilm, TraceFault>
+    ensures told { IfOk result (λ finished. OfTrace (R.remaining reader) (IsFilmOf window finished)) }
     ensures fault { IfErr result (EndsReading (R.remaining reader)) }
 {
     let mut film = film_text(alloc, reader, window)?;
     match film.close(alloc) {
-        Ok(()) => Ok(film.into_reel(alloc)),
+        Ok(()) => Ok(film.into_finished(alloc)),
         Err(short) => Err(TraceFault::from(short)),
     }
 }

@@ -1,20 +1,20 @@
 //! What a row of a trace shows.
 ghost use Rattle.std.specs.Prelude.{◌≡◌, ℕ, true, IfOk};
-ghost use Rattle.bully_rows.specs.Kinds.{deed_of};
+ghost use Rattle.bully_rows.specs.Kinds.{event_kind_of};
 ghost use Rattle.bully_handlers.specs.Vector.{is_normal};
 ghost use Rattle.bully_rows.specs.Kinds.{event_at};
 ghost use Rattle.bully_rows.specs.declared.trace.Row.{Row as RowState};
 ghost use Rattle.bully_trace.specs.Details.{call_at};
-ghost use Rattle.bully_film.specs.Scene.{IsOpening, cuts, deed_in, gets_table, is_halting, is_quiet, is_run, node_in, place_at, scene_of, sight, table_shown};
+ghost use Rattle.bully_film.specs.Scene.{IsSceneStart, cuts, event_kind_in, gets_table, is_halting, is_quiet, is_run, node_in, place_at, scene_of, snapshot, table_shown};
 ghost use Rattle.bully_world.specs.Cause.{is_idle};
 ghost use Rattle.bully_world.specs.State.{is_halt, world_of};
 ghost use Rattle.bully_world.specs.World.{World as WorldOf, point, vector};
 
 use crate::OWNERS_SHOWN;
-use crate::sight::{Sight, sight_beside, sight_of};
+use crate::snapshot::{NodeSnapshot, snapshot_beside, snapshot_of};
 use bully_base::{Node, OutOfMemory, Status};
 use bully_calls::CallKind;
-use bully_rows::{Deed, EventKind, NodeEvent, Row};
+use bully_rows::{EventKind, NodeEventKind, NodeEvent, Row};
 use bully_steps::Point;
 use bully_table::Table;
 use bully_world::World;
@@ -23,8 +23,8 @@ use bully_world::World;
 #[derive(Clone, Copy)]
 pub struct Change {
     pub node: Node,
-    pub before: Sight,
-    pub after: Sight,
+    pub before: NodeSnapshot,
+    pub after: NodeSnapshot,
 }
 
 /// What a row shows: its number, from 2; what its event is, none of a claim; the node that it names, and the one whose vector it may
@@ -33,7 +33,7 @@ pub struct Change {
 #[derive(Drop)]
 pub struct Scene {
     pub number: u32,
-    pub deed: Option<Deed>,
+    pub event_kind: Option<EventKind>,
     pub own: Change,
     pub other: Change,
     pub cuts: bool,
@@ -43,38 +43,38 @@ pub struct Scene {
 
 /// What is seen of a row before it is taken.
 #[derive(Clone, Copy)]
-pub struct Opening {
-    deed: Option<Deed>,
+pub struct SceneStart {
+    event_kind: Option<EventKind>,
     own: Node,
-    own_before: Sight,
+    own_before: NodeSnapshot,
     other: Node,
-    other_before: Sight,
+    other_before: NodeSnapshot,
     cuts: bool,
 }
 
-/// The opening of a row whose event is this and which names this node, in the world before it.
-// (a run alone may change a second node, and is out of line. What it answers is taken apart: else the opening of every row would lie
+/// The start of a row whose event is this and which names this node, in the world before it.
+// (a run alone may change a second node, and is out of line. What it answers is taken apart: else the start of every row would lie
 // where that call writes, and be copied from there three times)
 #[inline(always)]
-pub fn open_on(world: &World, deed: Option<Deed>, own: Node) -> Opening
-    ensures deed { result.deed ≡ deed }
+pub fn open_on(world: &World, event_kind: Option<EventKind>, own: Node) -> SceneStart
+    ensures event_kind { result.event_kind ≡ event_kind }
     ensures own { result.own ≡ own }
-    ensures own_before { result.own_before ≡ sight (world_of world.now) own }
-    ensures other { result.other ≡ place_at (world_of world.now) own deed }
-    ensures other_before { result.other_before ≡ sight (world_of world.now) (place_at (world_of world.now) own deed) }
-    ensures cuts { result.cuts ≡ cuts (world_of world.now) own (place_at (world_of world.now) own deed) deed }
+    ensures own_before { result.own_before ≡ snapshot (world_of world.now) own }
+    ensures other { result.other ≡ place_at (world_of world.now) own event_kind }
+    ensures other_before { result.other_before ≡ snapshot (world_of world.now) (place_at (world_of world.now) own event_kind) }
+    ensures cuts { result.cuts ≡ cuts (world_of world.now) own (place_at (world_of world.now) own event_kind) event_kind }
 {
-    if is_run(deed) {
-        let Opening {
-            deed,
+    if is_run(event_kind) {
+        let SceneStart {
+            event_kind,
             own,
             own_before,
             other,
             other_before,
             cuts,
-        } = open_wide(world, deed, own);
-        return Opening {
-            deed,
+        } = open_wide(world, event_kind, own);
+        return SceneStart {
+            event_kind,
             own,
             own_before,
             other,
@@ -82,11 +82,11 @@ pub fn open_on(world: &World, deed: Option<Deed>, own: Node) -> Opening
             cuts,
         };
     }
-    let own_before = sight_of(world, own);
+    let own_before = snapshot_of(world, own);
     let other = own;
     let other_before = own_before;
-    Opening {
-        deed,
+    SceneStart {
+        event_kind,
         own,
         own_before,
         other,
@@ -97,82 +97,82 @@ pub fn open_on(world: &World, deed: Option<Deed>, own: Node) -> Opening
 
 // The same, also of a run.
 #[inline(never)]
-fn open_wide(world: &World, deed: Option<Deed>, own: Node) -> Opening
-    ensures deed { result.deed ≡ deed }
+fn open_wide(world: &World, event_kind: Option<EventKind>, own: Node) -> SceneStart
+    ensures event_kind { result.event_kind ≡ event_kind }
     ensures own { result.own ≡ own }
-    ensures own_before { result.own_before ≡ sight (world_of world.now) own }
-    ensures other { result.other ≡ place_at (world_of world.now) own deed }
-    ensures other_before { result.other_before ≡ sight (world_of world.now) (place_at (world_of world.now) own deed) }
-    ensures cuts { result.cuts ≡ cuts (world_of world.now) own (place_at (world_of world.now) own deed) deed }
+    ensures own_before { result.own_before ≡ snapshot (world_of world.now) own }
+    ensures other { result.other ≡ place_at (world_of world.now) own event_kind }
+    ensures other_before { result.other_before ≡ snapshot (world_of world.now) (place_at (world_of world.now) own event_kind) }
+    ensures cuts { result.cuts ≡ cuts (world_of world.now) own (place_at (world_of world.now) own event_kind) event_kind }
 {
-    let own_before = sight_of(world, own);
-    let other = place_at(&own_before, own, deed);
-    Opening {
-        deed,
+    let own_before = snapshot_of(world, own);
+    let other = place_at(&own_before, own, event_kind);
+    SceneStart {
+        event_kind,
         own,
         own_before,
         other,
-        other_before: sight_beside(world, other, own, &own_before),
-        cuts: cuts(world, &own_before, other, deed),
+        other_before: snapshot_beside(world, other, own, &own_before),
+        cuts: cuts(world, &own_before, other, event_kind),
     }
 }
 
 /// What the row of this number shows, of which this was seen before it; the world is the one behind it. Refused where an allocation
 /// fails.
-pub fn shot(number: u32, opening: &Opening, world: &World) -> Result<Scene, OutOfMemory>
+pub fn shot(number: u32, scene_start: &SceneStart, world: &World) -> Result<Scene, OutOfMemory>
     ensures { IfOk result (λ s. (w : WorldOf) (row : RowState)
-        → opening.now.deed ≡ deed_in row → opening.now.own ≡ node_in row → opening.now.own_before ≡ sight w (node_in row)
-        → opening.now.other ≡ place_at w (node_in row) (deed_in row) → opening.now.other_before ≡ sight w (place_at w (node_in row) (deed_in row))
-        → opening.now.cuts ≡ cuts w (node_in row) (place_at w (node_in row) (deed_in row)) (deed_in row)
+        → scene_start.now.event_kind ≡ event_kind_in row → scene_start.now.own ≡ node_in row → scene_start.now.own_before ≡ snapshot w (node_in row)
+        → scene_start.now.other ≡ place_at w (node_in row) (event_kind_in row) → scene_start.now.other_before ≡ snapshot w (place_at w (node_in row) (event_kind_in row))
+        → scene_start.now.cuts ≡ cuts w (node_in row) (place_at w (node_in row) (event_kind_in row)) (event_kind_in row)
         → s ≡ scene_of world.now.setup w (world_of world.now) number row) }
 {
-    let own_after = sight_of(world, opening.own);
+    let own_after = snapshot_of(world, scene_start.own);
     let own = Change {
-        node: opening.own,
-        before: opening.own_before,
+        node: scene_start.own,
+        before: scene_start.own_before,
         after: own_after,
     };
     let other = Change {
-        node: opening.other,
-        before: opening.other_before,
-        after: sight_beside(world, opening.other, opening.own, &own_after),
+        node: scene_start.other,
+        before: scene_start.other_before,
+        after: snapshot_beside(world, scene_start.other, scene_start.own, &own_after),
     };
-    let gets_table = gets_table(opening.deed, &other.before, &other.after);
+    let gets_table = gets_table(scene_start.event_kind, &other.before, &other.after);
     Ok(Scene {
         number,
-        deed: opening.deed,
+        event_kind: scene_start.event_kind,
         own,
         other,
-        cuts: opening.cuts,
+        cuts: scene_start.cuts,
         gets_table,
-        table: table_shown(world, gets_table, opening.other)?,
+        table: table_shown(world, gets_table, scene_start.other)?,
     })
 }
 
-/// Whether the row of this opening changes no other node than the one that it names, and no table comes with it.
+/// Whether the row of this start changes no other node than the one that it names, and no table comes with it.
 #[inline(always)]
-pub fn is_quiet(opening: &Opening) -> bool
-    ensures { result ≡ is_quiet opening.now.deed }
+pub fn is_quiet(scene_start: &SceneStart) -> bool
+    ensures { result ≡ is_quiet scene_start.now.event_kind }
 {
-    !matches!(opening.deed, Some(Deed::Run) | Some(Deed::Plan))
+    !matches!(scene_start.event_kind, Some(EventKind::Run) | Some(EventKind::Plan))
 }
 
 /// As `shot`, of a row that is quiet.
 // (apart, since most rows are, and nothing can fail)
 #[inline(always)]
-pub fn quiet_shot(number: u32, opening: &Opening, world: &World) -> Scene
-    ensures { (w : WorldOf) (row : RowState) → IsOpening w (node_in row) (deed_in row) opening.now → is_quiet opening.now.deed ≡ true
+pub fn quiet_shot(number: u32, scene_start: &SceneStart, world: &World) -> Scene
+    ensures { (w : WorldOf) (row : RowState) → IsSceneStart w (node_in row) (event_kind_in row) scene_start.now → is_quiet scene_start.now.event_kind ≡ true
         → result ≡ scene_of world.now.setup w (world_of world.now) number row }
 {
     let own = Change {
-        node: opening.own,
-        before: opening.own_before,
-        after: sight_of(world, opening.own),
+        node: scene_start.own,
+        before: scene_start.own_before,
+        after: snapshot_of(world, scene_start.own),
     };
     let other = own;
     Scene {
         number,
-        deed: opening.deed,
+        event_kind: scene_start.event_kind,
         own,
         other,
         cuts: false,
@@ -194,12 +194,12 @@ pub fn node_in(row: &Row) -> Node
 }
 
 /// What the row's event is.
-pub fn deed_in(row: &Row) -> Option<Deed>
-    ensures { result ≡ deed_in row.now }
+pub fn event_kind_in(row: &Row) -> Option<EventKind>
+    ensures { result ≡ event_kind_in row.now }
 {
     match row {
-        Row::Event(event) => Some(Deed::of(event)),
-        Row::Detailed(event) => Some(Deed::of(&event.event())),
+        Row::Event(event) => Some(EventKind::of(event)),
+        Row::Detailed(event) => Some(EventKind::of(&event.event())),
         Row::Claim(_) | Row::Whole(_) => None,
     }
 }
@@ -207,24 +207,24 @@ pub fn deed_in(row: &Row) -> Option<Deed>
 /// What the event of this kind is.
 // (inlined, as `open_on` is)
 #[inline(always)]
-pub fn deed_at(kind: EventKind, node: Node) -> Deed
-    ensures { result ≡ deed_of (event_at kind node) }
+pub fn event_kind_at(kind: NodeEventKind, node: Node) -> EventKind
+    ensures { result ≡ event_kind_of (event_at kind node) }
 {
-    Deed::of(&NodeEvent { kind, node }.event())
+    EventKind::of(&NodeEvent { kind, node }.event())
 }
 
 // Whether it is a run.
-fn is_run(deed: Option<Deed>) -> bool
-    ensures { result ≡ is_run deed }
+fn is_run(event_kind: Option<EventKind>) -> bool
+    ensures { result ≡ is_run event_kind }
 {
-    matches!(deed, Some(Deed::Run))
+    matches!(event_kind, Some(EventKind::Run))
 }
 
-// The node whose vector a deed of the node may change, of which this is seen.
-fn place_at(shown: &Sight, node: Node, deed: Option<Deed>) -> Node
-    ensures { (w : WorldOf) → shown.now ≡ sight w node → result ≡ place_at w node deed }
+// The node whose vector a kind of event of the node may change, of which this is seen.
+fn place_at(shown: &NodeSnapshot, node: Node, event_kind: Option<EventKind>) -> Node
+    ensures { (w : WorldOf) → shown.now ≡ snapshot w node → result ≡ place_at w node event_kind }
 {
-    if !is_run(deed) {
+    if !is_run(event_kind) {
         return node;
     }
     match shown.call {
@@ -234,10 +234,10 @@ fn place_at(shown: &Sight, node: Node, deed: Option<Deed>) -> Node
 }
 
 // Whether a Halt of the node of which this is seen runs at the other one, and cuts a procedure off.
-fn cuts(world: &World, shown: &Sight, other: Node, deed: Option<Deed>) -> bool
-    ensures { (i : ℕ) → shown.now ≡ sight (world_of world.now) i → result ≡ cuts (world_of world.now) i other deed }
+fn cuts(world: &World, shown: &NodeSnapshot, other: Node, event_kind: Option<EventKind>) -> bool
+    ensures { (i : ℕ) → shown.now ≡ snapshot (world_of world.now) i → result ≡ cuts (world_of world.now) i other event_kind }
 {
-    if !is_run(deed) {
+    if !is_run(event_kind) {
         return false;
     }
     if !is_halting(shown) {
@@ -247,8 +247,8 @@ fn cuts(world: &World, shown: &Sight, other: Node, deed: Option<Deed>) -> bool
 }
 
 // Whether the slot of the node of which this is seen has a Halt.
-fn is_halting(shown: &Sight) -> bool
-    ensures { (w : WorldOf) (i : ℕ) → shown.now ≡ sight w i → result ≡ is_halting (call_at w i) }
+fn is_halting(shown: &NodeSnapshot) -> bool
+    ensures { (w : WorldOf) (i : ℕ) → shown.now ≡ snapshot w i → result ≡ is_halting (call_at w i) }
 {
     match shown.call {
         Some(held) => is_halt(held.call.kind),
@@ -275,12 +275,12 @@ fn is_idle(world: &World, node: Node) -> bool
 }
 
 // Whether the node gets a table.
-fn gets_table(deed: Option<Deed>, before: &Sight, after: &Sight) -> bool
-    ensures { result ≡ gets_table deed before.now after.now }
+fn gets_table(event_kind: Option<EventKind>, before: &NodeSnapshot, after: &NodeSnapshot) -> bool
+    ensures { result ≡ gets_table event_kind before.now after.now }
 {
-    match deed {
-        Some(Deed::Plan) => true,
-        Some(Deed::Run) => !is_normal(before.status) && is_normal(after.status),
+    match event_kind {
+        Some(EventKind::Plan) => true,
+        Some(EventKind::Run) => !is_normal(before.status) && is_normal(after.status),
         _ => false,
     }
 }

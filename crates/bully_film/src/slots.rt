@@ -2,14 +2,14 @@
 ghost use Rattle.std.specs.Prelude.{◌≡◌, ◌+◌, ◌-◌, ◌^◌, ◌<◌, ◌≤◌, ◌↔◌, ◌++◌, ◌∷◌, [], drop, length, map, IfOk, IsTrue, OnOk};
 ghost use Rattle.bully_film.specs.Lane.{AreJoinedHeld, IsEndBefore, IsEndBy, IsEndIn, held_in, spread_held};
 
-use crate::sight::Sight;
+use crate::snapshot::NodeSnapshot;
 use bully_base::OutOfMemory;
 use bully_calls::{Call, Phase};
 use std::alloc::Global;
 
 /// A call in a slot, and how far it came.
 #[derive(Clone, Copy, PartialEq, Eq)]
-pub struct Held {
+pub struct HeldCall {
     pub call: Call,
     pub phase: Phase,
 }
@@ -20,18 +20,18 @@ pub struct Held {
 pub struct Holding {
     pub first: u32,
     pub last: u32,
-    pub held: Option<Held>,
+    pub held: Option<HeldCall>,
 }
 
 /// What the slot of a node held that stood so behind each of these rows, of which the first has this number. Refused where an
 /// allocation fails.
-pub fn holdings(alloc: Global, first: u32, sights: &[Sight]) -> Result<Vec<Holding>, OutOfMemory>
-    requires { first + length sights.now < 2 ^ 32 }
-    ensures spread { IfOk result (λ holdings. spread_held holdings.items ≡ map held_in sights.now) }
-    ensures joined { IfOk result (λ holdings. AreJoinedHeld first holdings.items (first + length sights.now)) }
+pub fn holdings(alloc: Global, first: u32, snapshots: &[NodeSnapshot]) -> Result<Vec<Holding>, OutOfMemory>
+    requires { first + length snapshots.now < 2 ^ 32 }
+    ensures spread { IfOk result (λ holdings. spread_held holdings.items ≡ map held_in snapshots.now) }
+    ensures joined { IfOk result (λ holdings. AreJoinedHeld first holdings.items (first + length snapshots.now)) }
 {
     let mut holdings = Vec::new(alloc);
-    if let Some((start, rest)) = sights.split_first() {
+    if let Some((start, rest)) = snapshots.split_first() {
         push_holdings(&mut holdings, first, held_in(start), rest)?;
     }
     Ok(holdings)
@@ -59,7 +59,7 @@ pub fn end_at(holdings: &[Holding], place: usize, call: &Call) -> End
 }
 
 // How the call ends behind which the slot holds this.
-fn end_before(next: &Option<Held>, call: &Call) -> End
+fn end_before(next: &Option<HeldCall>, call: &Call) -> End
     ensures { IsEndBefore next.now call.now result }
 {
     match next {
@@ -68,7 +68,7 @@ fn end_before(next: &Option<Held>, call: &Call) -> End
     }
 }
 
-fn end_by(next: &Held, call: &Call) -> End
+fn end_by(next: &HeldCall, call: &Call) -> End
     ensures { IsEndBy next.now call.now result }
 {
     if !same_call(&next.call, call) {
@@ -92,8 +92,8 @@ fn same_call(one: &Call, other: &Call) -> bool
 fn push_holdings(
     holdings: &mut Vec<Holding>,
     first: u32,
-    start: Option<Held>,
-    rest: &[Sight],
+    start: Option<HeldCall>,
+    rest: &[NodeSnapshot],
 ) -> Result<(), OutOfMemory>
     requires empty { holdings.old.items ≡ [] }
     requires fits { first + length rest.now + 1 < 2 ^ 32 }
@@ -103,8 +103,8 @@ fn push_holdings(
     let mut from = first;
     let mut row = first;
     let mut held = start;
-    for sight in rest {
-        let next = held_in(sight);
+    for snapshot in rest {
+        let next = held_in(snapshot);
         if !same_held(&held, &next) {
             holdings.push(Holding::new(from, row, &held))?;
             from = row + 1;
@@ -117,7 +117,7 @@ fn push_holdings(
 }
 
 impl Holding {
-    fn new(first: u32, last: u32, held: &Option<Held>) -> Holding
+    fn new(first: u32, last: u32, held: &Option<HeldCall>) -> Holding
         ensures { result ≡ record { first = first; last = last; held = held.now } }
     {
         Holding {
@@ -128,11 +128,11 @@ impl Holding {
     }
 }
 
-fn held_in(sight: &Sight) -> Option<Held>
-    ensures { result ≡ held_in sight.now }
+fn held_in(snapshot: &NodeSnapshot) -> Option<HeldCall>
+    ensures { result ≡ held_in snapshot.now }
 {
-    match sight.call {
-        Some(held) => Some(Held {
+    match snapshot.call {
+        Some(held) => Some(HeldCall {
             call: held.call,
             phase: held.phase,
         }),
@@ -141,7 +141,7 @@ fn held_in(sight: &Sight) -> Option<Held>
 }
 
 // Whether the two are the same.
-fn same_held(one: &Option<Held>, other: &Option<Held>) -> bool
+fn same_held(one: &Option<HeldCall>, other: &Option<HeldCall>) -> bool
     ensures { IsTrue result ↔ (one.now ≡ other.now) }
 {
     *one == *other

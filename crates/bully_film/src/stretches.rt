@@ -2,7 +2,7 @@
 ghost use Rattle.std.specs.Prelude.{◌≡◌, ◌+◌, ◌-◌, ◌^◌, ◌<◌, ◌≤◌, ◌↔◌, ◌++◌, ◌∷◌, [], length, map, IfOk, IsTrue, OnOk};
 ghost use Rattle.bully_film.specs.Lane.{AreJoined, spread, stand_of};
 
-use crate::sight::Sight;
+use crate::snapshot::NodeSnapshot;
 use bully_base::{Node, OutOfMemory, Status};
 use std::alloc::Global;
 
@@ -22,13 +22,13 @@ pub struct Bar {
 }
 
 /// The bars of a node that stood so behind each of these rows, of which the first has this number. Refused where an allocation fails.
-pub fn bars(alloc: Global, first: u32, sights: &[Sight]) -> Result<Vec<Bar>, OutOfMemory>
-    requires { first + length sights.now < 2 ^ 32 }
-    ensures spread { IfOk result (λ bars. spread bars.items ≡ map stand_of sights.now) }
-    ensures joined { IfOk result (λ bars. AreJoined first bars.items (first + length sights.now)) }
+pub fn bars(alloc: Global, first: u32, snapshots: &[NodeSnapshot]) -> Result<Vec<Bar>, OutOfMemory>
+    requires { first + length snapshots.now < 2 ^ 32 }
+    ensures spread { IfOk result (λ bars. spread bars.items ≡ map stand_of snapshots.now) }
+    ensures joined { IfOk result (λ bars. AreJoined first bars.items (first + length snapshots.now)) }
 {
     let mut bars = Vec::new(alloc);
-    if let Some((start, rest)) = sights.split_first() {
+    if let Some((start, rest)) = snapshots.split_first() {
         push_bars(&mut bars, first, stand_of(start), rest)?;
     }
     Ok(bars)
@@ -39,7 +39,7 @@ fn push_bars(
     bars: &mut Vec<Bar>,
     first: u32,
     start: Stand,
-    rest: &[Sight],
+    rest: &[NodeSnapshot],
 ) -> Result<(), OutOfMemory>
     requires empty { bars.old.items ≡ [] }
     requires fits { first + length rest.now + 1 < 2 ^ 32 }
@@ -49,8 +49,8 @@ fn push_bars(
     let mut from = first;
     let mut row = first;
     let mut stand = start;
-    for sight in rest {
-        let next = stand_of(sight);
+    for snapshot in rest {
+        let next = stand_of(snapshot);
         if !same_stand(&stand, &next) {
             bars.push(Bar::new(from, row, &stand))?;
             from = row + 1;
@@ -74,12 +74,12 @@ impl Bar {
     }
 }
 
-fn stand_of(sight: &Sight) -> Stand
-    ensures { result ≡ stand_of sight.now }
+fn stand_of(snapshot: &NodeSnapshot) -> Stand
+    ensures { result ≡ stand_of snapshot.now }
 {
     Stand {
-        status: sight.status,
-        coordinator: sight.coordinator,
+        status: snapshot.status,
+        coordinator: snapshot.coordinator,
     }
 }
 

@@ -1,15 +1,15 @@
 //! What is drawn of each node: the stretches of its lane and of its slot.
 ghost use Rattle.std.specs.Prelude.{◌≡◌, ◌≤◌, ◌<◌, ◌+◌, ◌^◌, length, map, IfOk};
-ghost use Rattle.bully_film.specs.Film.{IsReelOf};
+ghost use Rattle.bully_film.specs.Film.{IsFilmOf};
 ghost use Rattle.bully_film.specs.Lane.{AreLanes, IsLane, is_orphan, row_before};
 ghost use Rattle.bully_film.specs.Scene.{lane_of as lane_seen};
 ghost use Rattle.bully_film.specs.Window.{WindowState};
 ghost use Rattle.bully_rows.specs.Trace.{Trace};
 
-use crate::film::Reel;
+use crate::film::FinishedFilm;
 use crate::lane::lane_of;
 use crate::scene::Scene;
-use crate::sight::Sight;
+use crate::snapshot::NodeSnapshot;
 use crate::slots::{Holding, holdings};
 use crate::stretches::{Bar, bars};
 use bully_base::{Node, OutOfMemory};
@@ -25,67 +25,67 @@ pub struct Lane {
     pub orphans: Vec<bool>,
 }
 
-/// The lanes of all nodes, from node 1 on: how each stands behind the row before those that the reel shows, and behind each of them.
+/// The lanes of all nodes, from node 1 on: how each stands behind the row before those that the finished film shows, and behind each of them.
 /// Refused where an allocation fails; and where a row's number is 2^32 or more, which no trace has.
-pub fn lanes(alloc: Global, reel: &Reel) -> Result<Vec<Lane>, OutOfMemory>
-    ensures count { IfOk result (λ lanes. length lanes.items ≡ reel.now.setup.nodes) }
-    ensures lanes { (window : WindowState) (trace : Trace) (is : IsReelOf window reel.now trace)
-        → IfOk result (λ lanes. AreLanes (λ i. lane_seen trace.setup is.before i is.shown) (row_before reel.now.scenes.items) 1 lanes.items) }
+pub fn lanes(alloc: Global, finished: &FinishedFilm) -> Result<Vec<Lane>, OutOfMemory>
+    ensures count { IfOk result (λ lanes. length lanes.items ≡ finished.now.setup.nodes) }
+    ensures lanes { (window : WindowState) (trace : Trace) (is : IsFilmOf window finished.now trace)
+        → IfOk result (λ lanes. AreLanes (λ i. lane_seen trace.setup is.before i is.shown) (row_before finished.now.scenes.items) 1 lanes.items) }
 {
     let mut lanes = Vec::new(alloc);
-    for before in 0..reel.setup.nodes() {
+    for before in 0..finished.setup.nodes() {
         let node = Node::new(before + 1).unwrap();
-        let lane = lane_at(alloc, reel, node)?;
+        let lane = lane_at(alloc, finished, node)?;
         lanes.push(lane)?;
     }
     Ok(lanes)
 }
 
 // The lane of a node.
-fn lane_at(alloc: Global, reel: &Reel, node: Node) -> Result<Lane, OutOfMemory>
-    requires { node ≤ reel.now.setup.nodes }
-    ensures { (window : WindowState) (trace : Trace) (is : IsReelOf window reel.now trace)
-        → IfOk result (IsLane node (row_before reel.now.scenes.items) (lane_seen trace.setup is.before node is.shown)) }
+fn lane_at(alloc: Global, finished: &FinishedFilm, node: Node) -> Result<Lane, OutOfMemory>
+    requires { node ≤ finished.now.setup.nodes }
+    ensures { (window : WindowState) (trace : Trace) (is : IsFilmOf window finished.now trace)
+        → IfOk result (IsLane node (row_before finished.now.scenes.items) (lane_seen trace.setup is.before node is.shown)) }
 {
-    let sights = lane_of(alloc, reel, node)?;
+    let snapshots = lane_of(alloc, finished, node)?;
     stretched(
         alloc,
         node,
-        row_before(reel.scenes.as_slice()),
-        sights.as_slice(),
+        row_before(finished.scenes.as_slice()),
+        snapshots.as_slice(),
     )
 }
 
 // The lane of a node that stood so behind each row from this one on.
-fn stretched(alloc: Global, node: Node, first: u32, sights: &[Sight]) -> Result<Lane, OutOfMemory>
-    ensures { IfOk result (IsLane node first sights.now) }
+fn stretched(alloc: Global, node: Node, first: u32, snapshots: &[NodeSnapshot]) -> Result<Lane, OutOfMemory>
+    ensures { IfOk result (IsLane node first snapshots.now) }
 {
-    if sights.len() >= (u32::MAX - first) as usize {
+    if snapshots.len() >= (u32::MAX - first) as usize {
         return Err(AllocError);
     }
     Ok(Lane {
         node,
-        bars: bars(alloc, first, sights)?,
-        holdings: holdings(alloc, first, sights)?,
-        orphans: orphans(alloc, sights)?,
+        bars: bars(alloc, first, snapshots)?,
+        holdings: holdings(alloc, first, snapshots)?,
+        orphans: orphans(alloc, snapshots)?,
     })
 }
 
 // Whether the slot held an orphan, where the node stood so behind each row.
-fn orphans(alloc: Global, sights: &[Sight]) -> Result<Vec<bool>, OutOfMemory>
-    ensures { IfOk result (λ v. v.items ≡ map is_orphan sights.now) }
+fn orphans(alloc: Global, snapshots: &[NodeSnapshot]) -> Result<Vec<bool>, OutOfMemory>
+    ensures { IfOk result (λ v. v.items ≡ map is_orphan snapshots.now) }
 {
-    let mut orphans = Vec::with_capacity(alloc, sights.len())?;
-    for sight in sights {
-        orphans.push(is_orphan(sight))?;
+    let mut orphans = Vec::with_capacity(alloc, snapshots.len())?;
+    for snapshot in snapshots {
+        orphans.push(is_orphan(snapshot))?;
     }
     Ok(orphans)
 }
 
-fn is_orphan(sight: &Sight) -> bool
-    ensures { result ≡ is_orphan sight.now }
+fn is_orphan(snapshot: &NodeSnapshot) -> bool
+    ensures { result ≡ is_orphan snapshot.now }
 {
-    match sight.call {
+    match snapshot.call {
         Some(held) => !held.is_live,
         None => false,
     }

@@ -11,7 +11,7 @@ use Rattle.bully_calls.specs.declared.event.Refused.{Refused}
 use Rattle.bully_world.specs.Cause.{cause}
 use Rattle.bully_world.specs.Lawful.{LeadTo}
 use Rattle.bully_world.specs.World.{World, first_world}
-use Rattle.bully_model_tests.specs.Claims.{Shown, ShowsAs, After, NoneIsRefused, EndsAs, IsRefusedAt, IsAnsweredAt, Goes}
+use Rattle.bully_model_tests.specs.Claims.{PrintedNode, ShowsAs, After, NoneIsRefused, EndsAs, IsRefusedAt, IsAnsweredAt, Goes}
 use Rattle.bully_model_tests.specs.Trial.{is_lawful, last_world, all_answers, passes_from, passes}
 use Rattle.bully_model_tests.proofs.BothLemmas.{both}
 use Rattle.bully_world.specs.StepOf.{StepResult, step_of, steps_of}
@@ -69,7 +69,7 @@ unrefused setup events p l k e g =
 pub after : (setup : Setup) (events : List Event) (k : ℕ) (P : World → Type 0) → is_lawful setup (take k events) ≡ true → P (last_world setup (take k events)) → After setup events k P
 after setup events k P l h = (all_answers setup (take k events), last_world setup (take k events), lawful_by setup (take k events) l, h)
 
-pub ends : (setup : Setup) (events : List Event) (rows : List Shown) → is_lawful setup events ≡ true → passes setup events ≡ true → ShowsAs (last_world setup events) rows → EndsAs setup events (length events) rows
+pub ends : (setup : Setup) (events : List Event) (rows : List PrintedNode) → is_lawful setup events ≡ true → passes setup events ≡ true → ShowsAs (last_world setup events) rows → EndsAs setup events (length events) rows
 ends setup events rows l p s =
     (refl, unrefused setup events p (both (is_some (steps_of setup events)) (nat_le (length events) setup.events_max) l).1, all_answers setup events, last_world setup events, lawful_by setup events l, s)
 

@@ -10,16 +10,16 @@ use Rattle.bully_calls.specs.declared.event.Event.{Event}
 use Rattle.bully_calls.specs.declared.event.Refused.{Refused}
 use Rattle.bully_world.specs.Cause.{cause}
 use Rattle.bully_world.specs.Lawful.{IsLawful}
-use Rattle.bully_world.specs.World.{Member, World, member, vector, pending}
+use Rattle.bully_world.specs.World.{NodeState, World, node_state, vector, pending}
 
 -- what a checked trace prints of a node
-pub record Shown : Type 0 where
+pub record PrintedNode : Type 0 where
   pub status : Status
   pub coordinator : Option ℕ
   pub halter : Option ℕ
   pub task : Option (List ℕ)
 
-abbrev pub shown : Member → Shown
+abbrev pub shown : NodeState → PrintedNode
 shown m = record {
   status = m.vector.status;
   coordinator = m.vector.coordinator;
@@ -28,8 +28,8 @@ shown m = record {
 }
 
 -- the same, of node i
-abbrev pub shown_at : World → ℕ → Shown
-shown_at w i = shown (member w i)
+abbrev pub shown_at : World → ℕ → PrintedNode
+shown_at w i = shown (node_state w i)
 
 abbrev pub call_of : Pending → Call
 call_of c = c.call
@@ -45,8 +45,8 @@ abbrev pub phase_at : World → ℕ → Option Phase
 phase_at w i = option_map phase_of (pending w i)
 
 -- the nodes, from node 1 on, show these rows
-abbrev pub ShowsAs : World → List Shown → Type 0
-ShowsAs w rows = map shown w.members ≡ rows
+abbrev pub ShowsAs : World → List PrintedNode → Type 0
+ShowsAs w rows = map shown w.states ≡ rows
 
 -- the first k events are lawful, and this holds of the world that they lead to
 abbrev pub After : Setup → List Event → ℕ → (World → Type 0) → Type 0
@@ -58,7 +58,7 @@ NoneIsRefused setup events =
     (k : ℕ) (e : Event) → slice_get events k ≡ Some e → After setup events k (λ w. cause setup w k e ≡ None)
 
 -- the events are so many and lawful, none is refused, and in the world that they lead to the nodes show these rows
-abbrev pub EndsAs : Setup → List Event → ℕ → List Shown → Type 0
+abbrev pub EndsAs : Setup → List Event → ℕ → List PrintedNode → Type 0
 EndsAs setup events count rows =
     (length events ≡ count)
     × NoneIsRefused setup events

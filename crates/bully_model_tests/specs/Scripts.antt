@@ -10,7 +10,7 @@ use Rattle.bully_steps.specs.declared.point.Point.{Point}
 use Rattle.bully_steps.specs.declared.point.Point.TheVariants.{Idle, Asking, Halting, Announcing, Planning, Readying, Inquiring}
 use Rattle.bully_calls.specs.declared.event.Event.{Event}
 use Rattle.bully_calls.specs.declared.event.Event.TheVariants.{Recover, Crash, Check, Timeout, Start, Run, Lose, Return, Drop, Move, Plan}
-use Rattle.bully_model_tests.specs.Claims.{Shown}
+use Rattle.bully_model_tests.specs.Claims.{PrintedNode}
 
 -- the setup of a trace with so many nodes and partitions
 abbrev pub trace_setup : ℕ → ℕ → Setup
@@ -20,13 +20,13 @@ trace_setup nodes partitions = even_setup nodes partitions 1000000
 abbrev pub weighted_setup : ℕ → ℕ → List ℕ → Bool → Setup
 weighted_setup nodes partitions weights keeps = record (trace_setup nodes partitions) { weights = weights; keeps = keeps }
 
-abbrev pub row : Status → Option ℕ → Option ℕ → Option (List ℕ) → Shown
+abbrev pub row : Status → Option ℕ → Option ℕ → Option (List ℕ) → PrintedNode
 row status coordinator halter task = record { status = status; coordinator = coordinator; halter = halter; task = task }
 
-abbrev pub down : Shown
+abbrev pub down : PrintedNode
 down = row Down None None None
 
-abbrev pub normal : ℕ → List ℕ → Shown
+abbrev pub normal : ℕ → List ℕ → PrintedNode
 normal i table = row Normal (Some i) (Some i) (Some table)
 
 -- node i's offered call is started, runs and returns
@@ -41,7 +41,7 @@ lost_call i = Start i ∷ Lose i ∷ Return i ∷ []
 abbrev pub alone : List Event
 alone = Recover 1 ∷ Move 1 ∷ Move 1 ∷ Move 1 ∷ Plan 1 (1 ∷ 1 ∷ []) ∷ Move 1 ∷ []
 
-abbrev pub alone_shown : List Shown
+abbrev pub alone_shown : List PrintedNode
 alone_shown = normal 1 (1 ∷ 1 ∷ []) ∷ []
 
 -- then it crashes, and comes back
@@ -52,14 +52,14 @@ abbrev pub alone_back : List Event
 alone_back = alone ++ (Crash 1 ∷ Recover 1 ∷ [])
 
 -- where tasks are kept
-abbrev pub kept_shown : List Shown
+abbrev pub kept_shown : List PrintedNode
 kept_shown = row Down None None (Some (1 ∷ 1 ∷ [])) ∷ []
 
-abbrev pub kept_back_shown : List Shown
+abbrev pub kept_back_shown : List PrintedNode
 kept_back_shown = row Election None None (Some (1 ∷ 1 ∷ [])) ∷ []
 
 -- where they aren't
-abbrev pub cleared_back_shown : List Shown
+abbrev pub cleared_back_shown : List PrintedNode
 cleared_back_shown = row Election None None None ∷ []
 
 -- node 3 elects itself, 1 and 2 are down
@@ -68,7 +68,7 @@ others_down =
     Recover 3 ∷ Move 3 ∷ lost_call 3 ++ lost_call 3
     ++ (Move 3 ∷ Move 3 ∷ Plan 3 (3 ∷ 3 ∷ 3 ∷ []) ∷ Move 3 ∷ [])
 
-abbrev pub node_3_alone : List Shown
+abbrev pub node_3_alone : List PrintedNode
 node_3_alone = down ∷ down ∷ normal 3 (3 ∷ 3 ∷ 3 ∷ []) ∷ []
 
 -- where node 3 stands, after so many events
@@ -88,7 +88,7 @@ all_up_with table =
 abbrev pub all_up : List Event
 all_up = all_up_with (1 ∷ 2 ∷ 3 ∷ [])
 
-abbrev pub all_normal : List Shown
+abbrev pub all_normal : List PrintedNode
 all_normal = normal 3 (1 ∷ 2 ∷ 3 ∷ []) ∷ normal 3 (1 ∷ 2 ∷ 3 ∷ []) ∷ normal 3 (1 ∷ 2 ∷ 3 ∷ []) ∷ []
 
 -- a table by the weights 1, 2 and 1, and one by equal weights
@@ -98,7 +98,7 @@ by_weight = 1 ∷ 1 ∷ 2 ∷ 2 ∷ 2 ∷ 2 ∷ 3 ∷ []
 abbrev pub by_number : List ℕ
 by_number = 1 ∷ 1 ∷ 2 ∷ 2 ∷ 3 ∷ 3 ∷ 3 ∷ []
 
-abbrev pub by_weight_shown : List Shown
+abbrev pub by_weight_shown : List PrintedNode
 by_weight_shown = normal 3 by_weight ∷ normal 3 by_weight ∷ normal 3 by_weight ∷ []
 
 abbrev pub call_to : ℕ → CallKind → Option Call
@@ -115,7 +115,7 @@ all_up_calls =
 abbrev pub coordinator_crashed : List Event
 coordinator_crashed = all_up ++ (Crash 3 ∷ Timeout 1 ∷ lost_call 1) ++ whole_call 1
 
-abbrev pub coordinator_crashed_shown : List Shown
+abbrev pub coordinator_crashed_shown : List PrintedNode
 coordinator_crashed_shown = normal 3 (1 ∷ 2 ∷ 3 ∷ []) ∷ normal 3 (1 ∷ 2 ∷ 3 ∷ []) ∷ down ∷ []
 
 -- where node 1 stands, after so many events
@@ -150,14 +150,14 @@ orphan_halt =
     ++ (Move 3 ∷ [])
     ++ (Check 3 ∷ whole_call 3) ++ (Move 3 ∷ [])
 
-abbrev pub orphan_halt_shown : List Shown
+abbrev pub orphan_halt_shown : List PrintedNode
 orphan_halt_shown =
     row Election None (Some 2) None
     ∷ normal 3 (1 ∷ 2 ∷ 3 ∷ [])
     ∷ row Election (Some 3) (Some 3) (Some (1 ∷ 2 ∷ 3 ∷ [])) ∷ []
 
 -- what node 1 shows, after so many events: halted by 3, then by 2; the later calls of 3 change nothing
-abbrev pub orphan_halt_late : List (ℕ × Shown)
+abbrev pub orphan_halt_late : List (ℕ × PrintedNode)
 orphan_halt_late =
     (14, row Election None (Some 3) None) ∷ (16, row Election None (Some 2) None)
     ∷ (23, row Election None (Some 2) None) ∷ (31, row Election None (Some 2) None) ∷ []
@@ -188,7 +188,7 @@ orphan_ready = orphan_ready_begun ++ (Start 2 ∷ [])
 abbrev pub orphan_ready_returned : List Event
 orphan_ready_returned = orphan_ready_begun ++ (Run 2 ∷ Return 2 ∷ Start 2 ∷ [])
 
-abbrev pub orphan_ready_shown : List Shown
+abbrev pub orphan_ready_shown : List PrintedNode
 orphan_ready_shown = normal 2 (1 ∷ 2 ∷ []) ∷ row Election (Some 2) (Some 3) (Some (1 ∷ 2 ∷ [])) ∷ down ∷ []
 
 -- or it is dropped, and never runs
@@ -199,7 +199,7 @@ orphan_ready_dropped = orphan_ready_begun ++ (Drop 2 ∷ Start 2 ∷ [])
 abbrev pub orphan_ready_dropped_calls : List (ℕ × Option Call)
 orphan_ready_dropped_calls = (22, call_to 1 Ready) ∷ (23, None) ∷ (24, call_to 3 AreYouUp) ∷ []
 
-abbrev pub orphan_ready_dropped_shown : List Shown
+abbrev pub orphan_ready_dropped_shown : List PrintedNode
 orphan_ready_dropped_shown =
     row Reorganization (Some 2) (Some 2) None ∷ row Election (Some 2) (Some 3) (Some (1 ∷ 2 ∷ [])) ∷ down ∷ []
 
@@ -232,12 +232,12 @@ announced_too_late =
     ++ (Recover 3 ∷ Move 3 ∷ whole_call 3) ++ whole_call 3
     ++ (Run 2 ∷ Return 2 ∷ [])
 
-abbrev pub announced_too_late_shown : List Shown
+abbrev pub announced_too_late_shown : List PrintedNode
 announced_too_late_shown =
     row Election None (Some 3) None ∷ row Election (Some 2) (Some 3) None ∷ row Election None (Some 3) None ∷ []
 
 -- what node 1 shows, after so many events: halted by 2, by 3, and the call of 2 changes nothing
-abbrev pub announced_too_late_node : List (ℕ × Shown)
+abbrev pub announced_too_late_node : List (ℕ × PrintedNode)
 announced_too_late_node =
     (11, row Election None (Some 2) None) ∷ (18, row Election None (Some 3) None)
     ∷ (20, row Election None (Some 3) None) ∷ []

@@ -13,7 +13,7 @@ abbrev pub is_lawful : Setup → List Event → Bool
 is_lawful setup events = is_some (steps_of setup events) && nat_le (length events) setup.events_max
 
 abbrev pub end_of : StepsResult → World
-end_of None = record { members = [] }
+end_of None = record { states = [] }
 end_of (Some r) = r.0
 
 abbrev pub answers_of : StepsResult → List Answer

@@ -4,7 +4,7 @@ use Rattle.std.specs.Prelude.{slice_get}
 use Rattle.std.specs.Bool.{MatchBool}
 use Rattle.std.proofs.lemmas.List.Elements.{All-push, All-nil, All-cons}
 use Rattle.std.proofs.lemmas.Option.{slice_get_within, get_or_from_slice_get, slice_get-get_or}
-use Rattle.bully_agree.specs.View.{View, Shown, IsViewed, shown}
+use Rattle.bully_agree.specs.View.{View, NodeView, IsViewed, shown}
 use Rattle.bully_agree.proofs.ViewLemmas.{shown_there}
 use Rattle.bully_base.specs.declared.TheConstants.{EVENTS_MAX}
 use Rattle.bully_base.specs.Setup.{IsSetup}
@@ -18,7 +18,7 @@ use Rattle.bully_group.specs.Seat.{SeatState, AreNewSeats}
 use Rattle.bully_group.specs.NodeTurns.{TurnsBy, adds_entry}
 use Rattle.bully_group.specs.Turns.{IsTurnFault}
 use Rattle.bully_play.specs.Play.{IsDue, IsPlay, event_of_fault}
-use Rattle.bully_nodes.specs.Run.{Held, Logs, AppliesAt, PreparesAt, ServesAt, ProceedsAt, HasDueLog, IsGivenBack, IsRoleOf, procedure_of, IsActorsTurn, ActorsTurns}
+use Rattle.bully_nodes.specs.Run.{SeatAndPass, Logs, AppliesAt, PreparesAt, ServesAt, ProceedsAt, HasDueLog, IsGivenBack, IsRoleOf, procedure_of, IsActorsTurn, ActorsTurns}
 use Rattle.bully_nodes.specs.declared.jobs.Role.{Role}
 use Rattle.bully_play.specs.Schedule.{AreLeft}
 use Rattle.bully_play.specs.Turns.{GoesOn, Follows, IsTurnOn, OperatesOn}
@@ -34,11 +34,11 @@ use Rattle.bully_watch.specs.declared.knowledge.PublisherId.{PublisherId}
 use Rattle.bully_watch.specs.History.{event_of, answer_of}
 use Rattle.bully_calls.specs.declared.event.Event.{Event}
 use Rattle.bully_world.specs.State.{world_of}
-use Rattle.bully_world.specs.World.{member}
+use Rattle.bully_world.specs.World.{node_state}
 use Rattle.bully_world.proofs.NodeInvariantLemmas.{lawful_fits}
 use Rattle.bully_world.specs.Turn.{step_event}
 
-abbrev held : SeatState → ℕ → Held
+abbrev held : SeatState → ℕ → SeatAndPass
 held seat counted = record { seat = seat; counted = counted }
 
 -- what a turn of a locked group does to a seat and a pass
@@ -55,7 +55,7 @@ turned IsState (Err fault) s s' seat seat' h h' n n' is turns fails same counted
     inr (rw (same.1, counted) refl, s, is, inr (inr (fault, (fails, same.2))))
 
 -- a serve is that of any node
-pub served_ok : {E : Type 0} (IsState : LockedState → Type 0) (result : Result Bool E) (before after : Held) (node : ℕ) → IfOk result (λ served. (i : ℕ) → ServesAt IsState before i served after) → IfOk result (λ served. ServesAt IsState before node served after)
+pub served_ok : {E : Type 0} (IsState : LockedState → Type 0) (result : Result Bool E) (before after : SeatAndPass) (node : ℕ) → IfOk result (λ served. (i : ℕ) → ServesAt IsState before i served after) → IfOk result (λ served. ServesAt IsState before node served after)
 served_ok IsState (Ok served) before after node serves = serves node
 served_ok IsState (Err e) before after node serves = tt
 
@@ -66,18 +66,18 @@ sized n (Some table) fits = fits table refl
 
 pub viewed_task : (v : View) (i : ℕ) → IsViewed v → IfSome (shown v i).task (λ t. length t ≡ v.setup.partitions)
 viewed_task v i is =
-    let there : (shown v i).task ≡ (member is.world i).vector.task = ap (λ (x : View). (shown x i).task) is.view ∙ ap (λ (s : Shown). s.task) (shown_there v.setup (length is.events) is.world i) in
-    rw there (sized v.setup.partitions (member is.world i).vector.task ((lawful_fits v.setup is.events is.answers is.world is.lawful).fits i).by_setup.task)
+    let there : (shown v i).task ≡ (node_state is.world i).vector.task = ap (λ (x : View). (shown x i).task) is.view ∙ ap (λ (s : NodeView). s.task) (shown_there v.setup (length is.events) is.world i) in
+    rw there (sized v.setup.partitions (node_state is.world i).vector.task ((lawful_fits v.setup is.events is.answers is.world is.lawful).fits i).by_setup.task)
 
 -- a turn that is taken on whatever holds a seat and a pass, told of these two
-module _ {S : Type 0} (IsState : LockedState → Type 0) (at : S → Held) where
+module _ {S : Type 0} (IsState : LockedState → Type 0) (at : S → SeatAndPass) where
   operates_at : (number : ℕ) (faults : List Fault) (before after : S) → OperatesOn (λ (e : Event) (b a : S). AppliesAt IsState e (at b) (at a)) number faults before after → OperatesOn (AppliesAt IsState) number faults (at before) (at after)
   operates_at number [] before after does = ap at does
   operates_at number (fault ∷ faults) before after does = by_turn (fault.at == number) does (λ mid rest. operates_at number faults mid after rest)
     where
       by_turn : (b : Bool) → MatchBool b ((mid : S) × AppliesAt IsState (event_of_fault fault) (at before) (at mid) × OperatesOn (λ (e : Event) (b a : S). AppliesAt IsState e (at b) (at a)) number faults mid after) (OperatesOn (λ (e : Event) (b a : S). AppliesAt IsState e (at b) (at a)) number faults before after)
           → ((mid : S) → OperatesOn (λ (e : Event) (b a : S). AppliesAt IsState e (at b) (at a)) number faults mid after → OperatesOn (AppliesAt IsState) number faults (at mid) (at after))
-          → MatchBool b ((mid : Held) × AppliesAt IsState (event_of_fault fault) (at before) mid × OperatesOn (AppliesAt IsState) number faults mid (at after)) (OperatesOn (AppliesAt IsState) number faults (at before) (at after))
+          → MatchBool b ((mid : SeatAndPass) × AppliesAt IsState (event_of_fault fault) (at before) mid × OperatesOn (AppliesAt IsState) number faults mid (at after)) (OperatesOn (AppliesAt IsState) number faults (at before) (at after))
       by_turn true now rest = (at now.0, now.1, rest now.0 now.2)
       by_turn false now rest = rest before now
 
@@ -104,13 +104,13 @@ module _ {S : Type 0} (IsState : LockedState → Type 0) (at : S → Held) where
   node_turn_ok (Err e) c period number before h after h' same does = tt
 
 -- the same of what the actor's role holds
-pub operator_turned : {X E S : Type 0} (result : Result X E) (IsState : LockedState → Type 0) (c : Configuration) (number : ℕ) (role : Role) (left : List Fault) (before after : S) (at : S → Held) → role ≡ Role.Operator left → IsRoleOf c number role → OnOk result ((faults : List Fault) → AreLeft faults number left → OperatesOn (λ (e : Event) (b a : S). AppliesAt IsState e (at b) (at a)) number faults before after)
+pub operator_turned : {X E S : Type 0} (result : Result X E) (IsState : LockedState → Type 0) (c : Configuration) (number : ℕ) (role : Role) (left : List Fault) (before after : S) (at : S → SeatAndPass) → role ≡ Role.Operator left → IsRoleOf c number role → OnOk result ((faults : List Fault) → AreLeft faults number left → OperatesOn (λ (e : Event) (b a : S). AppliesAt IsState e (at b) (at a)) number faults before after)
     → OnOk result (IsActorsTurn IsState c number (at before) (procedure_of role) (at after) None)
 operator_turned result IsState c number role left before after at is holds does =
     subst (λ (r : Role). OnOk result (IsActorsTurn IsState c number (at before) (procedure_of r) (at after) None)) (sym is)
     (operator_turn_ok IsState at result c number left before after (subst (λ (r : Role). IsRoleOf c number r) is holds) does)
 
-pub node_turned : {X E S : Type 0} (result : Result X E) (IsState : LockedState → Type 0) (c : Configuration) (period number : ℕ) (role : Role) (p : Procedure) (h' : ProcedureState) (before after : S) (at : S → Held) → role ≡ Role.Node p → period ≡ c.period
+pub node_turned : {X E S : Type 0} (result : Result X E) (IsState : LockedState → Type 0) (c : Configuration) (period number : ℕ) (role : Role) (p : Procedure) (h' : ProcedureState) (before after : S) (at : S → SeatAndPass) → role ≡ Role.Node p → period ≡ c.period
     → OnOk result (IsTurnOn (λ (e : Event) (b a : S). AppliesAt IsState e (at b) (at a)) (λ (b : S) (g ready : ProcedureState). PreparesAt IsState (at b) g ready) (λ (b : S) (node : ℕ) (served : Bool) (a : S). ServesAt IsState (at b) node served (at a)) (λ (b : S) (g : ProcedureState) (a : S) (g' : ProcedureState). ProceedsAt IsState (at b) g (at a) g') period number before (state_of p) after h')
     → OnOk result (IsActorsTurn IsState c number (at before) (procedure_of role) (at after) (Some h'))
 node_turned result IsState c period number role p h' before after at is same does =
@@ -119,73 +119,73 @@ node_turned result IsState c period number role p h' before after at is same doe
 
 module _ (IsState : LockedState → Type 0) (faults : List Fault) (actor : ℕ) where
   -- an entry that is due is kept, and so is a seat as it was
-  logs_keep : (e : Event) (before after : Held) → IsDue faults e → Logs IsState e before after → IsGivenBack faults actor before → IsGivenBack faults actor after
+  logs_keep : (e : Event) (before after : SeatAndPass) → IsDue faults e → Logs IsState e before after → IsGivenBack faults actor before → IsGivenBack faults actor after
   logs_keep e before after due logs kept = record {
     actor = logs.records.actor ∙ kept.actor;
     due = rw logs.records.log (All-push (λ (told : ℕ × Entry). IsDue faults told.1.event) before.seat.log _ kept.due due);
     counted = logs.counted ∙ (ap (λ (k : ℕ). k + 1) kept.counted ∙ sym (ap length logs.records.log ∙ length-append before.seat.log _));
   }
 
-  applies_keep : (e : Event) (before after : Held) → IsDue faults e → AppliesAt IsState e before after → IsGivenBack faults actor before → IsGivenBack faults actor after
+  applies_keep : (e : Event) (before after : SeatAndPass) → IsDue faults e → AppliesAt IsState e before after → IsGivenBack faults actor before → IsGivenBack faults actor after
   applies_keep e before after due (inl logs) kept = logs_keep e before after due logs kept
   applies_keep e before after due (inr same) kept = rw same.0 kept
 
-  serves_keep : (node : ℕ) (served : Bool) (before after : Held) → ServesAt IsState before node served after → IsGivenBack faults actor before → IsGivenBack faults actor after
+  serves_keep : (node : ℕ) (served : Bool) (before after : SeatAndPass) → ServesAt IsState before node served after → IsGivenBack faults actor before → IsGivenBack faults actor after
   serves_keep node true before after (inl ran) kept = logs_keep (Event.Run ran.0) before after tt ran.1 kept
   serves_keep node true before after (inr same) kept = rw same.0 kept
   serves_keep node false before after same kept = rw same.0 kept
 
-  proceeds_keep : (before : Held) (h : ProcedureState) (after : Held) (h' : ProcedureState) → ProceedsAt IsState before h after h' → IsGivenBack faults actor before → IsGivenBack faults actor after
+  proceeds_keep : (before : SeatAndPass) (h : ProcedureState) (after : SeatAndPass) (h' : ProcedureState) → ProceedsAt IsState before h after h' → IsGivenBack faults actor before → IsGivenBack faults actor after
   proceeds_keep before h after h' (inl taken) kept = logs_keep (step_event taken.0 h) before after (step_due faults taken.0 h) taken.1 kept
   proceeds_keep before h after h' (inr same) kept = rw same.0 kept
 
-  goes_on_keeps : (choice : Choice) (before : Held) (h : ProcedureState) (after : Held) (h' : ProcedureState) → GoesOn (AppliesAt IsState) (ProceedsAt IsState) choice before h after h' → IsGivenBack faults actor before → IsGivenBack faults actor after
+  goes_on_keeps : (choice : Choice) (before : SeatAndPass) (h : ProcedureState) (after : SeatAndPass) (h' : ProcedureState) → GoesOn (AppliesAt IsState) (ProceedsAt IsState) choice before h after h' → IsGivenBack faults actor before → IsGivenBack faults actor after
   goes_on_keeps Choice.Check before h after h' does kept = applies_keep (Event.Check h.node) before after tt does.0 kept
   goes_on_keeps Choice.Timeout before h after h' does kept = applies_keep (Event.Timeout h.node) before after tt does.0 kept
   goes_on_keeps Choice.Proceed before h after h' does kept = proceeds_keep before h after h' does kept
 
-  follows_keeps : (served : Bool) (period number : ℕ) (before : Held) (h : ProcedureState) (after : Held) (h' : ProcedureState) → Follows (AppliesAt IsState) (ProceedsAt IsState) served period number before h after h' → IsGivenBack faults actor before → IsGivenBack faults actor after
-  follows_keeps true period number before h after h' does kept = subst (λ (s : Held). IsGivenBack faults actor s) (sym does.0) kept
+  follows_keeps : (served : Bool) (period number : ℕ) (before : SeatAndPass) (h : ProcedureState) (after : SeatAndPass) (h' : ProcedureState) → Follows (AppliesAt IsState) (ProceedsAt IsState) served period number before h after h' → IsGivenBack faults actor before → IsGivenBack faults actor after
+  follows_keeps true period number before h after h' does kept = subst (λ (s : SeatAndPass). IsGivenBack faults actor s) (sym does.0) kept
   follows_keeps false period number before h after h' does kept = goes_on_keeps (chosen_every period number h.point) before h after h' does kept
 
   -- a node's turn
-  turn_keeps : (period number : ℕ) (before : Held) (h : ProcedureState) (after : Held) (h' : ProcedureState)
+  turn_keeps : (period number : ℕ) (before : SeatAndPass) (h : ProcedureState) (after : SeatAndPass) (h' : ProcedureState)
       → IsTurnOn (AppliesAt IsState) (PreparesAt IsState) (ServesAt IsState) (ProceedsAt IsState) period number before h after h'
       → IsGivenBack faults actor before → IsGivenBack faults actor after
   turn_keeps period number before h after h' does kept =
       follows_keeps does.1 period number does.2 does.0 after h' does.5 (serves_keep h.node does.1 before does.2 does.4 kept)
 
-  operates_keep : (number place : ℕ) (rest : List Fault) (before after : Held) → drop place faults ≡ rest → OperatesOn (AppliesAt IsState) number rest before after → IsGivenBack faults actor before → IsGivenBack faults actor after
-  operates_keep number place [] before after is does kept = subst (λ (s : Held). IsGivenBack faults actor s) (sym does) kept
+  operates_keep : (number place : ℕ) (rest : List Fault) (before after : SeatAndPass) → drop place faults ≡ rest → OperatesOn (AppliesAt IsState) number rest before after → IsGivenBack faults actor before → IsGivenBack faults actor after
+  operates_keep number place [] before after is does kept = subst (λ (s : SeatAndPass). IsGivenBack faults actor s) (sym does) kept
   operates_keep number place (fault ∷ rest) before after is does kept =
       by_turn (fault.at == number) does (faults_due faults place fault rest is) (λ mid later was. operates_keep number (place + 1) rest mid after (later_place faults place fault rest is) later was)
     where
-      by_turn : (b : Bool) → MatchBool b ((mid : Held) × AppliesAt IsState (event_of_fault fault) before mid × OperatesOn (AppliesAt IsState) number rest mid after) (OperatesOn (AppliesAt IsState) number rest before after) → IsDue faults (event_of_fault fault)
-          → ((mid : Held) → OperatesOn (AppliesAt IsState) number rest mid after → IsGivenBack faults actor mid → IsGivenBack faults actor after) → IsGivenBack faults actor after
+      by_turn : (b : Bool) → MatchBool b ((mid : SeatAndPass) × AppliesAt IsState (event_of_fault fault) before mid × OperatesOn (AppliesAt IsState) number rest mid after) (OperatesOn (AppliesAt IsState) number rest before after) → IsDue faults (event_of_fault fault)
+          → ((mid : SeatAndPass) → OperatesOn (AppliesAt IsState) number rest mid after → IsGivenBack faults actor mid → IsGivenBack faults actor after) → IsGivenBack faults actor after
       by_turn true now due later = later now.0 now.2 (applies_keep (event_of_fault fault) before now.0 due now.1 kept)
       by_turn false now due later = later before now kept
 
 -- an actor's turn, and all of them
-actors_turn_keeps : (IsState : LockedState → Type 0) (c : Configuration) (i number : ℕ) (before : Held) (h : Option ProcedureState) (after : Held) (h' : Option ProcedureState) → IsActorsTurn IsState c number before h after h' → IsGivenBack c.faults i before → IsGivenBack c.faults i after
+actors_turn_keeps : (IsState : LockedState → Type 0) (c : Configuration) (i number : ℕ) (before : SeatAndPass) (h : Option ProcedureState) (after : SeatAndPass) (h' : Option ProcedureState) → IsActorsTurn IsState c number before h after h' → IsGivenBack c.faults i before → IsGivenBack c.faults i after
 actors_turn_keeps IsState c i number before None after None does kept = operates_keep IsState c.faults i number 0 c.faults before after refl does kept
 actors_turn_keeps IsState c i number before (Some h) after (Some h') does kept = turn_keeps IsState c.faults i c.period number before h after h' does kept
 actors_turn_keeps IsState c i number before None after (Some h') does kept = elim does [ ]
 actors_turn_keeps IsState c i number before (Some h) after None does kept = elim does [ ]
 
-pub actors_turns_keep : (IsState : LockedState → Type 0) (c : Configuration) (i turns number : ℕ) (before : Held) (h : Option ProcedureState) (after : Held) (h' : Option ProcedureState) → ActorsTurns IsState c turns number before h after h' → IsGivenBack c.faults i before → IsGivenBack c.faults i after
-actors_turns_keep IsState c i zero number before h after h' does kept = subst (λ (s : Held). IsGivenBack c.faults i s) (sym does.0) kept
+pub actors_turns_keep : (IsState : LockedState → Type 0) (c : Configuration) (i turns number : ℕ) (before : SeatAndPass) (h : Option ProcedureState) (after : SeatAndPass) (h' : Option ProcedureState) → ActorsTurns IsState c turns number before h after h' → IsGivenBack c.faults i before → IsGivenBack c.faults i after
+actors_turns_keep IsState c i zero number before h after h' does kept = subst (λ (s : SeatAndPass). IsGivenBack c.faults i s) (sym does.0) kept
 actors_turns_keep IsState c i (suc turns) number before h after h' does kept =
     actors_turns_keep IsState c i turns (number + 1) does.0 does.1 after h' does.3 (actors_turn_keeps IsState c i number before h does.0 does.1 does.2 kept)
 
 -- a turn more
-turns_more : (IsState : LockedState → Type 0) (c : Configuration) (so_far number last : ℕ) (start before after : Held) (h mid h' : Option ProcedureState) → number + so_far ≡ last → ActorsTurns IsState c so_far number start h before mid → IsActorsTurn IsState c last before mid after h' → ActorsTurns IsState c (suc so_far) number start h after h'
+turns_more : (IsState : LockedState → Type 0) (c : Configuration) (so_far number last : ℕ) (start before after : SeatAndPass) (h mid h' : Option ProcedureState) → number + so_far ≡ last → ActorsTurns IsState c so_far number start h before mid → IsActorsTurn IsState c last before mid after h' → ActorsTurns IsState c (suc so_far) number start h after h'
 turns_more IsState c zero number last start before after h mid h' e turns turn =
     let now : last ≡ number = omega (arith, e) in
     (after, h', subst (λ (n : ℕ). IsActorsTurn IsState c n start h after h') now (rw (← turns.0, ← turns.1) turn), (refl, refl))
 turns_more IsState c (suc n) number last start before after h mid h' e turns turn =
     (turns.0, turns.1, turns.2, turns_more IsState c n (number + 1) last turns.0 before after turns.1 mid h' (omega (arith, e)) turns.3 turn)
 
-pub turns_next : (IsState : LockedState → Type 0) (c : Configuration) (so_far : ℕ) (start before after : Held) (h mid h' : Option ProcedureState) → ActorsTurns IsState c so_far 1 start h before mid → IsActorsTurn IsState c (so_far + 1) before mid after h' → ActorsTurns IsState c (so_far + 1) 1 start h after h'
+pub turns_next : (IsState : LockedState → Type 0) (c : Configuration) (so_far : ℕ) (start before after : SeatAndPass) (h mid h' : Option ProcedureState) → ActorsTurns IsState c so_far 1 start h before mid → IsActorsTurn IsState c (so_far + 1) before mid after h' → ActorsTurns IsState c (so_far + 1) 1 start h after h'
 turns_next IsState c so_far start before after h mid h' turns turn =
     let more : suc so_far ≡ so_far + 1 = omega arith in
     subst (λ (n : ℕ). ActorsTurns IsState c n 1 start h after h') more (turns_more IsState c so_far 1 (so_far + 1) start before after h mid h' (omega arith) turns turn)

@@ -28,7 +28,7 @@ use Rattle.bully_world.specs.declared.turn.Next.{Next}
 use Rattle.bully_world.specs.declared.turn.StepKind.{StepKind}
 
 -- a seat, and how many entries are counted by the pass beside it
-pub record Held : Type 0 where
+pub record SeatAndPass : Type 0 where
   pub seat : SeatState
   pub counted : ℕ
 
@@ -36,7 +36,7 @@ pub record Held : Type 0 where
 -- group of L that is what the type `Locked` of L keeps
 
 -- in some state of the group the event is recorded, and the pass counts it
-pub record Logs (IsState : LockedState → Type 0) (e : Event) (before after : Held) : Type 0 where
+pub record Logs (IsState : LockedState → Type 0) (e : Event) (before after : SeatAndPass) : Type 0 where
   pub from : LockedState
   pub is_state : IsState from
   pub to : LockedState
@@ -44,7 +44,7 @@ pub record Logs (IsState : LockedState → Type 0) (e : Event) (before after : H
   pub counted : after.counted ≡ before.counted + 1
 
 -- the event is recorded, or refused in some state of the group
-abbrev pub AppliesAt : (LockedState → Type 0) → Event → Held → Held → Type 0
+abbrev pub AppliesAt : (LockedState → Type 0) → Event → SeatAndPass → SeatAndPass → Type 0
 AppliesAt IsState e before after =
     Logs IsState e before after
     ⊎ ((after ≡ before) × (s : LockedState) × IsState s × (fault : StepFault) × IsStepFault s before.seat e fault)
@@ -55,14 +55,14 @@ IsReady h = (old : Option (List ℕ)) → prepared_from old h ≡ h
 
 -- a procedure is prepared from the task that a view shows of its node, in some state of the group that the seat is known
 -- in; or it stays as it is, since it is ready, or since the seat is foreign in some state of the group
-abbrev pub PreparesAt : (LockedState → Type 0) → Held → ProcedureState → ProcedureState → Type 0
+abbrev pub PreparesAt : (LockedState → Type 0) → SeatAndPass → ProcedureState → ProcedureState → Type 0
 PreparesAt IsState before h ready =
     ((s : LockedState) × IsState s × IsKnown s.history before.seat × (ready ≡ prepared_from (shown (view_in s) h.node).task h))
     ⊎ ((ready ≡ h) × (IsReady h ⊎ ((s : LockedState) × IsState s × (index : ℕ) × IsForeign s.history before.seat index)))
 
 -- a node's turn ends with its serve, which runs a call or is refused in some state of the group; or in some state there
 -- is no call to be served
-abbrev pub ServesAt : (LockedState → Type 0) → Held → ℕ → Bool → Held → Type 0
+abbrev pub ServesAt : (LockedState → Type 0) → SeatAndPass → ℕ → Bool → SeatAndPass → Type 0
 ServesAt IsState before node true after =
     ((caller : ℕ) × Logs IsState (Event.Run caller) before after)
     ⊎ ((after ≡ before) × (s : LockedState) × IsState s × (fault : StepFault) × IsServeFault s before.seat fault)
@@ -74,7 +74,7 @@ abbrev pub GoesNot : LockedState → SeatState → ProcedureState → ProcedureS
 GoesNot s seat h h' = Waits s seat h h' ⊎ Resyncs s seat h h' ⊎ ((fault : StepFault) × Fails s seat h h' fault)
 
 -- in some state of the group the procedure takes the step that the turn rule offers and goes on by it, or no entry is added
-abbrev pub ProceedsAt : (LockedState → Type 0) → Held → ProcedureState → Held → ProcedureState → Type 0
+abbrev pub ProceedsAt : (LockedState → Type 0) → SeatAndPass → ProcedureState → SeatAndPass → ProcedureState → Type 0
 ProceedsAt IsState before h after h' =
     ((kind : StepKind) × (logs : Logs IsState (step_event kind h) before after) × (h' ≡ procedure_after kind logs.records.answer h)
     × (turn logs.from.world h ≡ Next.Take kind))
@@ -98,7 +98,7 @@ first_of setup (suc i) = Some (idle_at setup (suc i))
 
 -- an actor's turn of this number: the operator's takes the configuration's faults of that turn, and a node's is the turn of
 -- the procedure that it holds, with the configuration's period
-abbrev pub IsActorsTurn : (LockedState → Type 0) → Configuration → ℕ → Held → Option ProcedureState → Held → Option ProcedureState → Type 0
+abbrev pub IsActorsTurn : (LockedState → Type 0) → Configuration → ℕ → SeatAndPass → Option ProcedureState → SeatAndPass → Option ProcedureState → Type 0
 IsActorsTurn IsState c number before None after None = OperatesOn (AppliesAt IsState) number c.faults before after
 IsActorsTurn IsState c number before (Some h) after (Some h') =
     IsTurnOn (AppliesAt IsState) (PreparesAt IsState) (ServesAt IsState) (ProceedsAt IsState) c.period number before h after h'
@@ -106,17 +106,17 @@ IsActorsTurn IsState c number before None after (Some h') = ⊥
 IsActorsTurn IsState c number before (Some h) after None = ⊥
 
 -- so many turns of an actor, the first of which has this number
-abbrev pub ActorsTurns : (LockedState → Type 0) → Configuration → ℕ → ℕ → Held → Option ProcedureState → Held → Option ProcedureState → Type 0
+abbrev pub ActorsTurns : (LockedState → Type 0) → Configuration → ℕ → ℕ → SeatAndPass → Option ProcedureState → SeatAndPass → Option ProcedureState → Type 0
 ActorsTurns IsState c zero number before h after h' = (after ≡ before) × (h' ≡ h)
 ActorsTurns IsState c (suc more) number before h after h' =
-    (mid : Held) × (between : Option ProcedureState) × IsActorsTurn IsState c number before h mid between × ActorsTurns IsState c more (number + 1) mid between after h'
+    (mid : SeatAndPass) × (between : Option ProcedureState) × IsActorsTurn IsState c number before h mid between × ActorsTurns IsState c more (number + 1) mid between after h'
 
 -- the crashes and recoveries in a seat's log are faults of the configuration
 abbrev pub HasDueLog : List Fault → SeatState → Type 0
 HasDueLog faults seat = All (λ (told : ℕ × Entry). IsDue faults told.1.event) seat.log
 
 -- what the thread of actor i gives back: its own seat, and a pass that counts its log
-pub record IsGivenBack (faults : List Fault) (i : ℕ) (h : Held) : Type 0 where
+pub record IsGivenBack (faults : List Fault) (i : ℕ) (h : SeatAndPass) : Type 0 where
   pub actor : h.seat.actor ≡ i
   pub due : HasDueLog faults h.seat
   pub counted : h.counted ≡ length h.seat.log

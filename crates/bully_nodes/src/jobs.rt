@@ -3,7 +3,7 @@ ghost use Rattle.bully_group.specs.Locked.{IsLocked};
 ghost use Rattle.bully_nodes.specs.Run.{IsGivenBack, HasDueLog, IsRoleOf, procedure_of, first_of, IsActorsTurn, ActorsTurns};
 ghost use Rattle.bully_steps.specs.ProcedureState.{ProcedureState};
 
-use crate::post::Post;
+use crate::access::GroupAccess;
 use crate::running::{Gate, Scheduled};
 use bully_base::{Node, OutOfMemory};
 use bully_config::Config;
@@ -106,21 +106,21 @@ pub(crate) fn do_job<L: Scheduled, R: Wait, G: Gate>(
     ensures kept { IfOk result (λ back. IsGivenBack L.faults job.seat.actor (record { seat = back.seat; counted = back.pass })) }
 {
     let Job { seat, pass } = job;
-    let mut post = Post {
+    let mut access = GroupAccess {
         rt,
         alloc,
         group,
         seat,
         pass,
     };
-    let ended = take_turns(&mut post, config, gate);
-    let Post {
+    let ended = take_turns(&mut access, config, gate);
+    let GroupAccess {
         rt: _,
         alloc: _,
         group: _,
         seat,
         pass,
-    } = post;
+    } = access;
     match ended {
         Ok(()) => Ok(Job { seat, pass }),
         Err(fault) => Err(fault),
@@ -130,25 +130,25 @@ pub(crate) fn do_job<L: Scheduled, R: Wait, G: Gate>(
 // All turns of the seat's actor. One that adds no entry gives its processor away.
 #[tactic(auto, using(crate::proofs::RunLemmas::turns_next, crate::proofs::RunLemmas::actors_turns_keep))]
 fn take_turns<'a, L: Scheduled, R: Wait, G: Gate>(
-    post: &mut Post<'a, L, R>,
+    access: &mut GroupAccess<'a, L, R>,
     config: &Config,
     gate: &G,
 ) -> Result<(), OutOfMemory>
     requires setup { config.now.setup ≡ L.setup }
     requires faults { config.now.faults ≡ L.faults }
-    requires within { post.old.seat.actor ≤ config.now.setup.nodes }
-    ensures turns { OnOk result ((last : Option ProcedureState) × ActorsTurns (IsLocked L.setup L.publisher L.parts) config.now config.now.turns 1 (record { seat = post.old.seat; counted = post.old.pass }) (first_of config.now.setup post.old.seat.actor) (record { seat = post.new.seat; counted = post.new.pass }) last) }
-    ensures kept { OnOk result ((actor : ℕ) → IsGivenBack L.faults actor (record { seat = post.old.seat; counted = post.old.pass }) → IsGivenBack L.faults actor (record { seat = post.new.seat; counted = post.new.pass })) }
+    requires within { access.old.seat.actor ≤ config.now.setup.nodes }
+    ensures turns { OnOk result ((last : Option ProcedureState) × ActorsTurns (IsLocked L.setup L.publisher L.parts) config.now config.now.turns 1 (record { seat = access.old.seat; counted = access.old.pass }) (first_of config.now.setup access.old.seat.actor) (record { seat = access.new.seat; counted = access.new.pass }) last) }
+    ensures kept { OnOk result ((actor : ℕ) → IsGivenBack L.faults actor (record { seat = access.old.seat; counted = access.old.pass }) → IsGivenBack L.faults actor (record { seat = access.new.seat; counted = access.new.pass })) }
 {
-    let actor = post.seat.actor();
-    let mut role = first_role(post.alloc, config, actor)?;
+    let actor = access.seat.actor();
+    let mut role = first_role(access.alloc, config, actor)?;
     for before in 0..config.turns() {
-        let counted = post.pass.amount();
+        let counted = access.pass.amount();
         gate.before(actor, before + 1);
-        let taken = take_role_turn(post, config, before + 1, &mut role);
+        let taken = take_role_turn(access, config, before + 1, &mut role);
         gate.after(actor, before + 1);
         taken?;
-        if post.pass.amount() == counted {
+        if access.pass.amount() == counted {
             thread::yield_now();
         }
     }
@@ -169,7 +169,7 @@ fn first_role(alloc: Global, config: &Config, actor: u16) -> Result<Role, OutOfM
 
 // One turn of the operator, or of the node that holds a procedure.
 fn take_role_turn<'a, L: Scheduled, R: Wait>(
-    post: &mut Post<'a, L, R>,
+    access: &mut GroupAccess<'a, L, R>,
     config: &Config,
     turn: u32,
     role: &mut Role,
@@ -177,10 +177,10 @@ fn take_role_turn<'a, L: Scheduled, R: Wait>(
     requires setup { config.now.setup ≡ L.setup }
     requires role { IsRoleOf config.now turn role.old }
     ensures role { OnOk result (IsRoleOf config.now (turn + 1) role.new) }
-    ensures turn { OnOk result (IsActorsTurn (IsLocked L.setup L.publisher L.parts) config.now turn (record { seat = post.old.seat; counted = post.old.pass }) (procedure_of role.old) (record { seat = post.new.seat; counted = post.new.pass }) (procedure_of role.new)) }
+    ensures turn { OnOk result (IsActorsTurn (IsLocked L.setup L.publisher L.parts) config.now turn (record { seat = access.old.seat; counted = access.old.pass }) (procedure_of role.old) (record { seat = access.new.seat; counted = access.new.pass }) (procedure_of role.new)) }
 {
     match role {
-        Role::Operator(schedule) => take_operator_turn(post, schedule, turn),
-        Role::Node(procedure) => take_node_turn(post, config.period(), turn, procedure),
+        Role::Operator(schedule) => take_operator_turn(access, schedule, turn),
+        Role::Node(procedure) => take_node_turn(access, config.period(), turn, procedure),
     }
 }

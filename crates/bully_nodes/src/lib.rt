@@ -6,7 +6,7 @@
 #![tactic(auto)]
 
 mod jobs;
-mod post;
+mod access;
 mod running;
 mod writing;
 

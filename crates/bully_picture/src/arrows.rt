@@ -7,7 +7,7 @@ use crate::paper::Paper;
 use crate::words::kind_text;
 use bully_base::Node;
 use bully_calls::{Call, Phase};
-use bully_film::{End, Held, Holding, end_at};
+use bully_film::{End, HeldCall, Holding, end_at};
 
 // The lines of calls.
 const PLAIN: &str = " stroke=\"#222\" stroke-width=\"1.5\" marker-end=\"url(#call)\">";
@@ -76,7 +76,7 @@ fn draw_held(
     canvas: &mut Canvas,
     node: Node,
     holding: &Holding,
-    held: Held,
+    held: HeldCall,
     end: End,
     is_orphan: bool,
 ) {

@@ -6,7 +6,7 @@ ghost use Rattle.bully_trace.specs.VerdictText.{verdict_head};
 use crate::paper::Paper;
 use crate::words::{decides, push_followed, push_meaning, push_row_text};
 use bully_base::{Node, OutOfMemory, Status};
-use bully_film::{Reel, Scene, Sight, lane_of};
+use bully_film::{FinishedFilm, Scene, NodeSnapshot, lane_of};
 use bully_trace::push_verdict_head;
 use std::alloc::Global;
 
@@ -71,12 +71,12 @@ const CHANGE: usize = 16;
 /// The picture of what a film shows as text: the verdict; a line for each row that changes a status or a coordinator, and for the one
 /// that decided, with those of each node in a column; and how many rows lie between. Below it stands this text. Refused where an
 /// allocation fails.
-pub fn text_picture(alloc: Global, reel: &Reel, below: &str) -> Result<String, OutOfMemory>
-    ensures verdict { IfOk result (λ text. Has (string_bytes text) (verdict_head reel.now.verdict)) }
+pub fn text_picture(alloc: Global, finished: &FinishedFilm, below: &str) -> Result<String, OutOfMemory>
+    ensures verdict { IfOk result (λ text. Has (string_bytes text) (verdict_head finished.now.verdict)) }
 {
     let mut text = String::new(alloc);
     let mut lines = Paper::new(alloc);
-    push_picture(alloc, &mut text, &mut lines, reel, below)?;
+    push_picture(alloc, &mut text, &mut lines, finished, below)?;
     Ok(text)
 }
 
@@ -85,30 +85,30 @@ fn push_picture(
     alloc: Global,
     text: &mut String,
     lines: &mut Paper,
-    reel: &Reel,
+    finished: &FinishedFilm,
     below: &str,
 ) -> Result<(), OutOfMemory>
-    ensures { OnOk result (Has (string_bytes text.new) (verdict_head reel.now.verdict)) }
+    ensures { OnOk result (Has (string_bytes text.new) (verdict_head finished.now.verdict)) }
 {
-    push_lines(alloc, lines, reel)?;
-    push_verdict_head(text, reel.verdict)?;
+    push_lines(alloc, lines, finished)?;
+    push_verdict_head(text, finished.verdict)?;
     text.push_str(lines.as_str())?;
     text.push_str(below)
 }
 
 // Writes the lines of the rows.
-fn push_lines(alloc: Global, lines: &mut Paper, reel: &Reel) -> Result<(), OutOfMemory> {
-    let mut now = Vec::with_capacity(alloc, usize::from(reel.setup.nodes()))?;
-    push_starts(alloc, &mut now, reel)?;
-    push_rows(lines, reel, now.as_mut_slice());
+fn push_lines(alloc: Global, lines: &mut Paper, finished: &FinishedFilm) -> Result<(), OutOfMemory> {
+    let mut now = Vec::with_capacity(alloc, usize::from(finished.setup.nodes()))?;
+    push_starts(alloc, &mut now, finished)?;
+    push_rows(lines, finished, now.as_mut_slice());
     lines.check_memory()
 }
 
 // Appends how each node stands before the first row, from node 1 on.
-fn push_starts(alloc: Global, now: &mut Vec<Sight>, reel: &Reel) -> Result<(), OutOfMemory> {
-    for before in 0..reel.setup.nodes() {
+fn push_starts(alloc: Global, now: &mut Vec<NodeSnapshot>, finished: &FinishedFilm) -> Result<(), OutOfMemory> {
+    for before in 0..finished.setup.nodes() {
         let node = Node::new(before + 1).unwrap();
-        let lane = lane_of(alloc, reel, node)?;
+        let lane = lane_of(alloc, finished, node)?;
         if let Some(first) = lane.first() {
             now.push(*first)?;
         }
@@ -117,12 +117,12 @@ fn push_starts(alloc: Global, now: &mut Vec<Sight>, reel: &Reel) -> Result<(), O
 }
 
 // Writes the lines of the rows, before which the nodes stand so.
-fn push_rows(lines: &mut Paper, reel: &Reel, now: &mut [Sight]) {
-    let form = Form::of(reel.setup.nodes());
-    push_names(lines, reel.setup.nodes(), form);
+fn push_rows(lines: &mut Paper, finished: &FinishedFilm, now: &mut [NodeSnapshot]) {
+    let form = Form::of(finished.setup.nodes());
+    push_names(lines, finished.setup.nodes(), form);
     let mut quiet = 0u32;
-    for scene in reel.scenes.as_slice() {
-        if speaks(reel, scene) {
+    for scene in finished.scenes.as_slice() {
+        if speaks(finished, scene) {
             push_quiet(lines, quiet);
             quiet = 0;
             put(now, scene);
@@ -135,14 +135,14 @@ fn push_rows(lines: &mut Paper, reel: &Reel, now: &mut [Sight]) {
 }
 
 // Whether the row has a line: it changes what a node is, or it decided.
-fn speaks(reel: &Reel, scene: &Scene) -> bool {
-    decides(reel.verdict, scene.number)
+fn speaks(finished: &FinishedFilm, scene: &Scene) -> bool {
+    decides(finished.verdict, scene.number)
         || scene.other.before.status != scene.other.after.status
         || scene.other.before.coordinator != scene.other.after.coordinator
 }
 
 // The node whose vector the row changes stands as it does behind it.
-fn put(now: &mut [Sight], scene: &Scene) {
+fn put(now: &mut [NodeSnapshot], scene: &Scene) {
     let place = usize::from(scene.other.node.number() - 1);
     if place < now.len() {
         now[place] = scene.other.after;
@@ -184,11 +184,11 @@ fn push_quiet(lines: &mut Paper, quiet: u32) {
 }
 
 // Writes the line of a row, behind which the nodes stand so.
-fn push_line(lines: &mut Paper, scene: &Scene, now: &[Sight], form: Form) {
+fn push_line(lines: &mut Paper, scene: &Scene, now: &[NodeSnapshot], form: Form) {
     lines.push_right(scene.number);
     lines.push("  ");
-    for sight in now {
-        push_cell(lines, sight, form);
+    for snapshot in now {
+        push_cell(lines, snapshot, form);
     }
     if form.tells_change() {
         push_change(lines, scene);
@@ -199,19 +199,19 @@ fn push_line(lines: &mut Paper, scene: &Scene, now: &[Sight], form: Form) {
 }
 
 // Writes how a node stands: its status, and its coordinator where the column has room for it.
-fn push_cell(lines: &mut Paper, sight: &Sight, form: Form) {
+fn push_cell(lines: &mut Paper, snapshot: &NodeSnapshot, form: Form) {
     match form {
-        Form::Words => push_stand(lines, word(sight.status), " ", sight, form.column()),
-        Form::Short => push_stand(lines, letter(sight.status), "", sight, form.column()),
-        Form::Letters => lines.push(letter(sight.status)),
+        Form::Words => push_stand(lines, word(snapshot.status), " ", snapshot, form.column()),
+        Form::Short => push_stand(lines, letter(snapshot.status), "", snapshot, form.column()),
+        Form::Letters => lines.push(letter(snapshot.status)),
         Form::Changes => {}
     }
 }
 
 // Writes how a node stands in a column: this word of its status, and behind this its coordinator.
-fn push_stand(lines: &mut Paper, word: &str, between: &str, sight: &Sight, column: usize) {
+fn push_stand(lines: &mut Paper, word: &str, between: &str, snapshot: &NodeSnapshot, column: usize) {
     let start = lines.len();
-    push_followed(lines, word, between, sight.coordinator);
+    push_followed(lines, word, between, snapshot.coordinator);
     fill(lines, start, column);
 }
 

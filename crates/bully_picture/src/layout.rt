@@ -1,7 +1,7 @@
 //! Where the lanes and the rows of a picture lie, in pixels.
 
 use bully_base::Node;
-use bully_film::{Reel, row_before};
+use bully_film::{FinishedFilm, row_before};
 
 /// Where the lanes begin.
 pub const LEFT: u32 = 124;
@@ -44,13 +44,13 @@ pub struct Layout {
 
 impl Layout {
     /// The layout of what a film shows.
-    pub fn of(reel: &Reel) -> Layout {
-        let nodes = u32::from(reel.setup.nodes());
+    pub fn of(finished: &FinishedFilm) -> Layout {
+        let nodes = u32::from(finished.setup.nodes());
         Layout {
             nodes,
             lane: lane_width(nodes),
-            first: row_before(reel.scenes.as_slice()),
-            rows: row_count(reel.scenes.len()),
+            first: row_before(finished.scenes.as_slice()),
+            rows: row_count(finished.scenes.len()),
         }
     }
 

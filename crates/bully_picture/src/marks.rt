@@ -7,8 +7,8 @@ use crate::layout::{ASIDE, HALF, Layout, WORDS_MIN};
 use crate::paper::Paper;
 use crate::words::{push_meaning, push_row_text};
 use bully_base::Node;
-use bully_film::{Scene, Sight, Stand};
-use bully_rows::Deed;
+use bully_film::{Scene, NodeSnapshot, Stand};
+use bully_rows::EventKind;
 use bully_table::Table;
 
 // What is said of a table that is too long to be shown.
@@ -98,7 +98,7 @@ fn push_text(paper: &mut Paper, layout: &Layout, scene: &Scene, decides: bool) {
 // Writes who gets a table, which stands behind the text where it is shown.
 fn push_getting(paper: &mut Paper, scene: &Scene) {
     let shows_table = scene.table.is_some();
-    if shows_table && matches!(scene.deed, Some(Deed::Plan)) {
+    if shows_table && matches!(scene.event_kind, Some(EventKind::Plan)) {
         paper.push(":");
         return;
     }
@@ -143,10 +143,10 @@ fn draw_change(canvas: &mut Canvas, scene: &Scene) {
     }
 }
 
-fn stand_of(sight: &Sight) -> Stand {
+fn stand_of(snapshot: &NodeSnapshot) -> Stand {
     Stand {
-        status: sight.status,
-        coordinator: sight.coordinator,
+        status: snapshot.status,
+        coordinator: snapshot.coordinator,
     }
 }
 
@@ -156,20 +156,20 @@ fn draw_marks(canvas: &mut Canvas, scene: &Scene, y: u32) {
         draw_cut(canvas, scene.other.node, y);
     }
     let x = canvas.layout.x(scene.own.node);
-    match scene.deed {
-        Some(Deed::Recover) => draw_ring(canvas, x, y, 6, "#E69F00"),
-        Some(Deed::Move) => draw_ring(canvas, x, y, 3, "#333"),
-        Some(Deed::Crash) => draw_crash(canvas, x, y),
-        Some(Deed::Return) => canvas.note_return(scene.number),
-        deed => draw_word(canvas, x, y, "#777", word_of(deed)),
+    match scene.event_kind {
+        Some(EventKind::Recover) => draw_ring(canvas, x, y, 6, "#E69F00"),
+        Some(EventKind::Move) => draw_ring(canvas, x, y, 3, "#333"),
+        Some(EventKind::Crash) => draw_crash(canvas, x, y),
+        Some(EventKind::Return) => canvas.note_return(scene.number),
+        event_kind => draw_word(canvas, x, y, "#777", word_of(event_kind)),
     }
 }
 
 // The word beside the lane for a row that has no other mark.
-fn word_of(deed: Option<Deed>) -> &'static str {
-    match deed {
-        Some(Deed::Check) => "check",
-        Some(Deed::Timeout) => "timeout",
+fn word_of(event_kind: Option<EventKind>) -> &'static str {
+    match event_kind {
+        Some(EventKind::Check) => "check",
+        Some(EventKind::Timeout) => "timeout",
         None => "saw",
         _ => "",
     }

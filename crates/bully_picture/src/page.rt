@@ -12,7 +12,7 @@ use crate::marks::draw_row;
 use crate::paper::Paper;
 use crate::words::decides;
 use bully_base::{OutOfMemory, Setup};
-use bully_film::{Lane, Reel, lanes, row_before};
+use bully_film::{Lane, FinishedFilm, lanes, row_before};
 use bully_trace::{Verdict, push_verdict_head};
 use std::alloc::Global;
 
@@ -42,17 +42,17 @@ const LEGEND: &str = "\
 /// document. Refused where an allocation fails.
 pub fn svg_picture(
     alloc: Global,
-    reel: &Reel,
+    finished: &FinishedFilm,
     names: &[&str],
     below: &str,
 ) -> Result<String, OutOfMemory>
-    ensures verdict { IfOk result (λ text. Has (string_bytes text) (verdict_head reel.now.verdict)) }
+    ensures verdict { IfOk result (λ text. Has (string_bytes text) (verdict_head finished.now.verdict)) }
     ensures title { IfOk result (λ text. Has (string_bytes text)
-        (title_text reel.now.verdict reel.now.setup.nodes reel.now.setup.partitions (row_before reel.now.scenes.items) (length reel.now.scenes.items))) }
+        (title_text finished.now.verdict finished.now.setup.nodes finished.now.setup.partitions (row_before finished.now.scenes.items) (length finished.now.scenes.items))) }
 {
     let mut text = String::new(alloc);
-    let mut canvas = Canvas::new(alloc, Layout::of(reel));
-    push_picture(&mut text, &mut canvas, reel, names, below)?;
+    let mut canvas = Canvas::new(alloc, Layout::of(finished));
+    push_picture(&mut text, &mut canvas, finished, names, below)?;
     Ok(text)
 }
 
@@ -60,35 +60,35 @@ pub fn svg_picture(
 fn push_picture(
     text: &mut String,
     canvas: &mut Canvas,
-    reel: &Reel,
+    finished: &FinishedFilm,
     names: &[&str],
     below: &str,
 ) -> Result<(), OutOfMemory>
     ensures { OnOk result (Has (string_bytes text.new)
-        (title_text reel.now.verdict reel.now.setup.nodes reel.now.setup.partitions (row_before reel.now.scenes.items) (length reel.now.scenes.items))) }
+        (title_text finished.now.verdict finished.now.setup.nodes finished.now.setup.partitions (row_before finished.now.scenes.items) (length finished.now.scenes.items))) }
 {
-    draw(canvas, reel, names, below)?;
+    draw(canvas, finished, names, below)?;
     text.push_str(canvas.head.as_str())?;
-    push_title(text, reel)?;
+    push_title(text, finished)?;
     text.push_str(canvas.lines.as_str())?;
     text.push_str(canvas.words.as_str())
 }
 
 // Draws all but the words of the title.
-fn draw(canvas: &mut Canvas, reel: &Reel, names: &[&str], below: &str) -> Result<(), OutOfMemory> {
-    let lanes = lanes(canvas.alloc, reel)?;
-    push_head(&mut canvas.head, reel.verdict, &canvas.layout, below);
+fn draw(canvas: &mut Canvas, finished: &FinishedFilm, names: &[&str], below: &str) -> Result<(), OutOfMemory> {
+    let lanes = lanes(canvas.alloc, finished)?;
+    push_head(&mut canvas.head, finished.verdict, &canvas.layout, below);
     canvas.lines.push(LEGEND);
-    draw_rows(canvas, reel);
+    draw_rows(canvas, finished);
     draw_lanes(canvas, lanes.as_slice(), names);
     push_below(&mut canvas.words, &canvas.layout, below);
     canvas.check_memory()
 }
 
 // Draws what stands at each row.
-fn draw_rows(canvas: &mut Canvas, reel: &Reel) {
-    for scene in reel.scenes.as_slice() {
-        draw_row(canvas, scene, decides(reel.verdict, scene.number));
+fn draw_rows(canvas: &mut Canvas, finished: &FinishedFilm) {
+    for scene in finished.scenes.as_slice() {
+        draw_row(canvas, scene, decides(finished.verdict, scene.number));
     }
 }
 
@@ -144,13 +144,13 @@ fn title_start(verdict: Verdict) -> &'static str {
 }
 
 // Appends the words of the title: the verdict, how large the group is, and which rows are shown.
-fn push_title(text: &mut String, reel: &Reel) -> Result<(), OutOfMemory>
+fn push_title(text: &mut String, finished: &FinishedFilm) -> Result<(), OutOfMemory>
     ensures { OnOk result (string_bytes text.new ≡ string_bytes text.old
-        ++ title_text reel.now.verdict reel.now.setup.nodes reel.now.setup.partitions (row_before reel.now.scenes.items) (length reel.now.scenes.items)) }
+        ++ title_text finished.now.verdict finished.now.setup.nodes finished.now.setup.partitions (row_before finished.now.scenes.items) (length finished.now.scenes.items)) }
 {
-    push_verdict_head(text, reel.verdict)?;
-    push_size(text, &reel.setup)?;
-    push_shown(text, row_before(reel.scenes.as_slice()), reel.scenes.len())?;
+    push_verdict_head(text, finished.verdict)?;
+    push_size(text, &finished.setup)?;
+    push_shown(text, row_before(finished.scenes.as_slice()), finished.scenes.len())?;
     text.push(')')
 }
 

@@ -3,8 +3,8 @@
 use crate::paper::Paper;
 use bully_base::{Node, Status};
 use bully_calls::CallKind;
-use bully_film::{Scene, Sight, Stand};
-use bully_rows::{Deed, SAW, status_word};
+use bully_film::{Scene, NodeSnapshot, Stand};
+use bully_rows::{EventKind, SAW, status_word};
 use bully_trace::Verdict;
 
 /// The call as the profile names it.
@@ -46,8 +46,8 @@ pub fn push_followed(paper: &mut Paper, word: &str, between: &str, coordinator: 
 
 /// Writes the row as it stands in a trace of version 1, but for a claim's status and a plan's table.
 pub fn push_row_text(paper: &mut Paper, scene: &Scene) {
-    let word = match scene.deed {
-        Some(deed) => deed.word(),
+    let word = match scene.event_kind {
+        Some(event_kind) => event_kind.word(),
         None => SAW,
     };
     paper.push(word);
@@ -65,17 +65,17 @@ pub fn push_meaning(paper: &mut Paper, scene: &Scene) {
 
 // What the row does; nothing where its text alone says it.
 fn meaning(scene: &Scene) -> &'static str {
-    match scene.deed {
-        Some(Deed::Move) => move_meaning(&scene.own.before, &scene.own.after),
-        Some(Deed::Plan) => "shares the task out",
-        Some(Deed::Drop) => "the orphan is given up",
-        Some(Deed::Return) if is_orphan(&scene.own.before) => "an orphan: nothing comes of it",
+    match scene.event_kind {
+        Some(EventKind::Move) => move_meaning(&scene.own.before, &scene.own.after),
+        Some(EventKind::Plan) => "shares the task out",
+        Some(EventKind::Drop) => "the orphan is given up",
+        Some(EventKind::Return) if is_orphan(&scene.own.before) => "an orphan: nothing comes of it",
         _ => "",
     }
 }
 
 // What the node becomes by a move.
-fn move_meaning(before: &Sight, after: &Sight) -> &'static str {
+fn move_meaning(before: &NodeSnapshot, after: &NodeSnapshot) -> &'static str {
     match (before.status, after.status) {
         (Status::Election, Status::Election) => "no higher node is up: stands for election",
         (Status::Election, Status::Reorganization) => "lower ones are halted: is coordinator",
@@ -86,8 +86,8 @@ fn move_meaning(before: &Sight, after: &Sight) -> &'static str {
 }
 
 // Whether the slot holds an orphan.
-fn is_orphan(sight: &Sight) -> bool {
-    match sight.call {
+fn is_orphan(snapshot: &NodeSnapshot) -> bool {
+    match snapshot.call {
         Some(held) => !held.is_live,
         None => false,
     }

@@ -1,20 +1,20 @@
 //! A group that is played on one thread: `play` takes the turns of the operator and of each node, one after the other, and
-//! writes the trace. What a turn is stands here once, over any [`Stage`]: here that is a world whose events are recorded.
+//! writes the trace. What a turn is stands here once, over any [`Backend`]: here that is a world whose events are recorded.
 //!
 //! It stands on bully_steps, bully_world, bully_rows and bully_config, and needs no lock and no group. The program and
 //! bully_nodes rely on what is played being the text of a lawful trace, whose crashes and recoveries are faults of the
-//! configuration, and on what a turn does on their stage.
+//! configuration, and on what a turn does on their backend.
 #![tactic(auto)]
 
 mod playing;
 mod recording;
 mod schedule;
-mod stage;
+mod backend;
 mod trace;
 mod turns;
 
 pub use playing::{PlayFault, play};
 pub use schedule::Schedule;
-pub use stage::Stage;
+pub use backend::Backend;
 pub use trace::trace_with;
 pub use turns::{take_node_turn, take_operator_turn};

@@ -9,7 +9,7 @@ ghost use Rattle.bully_world.specs.State.{first_state};
 ghost use Rattle.bully_world.specs.Turn.{turn};
 ghost use Rattle.bully_world.specs.declared.turn.Next.{Next};
 
-use crate::stage::Stage;
+use crate::backend::Backend;
 use crate::trace::trace_with;
 use bully_base::{Node, OutOfMemory, Setup, Status};
 use bully_rows::{Row, Trace};
@@ -76,7 +76,7 @@ impl Recording {
     }
 }
 
-impl Stage for Recording {
+impl Backend for Recording {
     ghost use Rattle.bully_play.specs.Recording.{Applies};
     ghost use Rattle.bully_play.specs.Turns.{Prepares, RunsLowest, ProceedsIn};
 

@@ -8,25 +8,25 @@ ghost use Rattle.bully_steps.specs.Procedure.{state_of};
 ghost use Rattle.bully_steps.specs.ProcedureState.{HasSameNode};
 
 use crate::schedule::Schedule;
-use crate::stage::Stage;
+use crate::backend::Backend;
 use bully_base::OutOfMemory;
 use bully_config::{Fault, FaultKind};
 use bully_steps::{Choice, Driver, Procedure};
 use bully_world::Event;
 
 /// The operator's turn: the faults of this turn, in the order of the document. One that is refused is passed over.
-pub fn take_operator_turn<S: Stage>(
-    stage: &mut S,
+pub fn take_operator_turn<S: Backend>(
+    backend: &mut S,
     schedule: &mut Schedule,
     turn: u32,
 ) -> Result<(), OutOfMemory>
-    ensures operates { OnOk result ((faults : List AnyFault) → AreLeft faults turn schedule.old → OperatesOn S.applies turn faults stage.old stage.new) }
+    ensures operates { OnOk result ((faults : List AnyFault) → AreLeft faults turn schedule.old → OperatesOn S.applies turn faults backend.old backend.new) }
     ensures left { OnOk result ((faults : List AnyFault) → AreLeft faults turn schedule.old → AreLeft faults (turn + 1) schedule.new) }
-    ensures setup { OnOk result (S.setup stage.new ≡ S.setup stage.old) }
+    ensures setup { OnOk result (S.setup backend.new ≡ S.setup backend.old) }
 {
     while let Some(fault) = schedule.take_until(turn) {
         if fault.at == turn {
-            stage.apply(fault_event(fault))?;
+            backend.apply(fault_event(fault))?;
         }
     }
     Ok(())
@@ -45,44 +45,44 @@ fn fault_event(fault: Fault) -> Event
 /// The turn of this number of the node that holds the procedure, which goes on. It is prepared first, where it
 /// is Planning. Then the node serves the call that waits for it, if any; else it goes on as it chooses, with a check
 /// once in a period of at least 1.
-pub fn take_node_turn<S: Stage>(
-    stage: &mut S,
+pub fn take_node_turn<S: Backend>(
+    backend: &mut S,
     period: u32,
     turn: u32,
     place: &mut Procedure,
 ) -> Result<(), OutOfMemory>
-    requires setup { (state_of place.old).setup ≡ S.setup stage.old }
+    requires setup { (state_of place.old).setup ≡ S.setup backend.old }
     requires period { 0 < period }
-    ensures turn { OnOk result (IsTurnOn S.applies S.prepares S.serves S.proceeds period turn stage.old (state_of place.old) stage.new (state_of place.new)) }
+    ensures turn { OnOk result (IsTurnOn S.applies S.prepares S.serves S.proceeds period turn backend.old (state_of place.old) backend.new (state_of place.new)) }
     ensures same_node { HasSameNode (state_of place.old) (state_of place.new) }
-    ensures setup { OnOk result (S.setup stage.new ≡ S.setup stage.old) }
+    ensures setup { OnOk result (S.setup backend.new ≡ S.setup backend.old) }
 {
     let node = place.node();
-    stage.prepare(place)?;
-    if stage.serve(node)? {
+    backend.prepare(place)?;
+    if backend.serve(node)? {
         return Ok(());
     }
-    follow_choice(stage, period, turn, place)
+    follow_choice(backend, period, turn, place)
 }
 
 // The node begins a check or has a timeout, where it chooses so, and holds its procedure as it is; else the
 // procedure goes on by the turn rule.
-fn follow_choice<S: Stage>(
-    stage: &mut S,
+fn follow_choice<S: Backend>(
+    backend: &mut S,
     period: u32,
     turn: u32,
     procedure: &mut Procedure,
 ) -> Result<(), OutOfMemory>
-    requires setup { (state_of procedure.old).setup ≡ S.setup stage.old }
+    requires setup { (state_of procedure.old).setup ≡ S.setup backend.old }
     requires period { 0 < period }
-    ensures goes_on { OnOk result (GoesOn S.applies S.proceeds (chosen_every period turn (state_of procedure.old).point) stage.old (state_of procedure.old) stage.new (state_of procedure.new)) }
+    ensures goes_on { OnOk result (GoesOn S.applies S.proceeds (chosen_every period turn (state_of procedure.old).point) backend.old (state_of procedure.old) backend.new (state_of procedure.new)) }
     ensures same_node { HasSameNode (state_of procedure.old) (state_of procedure.new) }
-    ensures setup { OnOk result (S.setup stage.new ≡ S.setup stage.old) }
+    ensures setup { OnOk result (S.setup backend.new ≡ S.setup backend.old) }
 {
     let node = procedure.node();
     match Driver::choose_every(period, turn, procedure) {
-        Choice::Check => stage.apply(Event::Check(node)),
-        Choice::Timeout => stage.apply(Event::Timeout(node)),
-        Choice::Proceed => stage.proceed(procedure),
+        Choice::Check => backend.apply(Event::Check(node)),
+        Choice::Timeout => backend.apply(Event::Timeout(node)),
+        Choice::Proceed => backend.proceed(procedure),
     }
 }

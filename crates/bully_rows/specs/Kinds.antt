@@ -1,56 +1,56 @@
 -- What events are, and their words: for reading and for writing.
 use Rattle.std.specs.Prelude.{ℕ, List, [], ◌∷◌, Option, Some, None, codes}
 use Rattle.bully_calls.specs.declared.event.Event.{Event}
-use Rattle.bully_rows.specs.declared.kind.Deed.{Deed}
 use Rattle.bully_rows.specs.declared.kind.EventKind.{EventKind}
+use Rattle.bully_rows.specs.declared.kind.NodeEventKind.{NodeEventKind}
 use Rattle.bully_rows.specs.Words.{first_named}
 
 -- the event of this kind at node i
-abbrev pub event_at : EventKind → ℕ → Event
-event_at EventKind.Recover i = Event.Recover i
-event_at EventKind.Crash i = Event.Crash i
-event_at EventKind.Check i = Event.Check i
-event_at EventKind.Timeout i = Event.Timeout i
-event_at EventKind.Start i = Event.Start i
-event_at EventKind.Run i = Event.Run i
-event_at EventKind.Lose i = Event.Lose i
-event_at EventKind.Return i = Event.Return i
-event_at EventKind.Drop i = Event.Drop i
-event_at EventKind.Move i = Event.Move i
+abbrev pub event_at : NodeEventKind → ℕ → Event
+event_at NodeEventKind.Recover i = Event.Recover i
+event_at NodeEventKind.Crash i = Event.Crash i
+event_at NodeEventKind.Check i = Event.Check i
+event_at NodeEventKind.Timeout i = Event.Timeout i
+event_at NodeEventKind.Start i = Event.Start i
+event_at NodeEventKind.Run i = Event.Run i
+event_at NodeEventKind.Lose i = Event.Lose i
+event_at NodeEventKind.Return i = Event.Return i
+event_at NodeEventKind.Drop i = Event.Drop i
+event_at NodeEventKind.Move i = Event.Move i
 
 -- what the event is, but for its node and for the table of a plan
-abbrev pub deed_of : Event → Deed
-deed_of (Event.Recover i) = Deed.Recover
-deed_of (Event.Crash i) = Deed.Crash
-deed_of (Event.Check i) = Deed.Check
-deed_of (Event.Timeout i) = Deed.Timeout
-deed_of (Event.Start i) = Deed.Start
-deed_of (Event.Run i) = Deed.Run
-deed_of (Event.Lose i) = Deed.Lose
-deed_of (Event.Return i) = Deed.Return
-deed_of (Event.Drop i) = Deed.Drop
-deed_of (Event.Move i) = Deed.Move
-deed_of (Event.Plan i table) = Deed.Plan
+abbrev pub event_kind_of : Event → EventKind
+event_kind_of (Event.Recover i) = EventKind.Recover
+event_kind_of (Event.Crash i) = EventKind.Crash
+event_kind_of (Event.Check i) = EventKind.Check
+event_kind_of (Event.Timeout i) = EventKind.Timeout
+event_kind_of (Event.Start i) = EventKind.Start
+event_kind_of (Event.Run i) = EventKind.Run
+event_kind_of (Event.Lose i) = EventKind.Lose
+event_kind_of (Event.Return i) = EventKind.Return
+event_kind_of (Event.Drop i) = EventKind.Drop
+event_kind_of (Event.Move i) = EventKind.Move
+event_kind_of (Event.Plan i table) = EventKind.Plan
 
--- the event of node i that is this deed; none for a plan, which has a table, too
-abbrev pub event_of_deed : Deed → ℕ → Option Event
-event_of_deed Deed.Recover i = Some (Event.Recover i)
-event_of_deed Deed.Crash i = Some (Event.Crash i)
-event_of_deed Deed.Check i = Some (Event.Check i)
-event_of_deed Deed.Timeout i = Some (Event.Timeout i)
-event_of_deed Deed.Start i = Some (Event.Start i)
-event_of_deed Deed.Run i = Some (Event.Run i)
-event_of_deed Deed.Lose i = Some (Event.Lose i)
-event_of_deed Deed.Return i = Some (Event.Return i)
-event_of_deed Deed.Drop i = Some (Event.Drop i)
-event_of_deed Deed.Move i = Some (Event.Move i)
-event_of_deed Deed.Plan i = None
+-- the event of this kind at node i; none for a plan, which has a table, too
+abbrev pub event_of_kind : EventKind → ℕ → Option Event
+event_of_kind EventKind.Recover i = Some (Event.Recover i)
+event_of_kind EventKind.Crash i = Some (Event.Crash i)
+event_of_kind EventKind.Check i = Some (Event.Check i)
+event_of_kind EventKind.Timeout i = Some (Event.Timeout i)
+event_of_kind EventKind.Start i = Some (Event.Start i)
+event_of_kind EventKind.Run i = Some (Event.Run i)
+event_of_kind EventKind.Lose i = Some (Event.Lose i)
+event_of_kind EventKind.Return i = Some (Event.Return i)
+event_of_kind EventKind.Drop i = Some (Event.Drop i)
+event_of_kind EventKind.Move i = Some (Event.Move i)
+event_of_kind EventKind.Plan i = None
 
--- all deeds, in the order of the table of rows
-abbrev pub every_deed : List Deed
-every_deed =
-    Deed.Recover ∷ Deed.Crash ∷ Deed.Check ∷ Deed.Timeout ∷ Deed.Start ∷ Deed.Run ∷ Deed.Lose ∷ Deed.Return ∷ Deed.Drop
-    ∷ Deed.Move ∷ Deed.Plan ∷ []
+-- all kinds of event, in the order of the table of rows
+abbrev pub every_event_kind : List EventKind
+every_event_kind =
+    EventKind.Recover ∷ EventKind.Crash ∷ EventKind.Check ∷ EventKind.Timeout ∷ EventKind.Start ∷ EventKind.Run ∷ EventKind.Lose ∷ EventKind.Return ∷ EventKind.Drop
+    ∷ EventKind.Move ∷ EventKind.Plan ∷ []
 
 abbrev pub plan_word : List ℕ
 plan_word = codes "plan"

@@ -1,7 +1,7 @@
 //! What events are, and their words: for reading and for writing.
 ghost use Rattle.std.specs.Prelude.{◌≡◌, ℕ};
 ghost use Rattle.std.specs.Option.{option_map};
-ghost use Rattle.bully_rows.specs.Kinds.{deed_of, event_at, event_named, event_of_deed, event_word};
+ghost use Rattle.bully_rows.specs.Kinds.{event_kind_of, event_at, event_named, event_of_kind, event_word};
 ghost use Rattle.bully_calls.specs.declared.event.Event.{Event as EventState};
 
 use crate::words::is_word;
@@ -33,7 +33,7 @@ pub const PLAN: &str = "plan";
 
 /// The kind of an event that names a node and no more.
 #[derive(Clone, Copy)]
-pub enum EventKind {
+pub enum NodeEventKind {
     Recover,
     Crash,
     Check,
@@ -49,7 +49,7 @@ pub enum EventKind {
 /// An event that names a node and no more, as a row of two fields tells it.
 #[derive(Clone, Copy)]
 pub struct NodeEvent {
-    pub kind: EventKind,
+    pub kind: NodeEventKind,
     pub node: Node,
 }
 
@@ -60,16 +60,16 @@ impl NodeEvent {
     {
         let node = self.node;
         match self.kind {
-            EventKind::Recover => Event::Recover(node),
-            EventKind::Crash => Event::Crash(node),
-            EventKind::Check => Event::Check(node),
-            EventKind::Timeout => Event::Timeout(node),
-            EventKind::Start => Event::Start(node),
-            EventKind::Run => Event::Run(node),
-            EventKind::Lose => Event::Lose(node),
-            EventKind::Return => Event::Return(node),
-            EventKind::Drop => Event::Drop(node),
-            EventKind::Move => Event::Move(node),
+            NodeEventKind::Recover => Event::Recover(node),
+            NodeEventKind::Crash => Event::Crash(node),
+            NodeEventKind::Check => Event::Check(node),
+            NodeEventKind::Timeout => Event::Timeout(node),
+            NodeEventKind::Start => Event::Start(node),
+            NodeEventKind::Run => Event::Run(node),
+            NodeEventKind::Lose => Event::Lose(node),
+            NodeEventKind::Return => Event::Return(node),
+            NodeEventKind::Drop => Event::Drop(node),
+            NodeEventKind::Move => Event::Move(node),
         }
     }
 }
@@ -77,29 +77,29 @@ impl NodeEvent {
 /// The kind of this word.
 // (the words that come most are tried first; inlined as `read_node_event` of `row` is)
 #[inline(always)]
-pub fn kind_named(word: &[u8]) -> Option<EventKind>
+pub fn kind_named(word: &[u8]) -> Option<NodeEventKind>
     ensures { (i : ℕ) → event_named word.now i ≡ option_map (λ kind. event_at kind i) result }
 {
     if is_word(word, START) {
-        Some(EventKind::Start)
+        Some(NodeEventKind::Start)
     } else if is_word(word, RUN) {
-        Some(EventKind::Run)
+        Some(NodeEventKind::Run)
     } else if is_word(word, RETURN) {
-        Some(EventKind::Return)
+        Some(NodeEventKind::Return)
     } else if is_word(word, CHECK) {
-        Some(EventKind::Check)
+        Some(NodeEventKind::Check)
     } else if is_word(word, TIMEOUT) {
-        Some(EventKind::Timeout)
+        Some(NodeEventKind::Timeout)
     } else if is_word(word, MOVE) {
-        Some(EventKind::Move)
+        Some(NodeEventKind::Move)
     } else if is_word(word, LOSE) {
-        Some(EventKind::Lose)
+        Some(NodeEventKind::Lose)
     } else if is_word(word, DROP) {
-        Some(EventKind::Drop)
+        Some(NodeEventKind::Drop)
     } else if is_word(word, CRASH) {
-        Some(EventKind::Crash)
+        Some(NodeEventKind::Crash)
     } else if is_word(word, RECOVER) {
-        Some(EventKind::Recover)
+        Some(NodeEventKind::Recover)
     } else {
         None
     }
@@ -107,7 +107,7 @@ pub fn kind_named(word: &[u8]) -> Option<EventKind>
 
 /// What an event is, but for its node and for the table of a plan.
 #[derive(Clone, Copy, PartialEq, Eq, Debug)]
-pub enum Deed {
+pub enum EventKind {
     Recover,
     Crash,
     Check,
@@ -121,76 +121,76 @@ pub enum Deed {
     Plan,
 }
 
-impl Deed {
+impl EventKind {
     /// What the event is.
-    pub fn of(event: &Event) -> Deed
-        ensures { result ≡ deed_of event.now }
+    pub fn of(event: &Event) -> EventKind
+        ensures { result ≡ event_kind_of event.now }
     {
         match event {
-            Event::Recover(_) => Deed::Recover,
-            Event::Crash(_) => Deed::Crash,
-            Event::Check(_) => Deed::Check,
-            Event::Timeout(_) => Deed::Timeout,
-            Event::Start(_) => Deed::Start,
-            Event::Run(_) => Deed::Run,
-            Event::Lose(_) => Deed::Lose,
-            Event::Return(_) => Deed::Return,
-            Event::Drop(_) => Deed::Drop,
-            Event::Move(_) => Deed::Move,
-            Event::Plan(_, _) => Deed::Plan,
+            Event::Recover(_) => EventKind::Recover,
+            Event::Crash(_) => EventKind::Crash,
+            Event::Check(_) => EventKind::Check,
+            Event::Timeout(_) => EventKind::Timeout,
+            Event::Start(_) => EventKind::Start,
+            Event::Run(_) => EventKind::Run,
+            Event::Lose(_) => EventKind::Lose,
+            Event::Return(_) => EventKind::Return,
+            Event::Drop(_) => EventKind::Drop,
+            Event::Move(_) => EventKind::Move,
+            Event::Plan(_, _) => EventKind::Plan,
         }
     }
 
-    /// The event of the node that is this deed; none for a plan, which has a table, too.
+    /// The event of this kind at the node; none for a plan, which has a table, too.
     pub fn event(self, node: Node) -> Option<Event>
-        ensures { result ≡ event_of_deed self node }
+        ensures { result ≡ event_of_kind self node }
     {
         match self {
-            Deed::Recover => Some(Event::Recover(node)),
-            Deed::Crash => Some(Event::Crash(node)),
-            Deed::Check => Some(Event::Check(node)),
-            Deed::Timeout => Some(Event::Timeout(node)),
-            Deed::Start => Some(Event::Start(node)),
-            Deed::Run => Some(Event::Run(node)),
-            Deed::Lose => Some(Event::Lose(node)),
-            Deed::Return => Some(Event::Return(node)),
-            Deed::Drop => Some(Event::Drop(node)),
-            Deed::Move => Some(Event::Move(node)),
-            Deed::Plan => None,
+            EventKind::Recover => Some(Event::Recover(node)),
+            EventKind::Crash => Some(Event::Crash(node)),
+            EventKind::Check => Some(Event::Check(node)),
+            EventKind::Timeout => Some(Event::Timeout(node)),
+            EventKind::Start => Some(Event::Start(node)),
+            EventKind::Run => Some(Event::Run(node)),
+            EventKind::Lose => Some(Event::Lose(node)),
+            EventKind::Return => Some(Event::Return(node)),
+            EventKind::Drop => Some(Event::Drop(node)),
+            EventKind::Move => Some(Event::Move(node)),
+            EventKind::Plan => None,
         }
     }
 
     /// The word of its row.
     pub fn word(self) -> &'static str
-        ensures { (event : EventState) → deed_of event ≡ self → result.now ≡ event_word event }
+        ensures { (event : EventState) → event_kind_of event ≡ self → result.now ≡ event_word event }
     {
         match self {
-            Deed::Recover => RECOVER,
-            Deed::Crash => CRASH,
-            Deed::Check => CHECK,
-            Deed::Timeout => TIMEOUT,
-            Deed::Start => START,
-            Deed::Run => RUN,
-            Deed::Lose => LOSE,
-            Deed::Return => RETURN,
-            Deed::Drop => DROP,
-            Deed::Move => MOVE,
-            Deed::Plan => PLAN,
+            EventKind::Recover => RECOVER,
+            EventKind::Crash => CRASH,
+            EventKind::Check => CHECK,
+            EventKind::Timeout => TIMEOUT,
+            EventKind::Start => START,
+            EventKind::Run => RUN,
+            EventKind::Lose => LOSE,
+            EventKind::Return => RETURN,
+            EventKind::Drop => DROP,
+            EventKind::Move => MOVE,
+            EventKind::Plan => PLAN,
         }
     }
 }
 
-/// All deeds, in the order of the table of rows in docs/FORMATS.md.
-pub const EVERY_DEED: [Deed; 11] = [
-    Deed::Recover,
-    Deed::Crash,
-    Deed::Check,
-    Deed::Timeout,
-    Deed::Start,
-    Deed::Run,
-    Deed::Lose,
-    Deed::Return,
-    Deed::Drop,
-    Deed::Move,
-    Deed::Plan,
+/// All kinds of event, in the order of the table of rows in docs/FORMATS.md.
+pub const EVERY_DEED: [EventKind; 11] = [
+    EventKind::Recover,
+    EventKind::Crash,
+    EventKind::Check,
+    EventKind::Timeout,
+    EventKind::Start,
+    EventKind::Run,
+    EventKind::Lose,
+    EventKind::Return,
+    EventKind::Drop,
+    EventKind::Move,
+    EventKind::Plan,
 ];

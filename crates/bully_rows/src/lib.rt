@@ -24,7 +24,7 @@ mod writing;
 pub use detail::{Detail, DetailedEvent};
 pub use header::{Header, Version, read_weights, version_for};
 pub use kind::{
-    CHECK, CRASH, DROP, Deed, EVERY_DEED, EventKind, LOSE, MOVE, NodeEvent, PLAN, RECOVER, RETURN,
+    CHECK, CRASH, DROP, EventKind, EVERY_DEED, NodeEventKind, LOSE, MOVE, NodeEvent, PLAN, RECOVER, RETURN,
     RUN, START, TIMEOUT, kind_named,
 };
 pub use reading::read_trace;

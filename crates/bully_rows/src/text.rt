@@ -10,7 +10,7 @@ ghost use Rattle.bully_rows.specs.TraceText.{call_fields, claim_fields, event_fi
 ghost use Rattle.bully_rows.specs.Whole.{whole_of};
 ghost use Rattle.bully_rows.specs.Words.{answer_word};
 
-use crate::kind::{DROP, Deed, LOSE, PLAN, RETURN, RUN, START};
+use crate::kind::{DROP, EventKind, LOSE, PLAN, RETURN, RUN, START};
 use crate::words::{answer_word, call_word, keeps_word, status_word};
 use crate::{Claim, Detail, DetailedEvent, Row, Version, WholeClaim};
 use bully_base::{Node, NodeSet, OutOfMemory, Setup};
@@ -113,7 +113,7 @@ pub fn push_event(text: &mut String, event: &Event) -> Result<(), OutOfMemory>
 {
     match event {
         Event::Plan(node, table) => push_plan(text, *node, table),
-        _ => push_named(text, Deed::of(event).word(), event.node()),
+        _ => push_named(text, EventKind::of(event).word(), event.node()),
     }
 }
 

@@ -10,7 +10,7 @@ use crate::point_kind::{leave_answered, nodes_in};
 use crate::states::{
     Announcing, Asking, Checking, Halting, Identity, Idle, Inquiring, Planned, Planning, Readying,
 };
-use crate::{Point, PointKind, Standing, Want};
+use crate::{Point, PointKind, StoredPoint, Want};
 use bully_base::{Node, NodeSet, Setup};
 use bully_calls::Outcome;
 use bully_table::Table;
@@ -304,24 +304,24 @@ impl Procedure {
         self.go_to(next, &left, &up, coordinator, is_started(outcome));
     }
 
-    /// Becomes the procedure of its node that [`Procedure::at`] makes at the point of this standing, in this of the node's
+    /// Becomes the procedure of its node that [`Procedure::at`] makes at this stored point, in this of the node's
     /// generations; what that asks of its arguments has to hold here, too.
     pub fn restart(
         &mut self,
         generation: u32,
-        standing: &Standing,
+        stored_point: &StoredPoint,
         up: &NodeSet,
         coordinator: Option<Node>,
         awaits: bool,
     )
         requires up { IsFallingBelow (state_of self.old).node up.now }
-        requires point { IsPointOf (state_of self.old).setup (state_of self.old).node standing.now }
-        requires inquiry { SuitsInquiry (state_of self.old).setup (state_of self.old).node coordinator standing.now }
-        requires call { awaits ≡ true → IsCall (offered (state_of self.old).setup coordinator standing.now) }
-        ensures { state_of self.new ≡ procedure_state (state_of self.old).setup (state_of self.old).node generation standing.now up.now coordinator awaits }
+        requires point { IsPointOf (state_of self.old).setup (state_of self.old).node stored_point.now }
+        requires inquiry { SuitsInquiry (state_of self.old).setup (state_of self.old).node coordinator stored_point.now }
+        requires call { awaits ≡ true → IsCall (offered (state_of self.old).setup coordinator stored_point.now) }
+        ensures { state_of self.new ≡ procedure_state (state_of self.old).setup (state_of self.old).node generation stored_point.now up.now coordinator awaits }
     {
         self.set_generation(generation);
-        self.go_to(standing.kind(), standing.left(), up, coordinator, awaits);
+        self.go_to(stored_point.kind(), stored_point.left(), up, coordinator, awaits);
     }
 
     // Becomes the same in this of the node's generations.

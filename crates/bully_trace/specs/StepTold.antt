@@ -4,7 +4,7 @@ use Rattle.bully_base.specs.Setup.{IsNode, Setup}
 use Rattle.bully_calls.specs.declared.call.Answer.{Answer}
 use Rattle.bully_steps.specs.declared.point.Want.{Want}
 use Rattle.bully_world.specs.Step.{Step, offer, sent}
-use Rattle.bully_world.specs.World.{World, member, vector, with_member}
+use Rattle.bully_world.specs.World.{World, node_state, vector, with_node_state}
 use Rattle.bully_rows.specs.declared.detail.Detail.{Detail}
 use Rattle.bully_rows.specs.declared.detail.DetailedEvent.{DetailedEvent}
 use Rattle.bully_rows.specs.EventsTold.{call_told, event_of_detailed}
@@ -14,7 +14,7 @@ use Rattle.bully_trace.specs.Details.{call_at, is_so}
 -- the call in the slot; of a Run and of a Return also the answer
 abbrev pub IsOfStep : Setup → World → ℕ → Detail → World → Answer → Type 0
 IsOfStep setup w i (Detail.Start call) w' a =
-    (offer setup w i ≡ Want.Start call) × (w' ≡ with_member w i (record (member w i) { pending = Some (sent call (vector w i)) }))
+    (offer setup w i ≡ Want.Start call) × (w' ≡ with_node_state w i (record (node_state w i) { pending = Some (sent call (vector w i)) }))
 IsOfStep setup w i (Detail.Run call told) w' a = (call_at w i ≡ Some call) × (a ≡ told)
 IsOfStep setup w i (Detail.Lose call) w' a = call_at w i ≡ Some call
 IsOfStep setup w i (Detail.Return call told) w' a = (call_at w i ≡ Some call) × (a ≡ told)

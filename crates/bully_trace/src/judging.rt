@@ -14,7 +14,7 @@ use crate::{Verdict, Violation};
 use bully_agree::Walk;
 use bully_base::OutOfMemory;
 use bully_calls::Answer;
-use bully_rows::{Claim, DetailedEvent, EventKind, Header, NodeEvent, Row, Version, WholeClaim};
+use bully_rows::{Claim, DetailedEvent, NodeEventKind, Header, NodeEvent, Row, Version, WholeClaim};
 use bully_world::{Event, Refused, World};
 use std::alloc::Global;
 use std::marker::Model;
@@ -84,13 +84,13 @@ impl Judge {
     {
         let node = event.node;
         match event.kind {
-            EventKind::Check => self.judge_event(number, &Event::Check(node)),
-            EventKind::Timeout => self.judge_event(number, &Event::Timeout(node)),
-            EventKind::Start => self.judge_event(number, &Event::Start(node)),
-            EventKind::Run => self.judge_event(number, &Event::Run(node)),
-            EventKind::Lose => self.judge_event(number, &Event::Lose(node)),
-            EventKind::Return => self.judge_event(number, &Event::Return(node)),
-            EventKind::Move => self.judge_event(number, &Event::Move(node)),
+            NodeEventKind::Check => self.judge_event(number, &Event::Check(node)),
+            NodeEventKind::Timeout => self.judge_event(number, &Event::Timeout(node)),
+            NodeEventKind::Start => self.judge_event(number, &Event::Start(node)),
+            NodeEventKind::Run => self.judge_event(number, &Event::Run(node)),
+            NodeEventKind::Lose => self.judge_event(number, &Event::Lose(node)),
+            NodeEventKind::Return => self.judge_event(number, &Event::Return(node)),
+            NodeEventKind::Move => self.judge_event(number, &Event::Move(node)),
             _ => self.judge_event(number, &event.event()),
         }
     }

@@ -21,7 +21,7 @@ mod verdict;
 mod verdict_text;
 
 pub use bully_rows::{
-    CHECK, CRASH, Claim, DROP, Detail, DetailedEvent, EventKind, FIRST_NODES_MAX,
+    CHECK, CRASH, Claim, DROP, Detail, DetailedEvent, NodeEventKind, FIRST_NODES_MAX,
     FIRST_PARTITIONS_MAX, Header, LOSE, MOVE, NodeEvent, PLAN, RECOVER, RETURN, ROWS_MAX, RUN, Row,
     Rows, SAW, START, TIMEOUT, Trace, TraceCause, TraceFault, Version, WholeClaim, answer_word,
     call_named, call_word, cause_word, is_word, kind_named, limits, number_within, outcome_named,

@@ -1,6 +1,6 @@
 pub mod HistoryLemmas
 pub mod PartLemmas
 pub mod PrefixLemmas
-pub mod PageLemmas
+pub mod CopyLemmas
 pub mod StepLemmas
 pub mod PublisherLemmas

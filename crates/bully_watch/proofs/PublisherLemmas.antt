@@ -6,7 +6,7 @@ use Rattle.bully_base.specs.Setup.{Setup}
 use Rattle.bully_world.specs.State.{WorldState, world_of}
 use Rattle.bully_world.specs.World.{World}
 use Rattle.bully_watch.specs.History.{IsHistory}
-use Rattle.bully_watch.specs.PageRule.{IsPublisher, LeadsToPage, no_knowledge}
+use Rattle.bully_watch.specs.CopyRule.{IsPublisher, LeadsToCopy, no_knowledge}
 use Rattle.bully_watch.specs.declared.entry.Entry.{Entry}
 use Rattle.bully_watch.specs.declared.knowledge.Knowledge.{Knowledge}
 use Rattle.bully_watch.proofs.HistoryLemmas.{history_prefix}
@@ -31,13 +31,13 @@ taken_more name n n' v pending pending' x entries w f history within is =
     }
 
 -- nothing was taken in yet
-pub taken_nothing : (k : Knowledge) (x : WorldState) (pending : List Entry) → k ≡ no_knowledge → LeadsToPage [] x → pending ≡ [] → (w : World) × IsHistory x.setup (k.seen ++ pending) w
+pub taken_nothing : (k : Knowledge) (x : WorldState) (pending : List Entry) → k ≡ no_knowledge → LeadsToCopy [] x → pending ≡ [] → (w : World) × IsHistory x.setup (k.seen ++ pending) w
 taken_nothing k x pending new leads none =
     let empty : k.seen ++ pending ≡ [] = ap (λ (v : Knowledge). v.seen ++ pending) new ∙ none in
     (world_of x, subst (λ l. IsHistory x.setup l (world_of x)) (sym empty) leads.0)
 
 -- a publisher that has its name and its setup, and nothing else yet
-pub opened_keeps : (name : ℕ) (setup : Setup) (k : Knowledge) (x : WorldState) (pending : List Entry) → k ≡ record { is_named = true; publisher = record { name = name; setup = setup }; seen = [] } → x.setup ≡ setup → LeadsToPage [] x → pending ≡ [] → IsPublisher name 0 k x pending
+pub opened_keeps : (name : ℕ) (setup : Setup) (k : Knowledge) (x : WorldState) (pending : List Entry) → k ≡ record { is_named = true; publisher = record { name = name; setup = setup }; seen = [] } → x.setup ≡ setup → LeadsToCopy [] x → pending ≡ [] → IsPublisher name 0 k x pending
 opened_keeps name setup k x pending is same leads none =
     let K : Knowledge → Type 0 = λ v. IsPublisher name 0 v x pending in
     subst K (sym is) (record {

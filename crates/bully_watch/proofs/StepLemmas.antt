@@ -11,15 +11,15 @@ use Rattle.bully_world.specs.State.{WorldState, first_state, world_of}
 use Rattle.bully_world.specs.World.{World, first_world}
 use Rattle.bully_watch.specs.History.{IsHistory}
 use Rattle.bully_watch.specs.Observation.{Looks}
-use Rattle.bully_watch.specs.PageRule.{IsPublished, Knows, LeadsToPage, SeesAll, applied_to, no_knowledge, page_of}
+use Rattle.bully_watch.specs.CopyRule.{IsPublished, Knows, LeadsToCopy, SeesAll, applied_to, no_knowledge, copy_of}
 use Rattle.bully_watch.specs.declared.entry.Entry.{Entry}
 use Rattle.bully_watch.specs.declared.knowledge.Knowledge.{Knowledge}
-use Rattle.bully_watch.specs.declared.page.Page.{Page}
+use Rattle.bully_watch.specs.declared.world_copy.WorldCopy.{WorldCopy}
 use Rattle.bully_watch.proofs.HistoryLemmas.{history_empty}
-use Rattle.bully_watch.proofs.PageLemmas.{page_after}
+use Rattle.bully_watch.proofs.CopyLemmas.{copy_after}
 use Rattle.bully_watch.proofs.PrefixLemmas.{prefix_self, prefix_trans, prefix_whole}
 
-abbrev holds : Page → List Knowledge → Type 0
+abbrev holds : WorldCopy → List Knowledge → Type 0
 holds p seats = IsPublished p.world seats
 
 knows_nothing : (setup : Setup) (history : List Entry) → Knows setup history no_knowledge
@@ -50,33 +50,33 @@ learns seat v other w x seats h at apart there =
     (h.0, h.1, set_knows x.world.setup h.0 (set seats seat w) other no_knowledge (set_knows x.world.setup h.0 seats seat w h.2 told) (knows_nothing x.world.setup h.0))
 
 -- what leads to the copy is all of the history, since it is as long
-all_of : (x : WorldState) (seen history : List Entry) → LeadsToPage seen x → LeadsToPage history x → IsPrefix seen history → seen ≡ history
+all_of : (x : WorldState) (seen history : List Entry) → LeadsToCopy seen x → LeadsToCopy history x → IsPrefix seen history → seen ≡ history
 all_of x seen history mine theirs prefix =
     let one : x.events ≡ length seen = mine.1 in
     let other : x.events ≡ length history = theirs.1 in
     prefix_whole seen history prefix (omega (arith, one, other))
 
 -- a publish
-pub publishes : (seat : ℕ) (v : Knowledge) (more : List Entry) (x y : Page) (w : Knowledge) (t : World) → LeadsToPage v.seen x.world → IsHistory x.world.setup (v.seen ++ more) t → page_of y.world ≡ fold applied_to (page_of x.world) more
+pub publishes : (seat : ℕ) (v : Knowledge) (more : List Entry) (x y : WorldCopy) (w : Knowledge) (t : World) → LeadsToCopy v.seen x.world → IsHistory x.world.setup (v.seen ++ more) t → copy_of y.world ≡ fold applied_to (copy_of x.world) more
     → w.seen ≡ v.seen ++ more → w.publisher.setup ≡ x.world.setup → TurnsAt holds seat v x y (λ v x y u. u ≡ w)
 publishes seat v more x y w t mine history is all named seats h at =
-    let after = page_after v.seen more x.world y.world t mine history is in
+    let after = copy_after v.seen more x.world y.world t mine history is in
     let whole : v.seen ≡ h.0 = all_of x.world v.seen h.0 mine h.1 (h.2 seat v at).0 in
-    let leads : LeadsToPage w.seen y.world = subst (λ (l : List Entry). LeadsToPage l y.world) (sym all) after.1 in
+    let leads : LeadsToCopy w.seen y.world = subst (λ (l : List Entry). LeadsToCopy l y.world) (sym all) after.1 in
     let onward : IsPrefix h.0 w.seen = subst (λ (z : List Entry). IsPrefix z w.seen) whole (more, sym all) in
     let knows : (j : ℕ) (u : Knowledge) → get_elem? seats j ≡ some u → Knows y.world.setup w.seen u = λ j u a. (prefix_trans u.seen h.0 w.seen (h.2 j u a).0 onward, λ n. (h.2 j u a).1 n ∙ sym after.0) in
     (w, (w.seen, leads, set_knows y.world.setup w.seen seats seat w knows (prefix_self w.seen, λ n. named ∙ sym after.0)), refl)
 
 -- a new copy, before any entry
-pub page_opened : (setup : Setup) (w : WorldState) → w ≡ first_state setup → world_of w ≡ first_world setup → LeadsToPage [] w
-page_opened setup w new first =
+pub copy_opened : (setup : Setup) (w : WorldState) → w ≡ first_state setup → world_of w ≡ first_world setup → LeadsToCopy [] w
+copy_opened setup w new first =
     let same : w.setup ≡ setup = ap (λ v. v.setup) new in
     (subst (λ s. IsHistory s [] (world_of w)) (sym same) (subst (λ v. IsHistory setup [] v) (sym first) (history_empty setup)), ap (λ v. v.events) new)
 
 -- the writer alone, who knows nothing yet
 pub rule_opened : (setup : Setup) (w : WorldState) → w ≡ first_state setup → world_of w ≡ first_world setup → IsPublished w (no_knowledge ∷ [])
 rule_opened setup w new first =
-    ([], page_opened setup w new first, λ seat k at. ⊎_elim (λ old. absurd (cc (old))) (λ (own : no_knowledge ≡ k). subst (λ (u : Knowledge). Knows w.setup [] u) own (knows_nothing w.setup [])) (at_snoc [] no_knowledge k seat at))
+    ([], copy_opened setup w new first, λ seat k at. ⊎_elim (λ old. absurd (cc (old))) (λ (own : no_knowledge ≡ k). subst (λ (u : Knowledge). Knows w.setup [] u) own (knows_nothing w.setup [])) (at_snoc [] no_knowledge k seat at))
 
 -- the view of the copy that a look reads is an observation
 pub look_shows : (before : Knowledge) (w : WorldState) (after : Knowledge) (v : View) → before.is_named ≡ true → SeesAll before w after → v ≡ view_of w.setup w.events (world_of w) → Looks before.publisher after.seen v

@@ -1,3 +1,3 @@
 pub mod History
 pub mod Observation
-pub mod PageRule
+pub mod CopyRule

@@ -8,7 +8,7 @@
 mod entry;
 mod knowledge;
 mod observer;
-mod page;
+mod world_copy;
 mod publisher;
 mod told;
 

@@ -2,9 +2,9 @@ ghost use Rattle.std.specs.Prelude.{◌≡◌, [], IfOk, length, true};
 ghost use mathlib.Core.List.{IsPrefix};
 ghost use Rattle.left_right.specs.Sides.{view};
 ghost use Rattle.bully_watch.specs.Observation.{longer, Looks};
-ghost use Rattle.bully_watch.specs.PageRule.{prefix_of};
+ghost use Rattle.bully_watch.specs.CopyRule.{prefix_of};
 
-use crate::page::{Look, PageReader};
+use crate::world_copy::{Look, CopyReader};
 use crate::told::Told;
 use bully_agree::{View, view};
 use core::mem::replace_with;
@@ -15,7 +15,7 @@ use std::marker::Model;
 /// that it saw or learned of so far.
 #[derive(Drop)]
 pub struct Observer {
-    reader: PageReader,
+    reader: CopyReader,
     count: usize, // how many entries it saw or learned of
     alloc: Global, // which its publisher was made with
 }
@@ -24,7 +24,7 @@ impl Model for Observer {
     ghost use Rattle.std.specs.Prelude.{◌≡◌, length, true};
     ghost use Rattle.left_right.specs.Sides.{view as seat_view};
     ghost use Rattle.bully_watch.specs.Observation.{Prefix};
-    ghost use Rattle.bully_watch.specs.PageRule.{prefix_of};
+    ghost use Rattle.bully_watch.specs.CopyRule.{prefix_of};
 
     ghost Value = { Prefix };
 
@@ -44,7 +44,7 @@ pub enum LookFault {
 
 impl Observer {
     // An observer that saw nothing yet.
-    pub(crate) fn of(alloc: Global, reader: PageReader) -> Observer
+    pub(crate) fn of(alloc: Global, reader: CopyReader) -> Observer
         requires named { (view reader.place).is_named ≡ true }
         requires empty { (view reader.place).seen ≡ [] }
         ensures { result ≡ prefix_of (view reader.place) }

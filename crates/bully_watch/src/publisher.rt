@@ -4,11 +4,11 @@ ghost use Rattle.left_right.specs.Sides.{view};
 ghost use Rattle.bully_world.specs.World.{World as WorldOf};
 ghost use Rattle.bully_watch.specs.History.{IsHistory};
 ghost use Rattle.bully_watch.specs.Observation.{IsOpenFault};
-ghost use Rattle.bully_watch.specs.PageRule.{IsPublisher, LeadsToPage, prefix_of};
+ghost use Rattle.bully_watch.specs.CopyRule.{IsPublisher, LeadsToCopy, prefix_of};
 
 use crate::Entry;
 use crate::observer::Observer;
-use crate::page::{Learn, NextKnowledge, Page, PageReader, PageWriter, Publish, Tell, new_reader};
+use crate::world_copy::{Learn, NextKnowledge, WorldCopy, CopyReader, CopyWriter, Publish, Tell, new_reader};
 use crate::told::Told;
 use bully_base::{OutOfMemory, Setup};
 use bully_world::World;
@@ -28,7 +28,7 @@ pub(crate) const TOLD_MAX: usize = 120;
 /// and those that it took in. It isn't `Drop`: end it by `end`.
 pub struct Publisher {
     name: Blank, // no other publisher has it
-    writer: PageWriter,
+    writer: CopyWriter,
     count: usize, // how many entries it took in
 }
 
@@ -36,7 +36,7 @@ impl Model for Publisher {
     ghost use Rattle.std.specs.Prelude.{◌++◌, drop};
     ghost use Rattle.left_right.specs.Sides.{view as seat_view};
     ghost use Rattle.bully_watch.specs.Observation.{PublisherState};
-    ghost use Rattle.bully_watch.specs.PageRule.{IsPublisher};
+    ghost use Rattle.bully_watch.specs.CopyRule.{IsPublisher};
 
     ghost Value = { PublisherState };
 
@@ -80,9 +80,9 @@ impl Publisher {
             return Err(OpenFault::OutOfMemory);
         };
         let name = Blank::new(1);
-        let one = Page { world: one };
-        let other = Page { world: other };
-        let Ok(writer) = PageWriter::new(alloc, one, other, usize::from(observers) + TOLD_MAX)
+        let one = WorldCopy { world: one };
+        let other = WorldCopy { world: other };
+        let Ok(writer) = CopyWriter::new(alloc, one, other, usize::from(observers) + TOLD_MAX)
         else {
             return Err(OpenFault::OutOfMemory);
         };
@@ -179,7 +179,7 @@ impl Publisher {
 }
 
 // Takes in the entries from number `count` on, as far as there is memory; the number of those taken in then.
-fn take_in(writer: PageWriter, count: usize, entries: &[Entry]) -> (PageWriter, usize)
+fn take_in(writer: CopyWriter, count: usize, entries: &[Entry]) -> (CopyWriter, usize)
     requires within { count ≤ length entries.now }
     requires here { (view writer.desk.place).seen ++ drop writer.behind writer.log.items ≡ take count entries.now }
     ensures desk { result.0.desk ≡ writer.desk }
@@ -201,14 +201,14 @@ fn take_in(writer: PageWriter, count: usize, entries: &[Entry]) -> (PageWriter, 
 }
 
 // Shows what was taken in. From then on the writer knows just what N names.
-fn show<N: NextKnowledge, R: Wait>(rt: &R, _name: &Blank, writer: PageWriter) -> PageWriter
-    requires shown { LeadsToPage (view writer.desk.place).seen writer.desk.shown.value.world }
+fn show<N: NextKnowledge, R: Wait>(rt: &R, _name: &Blank, writer: CopyWriter) -> CopyWriter
+    requires shown { LeadsToCopy (view writer.desk.place).seen writer.desk.shown.value.world }
     requires taken { (w : WorldOf) × IsHistory writer.desk.shown.value.world.setup ((view writer.desk.place).seen ++ drop writer.behind writer.log.items) w }
     requires all { (view writer.desk.place).seen ++ drop writer.behind writer.log.items ≡ N.knowledge.seen }
     requires setup { N.knowledge.publisher.setup ≡ writer.desk.shown.value.world.setup }
     ensures knowledge { view result.desk.place ≡ N.knowledge }
     ensures pending { drop result.behind result.log.items ≡ [] }
-    ensures shown { LeadsToPage N.knowledge.seen result.desk.shown.value.world }
+    ensures shown { LeadsToCopy N.knowledge.seen result.desk.shown.value.world }
     ensures setup { result.desk.shown.value.world.setup ≡ writer.desk.shown.value.world.setup }
 {
     let (writer, shown) = writer.publish_as::<Publish<N>, R>(rt);
@@ -219,7 +219,7 @@ fn show<N: NextKnowledge, R: Wait>(rt: &R, _name: &Blank, writer: PageWriter) ->
 }
 
 // A new reader. Where a place is known to be free, it waits for nothing.
-fn reader_of<R: Wait>(rt: &R, writer: &PageWriter) -> PageReader
+fn reader_of<R: Wait>(rt: &R, writer: &CopyWriter) -> CopyReader
     ensures { result.place.table_id ≡ writer.now.desk.place.table_id }
 {
     for _ in rt.forever() {
@@ -231,7 +231,7 @@ fn reader_of<R: Wait>(rt: &R, writer: &PageWriter) -> PageReader
 }
 
 // The reader learns all that is shown.
-fn tell(writer: &mut PageWriter, reader: &mut PageReader)
+fn tell(writer: &mut CopyWriter, reader: &mut CopyReader)
     requires { reader.old.place.table_id ≡ writer.old.desk.place.table_id }
     ensures kept { (writer.new.desk.shown ≡ writer.old.desk.shown) × (writer.new.log ≡ writer.old.log) × (writer.new.behind ≡ writer.old.behind) × (view writer.new.desk.place ≡ view writer.old.desk.place) }
     ensures told { view reader.new.place ≡ view writer.old.desk.place }
@@ -240,7 +240,7 @@ fn tell(writer: &mut PageWriter, reader: &mut PageReader)
 }
 
 // So many observers, who know what is shown, which is nothing yet.
-fn enroll(alloc: Global, writer: &mut PageWriter, count: u16) -> Result<Vec<Observer>, AllocError>
+fn enroll(alloc: Global, writer: &mut CopyWriter, count: u16) -> Result<Vec<Observer>, AllocError>
     requires { ((view writer.old.desk.place).is_named ≡ true) × ((view writer.old.desk.place).seen ≡ []) }
     ensures kept { (writer.new.desk.shown ≡ writer.old.desk.shown) × (writer.new.log ≡ writer.old.log) × (writer.new.behind ≡ writer.old.behind) × (view writer.new.desk.place ≡ view writer.old.desk.place) }
     ensures observers { IfOk result (λ v. (vec_len v ≡ count) × All (λ o. o ≡ prefix_of (view writer.old.desk.place)) v.items) }

@@ -1,15 +1,15 @@
 ghost use Rattle.std.specs.Prelude.{◌≡◌, length, true};
 ghost use Rattle.left_right.specs.Sides.{view};
-ghost use Rattle.bully_watch.specs.PageRule.{prefix_of};
+ghost use Rattle.bully_watch.specs.CopyRule.{prefix_of};
 
-use crate::page::PageReader;
+use crate::world_copy::CopyReader;
 use std::marker::Model;
 
 /// What a publish told: the history that was shown. Contracts see it as its publisher and those entries.
 /// Dropped or learned, it makes room for one more (see [`Publisher::publish`](crate::Publisher::publish)).
 #[derive(Drop)]
 pub struct Told {
-    reader: PageReader,
+    reader: CopyReader,
     count: usize, // how many entries it stands for
 }
 
@@ -17,7 +17,7 @@ impl Model for Told {
     ghost use Rattle.std.specs.Prelude.{◌≡◌, length, true};
     ghost use Rattle.left_right.specs.Sides.{view as seat_view};
     ghost use Rattle.bully_watch.specs.Observation.{Prefix};
-    ghost use Rattle.bully_watch.specs.PageRule.{prefix_of};
+    ghost use Rattle.bully_watch.specs.CopyRule.{prefix_of};
 
     ghost Value = { Prefix };
 
@@ -28,7 +28,7 @@ impl Model for Told {
 
 impl Told {
     // What the reader learned, which is so many entries.
-    pub(crate) fn of(reader: PageReader, count: usize) -> Told
+    pub(crate) fn of(reader: CopyReader, count: usize) -> Told
         requires named { (view reader.place).is_named ≡ true }
         requires count { count ≡ length (view reader.place).seen }
         ensures { result ≡ prefix_of (view reader.place) }
@@ -42,7 +42,7 @@ impl Told {
         self.count
     }
 
-    pub(crate) fn into_reader(self) -> PageReader
+    pub(crate) fn into_reader(self) -> CopyReader
         ensures named { (view result.place).is_named ≡ true }
         ensures prefix { prefix_of (view result.place) ≡ self }
     {

@@ -7,7 +7,7 @@ use Rattle.bully_base.specs.Setup.{Setup, IsNode}
 use Rattle.bully_calls.specs.declared.event.Event.{Event}
 use Rattle.bully_calls.specs.Events.{node_of}
 use Rattle.bully_world.specs.Cause.{cause}
-use Rattle.bully_world.specs.State.{kept_of, MemberState, empty_state}
+use Rattle.bully_world.specs.State.{kept_of, StoredNode, empty_state}
 use Rattle.bully_world.specs.World.{World}
 
 -- there is room for the event, and its node is one of the setup's
@@ -18,5 +18,5 @@ pub node_in_setup : (setup : Setup) (w : World) (count : ℕ) (e : Event) → ca
 node_in_setup setup w count e n = grind (arith, n, nat_tests)
 
 -- what stands at a node's place is what is kept of it
-pub place_of_node : (ms : List MemberState) (i k : ℕ) (m : MemberState) → i ≤ length ms → k + 1 ≡ i → kept_of ms i ≡ slice_index_or ms k m
+pub place_of_node : (ms : List StoredNode) (i k : ℕ) (m : StoredNode) → i ≤ length ms → k + 1 ≡ i → kept_of ms i ≡ slice_index_or ms k m
 place_of_node ms i k m l is = at_node-place (empty_state 0) m ms k i is (omega (arith, l, is))

@@ -11,8 +11,8 @@ use Rattle.bully_steps.specs.declared.point.Want.{Want}
 use Rattle.bully_steps.specs.Point.{offered, IsPointOf}
 use Rattle.bully_world.specs.NodeInvariant.{NodeInvariant, WorldInvariant, SuitsSetup, SuitsPoint, SuitsCallee, SuitsTable, SuitsPhase}
 use Rattle.bully_world.specs.Step.{sent, carried, with_phase, emptied}
-use Rattle.bully_world.specs.World.{World, Member, member, pending}
-use Rattle.bully_world.proofs.MemberLemmas.{node_of_fits, up_of_fits, call_of_fits, node_of_pending, written_fits}
+use Rattle.bully_world.specs.World.{World, NodeState, node_state, pending}
+use Rattle.bully_world.proofs.NodeStateLemmas.{node_of_fits, up_of_fits, call_of_fits, node_of_pending, written_fits}
 
 -- the call that a point offers
 
@@ -25,7 +25,7 @@ offered_callee setup i v p call is_point suits offers = grind (arith, is_point, 
 offered_table : (setup : Setup) (i : ℕ) (v : Vector) (p : Point) (call : Call) → SuitsSetup setup i v → SuitsPoint i v p → offered setup v.coordinator p ≡ Want.Start call → SuitsTable setup call.kind (carried call.kind v)
 offered_table setup i v p call by_setup suits offers = grind (arith, suits, offers, by_setup.task)
 
-pub start_fits : (setup : Setup) (i : ℕ) (m : Member) (call : Call) → NodeInvariant setup i m → m.vector.status ≢ Down → offered setup m.vector.coordinator m.point ≡ Want.Start call → NodeInvariant setup i (record m { pending = Some (sent call m.vector) })
+pub start_fits : (setup : Setup) (i : ℕ) (m : NodeState) (call : Call) → NodeInvariant setup i m → m.vector.status ≢ Down → offered setup m.vector.coordinator m.point ≡ Want.Start call → NodeInvariant setup i (record m { pending = Some (sent call m.vector) })
 start_fits setup i m call fits up offers = record {
   a_node = fits.a_node;
   down_idle = fits.down_idle;
@@ -44,7 +44,7 @@ start_fits setup i m call fits up offers = record {
 }
 
 -- the call comes to another phase
-pub phase_fits : (setup : Setup) (i : ℕ) (m : Member) (c : Pending) (f : Phase) → NodeInvariant setup i m → m.pending ≡ Some c → SuitsPhase c.call.kind f → NodeInvariant setup i (record m { pending = Some (record c { phase = f }) })
+pub phase_fits : (setup : Setup) (i : ℕ) (m : NodeState) (c : Pending) (f : Phase) → NodeInvariant setup i m → m.pending ≡ Some c → SuitsPhase c.call.kind f → NodeInvariant setup i (record m { pending = Some (record c { phase = f }) })
 phase_fits setup i m c f fits is suits =
     let s = call_of_fits setup i m c fits is in
     record {
@@ -58,7 +58,7 @@ phase_fits setup i m c f fits is suits =
     }
 
 -- the call is taken out
-pub free_fits : (setup : Setup) (i : ℕ) (m : Member) → NodeInvariant setup i m → NodeInvariant setup i (record m { pending = None })
+pub free_fits : (setup : Setup) (i : ℕ) (m : NodeState) → NodeInvariant setup i m → NodeInvariant setup i (record m { pending = None })
 free_fits setup i m fits = record {
   a_node = fits.a_node;
   down_idle = fits.down_idle;
@@ -72,8 +72,8 @@ free_fits setup i m fits = record {
 -- the call of node i comes to another phase
 pub with_phase_fits : (setup : Setup) (w : World) (i : ℕ) (c : Pending) (f : Phase) → WorldInvariant setup w → pending w i ≡ Some c → SuitsPhase c.call.kind f → WorldInvariant setup (with_phase w i c f)
 with_phase_fits setup w i c f all is suits =
-    written_fits setup w i _ all (node_of_pending setup w i c all is).0 (phase_fits setup i (member w i) c f (all.fits i) is suits)
+    written_fits setup w i _ all (node_of_pending setup w i c all is).0 (phase_fits setup i (node_state w i) c f (all.fits i) is suits)
 
 -- the call of node i is taken out
 pub emptied_fits : (setup : Setup) (w : World) (i : ℕ) (c : Pending) → WorldInvariant setup w → pending w i ≡ Some c → WorldInvariant setup (emptied w i)
-emptied_fits setup w i c all is = written_fits setup w i _ all (node_of_pending setup w i c all is).0 (free_fits setup i (member w i) (all.fits i))
+emptied_fits setup w i c all is = written_fits setup w i _ all (node_of_pending setup w i c all is).0 (free_fits setup i (node_state w i) (all.fits i))

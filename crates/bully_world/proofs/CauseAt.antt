@@ -15,19 +15,19 @@ use Rattle.bully_calls.specs.declared.event.Refused.{Refused}
 use Rattle.bully_calls.specs.Events.{node_of}
 use Rattle.bully_world.specs.Cause.{refuses, first_of, later_refusals, cause, is_down_at}
 use Rattle.bully_world.specs.NodeInvariant.{WorldInvariant, SuitsPending}
-use Rattle.bully_world.specs.State.{MemberState, empty_state, member_of, members_of}
-use Rattle.bully_world.specs.World.{World, Member, member}
-use Rattle.bully_world.proofs.MembersOf.{member-members_of, members_of-length}
+use Rattle.bully_world.specs.State.{StoredNode, empty_state, node_state_of, world_in}
+use Rattle.bully_world.specs.World.{World, NodeState, member}
+use Rattle.bully_world.proofs.WorldIn.{member-world_in, world_in-length}
 
 -- what stands at a node's place is its member
-pub member-place : (ms : List MemberState) (k i : ℕ) (s : MemberState) → k + 1 ≡ i → k < length ms → s ≡ slice_index_or ms k s → member (members_of ms) i ≡ member_of s
-member-place ms k i s e l is = member-members_of ms i ∙ ap member_of (at_node-place (empty_state 0) s ms k i e l ∙ sym is)
+pub member-place : (ms : List StoredNode) (k i : ℕ) (s : StoredNode) → k + 1 ≡ i → k < length ms → s ≡ slice_index_or ms k s → member (world_in ms) i ≡ node_state_of s
+member-place ms k i s e l is = member-world_in ms i ∙ ap node_state_of (at_node-place (empty_state 0) s ms k i e l ∙ sym is)
 
-pub place-within : (setup : Setup) (ms : List MemberState) (k i : ℕ) → WorldInvariant setup (members_of ms) → k + 1 ≡ i → i ≤ setup.nodes → k < length ms
-place-within setup ms k i all e l = omega (arith, members_of-length ms, all.count)
+pub place-within : (setup : Setup) (ms : List StoredNode) (k i : ℕ) → WorldInvariant setup (world_in ms) → k + 1 ≡ i → i ≤ setup.nodes → k < length ms
+place-within setup ms k i all e l = omega (arith, world_in-length ms, all.count)
 
 -- the member of an event that is this one
-pub named_is : (w : World) (m : Member) (e f : Event) → e ≡ f → member w (node_of e) ≡ m → member w (node_of f) ≡ m
+pub named_is : (w : World) (m : NodeState) (e f : Event) → e ≡ f → member w (node_of e) ≡ m → member w (node_of f) ≡ m
 named_is w m e f same is = ap (λ x. member w (node_of x)) (sym same) ∙ is
 
 -- what refuses an event that is this one
@@ -35,7 +35,7 @@ pub at_event : (setup : Setup) (w : World) (count : ℕ) (e f : Event) (r : Opti
 at_event setup w count e f r same is = is ∙ ap (λ x. first_of (refuses setup w count x) later_refusals) (sym same)
 
 -- a call in a slot goes to a node of the setup
-pub callee-within : (setup : Setup) (ms : List MemberState) (i : ℕ) (s : MemberState) → WorldInvariant setup (members_of ms) → member (members_of ms) i ≡ member_of s
+pub callee-within : (setup : Setup) (ms : List StoredNode) (i : ℕ) (s : StoredNode) → WorldInvariant setup (world_in ms) → member (world_in ms) i ≡ node_state_of s
     → IfSome s.slot.content (λ p. (0 < p.call.callee) × (p.call.callee ≤ length ms))
 callee-within setup ms i s all here = by_slot s.slot.content (all_calls s.slot.content refl)
   where
@@ -44,7 +44,7 @@ callee-within setup ms i s all here = by_slot s.slot.content (all_calls s.slot.c
 
     by_slot : (q : Option SlotCall) → SuitsPending setup i s.vector.vector s.point (option_map (pending_of s.generation) q) → IfSome q (λ p. (0 < p.call.callee) × (p.call.callee ≤ length ms))
     by_slot None h = tt
-    by_slot (Some p) h = (h.to_node.0, omega (arith, h.to_node.1, all.count, members_of-length ms))
+    by_slot (Some p) h = (h.to_node.0, omega (arith, h.to_node.1, all.count, world_in-length ms))
 
 -- the first refusals, where there is room and the node is one of the setup's
 pub cause-recover : (setup : Setup) (w : World) (count i : ℕ) → count < setup.events_max → IsNode setup i → cause setup w count (Event.Recover i) ≡ (if not (is_down_at w i) then Some Refused.IsUp else None)
@@ -56,8 +56,8 @@ cause-later setup w count (Event.Recover i) other room node = absurd (other i re
 cause-later setup w count e other room node = grind (arith, nat_tests, room, node)
 
 -- a status that is Down, as a test
-pub down-test : (w : World) (i : ℕ) (m : Member) (b : Bool) → member w i ≡ m → (b ≡ true → m.vector.status ≡ Down) → (m.vector.status ≡ Down → b ≡ true) → b ≡ is_down_at w i
-down-test w i m b here to from = subst (λ (x : Member). b ≡ is_down x.vector.status) (sym here) (by_status m.vector.status b to from)
+pub down-test : (w : World) (i : ℕ) (m : NodeState) (b : Bool) → member w i ≡ m → (b ≡ true → m.vector.status ≡ Down) → (m.vector.status ≡ Down → b ≡ true) → b ≡ is_down_at w i
+down-test w i m b here to from = subst (λ (x : NodeState). b ≡ is_down x.vector.status) (sym here) (by_status m.vector.status b to from)
   where
     by_status : (s : Status) (b : Bool) → (b ≡ true → s ≡ Down) → (s ≡ Down → b ≡ true) → b ≡ is_down s
     by_status Down b to from = from refl

@@ -5,9 +5,9 @@ use Rattle.bully_calls.specs.declared.call.Answer.{Answer}
 use Rattle.bully_calls.specs.declared.event.Event.{Event}
 use Rattle.bully_calls.specs.Events.{node_of}
 use Rattle.bully_world.specs.Step.{Step}
-use Rattle.bully_world.specs.World.{World, member}
+use Rattle.bully_world.specs.World.{World, node_state}
 use Rattle.bully_world.proofs.EventLaws.{OwnLaws, EventLaws, of_own}
-use Rattle.bully_world.proofs.MemberLemmas.{member_other}
+use Rattle.bully_world.proofs.NodeStateLemmas.{node_state_other}
 use Rattle.bully_world.proofs.OwnEvents.{IsNoRun, is_own}
 use Rattle.bully_world.proofs.Events.Recovering.{recover_laws}
 use Rattle.bully_world.proofs.Events.Crashing.{crash_laws}
@@ -44,10 +44,10 @@ own_laws setup (Event.Move i) other = move_laws setup i
 own_laws setup (Event.Plan i table) other = plan_laws setup i table
 
 -- an event of one node leaves the others as they were
-pub own_other : (setup : Setup) (w w' : World) (e : Event) (a : Answer) (k : ℕ) → IsNoRun e → Step setup w e w' a → k ≢ node_of e → member w' k ≡ member w k
+pub own_other : (setup : Setup) (w w' : World) (e : Event) (a : Answer) (k : ℕ) → IsNoRun e → Step setup w e w' a → k ≢ node_of e → node_state w' k ≡ node_state w k
 own_other setup w w' e a k own s d =
     let (m, is) = (own_laws setup e own).writes w w' a s in
-    ap (λ (v : World). member v k) is ∙ member_other w (node_of e) k m d
+    ap (λ (v : World). node_state v k) is ∙ node_state_other w (node_of e) k m d
 
 by_own : (setup : Setup) (e : Event) → IsNoRun e → EventLaws setup e
 by_own setup e other = of_own setup e (is_own setup e other) (own_laws setup e other)

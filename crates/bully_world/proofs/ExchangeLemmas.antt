@@ -1,4 +1,4 @@
--- A call that runs, by the places of its caller's and its callee's members.
+-- A call that runs, by the places of its caller's and its callee's states.
 use Rattle.std.proofs.Common.{◌≡◌, ◌≢◌, ℕ, ◌+◌, ◌<◌, List, length, Option, Some, None, sym, ◌∙◌, ap, subst, arith}
 use Rattle.std.specs.Prelude.{option_map, IfSome, slice_index_or, slice_set}
 use Rattle.bully_base.specs.Places.{at_node, put_node}
@@ -8,11 +8,11 @@ use Rattle.bully_calls.specs.declared.call.Call.{Call}
 use Rattle.bully_calls.specs.declared.call.Phase.{Phase}
 use Rattle.bully_calls.specs.Slot.{SlotCall}
 use Rattle.bully_handlers.specs.Handler.{reply}
-use Rattle.bully_world.specs.State.{kept_of, MemberState, empty_state}
+use Rattle.bully_world.specs.State.{kept_of, StoredNode, empty_state}
 use Rattle.bully_world.specs.StateAfter.{state_after_run, replied, callee_state_after, phased_state, CanExchange, CanRun}
 
 -- what a run makes of the list, as two writes to it
-pub state_after_run-writes : (ms : List MemberState) (i : ℕ) (p : SlotCall) (here there : ℕ) → here + 1 ≡ i → there + 1 ≡ p.call.callee → p.call.callee ≢ i
+pub state_after_run-writes : (ms : List StoredNode) (i : ℕ) (p : SlotCall) (here there : ℕ) → here + 1 ≡ i → there + 1 ≡ p.call.callee → p.call.callee ≢ i
     → state_after_run ms i (Some p) ≡ slice_set (slice_set ms here (phased_state (Phase.Ran (replied ms p)) (kept_of ms i))) there (callee_state_after i p (kept_of ms p.call.callee))
 state_after_run-writes ms i p here there h t other =
     put_node-place (put_node ms i (phased_state (Phase.Ran (replied ms p)) (kept_of ms i))) there p.call.callee (callee_state_after i p (at_node (empty_state 0) (put_node ms i (phased_state (Phase.Ran (replied ms p)) (kept_of ms i))) p.call.callee)) t
@@ -24,11 +24,11 @@ pub if_content : (q : Option SlotCall) (p : SlotCall) (P : SlotCall → Type 0) 
 if_content None p P e h = absurd (cc e)
 if_content (Some x) p P e h = subst P (cc e) h
 
-abbrev place_at : List MemberState → ℕ → MemberState
+abbrev place_at : List StoredNode → ℕ → StoredNode
 place_at ms k = slice_index_or ms k (empty_state 0)
 
--- a run by the places of its two members: node i's, at `here`, and its callee's, at `there`
-pub record RunsBetween (ms : List MemberState) (i here there : ℕ) : Type 0 where
+-- a run by the places of its two states: node i's, at `here`, and its callee's, at `there`
+pub record RunsBetween (ms : List StoredNode) (i here there : ℕ) : Type 0 where
   pub p : SlotCall
   pub content : (kept_of ms i).slot.content ≡ Some p
   pub is_here : place_at ms here ≡ kept_of ms i
@@ -39,11 +39,11 @@ pub record RunsBetween (ms : List MemberState) (i here there : ℕ) : Type 0 whe
   pub other : p.call.callee ≢ i
   pub can : CanExchange (place_at ms here) (place_at ms there)
 
-pub runs_between : (ms : List MemberState) (i here there : ℕ) → CanRun ms i → (m : MemberState) (call : Call) → here + 1 ≡ i → there + 1 ≡ call.callee → m ≡ slice_index_or ms here m → option_map (λ (p : SlotCall). p.call) m.slot.content ≡ Some call → RunsBetween ms i here there
+pub runs_between : (ms : List StoredNode) (i here there : ℕ) → CanRun ms i → (m : StoredNode) (call : Call) → here + 1 ≡ i → there + 1 ≡ call.callee → m ≡ slice_index_or ms here m → option_map (λ (p : SlotCall). p.call) m.slot.content ≡ Some call → RunsBetween ms i here there
 runs_between ms i here there r m call h t is calls =
     let within_here : here < length ms = omega (arith, r.caller, h) in
     let here_is : kept_of ms i ≡ m = at_node-place (empty_state 0) m ms here i h within_here ∙ sym is in
-    let same : r.call.call ≡ call = same_call (kept_of ms i).slot.content r.call call r.content (ap (λ (x : MemberState). option_map (λ (p : SlotCall). p.call) x.slot.content) here_is ∙ calls) in
+    let same : r.call.call ≡ call = same_call (kept_of ms i).slot.content r.call call r.content (ap (λ (x : StoredNode). option_map (λ (p : SlotCall). p.call) x.slot.content) here_is ∙ calls) in
     let to_there : there + 1 ≡ r.call.call.callee = t ∙ ap (λ (x : Call). x.callee) (sym same) in
     let within_there : there < length ms = omega (arith, r.callee.1, to_there) in
     let at_here = sym (at_node-place (empty_state 0) (empty_state 0) ms here i h within_here) in
@@ -57,26 +57,26 @@ runs_between ms i here there r m call h t is calls =
       to_there = to_there;
       within = within_there;
       other = r.other;
-      can = subst (λ (x : MemberState). CanExchange x (place_at ms there)) (sym at_here) (subst (λ (x : MemberState). CanExchange (kept_of ms i) x) (sym at_there) r.can);
+      can = subst (λ (x : StoredNode). CanExchange x (place_at ms there)) (sym at_here) (subst (λ (x : StoredNode). CanExchange (kept_of ms i) x) (sym at_there) r.can);
     }
   where
     same_call : (q : Option SlotCall) (p : SlotCall) (call : Call) → q ≡ Some p → option_map (λ (x : SlotCall). x.call) q ≡ Some call → p.call ≡ call
     same_call None p call e f = absurd (cc e)
     same_call (Some x) p call e f = grind (arith, e, f)
 
--- what the two members make of it is what the run makes, with its answer
-pub run-answer : (ms : List MemberState) (i here there : ℕ) (result : Answer) (r : RunsBetween ms i here there)
+-- what the two states make of it is what the run makes, with its answer
+pub run-answer : (ms : List StoredNode) (i here there : ℕ) (result : Answer) (r : RunsBetween ms i here there)
     → IfSome (place_at ms here).slot.content (λ p. result ≡ reply p.call.kind (place_at ms there).vector.vector) → result ≡ replied ms r.p
 run-answer ms i here there result r h =
-    if_content (place_at ms here).slot.content r.p (λ p. result ≡ reply p.call.kind (place_at ms there).vector.vector) (ap (λ (x : MemberState). x.slot.content) r.is_here ∙ r.content) h
-    ∙ ap (λ (x : MemberState). reply r.p.call.kind x.vector.vector) r.is_there
+    if_content (place_at ms here).slot.content r.p (λ p. result ≡ reply p.call.kind (place_at ms there).vector.vector) (ap (λ (x : StoredNode). x.slot.content) r.is_here ∙ r.content) h
+    ∙ ap (λ (x : StoredNode). reply r.p.call.kind x.vector.vector) r.is_there
 
-pub run-after : (ms new : List MemberState) (i here there : ℕ) (result : Answer) (r : RunsBetween ms i here there) → result ≡ replied ms r.p
+pub run-after : (ms new : List StoredNode) (i here there : ℕ) (result : Answer) (r : RunsBetween ms i here there) → result ≡ replied ms r.p
     → IfSome (place_at ms here).slot.content (λ p. new ≡ slice_set (slice_set ms here (phased_state (Phase.Ran result) (place_at ms here))) there (callee_state_after i p (place_at ms there)))
     → new ≡ state_after_run ms i (Some r.p)
 run-after ms new i here there result r answer h =
-    if_content (place_at ms here).slot.content r.p (λ p. new ≡ slice_set (slice_set ms here (phased_state (Phase.Ran result) (place_at ms here))) there (callee_state_after i p (place_at ms there))) (ap (λ (x : MemberState). x.slot.content) r.is_here ∙ r.content) h
-    ∙ ap (λ (x : MemberState). slice_set (slice_set ms here (phased_state (Phase.Ran result) x)) there (callee_state_after i r.p (place_at ms there))) r.is_here
+    if_content (place_at ms here).slot.content r.p (λ p. new ≡ slice_set (slice_set ms here (phased_state (Phase.Ran result) (place_at ms here))) there (callee_state_after i p (place_at ms there))) (ap (λ (x : StoredNode). x.slot.content) r.is_here ∙ r.content) h
+    ∙ ap (λ (x : StoredNode). slice_set (slice_set ms here (phased_state (Phase.Ran result) x)) there (callee_state_after i r.p (place_at ms there))) r.is_here
     ∙ ap (λ (a : Answer). slice_set (slice_set ms here (phased_state (Phase.Ran a) (kept_of ms i))) there (callee_state_after i r.p (place_at ms there))) answer
-    ∙ ap (λ (x : MemberState). slice_set (slice_set ms here (phased_state (Phase.Ran (replied ms r.p)) (kept_of ms i))) there (callee_state_after i r.p x)) r.is_there
+    ∙ ap (λ (x : StoredNode). slice_set (slice_set ms here (phased_state (Phase.Ran (replied ms r.p)) (kept_of ms i))) there (callee_state_after i r.p x)) r.is_there
     ∙ sym (state_after_run-writes ms i r.p here there r.from_here r.to_there r.other)

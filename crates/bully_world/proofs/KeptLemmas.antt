@@ -9,16 +9,16 @@ use Rattle.bully_calls.specs.declared.call.Phase.{Phase}
 use Rattle.bully_calls.specs.Slot.{SlotCall, phased}
 use Rattle.bully_handlers.specs.Vector.{Vector}
 use Rattle.bully_steps.specs.declared.point.Point.{Point}
-use Rattle.bully_world.specs.State.{kept_of, MemberState, empty_state, IsKept, AllKept}
+use Rattle.bully_world.specs.State.{kept_of, StoredNode, empty_state, IsKept, AllKept}
 use Rattle.bully_world.specs.StateAfter.{proceeded_state, phased_state, with_content}
-use Rattle.bully_world.proofs.MembersOf.{at_node-put_cases}
+use Rattle.bully_world.proofs.WorldIn.{at_node-put_cases}
 
 tag_later : (q : Option SlotCall) (g h : ℕ) → g ≤ h → IfSome q (λ p. p.tag.generation ≤ g) → IfSome q (λ p. p.tag.generation ≤ h)
 tag_later None g h l t = tt
 tag_later (Some p) g h l t = omega arith
 
 -- another vector and point, and the generation or the next one
-pub kept_with : (setup : Setup) (events i : ℕ) (m : MemberState) (v : Vector) (p : Point) (g : ℕ) → m.generation ≤ g → g ≤ m.generation + 1 → IsKept setup events i m
+pub kept_with : (setup : Setup) (events i : ℕ) (m : StoredNode) (v : Vector) (p : Point) (g : ℕ) → m.generation ≤ g → g ≤ m.generation + 1 → IsKept setup events i m
     → IsKept setup (events + 1) i (record m { vector = record m.vector { vector = v }; point = p; generation = g })
 kept_with setup events i m v p g low high k = record {
   vector_room = k.vector_room;
@@ -28,7 +28,7 @@ kept_with setup events i m v p g low high k = record {
   generation = omega (arith, k.generation);
 }
 
-pub kept_empty : (setup : Setup) (events i : ℕ) (m : MemberState) → IsKept setup events i m → IsKept setup events i (with_content None m)
+pub kept_empty : (setup : Setup) (events i : ℕ) (m : StoredNode) → IsKept setup events i m → IsKept setup events i (with_content None m)
 kept_empty setup events i m k = record {
   vector_room = k.vector_room;
   slot_room = k.slot_room;
@@ -37,13 +37,13 @@ kept_empty setup events i m k = record {
   generation = k.generation;
 }
 
-pub kept_later : (setup : Setup) (events i : ℕ) (m : MemberState) → IsKept setup events i m → IsKept setup (events + 1) i m
+pub kept_later : (setup : Setup) (events i : ℕ) (m : StoredNode) → IsKept setup events i m → IsKept setup (events + 1) i m
 kept_later setup events i m k = kept_with setup events i m m.vector.vector m.point m.generation (omega arith) (omega arith) k
 
-pub kept_emptied : (setup : Setup) (events i : ℕ) (m : MemberState) → IsKept setup events i m → IsKept setup (events + 1) i (with_content None m)
+pub kept_emptied : (setup : Setup) (events i : ℕ) (m : StoredNode) → IsKept setup events i m → IsKept setup (events + 1) i (with_content None m)
 kept_emptied setup events i m k = kept_later setup events i (with_content None m) (kept_empty setup events i m k)
 
-pub kept_phased : (setup : Setup) (events i : ℕ) (m : MemberState) (f : Phase) → IsKept setup events i m → IsKept setup events i (phased_state f m)
+pub kept_phased : (setup : Setup) (events i : ℕ) (m : StoredNode) (f : Phase) → IsKept setup events i m → IsKept setup events i (phased_state f m)
 kept_phased setup events i m f k = record {
   vector_room = k.vector_room;
   slot_room = k.slot_room;
@@ -60,14 +60,14 @@ kept_phased setup events i m f k = record {
     tag_same None h = tt
     tag_same (Some p) h = h
 
-pub kept_proceeded : (setup : Setup) (events i : ℕ) (o : Outcome) (m : MemberState) → IsKept setup events i m → IsKept setup (events + 1) i (proceeded_state setup i o m)
+pub kept_proceeded : (setup : Setup) (events i : ℕ) (o : Outcome) (m : StoredNode) → IsKept setup events i m → IsKept setup (events + 1) i (proceeded_state setup i o m)
 kept_proceeded setup events i o m k = kept_with setup events i m _ _ m.generation (omega arith) (omega arith) k
 
-pub all_later : (setup : Setup) (events : ℕ) (ms : List MemberState) → AllKept setup events ms → AllKept setup (events + 1) ms
+pub all_later : (setup : Setup) (events : ℕ) (ms : List StoredNode) → AllKept setup events ms → AllKept setup (events + 1) ms
 all_later setup events ms kept j node = kept_later setup events j (kept_of ms j) (kept j node)
 
 -- one place is written anew, with a state that is kept there
-pub put_kept : (setup : Setup) (events : ℕ) (ms : List MemberState) (i : ℕ) (s : MemberState) → AllKept setup events ms → (IsNode setup i → IsKept setup events i s) → AllKept setup events (put_node ms i s)
+pub put_kept : (setup : Setup) (events : ℕ) (ms : List StoredNode) (i : ℕ) (s : StoredNode) → AllKept setup events ms → (IsNode setup i → IsKept setup events i s) → AllKept setup events (put_node ms i s)
 put_kept setup events ms i s kept new j node = by_case (at_node-put_cases (empty_state 0) ms i j s)
   where
     by_case : ((j ≡ i) × (kept_of (put_node ms i s) j ≡ s)) ⊎ (kept_of (put_node ms i s) j ≡ kept_of ms j) → IsKept setup events j (kept_of (put_node ms i s) j)

@@ -1,9 +1,9 @@
-pub mod MemberLemmas
+pub mod NodeStateLemmas
 pub mod QuietInvariant
 pub mod CallInvariant
 pub mod MoveInvariant
 pub mod RunInvariant
-pub mod MembersOf
+pub mod WorldIn
 pub mod ApplyLemmas
 pub mod WriteLemmas
 pub mod SlotLemmas

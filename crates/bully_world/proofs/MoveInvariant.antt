@@ -12,9 +12,9 @@ use Rattle.bully_steps.specs.NextPoint.{next_point, next_vector}
 use Rattle.bully_steps.specs.Point.{IsPointOf}
 use Rattle.bully_steps.proofs.ResumeLemmas.{point_follows}
 use Rattle.bully_world.specs.NodeInvariant.{NodeInvariant, WorldInvariant, SuitsSetup, SuitsPoint}
-use Rattle.bully_world.specs.World.{World, Member, member}
+use Rattle.bully_world.specs.World.{World, NodeState, node_state}
 use Rattle.bully_world.specs.Step.{IsUp, Proceeds}
-use Rattle.bully_world.proofs.MemberLemmas.{node_of_fits, node_of_up, written_fits}
+use Rattle.bully_world.proofs.NodeStateLemmas.{node_of_fits, node_of_up, written_fits}
 
 module _ (setup : Setup) (i : ℕ) (v : Vector) (p : Point) (o : Outcome) (q : Point) (node : IsNode setup i) (up : v.status ≢ Down) (is_point : IsPointOf setup i p) (by_setup : SuitsSetup setup i v) (by_point : SuitsPoint i v p) (next : next_point setup i v.up p o ≡ Some q) where
   next_is_point : IsPointOf setup i q
@@ -33,7 +33,7 @@ module _ (setup : Setup) (i : ℕ) (v : Vector) (p : Point) (o : Outcome) (q : P
   next_by_point ne = grind (arith, by_point, next, ne)
 
 -- a procedure's node after any outcome but a plan
-pub proceed_fits : (setup : Setup) (i : ℕ) (m : Member) (o : Outcome) (q : Point) → NodeInvariant setup i m → m.vector.status ≢ Down → o ≢ Outcome.Planned → next_point setup i m.vector.up m.point o ≡ Some q → NodeInvariant setup i (record { vector = next_vector i m.point o m.vector; point = q; pending = None })
+pub proceed_fits : (setup : Setup) (i : ℕ) (m : NodeState) (o : Outcome) (q : Point) → NodeInvariant setup i m → m.vector.status ≢ Down → o ≢ Outcome.Planned → next_point setup i m.vector.up m.point o ≡ Some q → NodeInvariant setup i (record { vector = next_vector i m.point o m.vector; point = q; pending = None })
 proceed_fits setup i m o q fits up ne next =
     let node = node_of_fits setup i m fits up in
     record {
@@ -48,7 +48,7 @@ proceed_fits setup i m o q fits up ne next =
 
 pub proceeds_fits : (setup : Setup) (w : World) (i : ℕ) (o : Outcome) (w' : World) → WorldInvariant setup w → IsUp w i → o ≢ Outcome.Planned → Proceeds setup w i o w' → WorldInvariant setup w'
 proceeds_fits setup w i o w' all up ne (q, next, becomes) =
-    rw becomes (written_fits setup w i _ all (node_of_up setup w i all up) (proceed_fits setup i (member w i) o q (all.fits i) up ne next))
+    rw becomes (written_fits setup w i _ all (node_of_up setup w i all up) (proceed_fits setup i (node_state w i) o q (all.fits i) up ne next))
 
 -- a point that isn't nowhere is some point
 pub has_point : (q : Option Point) → (q ≡ None → ⊥) → (p : Point) × (q ≡ Some p)
@@ -56,10 +56,10 @@ has_point None h = absurd (h refl)
 has_point (Some p) h = (p, refl)
 
 -- a planning node is up
-pub planning_up : (setup : Setup) (i : ℕ) (m : Member) → NodeInvariant setup i m → m.point ≡ Planning → m.vector.status ≢ Down
+pub planning_up : (setup : Setup) (i : ℕ) (m : NodeState) → NodeInvariant setup i m → m.point ≡ Planning → m.vector.status ≢ Down
 planning_up setup i m fits planning d = grind (arith, planning, fits.down_idle d)
 
-pub plan_fits : (setup : Setup) (i : ℕ) (m : Member) (table : List ℕ) → NodeInvariant setup i m → m.point ≡ Planning → length table ≡ setup.partitions → NodeInvariant setup i (record { vector = record m.vector { task = Some table }; point = Readying m.vector.up; pending = None })
+pub plan_fits : (setup : Setup) (i : ℕ) (m : NodeState) (table : List ℕ) → NodeInvariant setup i m → m.point ≡ Planning → length table ≡ setup.partitions → NodeInvariant setup i (record { vector = record m.vector { task = Some table }; point = Readying m.vector.up; pending = None })
 plan_fits setup i m table fits planning size = record {
   a_node = fits.a_node;
   down_idle = λ d. absurd (planning_up setup i m fits planning d);

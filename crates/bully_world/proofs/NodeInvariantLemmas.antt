@@ -8,19 +8,19 @@ use Rattle.bully_calls.specs.declared.event.Event.{Event}
 use Rattle.bully_world.specs.Lawful.{LeadTo, IsLawful}
 use Rattle.bully_world.specs.NodeInvariant.{WorldInvariant}
 use Rattle.bully_world.specs.Step.{Step}
-use Rattle.bully_world.specs.World.{World, member, empty_member, first_world}
-pub use Rattle.bully_world.proofs.MemberLemmas.{member_here, member_other, member_cases, node_of_fits, node_of_up, node_of_pending, call_of_fits, call_of_pending, written_fits, up_of_fits}
+use Rattle.bully_world.specs.World.{World, node_state, empty_node_state, first_world}
+pub use Rattle.bully_world.proofs.NodeStateLemmas.{node_state_here, node_state_other, member_cases, node_of_fits, node_of_up, node_of_pending, call_of_fits, call_of_pending, written_fits, up_of_fits}
 pub use Rattle.bully_world.proofs.RunInvariant.{callee_other, run_fits, ran_here, ran_there, ran_other}
 use Rattle.bully_world.proofs.Events.{event_laws}
 use Rattle.bully_world.proofs.QuietInvariant.{empty_fits}
 
-pub first_member : (setup : Setup) (i : ℕ) → member (first_world setup) i ≡ empty_member
-first_member setup i = at_node_replicate empty_member setup.nodes i
+pub first_node_state : (setup : Setup) (i : ℕ) → node_state (first_world setup) i ≡ empty_node_state
+first_node_state setup i = at_node_replicate empty_node_state setup.nodes i
 
 pub first_fits : (setup : Setup) → WorldInvariant setup (first_world setup)
 first_fits setup = record {
   count = grind (arith, common_steps);
-  fits = λ i. rw (first_member setup i) (empty_fits setup i);
+  fits = λ i. rw (first_node_state setup i) (empty_fits setup i);
 }
 
 pub step_fits : (setup : Setup) (w : World) (e : Event) (w' : World) (a : Answer) → Step setup w e w' a → WorldInvariant setup w → WorldInvariant setup w'

@@ -6,7 +6,7 @@ use Rattle.bully_base.specs.Places.{put_node}
 use Rattle.bully_base.specs.Setup.{Setup}
 use Rattle.bully_calls.specs.declared.event.Event.{Event}
 use Rattle.bully_calls.specs.Events.{node_of}
-use Rattle.bully_world.specs.State.{MemberState, kept_of, raises}
+use Rattle.bully_world.specs.State.{StoredNode, kept_of, raises}
 use Rattle.bully_world.specs.StateAfter.{state_after, node_after, answer_after, node_answer, CanApply, CanApplyHere}
 use Rattle.bully_world.specs.World.{World}
 
@@ -16,9 +16,9 @@ IsNoRun e = (i : ℕ) → e ≡ Event.Run i → ⊥
 
 -- the event is one of its node alone
 pub record IsOwn (setup : Setup) (e : Event) : Type 0 where
-  pub after : (ms : List MemberState) → state_after setup ms e ≡ put_node ms (node_of e) (node_after setup e (kept_of ms (node_of e)))
-  pub answer : (ms : List MemberState) → answer_after ms e ≡ node_answer e (kept_of ms (node_of e))
-  pub can : (ms : List MemberState) → CanApply setup ms e ↔ ((node_of e ≤ length ms) × CanApplyHere setup e (kept_of ms (node_of e)))
+  pub after : (ms : List StoredNode) → state_after setup ms e ≡ put_node ms (node_of e) (node_after setup e (kept_of ms (node_of e)))
+  pub answer : (ms : List StoredNode) → answer_after ms e ≡ node_answer e (kept_of ms (node_of e))
+  pub can : (ms : List StoredNode) → CanApply setup ms e ↔ ((node_of e ≤ length ms) × CanApplyHere setup e (kept_of ms (node_of e)))
   pub raises_own : (w : World) (j : ℕ) → raises w e j ≡ (raises w e (node_of e) && (node_of e == j))
 
 only_own : (w : World) (e : Event) (j : ℕ) → IsNoRun e → raises w e j ≡ (raises w e (node_of e) && (node_of e == j))

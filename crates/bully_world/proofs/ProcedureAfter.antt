@@ -21,9 +21,9 @@ use Rattle.bully_world.specs.Cause.{is_live_in}
 use Rattle.bully_world.specs.NodeInvariant.{WorldInvariant, SuitsPhase}
 use Rattle.bully_world.specs.Step.{Step, IsUp, Returns, sent, emptied}
 use Rattle.bully_world.specs.Turn.{step_event, outcome_after, procedure_after}
-use Rattle.bully_world.specs.World.{World, Member, member, vector, point, pending, with_member}
+use Rattle.bully_world.specs.World.{World, NodeState, node_state, vector, point, pending, with_node_state}
 use Rattle.bully_world.proofs.AgreeLemmas.{Agrees, resumed_agrees}
-use Rattle.bully_world.proofs.MemberLemmas.{member_here, node_of_up, node_of_pending, call_of_pending}
+use Rattle.bully_world.proofs.NodeStateLemmas.{node_state_here, node_of_up, node_of_pending, call_of_pending}
 use Rattle.bully_world.proofs.MoveInvariant.{planning_up}
 use Rattle.bully_world.proofs.TurnSteps.{shown, wants}
 
@@ -69,9 +69,9 @@ identity_after kind a h = by_outcome (outcome_after kind a)
     by_outcome None = (refl, refl, refl)
     by_outcome (Some o) = (refl, refl, refl)
 
-module _ (setup : Setup) (w : World) (i g : ℕ) (h : ProcedureState) (all : WorldInvariant setup w) (se : h.setup ≡ setup) (ne : h.node ≡ i) (a : Agrees h (shown setup i g (member w i))) where
+module _ (setup : Setup) (w : World) (i g : ℕ) (h : ProcedureState) (all : WorldInvariant setup w) (se : h.setup ≡ setup) (ne : h.node ≡ i) (a : Agrees h (shown setup i g (node_state w i))) where
   -- it goes on as its node does
-  goes_on : (o : Outcome) (q : Point) (m : Member) → next_point setup i (vector w i).up (point w i) o ≡ Some q → m.point ≡ q → m.vector.up ≡ (next_vector i (point w i) o (vector w i)).up
+  goes_on : (o : Outcome) (q : Point) (m : NodeState) → next_point setup i (vector w i).up (point w i) o ≡ Some q → m.point ≡ q → m.vector.up ≡ (next_vector i (point w i) o (vector w i)).up
       → m.vector.coordinator ≡ (next_vector i (point w i) o (vector w i)).coordinator → is_live_in m.pending ≡ is_started o → Agrees (resumed h o) (shown setup i g m)
   goes_on o q m e at up coordinator live =
       let r = resumed_agrees setup i g (point w i) (vector w i) (is_live_in (pending w i)) o q h se ne a e in
@@ -84,7 +84,7 @@ module _ (setup : Setup) (w : World) (i g : ℕ) (h : ProcedureState) (all : Wor
       }
 
   -- it stays as it is where its node's point and vector do, and its live call
-  stays : (m : Member) → m.point ≡ point w i → m.vector ≡ vector w i → is_live_in m.pending ≡ is_live_in (pending w i) → Agrees h (shown setup i g m)
+  stays : (m : NodeState) → m.point ≡ point w i → m.vector ≡ vector w i → is_live_in m.pending ≡ is_live_in (pending w i) → Agrees h (shown setup i g m)
   stays m at v live = record {
     generation = a.generation;
     point = a.point ∙ sym at;
@@ -94,18 +94,18 @@ module _ (setup : Setup) (w : World) (i g : ℕ) (h : ProcedureState) (all : Wor
   }
 
   abbrev GoesOn : StepKind → World → Answer → Type 0
-  GoesOn kind w' answer = Agrees (procedure_after kind answer h) (shown setup i g (member w' i)) × IfSome (outcome_after kind answer) (CanResume h)
+  GoesOn kind w' answer = Agrees (procedure_after kind answer h) (shown setup i g (node_state w' i)) × IfSome (outcome_after kind answer) (CanResume h)
 
-  here : (m : Member) → IsNode setup i → member (with_member w i m) i ≡ m
-  here m node = member_here setup w i m all node
+  here : (m : NodeState) → IsNode setup i → node_state (with_node_state w i m) i ≡ m
+  here m node = node_state_here setup w i m all node
 
   start_on : (w' : World) (answer : Answer) → Step setup w (Event.Start i) w' answer → GoesOn StepKind.Start w' answer
   start_on w' answer s =
-      let m : Member = record (member w i) { pending = Some (sent s.2 (vector w i)) } in
-      let there : member w' i ≡ m = ap (λ x. member x i) s.4 ∙ here m (node_of_up setup w i all s.0) in
+      let m : NodeState = record (node_state w i) { pending = Some (sent s.2 (vector w i)) } in
+      let there : node_state w' i ≡ m = ap (λ x. node_state x i) s.4 ∙ here m (node_of_up setup w i all s.0) in
       let next = started_stays setup i (vector w i).up (vector w i).coordinator (point w i) s.2 s.3 in
       let same = started_vector i (point w i) (vector w i) in
-      let want : want_of h ≡ Want.Start s.2 = wants setup i g (member w i) h se a s.1 ∙ s.3 in (
+      let want : want_of h ≡ Want.Start s.2 = wants setup i g (node_state w i) h se a s.1 ∙ s.3 in (
         subst (λ x. Agrees (resumed h Outcome.Started) (shown setup i g x)) (sym there)
             (goes_on Outcome.Started (point w i) m next refl (ap (λ (v : Vector). v.up) (sym same)) (ap (λ (v : Vector). v.coordinator) (sym same)) refl),
         subst (λ q. CanCome q h.point Outcome.Started) (sym want) tt,
@@ -113,19 +113,19 @@ module _ (setup : Setup) (w : World) (i g : ℕ) (h : ProcedureState) (all : Wor
 
   move_on : (w' : World) (answer : Answer) → Step setup w (Event.Move i) w' answer → GoesOn StepKind.Move w' answer
   move_on w' answer s =
-      let m : Member = record { vector = next_vector i (point w i) Outcome.Moved (vector w i); point = s.3.0; pending = None } in
-      let there : member w' i ≡ m = ap (λ x. member x i) s.3.2 ∙ here m (node_of_up setup w i all s.0) in
-      let want : want_of h ≡ Want.Move = wants setup i g (member w i) h se a s.1 ∙ s.2 in (
+      let m : NodeState = record { vector = next_vector i (point w i) Outcome.Moved (vector w i); point = s.3.0; pending = None } in
+      let there : node_state w' i ≡ m = ap (λ x. node_state x i) s.3.2 ∙ here m (node_of_up setup w i all s.0) in
+      let want : want_of h ≡ Want.Move = wants setup i g (node_state w i) h se a s.1 ∙ s.2 in (
         subst (λ x. Agrees (resumed h Outcome.Moved) (shown setup i g x)) (sym there) (goes_on Outcome.Moved s.3.0 m s.3.1 refl refl refl refl),
         subst (λ q. CanCome q h.point Outcome.Moved) (sym want) tt,
       )
 
   plan_on : (table : List ℕ) (w' : World) (answer : Answer) → Step setup w (Event.Plan i table) w' answer → GoesOn StepKind.Plan w' answer
   plan_on table w' answer s =
-      let m : Member = record { vector = record (vector w i) { task = Some table }; point = Readying (vector w i).up; pending = None } in
-      let up : IsUp w i = planning_up setup i (member w i) (all.fits i) s.0 in
-      let there : member w' i ≡ m = ap (λ x. member x i) s.4 ∙ here m (node_of_up setup w i all up) in
-      let want : want_of h ≡ Want.Plan = wants setup i g (member w i) h se a s.1 ∙ ap (offered setup (vector w i).coordinator) s.0 in (
+      let m : NodeState = record { vector = record (vector w i) { task = Some table }; point = Readying (vector w i).up; pending = None } in
+      let up : IsUp w i = planning_up setup i (node_state w i) (all.fits i) s.0 in
+      let there : node_state w' i ≡ m = ap (λ x. node_state x i) s.4 ∙ here m (node_of_up setup w i all up) in
+      let want : want_of h ≡ Want.Plan = wants setup i g (node_state w i) h se a s.1 ∙ ap (offered setup (vector w i).coordinator) s.0 in (
         subst (λ x. Agrees (resumed h Outcome.Planned) (shown setup i g x)) (sym there)
             (goes_on Outcome.Planned (Readying (vector w i).up) m (ap (λ p. next_point setup i (vector w i).up p Outcome.Planned) s.0) refl (ap (λ p. (next_vector i p Outcome.Planned (vector w i)).up) (sym s.0))
             (ap (λ p. (next_vector i p Outcome.Planned (vector w i)).coordinator) (sym s.0)) refl),
@@ -134,15 +134,15 @@ module _ (setup : Setup) (w : World) (i g : ℕ) (h : ProcedureState) (all : Wor
 
   lose_on : (w' : World) (answer : Answer) → Step setup w (Event.Lose i) w' answer → GoesOn StepKind.Lose w' answer
   lose_on w' answer s =
-      let m : Member = record (member w i) { pending = Some (record s.0 { phase = Phase.Failed }) } in
-      let there : member w' i ≡ m = ap (λ x. member x i) s.4 ∙ here m (node_of_pending setup w i s.0 all s.1).0 in
+      let m : NodeState = record (node_state w i) { pending = Some (record s.0 { phase = Phase.Failed }) } in
+      let there : node_state w' i ≡ m = ap (λ x. node_state x i) s.4 ∙ here m (node_of_pending setup w i s.0 all s.1).0 in
       (subst (λ x. Agrees h (shown setup i g x)) (sym there) (stays m refl refl (ap is_live_in (sym s.1))), tt)
 
   -- it stays as it is where an orphan is taken out of its node's slot
-  orphan_out : (c : Pending) (w' : World) → pending w i ≡ Some c → c.is_live ≡ false → w' ≡ emptied w i → Agrees h (shown setup i g (member w' i))
+  orphan_out : (c : Pending) (w' : World) → pending w i ≡ Some c → c.is_live ≡ false → w' ≡ emptied w i → Agrees h (shown setup i g (node_state w' i))
   orphan_out c w' is orphan becomes =
-      let m : Member = record (member w i) { pending = None } in
-      let there : member w' i ≡ m = ap (λ x. member x i) becomes ∙ here m (node_of_pending setup w i c all is).0 in
+      let m : NodeState = record (node_state w i) { pending = None } in
+      let there : node_state w' i ≡ m = ap (λ x. node_state x i) becomes ∙ here m (node_of_pending setup w i c all is).0 in
       subst (λ x. Agrees h (shown setup i g x)) (sym there) (stays m refl refl (sym orphan ∙ ap is_live_in (sym is)))
 
   drop_on : (w' : World) (answer : Answer) → Step setup w (Event.Drop i) w' answer → GoesOn StepKind.Drop w' answer
@@ -150,18 +150,18 @@ module _ (setup : Setup) (w : World) (i g : ℕ) (h : ProcedureState) (all : Wor
 
   return_by : (c : Pending) (o : Outcome) (w' : World) (answer : Answer) → pending w i ≡ Some c → outcome_of c.phase ≡ Some o → (b : Bool) → c.is_live ≡ b → Returns setup w i b o w' answer → GoesOn StepKind.Return w' answer
   return_by c o w' answer is done true live r =
-      let m : Member = record { vector = next_vector i (point w i) o (vector w i); point = r.0.0; pending = None } in
-      let there : member w' i ≡ m = ap (λ x. member x i) r.0.2 ∙ here m (node_of_pending setup w i c all is).0 in
+      let m : NodeState = record { vector = next_vector i (point w i) o (vector w i); point = r.0.0; pending = None } in
+      let there : node_state w' i ≡ m = ap (λ x. node_state x i) r.0.2 ∙ here m (node_of_pending setup w i c all is).0 in
       let back = came_back c.phase o done in
       let after : outcome_after StepKind.Return answer ≡ Some o = ap (outcome_after StepKind.Return) r.1 ∙ back.1 in
       let call = call_of_pending setup w i c all is in
       let want : want_of h ≡ Want.Await = grind (arith, a.awaits, is, live) in
-      let on : Agrees (resumed h o) (shown setup i g (member w' i)) = subst (λ x. Agrees (resumed h o) (shown setup i g x)) (sym there) (goes_on o r.0.0 m r.0.1 refl refl refl (sym back.0)) in
+      let on : Agrees (resumed h o) (shown setup i g (node_state w' i)) = subst (λ x. Agrees (resumed h o) (shown setup i g x)) (sym there) (goes_on o r.0.0 m r.0.1 refl refl refl (sym back.0)) in
       let can : CanResume h o = subst (λ q. CanCome q h.point o) (sym want) (subst (λ p. CanCome Want.Await p o) (sym a.point) (can_come setup (vector w i).coordinator (point w i) c.call c.phase o (call.live live) call.phase done)) in
-      (subst (λ q. Agrees (option_map_or (resumed h) q h) (shown setup i g (member w' i))) (sym after) on, subst (λ q. IfSome q (CanResume h)) (sym after) can)
+      (subst (λ q. Agrees (option_map_or (resumed h) q h) (shown setup i g (node_state w' i))) (sym after) on, subst (λ q. IfSome q (CanResume h)) (sym after) can)
   return_by c o w' answer is done false live r =
       let after : outcome_after StepKind.Return answer ≡ None = ap (outcome_after StepKind.Return) r.1 in
-      (subst (λ q. Agrees (option_map_or (resumed h) q h) (shown setup i g (member w' i))) (sym after) (orphan_out c w' is live r.0), subst (λ q. IfSome q (CanResume h)) (sym after) tt)
+      (subst (λ q. Agrees (option_map_or (resumed h) q h) (shown setup i g (node_state w' i))) (sym after) (orphan_out c w' is live r.0), subst (λ q. IfSome q (CanResume h)) (sym after) tt)
 
   -- after each step of the turn rule
   pub step_on : (kind : StepKind) (w' : World) (answer : Answer) → Step setup w (step_event kind h) w' answer → GoesOn kind w' answer

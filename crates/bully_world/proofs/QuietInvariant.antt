@@ -10,9 +10,9 @@ use Rattle.bully_steps.specs.declared.point.Point.TheVariants.{Idle}
 use Rattle.bully_steps.specs.NextPoint.{election, checked, timed_out}
 use Rattle.bully_steps.specs.Point.{IsPointOf}
 use Rattle.bully_world.specs.NodeInvariant.{NodeInvariant, SuitsPoint, SuitsPending, IsBeginning}
-use Rattle.bully_world.specs.World.{Member, empty_member}
+use Rattle.bully_world.specs.World.{NodeState, empty_node_state}
 
-pub empty_fits : (setup : Setup) (i : ℕ) → NodeInvariant setup i empty_member
+pub empty_fits : (setup : Setup) (i : ℕ) → NodeInvariant setup i empty_node_state
 empty_fits setup i = record {
   a_node = inl refl;
   down_idle = λ d. refl;
@@ -28,7 +28,7 @@ kept_sized : (keeps : Bool) (task : Option (List ℕ)) (n : ℕ) → ((table : L
 kept_sized true task n sized table e = sized table e
 kept_sized false task n sized table e = absurd (grind (arith, e))
 
-pub crash_fits : (setup : Setup) (i : ℕ) (m : Member) → NodeInvariant setup i m → NodeInvariant setup i (record { vector = crashed setup m.vector; point = Idle; pending = None })
+pub crash_fits : (setup : Setup) (i : ℕ) (m : NodeState) → NodeInvariant setup i m → NodeInvariant setup i (record { vector = crashed setup m.vector; point = Idle; pending = None })
 crash_fits setup i m fits = record {
   a_node = inl refl;
   down_idle = λ d. refl;
@@ -39,7 +39,7 @@ crash_fits setup i m fits = record {
   by_call = tt;
 }
 
-pub recover_fits : (setup : Setup) (i : ℕ) (m : Member) → NodeInvariant setup i m → IsNode setup i → m.vector.status ≡ Down → NodeInvariant setup i (record m { vector = recovered setup m.vector; point = election i })
+pub recover_fits : (setup : Setup) (i : ℕ) (m : NodeState) → NodeInvariant setup i m → IsNode setup i → m.vector.status ≡ Down → NodeInvariant setup i (record m { vector = recovered setup m.vector; point = election i })
 recover_fits setup i m fits node down = record {
   a_node = inr node;
   down_idle = λ d. absurd (grind arith);
@@ -51,7 +51,7 @@ recover_fits setup i m fits node down = record {
 }
 
 -- an idle node goes to a point where it has asked past nobody and passed nobody
-pub begin_fits : (setup : Setup) (i : ℕ) (m : Member) (p : Point) → NodeInvariant setup i m → m.vector.status ≢ Down → m.point ≡ Idle → IsBeginning i p → IsPointOf setup i p → SuitsPoint i m.vector p → NodeInvariant setup i (record m { point = p })
+pub begin_fits : (setup : Setup) (i : ℕ) (m : NodeState) (p : Point) → NodeInvariant setup i m → m.vector.status ≢ Down → m.point ≡ Idle → IsBeginning i p → IsPointOf setup i p → SuitsPoint i m.vector p → NodeInvariant setup i (record m { point = p })
 begin_fits setup i m p fits up idle begins is_point suits_point = record {
   a_node = fits.a_node;
   down_idle = λ d. absurd (up d);
@@ -66,8 +66,8 @@ begin_fits setup i m p fits up idle begins is_point suits_point = record {
     suits None s = tt
     suits (Some c) s = record { live = λ e. absurd (grind (arith, idle, s.live e)); orphan = λ e. begins; to_node = s.to_node; callee = s.callee; table = s.table; phase = s.phase }
 
-pub check_fits : (setup : Setup) (i : ℕ) (m : Member) → NodeInvariant setup i m → m.vector.status ≢ Down → m.point ≡ Idle → NodeInvariant setup i (record m { point = checked setup i m.vector.status m.vector.coordinator })
+pub check_fits : (setup : Setup) (i : ℕ) (m : NodeState) → NodeInvariant setup i m → m.vector.status ≢ Down → m.point ≡ Idle → NodeInvariant setup i (record m { point = checked setup i m.vector.status m.vector.coordinator })
 check_fits setup i m fits up idle = begin_fits setup i m _ fits up idle (grind arith) (grind arith) (grind arith)
 
-pub timeout_fits : (setup : Setup) (i : ℕ) (m : Member) → NodeInvariant setup i m → m.vector.status ≢ Down → m.point ≡ Idle → NodeInvariant setup i (record m { point = timed_out i m.vector.status m.vector.coordinator })
+pub timeout_fits : (setup : Setup) (i : ℕ) (m : NodeState) → NodeInvariant setup i m → m.vector.status ≢ Down → m.point ≡ Idle → NodeInvariant setup i (record m { point = timed_out i m.vector.status m.vector.coordinator })
 timeout_fits setup i m fits up idle = begin_fits setup i m _ fits up idle (grind arith) (grind (arith, fits.a_node, up)) (grind (arith, up))

@@ -13,16 +13,16 @@ use Rattle.bully_steps.specs.declared.point.Point.{Point}
 use Rattle.bully_steps.specs.declared.point.Point.TheVariants.{Idle, Inquiring}
 use Rattle.bully_world.specs.NodeInvariant.{NodeInvariant, WorldInvariant, SuitsCall, SuitsPhase, SuitsTable, SuitsCallee, SuitsPending}
 use Rattle.bully_world.specs.Step.{IsUp, stopped_by, called, with_phase, ran}
-use Rattle.bully_world.specs.World.{World, Member, member, vector, point, pending, stopped}
+use Rattle.bully_world.specs.World.{World, NodeState, node_state, vector, point, pending, stopped}
 use Rattle.bully_world.proofs.CallInvariant.{with_phase_fits}
-use Rattle.bully_world.proofs.MemberLemmas.{node_of_fits, member_here, member_other, node_of_up, node_of_pending, call_of_pending, written_fits}
+use Rattle.bully_world.proofs.NodeStateLemmas.{node_of_fits, node_state_here, node_state_other, node_of_up, node_of_pending, call_of_pending, written_fits}
 
 -- a reply suits its call
 pub reply_suits : (kind : CallKind) (v : Vector) → SuitsPhase kind (Phase.Ran (reply kind v))
 reply_suits kind v = grind arith
 
 -- node d, halted by node i
-pub halted_fits : (setup : Setup) (i d : ℕ) (m : Member) → NodeInvariant setup d m → m.vector.status ≢ Down → NodeInvariant setup d (stopped (record m { vector = record m.vector { status = Election; halter = Some i } }))
+pub halted_fits : (setup : Setup) (i d : ℕ) (m : NodeState) → NodeInvariant setup d m → m.vector.status ≢ Down → NodeInvariant setup d (stopped (record m { vector = record m.vector { status = Election; halter = Some i } }))
 halted_fits setup i d m fits up = record {
   a_node = inr (node_of_fits setup d m fits up);
   down_idle = λ e. refl;
@@ -43,7 +43,7 @@ suits_still setup d v1 v2 p None x s = tt
 suits_still setup d v1 v2 p (Some c) x s = record { live = λ l. grind (arith, s.live l, x); orphan = s.orphan; to_node = s.to_node; callee = s.callee; table = s.table; phase = s.phase }
 
 -- node d joins node i that halted it
-pub joined_fits : (setup : Setup) (i d : ℕ) (m : Member) → NodeInvariant setup d m → IsNode setup i → d < i → m.vector.status ≡ Election → m.vector.halter ≡ Some i → NodeInvariant setup d (record m { vector = record m.vector { status = Reorganization; coordinator = Some i } })
+pub joined_fits : (setup : Setup) (i d : ℕ) (m : NodeState) → NodeInvariant setup d m → IsNode setup i → d < i → m.vector.status ≡ Election → m.vector.halter ≡ Some i → NodeInvariant setup d (record m { vector = record m.vector { status = Reorganization; coordinator = Some i } })
 joined_fits setup i d m fits node below status halter = record {
   a_node = inr (node_of_fits setup d m fits (λ e. grind (arith, e, status)));
   down_idle = λ e. absurd (grind arith);
@@ -55,7 +55,7 @@ joined_fits setup i d m fits node below status halter = record {
 }
 
 -- node d is normal under node i
-pub readied_fits : (setup : Setup) (i d : ℕ) (m : Member) (table : Option (List ℕ)) → NodeInvariant setup d m → d < i → m.vector.status ≡ Reorganization → m.vector.coordinator ≡ Some i → SuitsTable setup Ready table → NodeInvariant setup d (record m { vector = record m.vector { status = Normal; task = table } })
+pub readied_fits : (setup : Setup) (i d : ℕ) (m : NodeState) (table : Option (List ℕ)) → NodeInvariant setup d m → d < i → m.vector.status ≡ Reorganization → m.vector.coordinator ≡ Some i → SuitsTable setup Ready table → NodeInvariant setup d (record m { vector = record m.vector { status = Normal; task = table } })
 readied_fits setup i d m table fits below status coordinator suits = record {
   a_node = inr (node_of_fits setup d m fits (λ e. grind (arith, e, status)));
   down_idle = λ e. absurd (grind arith);
@@ -66,16 +66,16 @@ readied_fits setup i d m table fits below status coordinator suits = record {
   by_call = suits_still setup d m.vector (record m.vector { status = Normal; task = table }) m.point m.pending (inl refl) fits.by_call;
 }
 
-joins : (setup : Setup) (i d : ℕ) (m : Member) (b : Bool) → names m.vector.halter i && is_election m.vector.status ≡ b → NodeInvariant setup d m → IsNode setup i → d < i → NodeInvariant setup d (record m { vector = if b then record m.vector { status = Reorganization; coordinator = Some i } else m.vector })
+joins : (setup : Setup) (i d : ℕ) (m : NodeState) (b : Bool) → names m.vector.halter i && is_election m.vector.status ≡ b → NodeInvariant setup d m → IsNode setup i → d < i → NodeInvariant setup d (record m { vector = if b then record m.vector { status = Reorganization; coordinator = Some i } else m.vector })
 joins setup i d m true t fits node below = joined_fits setup i d m fits node below (grind (arith, t)) (grind (arith, t))
 joins setup i d m false t fits node below = fits
 
-follows : (setup : Setup) (i d : ℕ) (m : Member) (table : Option (List ℕ)) (b : Bool) → names m.vector.coordinator i && is_reorganization m.vector.status ≡ b → NodeInvariant setup d m → d < i → SuitsTable setup Ready table → NodeInvariant setup d (record m { vector = if b then record m.vector { status = Normal; task = table } else m.vector })
+follows : (setup : Setup) (i d : ℕ) (m : NodeState) (table : Option (List ℕ)) (b : Bool) → names m.vector.coordinator i && is_reorganization m.vector.status ≡ b → NodeInvariant setup d m → d < i → SuitsTable setup Ready table → NodeInvariant setup d (record m { vector = if b then record m.vector { status = Normal; task = table } else m.vector })
 follows setup i d m table true t fits below suits = readied_fits setup i d m table fits below (grind (arith, t)) (grind (arith, t)) suits
 follows setup i d m table false t fits below suits = fits
 
 -- node d after it heard a call from node i
-pub callee_fits_after : (setup : Setup) (i d : ℕ) (kind : CallKind) (table : Option (List ℕ)) (m : Member) → NodeInvariant setup d m → m.vector.status ≢ Down → IsNode setup i → SuitsCallee i kind d → SuitsTable setup kind table → NodeInvariant setup d (stopped_by kind (record m { vector = callee_after i kind table m.vector }))
+pub callee_fits_after : (setup : Setup) (i d : ℕ) (kind : CallKind) (table : Option (List ℕ)) (m : NodeState) → NodeInvariant setup d m → m.vector.status ≢ Down → IsNode setup i → SuitsCallee i kind d → SuitsTable setup kind table → NodeInvariant setup d (stopped_by kind (record m { vector = callee_after i kind table m.vector }))
 callee_fits_after setup i d AreYouUp table m fits up node callee suits = fits
 callee_fits_after setup i d AreYouNormal table m fits up node callee suits = fits
 callee_fits_after setup i d Halt table m fits up node callee suits = halted_fits setup i d m fits up
@@ -106,21 +106,21 @@ module _ (setup : Setup) (w : World) (i : ℕ) (c : Pending) (all : WorldInvaria
   answered_fits : WorldInvariant setup answered
   answered_fits = with_phase_fits setup w i c (Phase.Ran (reply c.call.kind (vector w c.call.callee))) all is (reply_suits c.call.kind (vector w c.call.callee))
 
-  answered_there : member answered c.call.callee ≡ member w c.call.callee
-  answered_there = member_other w i c.call.callee _ other
+  answered_there : node_state answered c.call.callee ≡ node_state w c.call.callee
+  answered_there = node_state_other w i c.call.callee _ other
 
-  callee_fits : NodeInvariant setup c.call.callee (called i c (member w c.call.callee))
-  callee_fits = callee_fits_after setup i c.call.callee c.call.kind c.table (member w c.call.callee) (all.fits c.call.callee) up node suits.callee suits.table
+  callee_fits : NodeInvariant setup c.call.callee (called i c (node_state w c.call.callee))
+  callee_fits = callee_fits_after setup i c.call.callee c.call.kind c.table (node_state w c.call.callee) (all.fits c.call.callee) up node suits.callee suits.table
 
   pub run_fits : WorldInvariant setup (ran w i c)
-  run_fits = written_fits setup answered c.call.callee (called i c (member answered c.call.callee)) answered_fits there (rw answered_there callee_fits)
+  run_fits = written_fits setup answered c.call.callee (called i c (node_state answered c.call.callee)) answered_fits there (rw answered_there callee_fits)
 
   -- what the nodes are after the call ran
-  pub ran_here : member (ran w i c) i ≡ record (member w i) { pending = Some (record c { phase = Phase.Ran (reply c.call.kind (vector w c.call.callee)) }) }
-  ran_here = member_other answered c.call.callee i _ (λ e. other (sym e)) ∙ member_here setup w i _ all node
+  pub ran_here : node_state (ran w i c) i ≡ record (node_state w i) { pending = Some (record c { phase = Phase.Ran (reply c.call.kind (vector w c.call.callee)) }) }
+  ran_here = node_state_other answered c.call.callee i _ (λ e. other (sym e)) ∙ node_state_here setup w i _ all node
 
-  pub ran_there : member (ran w i c) c.call.callee ≡ called i c (member w c.call.callee)
-  ran_there = member_here setup answered c.call.callee _ answered_fits there ∙ ap (called i c) answered_there
+  pub ran_there : node_state (ran w i c) c.call.callee ≡ called i c (node_state w c.call.callee)
+  ran_there = node_state_here setup answered c.call.callee _ answered_fits there ∙ ap (called i c) answered_there
 
-  pub ran_other : (j : ℕ) → j ≢ i → j ≢ c.call.callee → member (ran w i c) j ≡ member w j
-  ran_other j d e = member_other answered c.call.callee j _ e ∙ member_other w i j _ d
+  pub ran_other : (j : ℕ) → j ≢ i → j ≢ c.call.callee → node_state (ran w i c) j ≡ node_state w j
+  ran_other j d e = node_state_other answered c.call.callee j _ e ∙ node_state_other w i j _ d

@@ -12,16 +12,16 @@ use Rattle.bully_steps.specs.ProcedureState.{IsCall, SuitsInquiry}
 use Rattle.bully_steps.specs.Point.{offered}
 use Rattle.bully_world.specs.Cause.{is_live_in}
 use Rattle.bully_world.specs.NodeInvariant.{NodeInvariant, WorldInvariant, SuitsSetup, SuitsPoint, SuitsPending}
-use Rattle.bully_world.specs.State.{WorldState, IsReached, state_at, member_of, world_of}
-use Rattle.bully_world.proofs.MembersOf.{member-members_of}
+use Rattle.bully_world.specs.State.{WorldState, IsReached, state_at, node_state_of, world_of}
+use Rattle.bully_world.proofs.WorldIn.{node_state-world_in}
 use Rattle.bully_world.proofs.NodeInvariantLemmas.{lawful_fits}
 
 -- what holds of every node of a world that is reached
 pub reached_fits : (w : WorldState) → IsReached w → WorldInvariant w.setup (world_of w)
 reached_fits w is = lawful_fits w.setup is.applied is.answers (world_of w) is.lawful
 
-pub node_fits : (w : WorldState) → IsReached w → (i : ℕ) → NodeInvariant w.setup i (member_of (state_at w i))
-node_fits w is i = subst (NodeInvariant w.setup i) (member-members_of w.members i) ((reached_fits w is).fits i)
+pub node_fits : (w : WorldState) → IsReached w → (i : ℕ) → NodeInvariant w.setup i (node_state_of (state_at w i))
+node_fits w is i = subst (NodeInvariant w.setup i) (node_state-world_in w.states i) ((reached_fits w is).fits i)
 
 -- at Inquiring the coordinator is another node of the setup
 pub suits_inquiry : (setup : Setup) (i : ℕ) (v : Vector) (p : Point) → SuitsSetup setup i v → SuitsPoint i v p → SuitsInquiry setup i v.coordinator p

@@ -22,13 +22,13 @@ use Rattle.bully_world.specs.Cause.{cause, is_call, is_down_at, is_live_in}
 use Rattle.bully_world.specs.NodeInvariant.{NodeInvariant, WorldInvariant}
 use Rattle.bully_world.specs.Step.{IsUp, offer}
 use Rattle.bully_world.specs.Turn.{turn_of_call, turn_of_want, turn_in_step, has_table, step_event}
-use Rattle.bully_world.specs.World.{World, Member, member, vector, pending}
+use Rattle.bully_world.specs.World.{World, NodeState, node_state, vector, pending}
 use Rattle.bully_world.proofs.AgreeLemmas.{Agrees}
-use Rattle.bully_world.proofs.MemberLemmas.{node_of_up, node_of_pending}
+use Rattle.bully_world.proofs.NodeStateLemmas.{node_of_up, node_of_pending}
 use Rattle.bully_world.proofs.OwnEvents.{IsNodesOwn}
 
--- the procedure that the world shows of a node with this member
-abbrev pub shown : Setup → ℕ → ℕ → Member → ProcedureState
+-- the procedure that the world shows of a node with this node state
+abbrev pub shown : Setup → ℕ → ℕ → NodeState → ProcedureState
 shown setup i g m = procedure_state setup i g m.point m.vector.up m.vector.coordinator (is_live_in m.pending)
 
 -- What the turn rule offers.
@@ -94,11 +94,11 @@ offered_state setup (Checking j) k = refl
 offered_state setup Inquiring k = refl
 
 -- where no call is pending, a procedure that agrees with its node wants what the node's point offers
-pub wants : (setup : Setup) (i g : ℕ) (m : Member) (h : ProcedureState) → h.setup ≡ setup → Agrees h (shown setup i g m) → m.pending ≡ None → want_of h ≡ offered setup m.vector.coordinator m.point
+pub wants : (setup : Setup) (i g : ℕ) (m : NodeState) (h : ProcedureState) → h.setup ≡ setup → Agrees h (shown setup i g m) → m.pending ≡ None → want_of h ≡ offered setup m.vector.coordinator m.point
 wants setup i g m h se a free = grind (arith, se, free, a.awaits, a.point, a.coordinator, offered_state setup m.point m.vector.coordinator)
 
 -- a node that something is offered is up
-up_if : (setup : Setup) (i : ℕ) (m : Member) → NodeInvariant setup i m → offered setup m.vector.coordinator m.point ≢ Want.Nothing → m.vector.status ≢ Down
+up_if : (setup : Setup) (i : ℕ) (m : NodeState) → NodeInvariant setup i m → offered setup m.vector.coordinator m.point ≢ Want.Nothing → m.vector.status ≢ Down
 up_if setup i m fits offers down = offers (grind (arith, fits.down_idle down))
 
 start_possible : (setup : Setup) (w : World) (count i : ℕ) → count < setup.events_max → IsNode setup i → IsUp w i → pending w i ≡ None → is_call (offer setup w i) ≡ true → cause setup w count (Event.Start i) ≡ None
@@ -129,22 +129,22 @@ planned_suits h is there = by_table h.table is.plan there
     by_table (Some table) suits there = suits
 
 -- a step that the turn rule offers is refused only where the bound is reached
-pub offered_possible : (setup : Setup) (w : World) (count i g : ℕ) (h : ProcedureState) (kind : StepKind) → WorldInvariant setup w → IsProcedureState h → h.setup ≡ setup → h.node ≡ i → Agrees h (shown setup i g (member w i))
+pub offered_possible : (setup : Setup) (w : World) (count i g : ℕ) (h : ProcedureState) (kind : StepKind) → WorldInvariant setup w → IsProcedureState h → h.setup ≡ setup → h.node ≡ i → Agrees h (shown setup i g (node_state w i))
     → turn_in_step w (pending w i) h ≡ Next.Take kind → count < setup.events_max → cause setup w count (step_event kind h) ≡ None
 offered_possible setup w count i g h StepKind.Start all is se ne a t room =
     let free = start_offered w (pending w i) h t in
-    let offers : is_call (offer setup w i) ≡ true = ap is_call (sym (wants setup i g (member w i) h se a free.0)) ∙ free.1 in
-    let up : IsUp w i = up_if setup i (member w i) (all.fits i) (λ e. grind (arith, e, offers)) in
+    let offers : is_call (offer setup w i) ≡ true = ap is_call (sym (wants setup i g (node_state w i) h se a free.0)) ∙ free.1 in
+    let up : IsUp w i = up_if setup i (node_state w i) (all.fits i) (λ e. grind (arith, e, offers)) in
     subst (λ k. cause setup w count (Event.Start k) ≡ None) (sym ne) (start_possible setup w count i room (node_of_up setup w i all up) up free.0 offers)
 offered_possible setup w count i g h StepKind.Move all is se ne a t room =
     let free = move_offered w (pending w i) h t in
-    let offers : offer setup w i ≡ Want.Move = sym (wants setup i g (member w i) h se a free.0) ∙ free.1 in
-    let up : IsUp w i = up_if setup i (member w i) (all.fits i) (λ e. grind (arith, e, offers)) in
+    let offers : offer setup w i ≡ Want.Move = sym (wants setup i g (node_state w i) h se a free.0) ∙ free.1 in
+    let up : IsUp w i = up_if setup i (node_state w i) (all.fits i) (λ e. grind (arith, e, offers)) in
     subst (λ k. cause setup w count (Event.Move k) ≡ None) (sym ne) (move_possible setup w count i room (node_of_up setup w i all up) up free.0 offers)
 offered_possible setup w count i g h StepKind.Plan all is se ne a t room =
     let free = plan_offered w (pending w i) h t in
-    let offers : offer setup w i ≡ Want.Plan = sym (wants setup i g (member w i) h se a free.0) ∙ free.1 in
-    let up : IsUp w i = up_if setup i (member w i) (all.fits i) (λ e. grind (arith, e, offers)) in
+    let offers : offer setup w i ≡ Want.Plan = sym (wants setup i g (node_state w i) h se a free.0) ∙ free.1 in
+    let up : IsUp w i = up_if setup i (node_state w i) (all.fits i) (λ e. grind (arith, e, offers)) in
     let plan = planned_suits h is free.2 in
     let over : IsPlannedOver setup i (vector w i).up (unwrap_or h.table []) = grind (arith, se, ne, plan, a.up, a.point) in
     subst (λ k. cause setup w count (Event.Plan k (unwrap_or h.table [])) ≡ None) (sym ne)

@@ -7,30 +7,30 @@ use Rattle.bully_steps.specs.ProcedureState.{ProcedureState, IsProcedureState, C
 use Rattle.bully_calls.specs.declared.event.Event.{Event}
 use Rattle.bully_world.specs.declared.turn.Next.{Next}
 use Rattle.bully_world.specs.declared.turn.StepKind.{StepKind}
-use Rattle.bully_world.specs.State.{WorldState, IsReached, state_at, member_of, world_of, cause_in, KeepsGenerations, RaisesGenerations}
+use Rattle.bully_world.specs.State.{WorldState, IsReached, state_at, node_state_of, world_of, cause_in, KeepsGenerations, RaisesGenerations}
 use Rattle.bully_world.specs.Step.{Step}
 use Rattle.bully_world.specs.Turn.{turn, turn_in_step, is_in_step, procedure_in, step_event, outcome_after, procedure_after, procedure_left, outcome_left, agree, has_table}
-use Rattle.bully_world.specs.World.{Member, member, pending}
+use Rattle.bully_world.specs.World.{NodeState, node_state, pending}
 use Rattle.bully_world.proofs.AgreeLemmas.{Agrees, agrees_of, agree_if}
 use Rattle.bully_world.proofs.ProcedureAfter.{step_on, identity_after}
-use Rattle.bully_world.proofs.MembersOf.{member-members_of}
+use Rattle.bully_world.proofs.WorldIn.{node_state-world_in}
 use Rattle.bully_world.proofs.TurnLemmas.{reached_fits}
 use Rattle.bully_world.proofs.TurnSteps.{shown, offered_possible, plan_offered, turn_own}
 use Rattle.bully_world.proofs.OwnEvents.{own_raises_nothing}
 
 -- a step is offered only in step, by the call in the slot
 pub taken_in_step : (w : WorldState) (h : ProcedureState) (kind : StepKind) → turn w h ≡ Next.Take kind
-    → Agrees h (shown w.setup h.node (state_at w h.node).generation (member (world_of w) h.node)) × (turn_in_step (world_of w) (pending (world_of w) h.node) h ≡ Next.Take kind)
+    → Agrees h (shown w.setup h.node (state_at w h.node).generation (node_state (world_of w) h.node)) × (turn_in_step (world_of w) (pending (world_of w) h.node) h ≡ Next.Take kind)
 taken_in_step w h kind t = by_test (is_in_step w h) refl t
   where
-    here : member_of (state_at w h.node) ≡ member (world_of w) h.node
-    here = sym (member-members_of w.members h.node)
+    here : node_state_of (state_at w h.node) ≡ node_state (world_of w) h.node
+    here = sym (node_state-world_in w.states h.node)
 
-    by_test : (b : Bool) → is_in_step w h ≡ b → (if b then turn_in_step (world_of w) (member_of (state_at w h.node)).pending h else Next.Resync) ≡ Next.Take kind
-        → Agrees h (shown w.setup h.node (state_at w h.node).generation (member (world_of w) h.node)) × (turn_in_step (world_of w) (pending (world_of w) h.node) h ≡ Next.Take kind)
+    by_test : (b : Bool) → is_in_step w h ≡ b → (if b then turn_in_step (world_of w) (node_state_of (state_at w h.node)).pending h else Next.Resync) ≡ Next.Take kind
+        → Agrees h (shown w.setup h.node (state_at w h.node).generation (node_state (world_of w) h.node)) × (turn_in_step (world_of w) (pending (world_of w) h.node) h ≡ Next.Take kind)
     by_test true e t = (
       subst (λ m. Agrees h (shown w.setup h.node (state_at w h.node).generation m)) here (agrees_of h (procedure_in w h.node) e),
-      ap (λ (m : Member). turn_in_step (world_of w) m.pending h) (sym here) ∙ t,
+      ap (λ (m : NodeState). turn_in_step (world_of w) m.pending h) (sym here) ∙ t,
     )
     by_test false e t = absurd (grind (arith, t))
 
@@ -49,8 +49,8 @@ pub goes_on_taken : (w w' : WorldState) (h : ProcedureState) (kind : StepKind) (
 goes_on_taken w w' h kind answer reached se t same generation s =
     let taken = taken_in_step w h kind t in
     let on = step_on w.setup (world_of w) h.node (state_at w h.node).generation h (reached_fits w reached) se refl taken.0 kind (world_of w') answer s in
-    let there = member-members_of w'.members h.node in
-    let shows : shown w.setup h.node (state_at w h.node).generation (member (world_of w') h.node) ≡ procedure_in w' h.node =
+    let there = node_state-world_in w'.states h.node in
+    let shows : shown w.setup h.node (state_at w h.node).generation (node_state (world_of w') h.node) ≡ procedure_in w' h.node =
     ap (shown w.setup h.node (state_at w h.node).generation) there ∙ (rw (← generation h.node, ← same) refl) in
     let agrees : agree (procedure_after kind answer h) (procedure_in w' h.node) ≡ true = agree_if (procedure_after kind answer h) (procedure_in w' h.node) (subst (Agrees (procedure_after kind answer h)) shows on.0) in
     (ap (λ k. agree (procedure_after kind answer h) (procedure_in w' k)) (identity_after kind answer h).1 ∙ agrees, on.1)

@@ -1,4 +1,4 @@
--- The map of waiting callers goes with the members, from the first world on and over each event.
+-- The map of waiting callers goes with the states, from the first world on and over each event.
 use Rattle.std.proofs.Common.{◌≡◌, ◌≢◌, ℕ, zero, suc, ◌<◌, ◌≤◌, ◌⊎◌, inl, inr, Bool, true, false, List, [], ◌∷◌, Option, Some, None, refl, sym, ◌∙◌, ap, subst, arith, length}
 use Rattle.std.specs.Prelude.{◌↔◌, ◌==◌, ◌&&◌, All, Contains, IfSome, IfNone, option_map, option_and_then, replicate, slice_index_or, if◌then◌else◌}
 use Rattle.std.proofs.lemmas.Bool.Decides.{nat_tests}
@@ -14,13 +14,13 @@ use Rattle.bully_calls.specs.Waiting.{callers_of}
 use Rattle.bully_calls.specs.declared.event.Event.{Event}
 use Rattle.bully_calls.specs.Events.{node_of}
 use Rattle.bully_world.specs.NodeInvariant.{NodeInvariant, WorldInvariant, SuitsPending}
-use Rattle.bully_world.specs.State.{MemberState, WorldState, empty_state, kept_of, member_of, members_of, new_members, waits_for, NobodyWaits, NobodyWaitsBelow}
+use Rattle.bully_world.specs.State.{StoredNode, WorldState, empty_state, kept_of, node_state_of, world_in, new_states, waits_for, NobodyWaits, NobodyWaitsBelow}
 use Rattle.bully_world.specs.StateAfter.{state_after}
 use Rattle.bully_world.specs.Waiting.{sent_callee, sent_in, IsWaiting, with_sent, without_sent}
-use Rattle.bully_world.specs.World.{Member, is_sent_to}
+use Rattle.bully_world.specs.World.{NodeState, is_sent_to}
 use Rattle.bully_world.proofs.Events.{event_laws}
 use Rattle.bully_world.proofs.EventLaws.{EventLaws}
-use Rattle.bully_world.proofs.MembersOf.{member-members_of}
+use Rattle.bully_world.proofs.WorldIn.{node_state-world_in}
 
 -- f is to whom each node's call was sent
 abbrev Tells : (ℕ → Option ℕ) → List (List ℕ) → Type 0
@@ -139,15 +139,15 @@ length_with : (c : ℕ) (o : Option ℕ) (w : List (List ℕ)) → length (with_
 length_with c None w = refl
 length_with c (Some k) w = length-put_node w k _
 
-pub sent_within : (ms : List MemberState) (w : List (List ℕ)) (i : ℕ) → IsWaiting ms w → IfSome (sent_in (kept_of ms i)) (λ j. j ≤ length w)
+pub sent_within : (ms : List StoredNode) (w : List (List ℕ)) (i : ℕ) → IsWaiting ms w → IfSome (sent_in (kept_of ms i)) (λ j. j ≤ length w)
 sent_within ms w i is = of_value (sent_in (kept_of ms i)) refl
   where
     of_value : (o : Option ℕ) → sent_in (kept_of ms i) ≡ o → IfSome o (λ j. j ≤ length w)
     of_value None e = tt
     of_value (Some j) e = (within (λ k. sent_in (kept_of ms k)) w i j is.tells e).1
 
--- the map goes with the members after the event
-pub waiting_after : (setup : Setup) (ms : List MemberState) (e : Event) (w : List (List ℕ)) (before after : Option ℕ) → IsWaiting ms w → sent_in (kept_of ms (node_of e)) ≡ before → sent_in (kept_of (state_after setup ms e) (node_of e)) ≡ after
+-- the map goes with the states after the event
+pub waiting_after : (setup : Setup) (ms : List StoredNode) (e : Event) (w : List (List ℕ)) (before after : Option ℕ) → IsWaiting ms w → sent_in (kept_of ms (node_of e)) ≡ before → sent_in (kept_of (state_after setup ms e) (node_of e)) ≡ after
     → IfSome after (λ j. (0 < j) × (j ≤ length ms)) → IsWaiting (state_after setup ms e) (with_sent (node_of e) after (without_sent (node_of e) before w))
 waiting_after setup ms e w before after is was now room = record {
   count = length_with c after (without_sent c before w) ∙ length_without c before w ∙ is.count ∙ sym (laws.many ms);
@@ -173,14 +173,14 @@ waiting_after setup ms e w before after is was now room = record {
     room_there (Some j) r = (r.0, omega (arith, r.1, length_without c before w, is.count))
 
 -- a sent call goes to a node
-pub sent_to_node : (setup : Setup) (ms : List MemberState) (i : ℕ) → WorldInvariant setup (members_of ms) → IfSome (sent_in (kept_of ms i)) (λ j. (0 < j) × (j ≤ setup.nodes))
+pub sent_to_node : (setup : Setup) (ms : List StoredNode) (i : ℕ) → WorldInvariant setup (world_in ms) → IfSome (sent_in (kept_of ms i)) (λ j. (0 < j) × (j ≤ setup.nodes))
 sent_to_node setup ms i fit = of_content (kept_of ms i).slot.content fits.by_call
   where
-    m : MemberState
+    m : StoredNode
     m = kept_of ms i
 
-    fits : NodeInvariant setup i (member_of (kept_of ms i))
-    fits = subst (NodeInvariant setup i) (member-members_of ms i) (fit.fits i)
+    fits : NodeInvariant setup i (node_state_of (kept_of ms i))
+    fits = subst (NodeInvariant setup i) (node_state-world_in ms i) (fit.fits i)
 
     of_test : (b : Bool) (k : ℕ) → IsNode setup k → IfSome (if b then Some k else None) (λ j. (0 < j) × (j ≤ setup.nodes))
     of_test true k node = node
@@ -191,10 +191,10 @@ sent_to_node setup ms i fit = of_content (kept_of ms i).slot.content fits.by_cal
     of_content (Some p) s = of_test (is_sent p.phase) p.call.callee s.to_node
 
 -- in the first world nobody waits
-pub first_waiting : (setup : Setup) → IsWaiting (new_members setup) (replicate setup.nodes [])
+pub first_waiting : (setup : Setup) → IsWaiting (new_states setup) (replicate setup.nodes [])
 first_waiting setup = record {
   count = as_long {A = List ℕ} [] setup.nodes ∙ sym (as_long (empty_state setup.partitions) setup.nodes);
-  tells = λ j i. ((λ h. absurd (none_there i (subst (λ ms. Contains ms i) (at_node_replicate [] setup.nodes j) h))), (λ q. not_both j (sent_in (kept_of (new_members setup) i)) (nobody i) q));
+  tells = λ j i. ((λ h. absurd (none_there i (subst (λ ms. Contains ms i) (at_node_replicate [] setup.nodes j) h))), (λ q. not_both j (sent_in (kept_of (new_states setup) i)) (nobody i) q));
 }
   where
     as_long : {A : Type 0} (x : A) (n : ℕ) → length (replicate n x) ≡ n
@@ -206,7 +206,7 @@ first_waiting setup = record {
     at_place (suc n) zero = refl
     at_place (suc n) (suc k) = at_place n k
 
-    nobody : (i : ℕ) → sent_in (kept_of (new_members setup) i) ≡ None
+    nobody : (i : ℕ) → sent_in (kept_of (new_states setup) i) ≡ None
     nobody zero = refl
     nobody (suc k) = at_place setup.nodes k
 
@@ -220,19 +220,19 @@ test_of j g (Some p) = by_test (is_sent p.phase)
     by_test true = ((λ e. grind (arith, nat_tests, e)), (λ e. grind (arith, nat_tests, e)))
     by_test false = ((λ e. absurd (cc e)), (λ e. absurd (cc e)))
 
-waits_test : (w : WorldState) (i j : ℕ) → (sent_in (kept_of w.members i) ≡ Some j) ↔ (waits_for w i j ≡ true)
-waits_test w i j = subst (λ (m : Member). (sent_in (kept_of w.members i) ≡ Some j) ↔ (is_sent_to j m.pending ≡ true)) (sym (member-members_of w.members i)) (test_of j (kept_of w.members i).generation (kept_of w.members i).slot.content)
+waits_test : (w : WorldState) (i j : ℕ) → (sent_in (kept_of w.states i) ≡ Some j) ↔ (waits_for w i j ≡ true)
+waits_test w i j = subst (λ (m : NodeState). (sent_in (kept_of w.states i) ≡ Some j) ↔ (is_sent_to j m.pending ≡ true)) (sym (node_state-world_in w.states i)) (test_of j (kept_of w.states i).generation (kept_of w.states i).slot.content)
 
 not_true : (b : Bool) → (b ≡ true → ⊥) → b ≡ false
 not_true true n = absurd (n refl)
 not_true false n = refl
 
-waits_not : (w : WorldState) (waiting : List (List ℕ)) (i j : ℕ) → IsWaiting w.members waiting → (Contains (callers_of waiting j) i → ⊥) → waits_for w i j ≡ false
+waits_not : (w : WorldState) (waiting : List (List ℕ)) (i j : ℕ) → IsWaiting w.states waiting → (Contains (callers_of waiting j) i → ⊥) → waits_for w i j ≡ false
 waits_not w waiting i j is n = not_true (waits_for w i j) (λ e. n ((is.tells j i).1 ((waits_test w i j).1 e)))
 
 -- nobody waits for a number past the nodes
-pub nobody_waits_past : (w : WorldState) (waiting : List (List ℕ)) (j : ℕ) → IsWaiting w.members waiting → length w.members < j → NobodyWaits w j
-nobody_waits_past w waiting j is l i = waits_not w waiting i j is (λ h. omega (arith, l, is.count, (within (λ k. sent_in (kept_of w.members k)) waiting i j is.tells ((is.tells j i).0 h)).1))
+pub nobody_waits_past : (w : WorldState) (waiting : List (List ℕ)) (j : ℕ) → IsWaiting w.states waiting → length w.states < j → NobodyWaits w j
+nobody_waits_past w waiting j is l i = waits_not w waiting i j is (λ h. omega (arith, l, is.count, (within (λ k. sent_in (kept_of w.states k)) waiting i j is.tells ((is.tells j i).0 h)).1))
 
 lowest_none : (ms : List ℕ) → lowest_of ms ≡ None → ms ≡ []
 lowest_none [] e = refl
@@ -247,7 +247,7 @@ lowest_none (m ∷ n ∷ ms) e = absurd (some_left n ms e)
 abbrev pub IsLowestOf : WorldState → ℕ → Option ℕ → Type 0
 IsLowestOf w j r = IfSome r (λ caller. waits_for w caller j ≡ true) × IfSome r (NobodyWaitsBelow w j) × IfNone r (NobodyWaits w j)
 
-pub lowest_waits : (w : WorldState) (waiting : List (List ℕ)) (j : ℕ) (r : Option ℕ) → IsWaiting w.members waiting → r ≡ lowest_of (callers_of waiting j) → IfSome r (λ i. (Contains (callers_of waiting j) i) × All (λ k. i ≤ k) (callers_of waiting j)) → IsLowestOf w j r
+pub lowest_waits : (w : WorldState) (waiting : List (List ℕ)) (j : ℕ) (r : Option ℕ) → IsWaiting w.states waiting → r ≡ lowest_of (callers_of waiting j) → IfSome r (λ i. (Contains (callers_of waiting j) i) × All (λ k. i ≤ k) (callers_of waiting j)) → IsLowestOf w j r
 lowest_waits w waiting j None is e least = (tt, tt, λ i. waits_not w waiting i j is (λ h. none_there i (subst (λ ms. Contains ms i) (lowest_none (callers_of waiting j) (sym e)) h)))
 lowest_waits w waiting j (Some caller) is e least = (
   (waits_test w caller j).0 ((is.tells j caller).0 least.0),

@@ -7,54 +7,54 @@ use Rattle.bully_base.specs.Setup.{Setup}
 use Rattle.bully_calls.specs.declared.event.Event.{Event}
 use Rattle.bully_world.specs.Cause.{cause}
 use Rattle.bully_world.specs.NodeInvariant.{WorldInvariant}
-use Rattle.bully_world.specs.State.{MemberState, WorldState, empty_state, state_at, IsWorld, IsReached, members_of, first_state, new_members}
+use Rattle.bully_world.specs.State.{StoredNode, WorldState, empty_state, state_at, IsWorld, IsReached, world_in, first_state, new_states}
 use Rattle.bully_world.specs.Step.{Step}
 use Rattle.bully_world.specs.StateAfter.{state_after, answer_after}
 use Rattle.bully_world.specs.World.{first_world}
 use Rattle.bully_world.proofs.Events.{event_laws}
 use Rattle.bully_world.proofs.KeptLemmas.{new_kept}
 use Rattle.bully_world.proofs.LawfulLemmas.{lawful_more}
-use Rattle.bully_world.proofs.MembersOf.{members_of-new}
+use Rattle.bully_world.proofs.WorldIn.{world_in-new}
 use Rattle.bully_world.proofs.NodeInvariantLemmas.{lawful_fits}
 use Rattle.bully_world.proofs.ApplyLemmas.{room_of}
 
-abbrev state : Setup → ℕ → List MemberState → WorldState
-state setup events ms = record { setup = setup; events = events; members = ms }
+abbrev state : Setup → ℕ → List StoredNode → WorldState
+state setup events ms = record { setup = setup; events = events; states = ms }
 
-pub world_fits : (setup : Setup) (events : ℕ) (ms : List MemberState) → IsWorld (state setup events ms) → WorldInvariant setup (members_of ms)
-world_fits setup events ms is = lawful_fits setup is.reached.applied is.reached.answers (members_of ms) is.reached.lawful
+pub world_fits : (setup : Setup) (events : ℕ) (ms : List StoredNode) → IsWorld (state setup events ms) → WorldInvariant setup (world_in ms)
+world_fits setup events ms is = lawful_fits setup is.reached.applied is.reached.answers (world_in ms) is.reached.lawful
 
-pub world_steps : (setup : Setup) (events : ℕ) (ms : List MemberState) (e : Event) → IsWorld (state setup events ms) → cause setup (members_of ms) events e ≡ None → Step setup (members_of ms) e (members_of (state_after setup ms e)) (answer_after ms e)
+pub world_steps : (setup : Setup) (events : ℕ) (ms : List StoredNode) (e : Event) → IsWorld (state setup events ms) → cause setup (world_in ms) events e ≡ None → Step setup (world_in ms) e (world_in (state_after setup ms e)) (answer_after ms e)
 world_steps setup events ms e is free = (event_laws setup e).steps events ms (record { all = world_fits setup events ms is; kept = is.kept }) free
 
-reached_next : (setup : Setup) (events : ℕ) (ms : List MemberState) (e : Event) → IsWorld (state setup events ms) → cause setup (members_of ms) events e ≡ None → IsReached (state setup (events + 1) (state_after setup ms e))
+reached_next : (setup : Setup) (events : ℕ) (ms : List StoredNode) (e : Event) → IsWorld (state setup events ms) → cause setup (world_in ms) events e ≡ None → IsReached (state setup (events + 1) (state_after setup ms e))
 reached_next setup events ms e is free = record {
   applied = is.reached.applied ++ e ∷ [];
   answers = is.reached.answers ++ answer_after ms e ∷ [];
-  lawful = lawful_more setup is.reached.applied is.reached.answers (members_of ms) e (answer_after ms e) (members_of (state_after setup ms e)) is.reached.lawful
-      (omega (arith, is.reached.counted, room_of setup (members_of ms) events e free)) (world_steps setup events ms e is free);
+  lawful = lawful_more setup is.reached.applied is.reached.answers (world_in ms) e (answer_after ms e) (world_in (state_after setup ms e)) is.reached.lawful
+      (omega (arith, is.reached.counted, room_of setup (world_in ms) events e free)) (world_steps setup events ms e is free);
   counted = omega (arith, is.reached.counted, length-append is.reached.applied (e ∷ []));
 }
 
 -- what stands at a node's place is what is kept of it
-pub member_there : (w : WorldState) (k i : ℕ) (m : MemberState) → IsWorld w → k + 1 ≡ i → i ≤ w.setup.nodes → m ≡ slice_index_or w.members k m → state_at w i ≡ m
-member_there w k i m is e l there = at_node-place (empty_state 0) m w.members k i e (omega (arith, is.count, e, l)) ∙ sym there
+pub node_state_there : (w : WorldState) (k i : ℕ) (m : StoredNode) → IsWorld w → k + 1 ≡ i → i ≤ w.setup.nodes → m ≡ slice_index_or w.states k m → state_at w i ≡ m
+node_state_there w k i m is e l there = at_node-place (empty_state 0) m w.states k i e (omega (arith, is.count, e, l)) ∙ sym there
 
 -- an event that nothing refuses leads from a world to a world
-pub next_world : (setup : Setup) (events : ℕ) (ms : List MemberState) (e : Event) → IsWorld (state setup events ms) → cause setup (members_of ms) events e ≡ None → IsWorld (state setup (events + 1) (state_after setup ms e))
+pub next_world : (setup : Setup) (events : ℕ) (ms : List StoredNode) (e : Event) → IsWorld (state setup events ms) → cause setup (world_in ms) events e ≡ None → IsWorld (state setup (events + 1) (state_after setup ms e))
 next_world setup events ms e is free = record {
   count = (event_laws setup e).many ms ∙ is.count;
   kept = (event_laws setup e).kept events ms is.kept;
   reached = reached_next setup events ms e is free;
 }
 
-length-replicate : (n : ℕ) (m : MemberState) → length (replicate n m) ≡ n
+length-replicate : (n : ℕ) (m : StoredNode) → length (replicate n m) ≡ n
 length-replicate zero m = refl
 length-replicate (suc n) m = ap suc (length-replicate n m)
 
 -- the first world is one, and is that of the definitions
-pub first_is : (setup : Setup) → members_of (new_members setup) ≡ first_world setup
-first_is setup = members_of-new setup.nodes setup.partitions
+pub first_is : (setup : Setup) → world_in (new_states setup) ≡ first_world setup
+first_is setup = world_in-new setup.nodes setup.partitions
 
 pub first_keeps : (setup : Setup) → IsWorld (first_state setup)
 first_keeps setup = record {
@@ -64,7 +64,7 @@ first_keeps setup = record {
 }
 
 -- a whole list, put back into the memory that it was lent from
-pub put_back : (len : ℕ) (xs ys : List MemberState) → length xs ≡ len → length ys ≡ len → take len (xs ++ drop (length xs) ys) ≡ xs
+pub put_back : (len : ℕ) (xs ys : List StoredNode) → length xs ≡ len → length ys ≡ len → take len (xs ++ drop (length xs) ys) ≡ xs
 put_back len xs ys e f = grind (arith, common_steps, e, f)
 
 pub none_from : {A : Type 0} (q : Option A) → ((x : A) → q ≡ Some x → ⊥) → q ≡ None

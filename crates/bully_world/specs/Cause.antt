@@ -15,7 +15,7 @@ use Rattle.bully_calls.specs.declared.event.Refused.TheVariants.{Full, BadNode, 
 use Rattle.bully_world.specs.Step.{offer}
 use Rattle.bully_world.specs.World.{World, vector, point, pending}
 
--- why the event is refused stands in the member of its node alone
+-- why the event is refused stands in the node state of its node alone
 abbrev pub IsToldByNode : Event → Type 0
 IsToldByNode (Event.Run i) = ⊥
 IsToldByNode (Event.Lose i) = ⊥

@@ -13,7 +13,7 @@ use Rattle.bully_steps.specs.declared.point.Point.{Point}
 use Rattle.bully_steps.specs.declared.point.Point.TheVariants.{Idle, Asking, Halting, Announcing, Planning, Readying, Checking, Inquiring}
 use Rattle.bully_steps.specs.declared.point.Want.{Want}
 use Rattle.bully_steps.specs.Point.{offered, IsPointOf}
-use Rattle.bully_world.specs.World.{World, Member, member}
+use Rattle.bully_world.specs.World.{World, NodeState, node_state}
 
 -- the node is in Reorganization or Normal
 abbrev pub TakesPart : Vector → Type 0
@@ -82,7 +82,7 @@ pub record SuitsSetup (setup : Setup) (i : ℕ) (v : Vector) : Type 0 where
   pub coordinator : (k : ℕ) → v.coordinator ≡ Some k → IsNode setup k
 
 -- what holds of one node
-pub record NodeInvariant (setup : Setup) (i : ℕ) (m : Member) : Type 0 where
+pub record NodeInvariant (setup : Setup) (i : ℕ) (m : NodeState) : Type 0 where
   pub a_node : (m.vector.status ≡ Down) ⊎ IsNode setup i
   pub down_idle : m.vector.status ≡ Down → m.point ≡ Idle
   pub down_free : m.vector.status ≡ Down → m.pending ≡ None
@@ -93,5 +93,5 @@ pub record NodeInvariant (setup : Setup) (i : ℕ) (m : Member) : Type 0 where
 
 -- what holds of every node
 pub record WorldInvariant (setup : Setup) (w : World) : Type 0 where
-  pub count : length w.members ≡ setup.nodes
-  pub fits : (i : ℕ) → NodeInvariant setup i (member w i)
+  pub count : length w.states ≡ setup.nodes
+  pub fits : (i : ℕ) → NodeInvariant setup i (node_state w i)

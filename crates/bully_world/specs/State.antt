@@ -16,10 +16,10 @@ use Rattle.bully_calls.specs.declared.event.Refused.{Refused}
 use Rattle.bully_world.specs.Cause.{cause}
 use Rattle.bully_world.specs.Lawful.{IsLawful}
 use Rattle.bully_world.specs.Step.{Step}
-use Rattle.bully_world.specs.World.{Member, World, pending, is_sent_to}
+use Rattle.bully_world.specs.World.{NodeState, World, pending, is_sent_to}
 
 -- what is kept of one node: its generation tells a live call from an orphan
-pub record MemberState : Type 0 where
+pub record StoredNode : Type 0 where
   pub vector : StoredVector
   pub point : Point
   pub slot : Slot
@@ -28,10 +28,10 @@ pub record MemberState : Type 0 where
 pub record WorldState : Type 0 where
   pub setup : Setup
   pub events : ℕ
-  pub members : List MemberState
+  pub states : List StoredNode
 
 -- a new node's, with room for a table of so many partitions
-abbrev pub empty_state : ℕ → MemberState
+abbrev pub empty_state : ℕ → StoredNode
 empty_state room = record {
   vector = record { vector = empty_vector; room = room };
   point = Idle;
@@ -40,21 +40,21 @@ empty_state room = record {
 }
 
 -- what is kept of node i
-abbrev pub kept_of : List MemberState → ℕ → MemberState
-kept_of members i = at_node (empty_state 0) members i
+abbrev pub kept_of : List StoredNode → ℕ → StoredNode
+kept_of states i = at_node (empty_state 0) states i
 
-abbrev pub state_at : WorldState → ℕ → MemberState
-state_at w i = kept_of w.members i
+abbrev pub state_at : WorldState → ℕ → StoredNode
+state_at w i = kept_of w.states i
 
-abbrev pub member_of : MemberState → Member
-member_of m = record { vector = m.vector.vector; point = m.point; pending = pending_in m.generation m.slot }
+abbrev pub node_state_of : StoredNode → NodeState
+node_state_of m = record { vector = m.vector.vector; point = m.point; pending = pending_in m.generation m.slot }
 
-abbrev pub members_of : List MemberState → World
-members_of members = record { members = map member_of members }
+abbrev pub world_in : List StoredNode → World
+world_in states = record { states = map node_state_of states }
 
 -- the world that it stands for
 abbrev pub world_of : WorldState → World
-world_of w = members_of w.members
+world_of w = world_in w.states
 
 -- why the event is refused there
 abbrev pub cause_in : WorldState → Event → Option Refused
@@ -68,20 +68,20 @@ pub record IsReached (w : WorldState) : Type 0 where
   pub counted : length applied ≡ w.events
 
 -- how what is kept of node i goes with the setup and with the events so far
-pub record IsKept (setup : Setup) (events i : ℕ) (m : MemberState) : Type 0 where
+pub record IsKept (setup : Setup) (events i : ℕ) (m : StoredNode) : Type 0 where
   pub vector_room : m.vector.room ≡ setup.partitions
   pub slot_room : m.slot.room ≡ setup.partitions
   pub caller : IfSome m.slot.content (λ p. p.tag.caller ≡ i)
   pub tag : IfSome m.slot.content (λ p. p.tag.generation ≤ m.generation)
   pub generation : m.generation ≤ events
 
-abbrev pub AllKept : Setup → ℕ → List MemberState → Type 0
-AllKept setup events members = (i : ℕ) → IsNode setup i → IsKept setup events i (kept_of members i)
+abbrev pub AllKept : Setup → ℕ → List StoredNode → Type 0
+AllKept setup events states = (i : ℕ) → IsNode setup i → IsKept setup events i (kept_of states i)
 
 -- what every world keeps
 pub record IsWorld (w : WorldState) : Type 0 where
-  pub count : length w.members ≡ w.setup.nodes
-  pub kept : AllKept w.setup w.events w.members
+  pub count : length w.states ≡ w.setup.nodes
+  pub kept : AllKept w.setup w.events w.states
   pub reached : IsReached w
 
 abbrev pub is_halt : CallKind → Bool
@@ -106,7 +106,7 @@ raises w e j = false
 abbrev pub tag_of_call : SlotCall → Tag
 tag_of_call p = p.tag
 
-abbrev pub tag_in : MemberState → Option Tag
+abbrev pub tag_in : StoredNode → Option Tag
 tag_in m = option_map tag_of_call m.slot.content
 
 -- the event fills or empties node j's slot: it is j's own Start, Return, Drop or Crash
@@ -159,8 +159,8 @@ abbrev pub NobodyWaitsBelow : WorldState → ℕ → ℕ → Type 0
 NobodyWaitsBelow w j caller = (i : ℕ) → i < caller → waits_for w i j ≡ false
 
 -- what a new world keeps
-abbrev pub new_members : Setup → List MemberState
-new_members setup = replicate setup.nodes (empty_state setup.partitions)
+abbrev pub new_states : Setup → List StoredNode
+new_states setup = replicate setup.nodes (empty_state setup.partitions)
 
 abbrev pub first_state : Setup → WorldState
-first_state setup = record { setup = setup; events = 0; members = new_members setup }
+first_state setup = record { setup = setup; events = 0; states = new_states setup }

@@ -19,7 +19,7 @@ use Rattle.bully_steps.specs.declared.point.Want.{Want}
 use Rattle.bully_steps.specs.NextPoint.{next_point, next_vector, election, checked, timed_out}
 use Rattle.bully_steps.specs.Point.{offered}
 use Rattle.bully_calls.specs.declared.event.Event.{Event}
-use Rattle.bully_world.specs.World.{Member, World, member, vector, point, pending, with_member, stopped}
+use Rattle.bully_world.specs.World.{NodeState, World, node_state, vector, point, pending, with_node_state, stopped}
 
 -- a number that is no node's is Down too
 abbrev pub IsUp : World → ℕ → Type 0
@@ -42,7 +42,7 @@ abbrev pub sent : Call → Vector → Pending
 sent call v = record { call = call; table = carried call.kind v; phase = Phase.Sent; is_live = true }
 
 -- a Halt stops its callee
-abbrev pub stopped_by : CallKind → Member → Member
+abbrev pub stopped_by : CallKind → NodeState → NodeState
 stopped_by AreYouUp m = m
 stopped_by AreYouNormal m = m
 stopped_by Halt m = stopped m
@@ -50,30 +50,30 @@ stopped_by NewCoordinator m = m
 stopped_by Ready m = m
 
 -- the callee after a call from node i
-abbrev pub called : ℕ → Pending → Member → Member
+abbrev pub called : ℕ → Pending → NodeState → NodeState
 called i c m = stopped_by c.call.kind (record m { vector = callee_after i c.call.kind c.table m.vector })
 
 -- node i's call has this phase from now on
 abbrev pub with_phase : World → ℕ → Pending → Phase → World
-with_phase w i c phase = with_member w i (record (member w i) { pending = Some (record c { phase = phase }) })
+with_phase w i c phase = with_node_state w i (record (node_state w i) { pending = Some (record c { phase = phase }) })
 
 -- node i's call runs at its callee
 abbrev pub ran : World → ℕ → Pending → World
 ran w i c =
     let j = c.call.callee in
     let answered = with_phase w i c (Phase.Ran (reply c.call.kind (vector w j))) in
-    with_member answered j (called i c (member answered j))
+    with_node_state answered j (called i c (node_state answered j))
 
 -- node i's call is taken out of its slot
 abbrev pub emptied : World → ℕ → World
-emptied w i = with_member w i (record (member w i) { pending = None })
+emptied w i = with_node_state w i (record (node_state w i) { pending = None })
 
 -- node i, with no call pending, goes on by this outcome
 abbrev pub Proceeds : Setup → World → ℕ → Outcome → World → Type 0
 Proceeds setup w i o w' =
     (p : Point)
     × (next_point setup i (vector w i).up (point w i) o ≡ Some p)
-    × (w' ≡ with_member w i (record { vector = next_vector i (point w i) o (vector w i); point = p; pending = None }))
+    × (w' ≡ with_node_state w i (record { vector = next_vector i (point w i) o (vector w i); point = p; pending = None }))
 
 -- a live call's return moves the point, an orphan's is discarded
 abbrev pub Returns : Setup → World → ℕ → Bool → Outcome → World → Answer → Type 0
@@ -85,28 +85,28 @@ abbrev pub Step : Setup → World → Event → World → Answer → Type 0
 Step setup w (Event.Recover i) w' a =
     IsNode setup i
     × ((vector w i).status ≡ Down)
-    × (w' ≡ with_member w i (record (member w i) { vector = recovered setup (vector w i); point = election i }))
+    × (w' ≡ with_node_state w i (record (node_state w i) { vector = recovered setup (vector w i); point = election i }))
     × (a ≡ Answer.Done)
 Step setup w (Event.Crash i) w' a =
     IsUp w i
-    × (w' ≡ with_member w i (record { vector = crashed setup (vector w i); point = Idle; pending = None }))
+    × (w' ≡ with_node_state w i (record { vector = crashed setup (vector w i); point = Idle; pending = None }))
     × (a ≡ Answer.Done)
 Step setup w (Event.Check i) w' a =
     IsUp w i
     × (point w i ≡ Idle)
-    × (w' ≡ with_member w i (record (member w i) { point = checked setup i (vector w i).status (vector w i).coordinator }))
+    × (w' ≡ with_node_state w i (record (node_state w i) { point = checked setup i (vector w i).status (vector w i).coordinator }))
     × (a ≡ Answer.Done)
 Step setup w (Event.Timeout i) w' a =
     IsUp w i
     × (point w i ≡ Idle)
-    × (w' ≡ with_member w i (record (member w i) { point = timed_out i (vector w i).status (vector w i).coordinator }))
+    × (w' ≡ with_node_state w i (record (node_state w i) { point = timed_out i (vector w i).status (vector w i).coordinator }))
     × (a ≡ Answer.Done)
 Step setup w (Event.Start i) w' a =
     IsUp w i
     × (pending w i ≡ None)
     × (call : Call)
     × (offer setup w i ≡ Want.Start call)
-    × (w' ≡ with_member w i (record (member w i) { pending = Some (sent call (vector w i)) }))
+    × (w' ≡ with_node_state w i (record (node_state w i) { pending = Some (sent call (vector w i)) }))
     × (a ≡ Answer.Done)
 Step setup w (Event.Run i) w' a =
     (c : Pending)
@@ -145,5 +145,5 @@ Step setup w (Event.Plan i table) w' a =
     × (pending w i ≡ None)
     × (length table ≡ setup.partitions)
     × IsBalanced setup table (with_node i (vector w i).up)
-    × (w' ≡ with_member w i (record { vector = record (vector w i) { task = Some table }; point = Readying (vector w i).up; pending = None }))
+    × (w' ≡ with_node_state w i (record { vector = record (vector w i) { task = Some table }; point = Readying (vector w i).up; pending = None }))
     × (a ≡ Answer.Done)

@@ -17,7 +17,7 @@ use Rattle.bully_calls.specs.declared.event.Event.{Event}
 use Rattle.bully_world.specs.Cause.{is_down_at, is_idle, is_pending}
 use Rattle.bully_world.specs.Lawful.{LeadTo, IsLawful}
 use Rattle.bully_world.specs.Step.{Step, offer, sent, with_phase, ran, emptied}
-use Rattle.bully_world.specs.World.{World, member, vector, point, pending, with_member, first_world}
+use Rattle.bully_world.specs.World.{World, node_state, vector, point, pending, with_node_state, first_world}
 
 -- the next world and the answer; none where the step isn't possible
 abbrev pub StepResult : Type 0
@@ -36,7 +36,7 @@ is_planning Point.Planning = true
 is_planning _ = false
 
 abbrev pub start_of : World → ℕ → Bool → Want → StepResult
-start_of w i b (Want.Start call) = when b (with_member w i (record (member w i) { pending = Some (sent call (vector w i)) })) Done
+start_of w i b (Want.Start call) = when b (with_node_state w i (record (node_state w i) { pending = Some (sent call (vector w i)) })) Done
 start_of w i b _ = None
 
 abbrev pub run_of : World → ℕ → Option Pending → StepResult
@@ -50,7 +50,7 @@ lose_of w i (Some c) = when (not (is_failed c.phase) && is_down_at w c.call.call
 
 abbrev pub proceed_to : World → ℕ → Vector → Option Point → Answer → StepResult
 proceed_to w i v None a = None
-proceed_to w i v (Some p) a = Some (with_member w i (record { vector = v; point = p; pending = None }), a)
+proceed_to w i v (Some p) a = Some (with_node_state w i (record { vector = v; point = p; pending = None }), a)
 
 abbrev pub proceed_of : Setup → World → ℕ → Outcome → Answer → StepResult
 proceed_of setup w i o a =
@@ -80,15 +80,15 @@ is_plannable setup table i up = (length table == setup.partitions) && is_balance
 -- the event as one step
 abbrev pub step_of : Setup → World → Event → StepResult
 step_of setup w (Event.Recover i) =
-    when (is_node setup i && is_down_at w i) (with_member w i (record (member w i) { vector = recovered setup (vector w i); point = election i })) Done
+    when (is_node setup i && is_down_at w i) (with_node_state w i (record (node_state w i) { vector = recovered setup (vector w i); point = election i })) Done
 step_of setup w (Event.Crash i) =
-    when (not (is_down_at w i)) (with_member w i (record { vector = crashed setup (vector w i); point = Point.Idle; pending = None })) Done
+    when (not (is_down_at w i)) (with_node_state w i (record { vector = crashed setup (vector w i); point = Point.Idle; pending = None })) Done
 step_of setup w (Event.Check i) =
     when (not (is_down_at w i) && is_idle (point w i))
-    (with_member w i (record (member w i) { point = checked setup i (vector w i).status (vector w i).coordinator })) Done
+    (with_node_state w i (record (node_state w i) { point = checked setup i (vector w i).status (vector w i).coordinator })) Done
 step_of setup w (Event.Timeout i) =
     when (not (is_down_at w i) && is_idle (point w i))
-    (with_member w i (record (member w i) { point = timed_out i (vector w i).status (vector w i).coordinator })) Done
+    (with_node_state w i (record (node_state w i) { point = timed_out i (vector w i).status (vector w i).coordinator })) Done
 step_of setup w (Event.Start i) = start_of w i (is_ready w i) (offer setup w i)
 step_of setup w (Event.Run i) = run_of w i (pending w i)
 step_of setup w (Event.Lose i) = lose_of w i (pending w i)
@@ -97,7 +97,7 @@ step_of setup w (Event.Drop i) = drop_of w i (pending w i)
 step_of setup w (Event.Move i) = move_of setup w i (is_ready w i) (offer setup w i)
 step_of setup w (Event.Plan i table) =
     when (is_planning (point w i) && not (is_pending (pending w i)) && is_plannable setup table i (vector w i).up)
-    (with_member w i (record { vector = record (vector w i) { task = Some table }; point = Point.Readying (vector w i).up; pending = None })) Done
+    (with_node_state w i (record { vector = record (vector w i) { task = Some table }; point = Point.Readying (vector w i).up; pending = None })) Done
 
 -- the last world and all answers; none where a step isn't possible
 abbrev pub StepsResult : Type 0

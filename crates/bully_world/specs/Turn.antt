@@ -17,13 +17,13 @@ use Rattle.bully_world.specs.declared.turn.Next.TheVariants.{Resync, Rest, Take}
 use Rattle.bully_world.specs.declared.turn.StepKind.{StepKind}
 use Rattle.bully_world.specs.declared.turn.StepKind.TheVariants.{Start, Lose, Return, Drop, Move, Plan}
 use Rattle.bully_world.specs.Cause.{is_down_at, is_live_in}
-use Rattle.bully_world.specs.State.{WorldState, MemberState, state_at, member_of, world_of}
+use Rattle.bully_world.specs.State.{WorldState, StoredNode, state_at, node_state_of, world_of}
 use Rattle.bully_world.specs.World.{World}
 
 -- the procedure of node i that what is kept of it shows; it awaits exactly where a live call of i is pending
-abbrev pub procedure_by : Setup → ℕ → MemberState → ProcedureState
+abbrev pub procedure_by : Setup → ℕ → StoredNode → ProcedureState
 procedure_by setup i s =
-    let m = member_of s in
+    let m = node_state_of s in
     procedure_state setup i s.generation m.point m.vector.up m.vector.coordinator (is_live_in m.pending)
 
 -- and that the world shows
@@ -89,7 +89,7 @@ turn_in_step w (Some c) h = turn_of_call (is_down_at w c.call.callee) c.is_live 
 
 -- the turn rule
 abbrev pub turn : WorldState → ProcedureState → Next
-turn w h = if is_in_step w h then turn_in_step (world_of w) (member_of (state_at w h.node)).pending h else Resync
+turn w h = if is_in_step w h then turn_in_step (world_of w) (node_state_of (state_at w h.node)).pending h else Resync
 
 -- the event of a step of node i; a plan has the table
 abbrev pub event_at : StepKind → ℕ → Option (List ℕ) → Event

@@ -8,42 +8,42 @@ use Rattle.bully_steps.specs.declared.point.Point.{Point}
 use Rattle.bully_steps.specs.declared.point.Point.TheVariants.{Idle}
 
 -- what a world has of one node
-pub record Member : Type 0 where
+pub record NodeState : Type 0 where
   pub vector : Vector
   pub point : Point
   pub pending : Option Pending
 
-abbrev pub empty_member : Member
-empty_member = record { vector = empty_vector; point = Idle; pending = None }
+abbrev pub empty_node_state : NodeState
+empty_node_state = record { vector = empty_vector; point = Idle; pending = None }
 
--- a member for each node, from node 1 on
+-- a node state for each node, from node 1 on
 pub record World : Type 0 where
-  pub members : List Member
+  pub states : List NodeState
 
--- node i's member; a number that is no node's reads as the empty member
-abbrev pub member : World → ℕ → Member
-member w i = at_node empty_member w.members i
+-- node i's node state; a number that is no node's reads as the empty node state
+abbrev pub node_state : World → ℕ → NodeState
+node_state w i = at_node empty_node_state w.states i
 
 abbrev pub vector : World → ℕ → Vector
-vector w i = (member w i).vector
+vector w i = (node_state w i).vector
 
 abbrev pub point : World → ℕ → Point
-point w i = (member w i).point
+point w i = (node_state w i).point
 
 abbrev pub pending : World → ℕ → Option Pending
-pending w i = (member w i).pending
+pending w i = (node_state w i).pending
 
 -- the world where node i is m from now on, and all else is as it was
-abbrev pub with_member : World → ℕ → Member → World
-with_member w i m = record w { members = put_node w.members i m }
+abbrev pub with_node_state : World → ℕ → NodeState → World
+with_node_state w i m = record w { states = put_node w.states i m }
 
 -- stop: the procedure is given up, and the call, if any, is an orphan
-abbrev pub stopped : Member → Member
+abbrev pub stopped : NodeState → NodeState
 stopped m = record m { point = Idle; pending = option_map orphan_of m.pending }
 
 -- before any event
 abbrev pub first_world : Setup → World
-first_world setup = record { members = replicate setup.nodes empty_member }
+first_world setup = record { states = replicate setup.nodes empty_node_state }
 
 -- the pending call was sent to node j
 abbrev pub is_sent_to : ℕ → Option Pending → Bool

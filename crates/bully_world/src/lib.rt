@@ -7,7 +7,7 @@
 ghost use Rattle.bully_world.specs.StepOf.{StepIsComputed, LeadIsComputed, StepIsOne, LawfulIsOne};
 
 mod causes;
-mod member;
+mod node_state;
 mod steps;
 mod take;
 mod turn;
@@ -15,7 +15,7 @@ mod world;
 
 pub use bully_calls::{Event, Refused};
 pub use causes::own_cause;
-pub use member::Member;
+pub use node_state::NodeState;
 pub use take::TakenStep;
 pub use turn::{Next, StepKind};
 pub use world::World;

@@ -8,7 +8,7 @@ ghost use Rattle.bully_calls.specs.Events.{node_of};
 ghost use Rattle.bully_world.specs.Waiting.{sent_in, IsWaiting, with_sent, without_sent};
 
 use crate::causes::place_of;
-use crate::member::Member;
+use crate::node_state::NodeState;
 use bully_base::{Node, Setup};
 use bully_calls::{Answer, Event, Phase, Waiting};
 
@@ -17,23 +17,23 @@ use bully_calls::{Answer, Event, Phase, Waiting};
 #[inline(always)]
 pub fn apply_event(
     setup: &Setup,
-    members: &mut [Member],
+    states: &mut [NodeState],
     waiting: &mut Waiting,
     event: &Event,
 ) -> Answer
-    requires can { CanApply setup.now members.old event.now }
-    requires node { node_of event.now ≤ length members.old }
-    requires sent { IfSome (sent_in (kept_of (state_after setup.now members.old event.now) (node_of event.now))) (λ j. (0 < j) × (j ≤ length members.old)) }
-    requires waiting { IsWaiting members.old waiting.old }
-    ensures after { members.new ≡ state_after setup.now members.old event.now }
-    ensures answer { result ≡ answer_after members.old event.now }
-    ensures waiting { IsWaiting members.new waiting.new }
+    requires can { CanApply setup.now states.old event.now }
+    requires node { node_of event.now ≤ length states.old }
+    requires sent { IfSome (sent_in (kept_of (state_after setup.now states.old event.now) (node_of event.now))) (λ j. (0 < j) × (j ≤ length states.old)) }
+    requires waiting { IsWaiting states.old waiting.old }
+    ensures after { states.new ≡ state_after setup.now states.old event.now }
+    ensures answer { result ≡ answer_after states.old event.now }
+    ensures waiting { IsWaiting states.new waiting.new }
 {
     let node = event.node();
     let place = place_of(node);
-    let before = members[place].sent_to();
-    let answer = apply_to_members(setup, members, place, event);
-    let after = members[place].sent_to();
+    let before = states[place].sent_to();
+    let answer = apply_to_states(setup, states, place, event);
+    let after = states[place].sent_to();
     keep_waiting(waiting, node, before, after);
     answer
 }
@@ -54,60 +54,60 @@ fn keep_waiting(waiting: &mut Waiting, caller: Node, before: Option<Node>, after
     }
 }
 
-// An event that nothing refuses is applied; its node's member stands at `here`.
+// An event that nothing refuses is applied; its node's node state stands at `here`.
 #[inline(always)]
-fn apply_to_members(setup: &Setup, members: &mut [Member], here: usize, event: &Event) -> Answer
-    requires can { CanApply setup.now members.old event.now }
+fn apply_to_states(setup: &Setup, states: &mut [NodeState], here: usize, event: &Event) -> Answer
+    requires can { CanApply setup.now states.old event.now }
     requires here { here + 1 ≡ node_of event.now }
-    ensures after { members.new ≡ state_after setup.now members.old event.now }
-    ensures answer { result ≡ answer_after members.old event.now }
+    ensures after { states.new ≡ state_after setup.now states.old event.now }
+    ensures answer { result ≡ answer_after states.old event.now }
 {
     match event {
-        Event::Run(node) => run_call(members, *node, here),
+        Event::Run(node) => run_call(states, *node, here),
         _ => {
-            let member = &mut members[here];
-            member.apply(setup, event)
+            let node_state = &mut states[here];
+            node_state.apply(setup, event)
         }
     }
 }
 
-// The call of this caller, whose member stands at `here`, runs at its callee.
+// The call of this caller, whose node state stands at `here`, runs at its callee.
 // (inlined, as `apply_event` is)
 #[inline(always)]
-fn run_call(members: &mut [Member], caller: Node, here: usize) -> Answer
-    requires can { CanRun members.old caller }
+fn run_call(states: &mut [NodeState], caller: Node, here: usize) -> Answer
+    requires can { CanRun states.old caller }
     requires here { here + 1 ≡ caller }
-    ensures after { members.new ≡ state_after_run members.old caller (kept_of members.old caller).slot.content }
-    ensures answer { result ≡ run_answer members.old (kept_of members.old caller).slot.content }
+    ensures after { states.new ≡ state_after_run states.old caller (kept_of states.old caller).slot.content }
+    ensures answer { result ≡ run_answer states.old (kept_of states.old caller).slot.content }
 {
-    let call = members[here].slot().call().unwrap();
-    run_between(members, caller, here, place_of(call.callee))
+    let call = states[here].slot().call().unwrap();
+    run_between(states, caller, here, place_of(call.callee))
 }
 
-// The call in the slot of the member at `here` runs at the member at `there`.
+// The call in the slot of the node state at `here` runs at the node state at `there`.
 // (inlined, as `apply_event` is)
 #[inline(always)]
-fn run_between(members: &mut [Member], caller: Node, here: usize, there: usize) -> Answer
-    requires here { here < length members.old }
-    requires there { there < length members.old }
+fn run_between(states: &mut [NodeState], caller: Node, here: usize, there: usize) -> Answer
+    requires here { here < length states.old }
+    requires there { there < length states.old }
     requires apart { here ≢ there }
-    requires can { CanExchange (slice_index_or members.old here (empty_state 0)) (slice_index_or members.old there (empty_state 0)) }
-    ensures answer { IfSome (slice_index_or members.old here (empty_state 0)).slot.content (λ p. result ≡ reply p.call.kind (slice_index_or members.old there (empty_state 0)).vector.vector) }
-    ensures after { IfSome (slice_index_or members.old here (empty_state 0)).slot.content (λ p. members.new
-        ≡ slice_set (slice_set members.old here (phased_state (Phase.Ran result) (slice_index_or members.old here (empty_state 0)))) there (callee_state_after caller p (slice_index_or members.old there (empty_state 0)))) }
+    requires can { CanExchange (slice_index_or states.old here (empty_state 0)) (slice_index_or states.old there (empty_state 0)) }
+    ensures answer { IfSome (slice_index_or states.old here (empty_state 0)).slot.content (λ p. result ≡ reply p.call.kind (slice_index_or states.old there (empty_state 0)).vector.vector) }
+    ensures after { IfSome (slice_index_or states.old here (empty_state 0)).slot.content (λ p. states.new
+        ≡ slice_set (slice_set states.old here (phased_state (Phase.Ran result) (slice_index_or states.old here (empty_state 0)))) there (callee_state_after caller p (slice_index_or states.old there (empty_state 0)))) }
 {
     if there < here {
-        let (lower, upper) = members.split_at_mut(here);
+        let (lower, upper) = states.split_at_mut(here);
         exchange(&mut upper[0], &mut lower[there], caller)
     } else {
-        let (lower, upper) = members.split_at_mut(there);
+        let (lower, upper) = states.split_at_mut(there);
         exchange(&mut lower[here], &mut upper[0], caller)
     }
 }
 
 // The call in the slot of `calling` runs at `called`, and the answer is kept in the slot.
 #[inline(always)]
-fn exchange(calling: &mut Member, called: &mut Member, caller: Node) -> Answer
+fn exchange(calling: &mut NodeState, called: &mut NodeState, caller: Node) -> Answer
     requires { CanExchange calling.old called.old }
     ensures calling { calling.new ≡ phased_state (Phase.Ran result) calling.old }
     ensures called { IfSome calling.old.slot.content (λ p. called.new ≡ callee_state_after caller p called.old) }

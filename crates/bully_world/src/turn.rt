@@ -9,7 +9,7 @@ ghost use Rattle.bully_world.specs.Turn.{event_at, procedure_by, procedure_in, i
 ghost use Rattle.bully_world.specs.declared.turn.StepKind.{StepKind};
 
 use crate::World;
-use crate::member::Member;
+use crate::node_state::NodeState;
 use bully_base::{Node, NodeSet, Status};
 use bully_calls::{Event, Phase, Slot};
 use bully_steps::{PointKind, Procedure, Want};
@@ -81,15 +81,15 @@ impl World {
         ensures in_step { is_in_step self.now (state_of procedure.new) ≡ true }
         ensures same_node { HasSameNode (state_of procedure.old) (state_of procedure.new) }
     {
-        let member = self.member(procedure.node());
-        let vector = member.vector();
-        let generation = member.generation();
+        let node_state = self.node_state(procedure.node());
+        let vector = node_state.vector();
+        let generation = node_state.generation();
         procedure.restart(
             generation,
-            member.standing(),
+            node_state.stored_point(),
             vector.up(),
             vector.coordinator(),
-            holds_live_call(member.slot(), generation),
+            holds_live_call(node_state.slot(), generation),
         );
     }
 
@@ -102,17 +102,17 @@ impl World {
         ensures { result ≡ turn self.now (state_of procedure.now) }
     {
         let node = procedure.node();
-        let member = self.member(node);
-        if !agrees_with(procedure, member) {
+        let node_state = self.node_state(node);
+        if !agrees_with(procedure, node_state) {
             return Next::Resync;
         }
-        let slot = member.slot();
+        let slot = node_state.slot();
         match (slot.call(), slot.phase()) {
             (Some(call), Some(phase)) => {
                 let callee_is_down = self.vector(call.callee).status() == Status::Down;
                 next_of_call(
                     callee_is_down,
-                    holds_live_call(slot, member.generation()),
+                    holds_live_call(slot, node_state.generation()),
                     phase,
                 )
             }
@@ -157,15 +157,15 @@ fn next_of_want(procedure: &Procedure) -> Next
 
 // Whether the procedure agrees with what is kept of its node on generation, point and call, and on the up set or the
 // coordinator that is held at the point.
-fn agrees_with(procedure: &Procedure, member: &Member) -> bool
-    ensures { result ≡ agree (state_of procedure.now) (procedure_by (state_of procedure.now).setup (state_of procedure.now).node member.now) }
+fn agrees_with(procedure: &Procedure, node_state: &NodeState) -> bool
+    ensures { result ≡ agree (state_of procedure.now) (procedure_by (state_of procedure.now).setup (state_of procedure.now).node node_state.now) }
 {
-    let standing = member.standing();
-    let kind = standing.kind();
-    let vector = member.vector();
-    procedure.generation() == member.generation()
-        && is_same_point(&procedure.kind(), procedure.left(), &kind, standing.left())
-        && procedure.awaits() == holds_live_call(member.slot(), member.generation())
+    let stored_point = node_state.stored_point();
+    let kind = stored_point.kind();
+    let vector = node_state.vector();
+    procedure.generation() == node_state.generation()
+        && is_same_point(&procedure.kind(), procedure.left(), &kind, stored_point.left())
+        && procedure.awaits() == holds_live_call(node_state.slot(), node_state.generation())
         && is_same_set(procedure.up(), up_at(&kind, vector.up()))
         && is_same_node(
             procedure.coordinator(),

@@ -1,10 +1,10 @@
 ghost use Rattle.std.specs.Prelude.{◌≡◌, ◌↔◌, ◌≤◌, ℕ, IfOk, IfErr, IfSome, IfNone, IsOk, length, true, false, None, Some, if◌then◌else◌};
-ghost use Rattle.bully_world.specs.State.{state_at, world_of, cause_in, waits_for, first_state, new_members, member_of, IsApplied, NobodyWaits, NobodyWaitsBelow, IsKept, IsReached};
+ghost use Rattle.bully_world.specs.State.{state_at, world_of, cause_in, waits_for, first_state, new_states, node_state_of, IsApplied, NobodyWaits, NobodyWaitsBelow, IsKept, IsReached};
 ghost use Rattle.bully_world.specs.NodeInvariant.{NodeInvariant};
 ghost use Rattle.bully_world.specs.World.{first_world};
 
 use crate::causes::{cause_of, place_of};
-use crate::member::Member;
+use crate::node_state::NodeState;
 use crate::steps::apply_event;
 use bully_base::{Node, OutOfMemory, Setup};
 use bully_calls::{Answer, Event, Refused, Slot, Waiting};
@@ -18,7 +18,7 @@ use std::marker::Model;
 pub struct World {
     setup: Setup,
     events: u32,
-    members: Vec<Member>,
+    states: Vec<NodeState>,
     waiting: Waiting, // for each callee, the callers with a sent call to it
 }
 
@@ -28,9 +28,9 @@ impl Model for World {
 
     ghost Value = { WorldState };
 
-    ghost view = { λ w. record { setup = w.setup; events = w.events; members = w.members.items } };
+    ghost view = { λ w. record { setup = w.setup; events = w.events; states = w.states.items } };
 
-    ghost invariant = { λ w. IsWorld (record { setup = w.setup; events = w.events; members = w.members.items }) × IsWaiting w.members.items w.waiting };
+    ghost invariant = { λ w. IsWorld (record { setup = w.setup; events = w.events; states = w.states.items }) × IsWaiting w.states.items w.waiting };
 }
 
 impl World {
@@ -42,7 +42,7 @@ impl World {
         Ok(World {
             setup,
             events: 0,
-            members: reserve(alloc, &setup)?,
+            states: reserve(alloc, &setup)?,
             waiting: Waiting::new(alloc, setup)?,
         })
     }
@@ -69,7 +69,7 @@ impl World {
     pub fn cause(&self, event: &Event) -> Option<Refused>
         ensures { result ≡ cause_in self.now event.now }
     {
-        cause_of(&self.setup, self.events, self.members.as_slice(), event)
+        cause_of(&self.setup, self.events, self.states.as_slice(), event)
     }
 
     /// Applies the event and answers it. Refused with its cause, and then nothing changes.
@@ -97,7 +97,7 @@ impl World {
     {
         let answer = apply_event(
             &self.setup,
-            self.members.as_mut_slice(),
+            self.states.as_mut_slice(),
             &mut self.waiting,
             event,
         );
@@ -111,7 +111,7 @@ impl World {
         ensures vector { result.now ≡ (state_at self.now node).vector }
         ensures task { IfSome result.now.vector.task (λ t. length t ≡ self.now.setup.partitions) }
     {
-        self.member(node).vector()
+        self.node_state(node).vector()
     }
 
     /// Where the node's procedure stands. The node is at most the setup's last.
@@ -119,7 +119,7 @@ impl World {
         requires { node ≤ self.now.setup.nodes }
         ensures { result ≡ (state_at self.now node).point }
     {
-        self.member(node).point()
+        self.node_state(node).point()
     }
 
     /// The node's call slot. A call in it is tagged with the node as its caller. The node is at most the setup's
@@ -129,7 +129,7 @@ impl World {
         ensures slot { result.now ≡ (state_at self.now node).slot }
         ensures tag { IfSome result.now.content (λ p. p.tag.caller ≡ node) }
     {
-        self.member(node).slot()
+        self.node_state(node).slot()
     }
 
     /// How often the node was stopped or crashed. The node is at most the setup's last.
@@ -137,7 +137,7 @@ impl World {
         requires { node ≤ self.now.setup.nodes }
         ensures { result ≡ (state_at self.now node).generation }
     {
-        self.member(node).generation()
+        self.node_state(node).generation()
     }
 
     /// The lowest caller with a sent call to this node; none where no call waits for it.
@@ -153,23 +153,23 @@ impl World {
     }
 
     /// What is kept of the node. The node is at most the setup's last.
-    pub(crate) fn member(&self, node: Node) -> &Member
+    pub(crate) fn node_state(&self, node: Node) -> &NodeState
         requires { node ≤ self.now.setup.nodes }
-        ensures member { result.now ≡ state_at self.now node }
+        ensures node_state { result.now ≡ state_at self.now node }
         ensures kept { IsKept self.now.setup self.now.events node result.now }
-        ensures fits { NodeInvariant self.now.setup node (member_of result.now) }
+        ensures fits { NodeInvariant self.now.setup node (node_state_of result.now) }
     {
-        &self.members[place_of(node)]
+        &self.states[place_of(node)]
     }
 }
 
-// The members of a new group.
-fn reserve(alloc: Global, setup: &Setup) -> Result<Vec<Member>, OutOfMemory>
-    ensures { IfOk result (λ members. members.items ≡ new_members setup.now) }
+// The states of a new group.
+fn reserve(alloc: Global, setup: &Setup) -> Result<Vec<NodeState>, OutOfMemory>
+    ensures { IfOk result (λ states. states.items ≡ new_states setup.now) }
 {
-    let mut members = Vec::with_capacity(alloc, usize::from(setup.nodes()))?;
+    let mut states = Vec::with_capacity(alloc, usize::from(setup.nodes()))?;
     for _ in 0..setup.nodes() {
-        members.push(Member::new(alloc, setup)?)?;
+        states.push(NodeState::new(alloc, setup)?)?;
     }
-    Ok(members)
+    Ok(states)
 }

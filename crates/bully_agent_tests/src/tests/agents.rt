@@ -8,7 +8,7 @@ use bully_calls::{Answer, Call, CallKind, Reply, Request};
 use bully_lines::{ReplyFault, RequestFault, push_reply, push_request, read_reply, read_request};
 use bully_table::TableFault;
 use bully_world::Refused;
-use cluster::{Cluster, Deed, new_agent};
+use cluster::{Cluster, Input, new_agent};
 use std::alloc::Global;
 
 /// Lines of requests in a group of three nodes with three partitions and 1,000 events, which are written as they are read.
@@ -234,11 +234,11 @@ fn lines_of_replies(rt: HostRuntime) {
 // All nodes recover and come to rest, then the last one crashes, and the second one hears nothing of it for too long.
 fn go_on(cluster: &mut Cluster) -> Option<()> {
     for place in 0..3 {
-        cluster.happen(place, Deed::Recover)?;
+        cluster.happen(place, Input::Recover)?;
     }
     cluster.rest()?;
-    cluster.happen(2, Deed::Crash)?;
-    cluster.happen(1, Deed::Timeout)?;
+    cluster.happen(2, Input::Crash)?;
+    cluster.happen(1, Input::Timeout)?;
     cluster.rest()
 }
 

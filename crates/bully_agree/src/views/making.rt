@@ -4,7 +4,7 @@ ghost use Rattle.bully_agree.specs.View.{IsViewed, ViewAgrees, shown_by, shown_o
 ghost use Rattle.bully_world.specs.State.{IsReached, world_of};
 
 use super::kept_setup::KeptSetup;
-use super::{Shown, View};
+use super::{NodeView, View};
 use bully_base::{Node, OutOfMemory};
 use bully_handlers::Vector;
 use bully_table::Table;
@@ -27,9 +27,9 @@ pub fn view(alloc: Global, world: &World) -> Result<View, OutOfMemory>
 }
 
 // What is shown of all nodes.
-fn shown_nodes(alloc: Global, world: &World) -> Result<Vec<Shown>, OutOfMemory>
+fn shown_nodes(alloc: Global, world: &World) -> Result<Vec<NodeView>, OutOfMemory>
     requires { IsReached world.now }
-    ensures { IfOk result (λ nodes. nodes.items ≡ map shown_of (world_of world.now).members) }
+    ensures { IfOk result (λ nodes. nodes.items ≡ map shown_of (world_of world.now).states) }
 {
     let mut nodes = Vec::with_capacity(alloc, usize::from(world.setup().nodes()))?;
     for before in 0..world.setup().nodes() {
@@ -40,10 +40,10 @@ fn shown_nodes(alloc: Global, world: &World) -> Result<Vec<Shown>, OutOfMemory>
 }
 
 // What is shown of a node with this vector.
-fn shown_by(vector: &Vector) -> Result<Shown, OutOfMemory>
+fn shown_by(vector: &Vector) -> Result<NodeView, OutOfMemory>
     ensures { IfOk result (λ s. s ≡ shown_by vector.now.vector) }
 {
-    Ok(Shown {
+    Ok(NodeView {
         status: vector.status(),
         coordinator: vector.coordinator(),
         task: copied(vector.task())?,

@@ -4,7 +4,7 @@ ghost use Rattle.std.specs.Prelude.{◌≡◌, ◌+◌, [], IfSome, None};
 ghost use Rattle.bully_group.specs.Locked.{name_of};
 ghost use Rattle.bully_steps.specs.Procedure.{state_of};
 
-use super::held::{Held, Opened, Way, ended, open};
+use super::held::{TestGroup, Opened, Way, ended, open};
 use super::observers::{Place, Watch, Watchers, Which, publisher_for, rounds};
 use super::two_groups::{Other, used_as_told};
 use bully_agree::View;
@@ -24,7 +24,7 @@ use std::sync::{MutexGuard, Wait};
 
 /// What an event does.
 #[derive(Clone, Copy)]
-pub enum Deed {
+pub enum Action {
     Recover,
     Crash,
     Check,
@@ -42,7 +42,7 @@ pub enum Deed {
 #[derive(Clone, Copy)]
 pub enum Call {
     /// An event of this node.
-    Step(Deed, u16),
+    Step(Action, u16),
     Serve,
     /// A turn of the procedure that is held.
     Turn,
@@ -84,7 +84,7 @@ pub struct Case {
     pub asks: &'static [Ask],
     pub other: Option<Other>,
     pub told: &'static str,
-    pub history: &'static [(u16, Deed, u16, Answer)],
+    pub history: &'static [(u16, Action, u16, Answer)],
 }
 
 /// What stands beside a group: the procedure that is held for turns, its observers if it is watched, and what is told.
@@ -159,21 +159,21 @@ pub fn publisher_beside<R: Wait>(
     }
 }
 
-// The event of a deed.
-fn event_of(alloc: Global, setup: &Setup, deed: &Deed, number: u16) -> Option<Event> {
+// The event of an action.
+fn event_of(alloc: Global, setup: &Setup, action: &Action, number: u16) -> Option<Event> {
     let node = Node::new(number)?;
-    Some(match deed {
-        Deed::Recover => Event::Recover(node),
-        Deed::Crash => Event::Crash(node),
-        Deed::Check => Event::Check(node),
-        Deed::Timeout => Event::Timeout(node),
-        Deed::Start => Event::Start(node),
-        Deed::Run => Event::Run(node),
-        Deed::Lose => Event::Lose(node),
-        Deed::Return => Event::Return(node),
-        Deed::Drop => Event::Drop(node),
-        Deed::Move => Event::Move(node),
-        Deed::Plan(owners) => Event::Plan(node, Table::read(alloc, *setup, owners).ok()?),
+    Some(match action {
+        Action::Recover => Event::Recover(node),
+        Action::Crash => Event::Crash(node),
+        Action::Check => Event::Check(node),
+        Action::Timeout => Event::Timeout(node),
+        Action::Start => Event::Start(node),
+        Action::Run => Event::Run(node),
+        Action::Lose => Event::Lose(node),
+        Action::Return => Event::Return(node),
+        Action::Drop => Event::Drop(node),
+        Action::Move => Event::Move(node),
+        Action::Plan(owners) => Event::Plan(node, Table::read(alloc, *setup, owners).ok()?),
     })
 }
 
@@ -269,8 +269,8 @@ fn call_by<L: Naming, R: Wait>(
         return;
     };
     match &mut opened.held {
-        Held::Bare(locked) => call_locked(rt, locked, seat, pass, beside, call),
-        Held::Shared(group) => {
+        TestGroup::Bare(locked) => call_locked(rt, locked, seat, pass, beside, call),
+        TestGroup::Shared(group) => {
             let mut guard = group.locked.lock(rt);
             call_locked(rt, &mut guard, seat, pass, beside, call);
             MutexGuard::unlock(guard);
@@ -292,7 +292,7 @@ fn call_locked<L: Naming, R: Wait>(
     ensures watchers { beside.new.watchers ≡ L.publisher }
 {
     match call {
-        Call::Step(deed, number) => step(locked, seat, pass, beside, deed, *number),
+        Call::Step(action, number) => step(locked, seat, pass, beside, action, *number),
         Call::Serve => tell(&mut beside.text, &locked.serve(seat, pass)),
         Call::View => view(
             locked,
@@ -317,13 +317,13 @@ fn step<L: Naming>(
     seat: &mut Seat,
     pass: &mut Pass<L>,
     beside: &mut Beside,
-    deed: &Deed,
+    action: &Action,
     number: u16,
 )
     ensures procedure { beside.new.procedure ≡ beside.old.procedure }
     ensures watchers { beside.new.watchers ≡ beside.old.watchers }
 {
-    let Some(event) = event_of(beside.alloc, locked.setup(), deed, number) else {
+    let Some(event) = event_of(beside.alloc, locked.setup(), action, number) else {
         return;
     };
     let answer = locked.step(seat, &event, pass);
@@ -473,7 +473,7 @@ pub fn ends_as<L: Naming, R: Wait>(
     rt: &R,
     opened: Opened<L>,
     beside: &mut Beside,
-    history: &[(u16, Deed, u16, Answer)],
+    history: &[(u16, Action, u16, Answer)],
     told: &str,
 ) -> bool {
     let begins = match ended(opened, &mut beside.text) {
@@ -505,7 +505,7 @@ fn tell_closed(closed: &Closed, beside: &mut Beside) {
     beside.watch(&Watch::Look(Which::First));
 }
 
-fn begins_with(alloc: Global, closed: &Closed, history: &[(u16, Deed, u16, Answer)]) -> bool {
+fn begins_with(alloc: Global, closed: &Closed, history: &[(u16, Action, u16, Answer)]) -> bool {
     let mut is_same = true;
     for (place, wanted) in history.iter().enumerate() {
         is_same = is_same && is_entry(alloc, closed, place, wanted);
@@ -518,7 +518,7 @@ fn is_entry(
     alloc: Global,
     closed: &Closed,
     place: usize,
-    wanted: &(u16, Deed, u16, Answer),
+    wanted: &(u16, Action, u16, Answer),
 ) -> bool {
     let Some(entry) = closed.history().get(place) else {
         return false;

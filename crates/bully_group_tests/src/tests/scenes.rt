@@ -1,6 +1,6 @@
 //! What is done with watched groups of one node, and what has to be told of it.
 
-use super::asks::{Ask, Call, Case, Deed};
+use super::asks::{Ask, Call, Case, Action};
 use super::observers::{Place, Watch, Which};
 
 // Nothing is asked yet.
@@ -21,11 +21,11 @@ pub const SCENES: &[Case] = &[
     // An observer learns of each publish, and looks.
     Case {
         asks: &[
-            Ask::By(0, Call::Step(Deed::Recover, 1)),
+            Ask::By(0, Call::Step(Action::Recover, 1)),
             Ask::By(0, Call::Publish(Place::First, 1)),
             Ask::Watch(Watch::Learn(Which::First, Place::First)),
             Ask::Watch(Watch::Look(Which::First)),
-            Ask::By(0, Call::Step(Deed::Crash, 1)),
+            Ask::By(0, Call::Step(Action::Crash, 1)),
             Ask::By(0, Call::Publish(Place::First, 1)),
             Ask::Watch(Watch::Learn(Which::First, Place::First)),
             Ask::Watch(Watch::Look(Which::First)),
@@ -47,7 +47,7 @@ Gone
     Case {
         asks: &[
             Ask::Watch(Watch::Look(Which::First)),
-            Ask::By(0, Call::Step(Deed::Recover, 1)),
+            Ask::By(0, Call::Step(Action::Recover, 1)),
             Ask::By(0, Call::Publish(Place::First, 1)),
             Ask::Watch(Watch::Look(Which::First)),
             Ask::Watch(Watch::Learn(Which::First, Place::First)),
@@ -55,7 +55,7 @@ Gone
             Ask::By(0, Call::Publish(Place::First, 1)),
             Ask::Watch(Watch::Learn(Which::Second, Place::First)),
             Ask::Watch(Watch::Look(Which::Second)),
-            Ask::By(0, Call::Step(Deed::Crash, 1)),
+            Ask::By(0, Call::Step(Action::Crash, 1)),
             Ask::Watch(Watch::Look(Which::First)),
             Ask::By(0, Call::Publish(Place::First, 1)),
             Ask::Watch(Watch::Learn(Which::Second, Place::First)),
@@ -83,9 +83,9 @@ Gone
     // What was told first is learned after what was told later.
     Case {
         asks: &[
-            Ask::By(0, Call::Step(Deed::Recover, 1)),
+            Ask::By(0, Call::Step(Action::Recover, 1)),
             Ask::By(0, Call::Publish(Place::First, 1)),
-            Ask::By(0, Call::Step(Deed::Crash, 1)),
+            Ask::By(0, Call::Step(Action::Crash, 1)),
             Ask::By(0, Call::Publish(Place::Second, 1)),
             Ask::Watch(Watch::Learn(Which::First, Place::Second)),
             Ask::Watch(Watch::Learn(Which::First, Place::First)),
@@ -109,13 +109,13 @@ Gone
         asks: &[
             Ask::By(0, Call::Publish(Place::First, 1)),
             Ask::By(0, Call::Publish(Place::Many, 119)),
-            Ask::By(0, Call::Step(Deed::Recover, 1)),
+            Ask::By(0, Call::Step(Action::Recover, 1)),
             Ask::By(0, Call::Publish(Place::Second, 1)),
             Ask::Watch(Watch::Look(Which::First)),
             Ask::Watch(Watch::Learn(Which::First, Place::First)),
             Ask::By(0, Call::Publish(Place::Second, 1)),
             Ask::Watch(Watch::Look(Which::First)),
-            Ask::By(0, Call::Step(Deed::Crash, 1)),
+            Ask::By(0, Call::Step(Action::Crash, 1)),
             Ask::By(0, Call::Publish(Place::First, 1)),
             Ask::Watch(Watch::Look(Which::Second)),
             Ask::Watch(Watch::Forget(Place::Second)),
@@ -143,12 +143,12 @@ Gone
     // 120 are kept, and 130 are asked for. Then a crash isn't shown, until all of them are dropped.
     Case {
         asks: &[
-            Ask::By(0, Call::Step(Deed::Recover, 1)),
+            Ask::By(0, Call::Step(Action::Recover, 1)),
             Ask::By(0, Call::Publish(Place::First, 1)),
             Ask::Watch(Watch::Learn(Which::First, Place::First)),
             Ask::Watch(Watch::Look(Which::First)),
             Ask::By(0, Call::Publish(Place::Many, 130)),
-            Ask::By(0, Call::Step(Deed::Crash, 1)),
+            Ask::By(0, Call::Step(Action::Crash, 1)),
             Ask::By(0, Call::Publish(Place::First, 1)),
             Ask::Watch(Watch::Look(Which::First)),
             Ask::Watch(Watch::ForgetMany),
@@ -187,10 +187,10 @@ Gone
             Ask::By(0, Call::View),
             Ask::By(1, Call::View),
             Ask::Watch(Watch::Look(Which::First)),
-            Ask::By(0, Call::Step(Deed::Recover, 1)),
+            Ask::By(0, Call::Step(Action::Recover, 1)),
             Ask::By(0, Call::Publish(Place::First, 1)),
             Ask::Watch(Watch::Look(Which::First)),
-            Ask::By(0, Call::Step(Deed::Crash, 1)),
+            Ask::By(0, Call::Step(Action::Crash, 1)),
             Ask::By(0, Call::Publish(Place::First, 1)),
             Ask::Watch(Watch::Look(Which::First)),
             Ask::By(0, Call::Rounds(499)),

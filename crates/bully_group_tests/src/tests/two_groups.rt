@@ -4,7 +4,7 @@ ghost use Rattle.std.specs.Prelude.{◌≡◌, ◌+◌, [], IfSome};
 ghost use Rattle.bully_group.specs.Locked.{name_of};
 ghost use Rattle.bully_steps.specs.Procedure.{state_of};
 
-use super::asks::{Ask, Beside, Call, Case, Deed, ask_all, beside_for, ends_as, publisher_beside};
+use super::asks::{Ask, Beside, Call, Case, Action, ask_all, beside_for, ends_as, publisher_beside};
 use super::held::{Opened, Way, open};
 use super::observers::Place;
 use bully_base::Setup;
@@ -49,7 +49,7 @@ const FOREIGN: Case = Case {
     is_watched: false,
     node: 1,
     asks: &[
-        Ask::By(0, Call::Step(Deed::Recover, 1)),
+        Ask::By(0, Call::Step(Action::Recover, 1)),
         Ask::By(0, Call::View),
     ],
     other: Some(Other {
@@ -58,7 +58,7 @@ const FOREIGN: Case = Case {
         actor: 0,
         place: 0,
         asks: &[
-            Ask::By(0, Call::Step(Deed::Recover, 1)),
+            Ask::By(0, Call::Step(Action::Recover, 1)),
             Ask::By(0, Call::View),
             Ask::By(0, Call::Turn),
             Ask::By(0, Call::TurnInPlace),
@@ -102,7 +102,7 @@ const CROSSING: Other = Other {
     is_watched: false,
     actor: 0,
     place: 0,
-    asks: &[Ask::By(0, Call::Step(Deed::Recover, 1))],
+    asks: &[Ask::By(0, Call::Step(Action::Recover, 1))],
     goes_back: true,
     told: "Ok(())
 a seat less: SeatCount
@@ -150,7 +150,7 @@ const STRANGE: Other = Other {
     place: 1,
     asks: &[
         Ask::By(1, Call::Serve),
-        Ask::By(1, Call::Step(Deed::Check, 2)),
+        Ask::By(1, Call::Step(Action::Check, 2)),
         Ask::By(1, Call::Turn),
         Ask::By(1, Call::TurnInPlace),
     ],
@@ -185,8 +185,8 @@ all: Stranger
 // The operator's seat of the first group, which has two entries there, publishes nothing in the second one.
 const FOREIGN_PUBLISH: Case = Case {
     asks: &[
-        Ask::By(0, Call::Step(Deed::Recover, 1)),
-        Ask::By(0, Call::Step(Deed::Crash, 1)),
+        Ask::By(0, Call::Step(Action::Recover, 1)),
+        Ask::By(0, Call::Step(Action::Crash, 1)),
     ],
     other: Some(Other {
         nodes: 1,

@@ -12,7 +12,7 @@ use std::alloc::Global;
 
 /// What a view shows: how many events there were and how many nodes there are; and of each node the status, the coordinator, and
 /// its task's owners, of which there are none without a task.
-struct Shown {
+struct ExpectedView {
     events: u32,
     nodes: u16,
     status: Status,
@@ -21,7 +21,7 @@ struct Shown {
 }
 
 /// Three nodes are normal, with one table.
-const ALL_NORMAL: Shown = Shown {
+const ALL_NORMAL: ExpectedView = ExpectedView {
     events: 26,
     nodes: 3,
     status: Status::Normal,
@@ -30,7 +30,7 @@ const ALL_NORMAL: Shown = Shown {
 };
 
 /// One node is normal.
-const ONE_NORMAL: Shown = Shown {
+const ONE_NORMAL: ExpectedView = ExpectedView {
     events: 6,
     nodes: 1,
     status: Status::Normal,
@@ -39,7 +39,7 @@ const ONE_NORMAL: Shown = Shown {
 };
 
 /// It has crashed, and kept its task.
-const ONE_KEPT: Shown = Shown {
+const ONE_KEPT: ExpectedView = ExpectedView {
     events: 7,
     nodes: 1,
     status: Status::Down,
@@ -48,7 +48,7 @@ const ONE_KEPT: Shown = Shown {
 };
 
 /// What a run ends with: what the view shows, or why the events aren't run to their end.
-type End = Result<&'static Shown, WholeFault>;
+type End = Result<&'static ExpectedView, WholeFault>;
 
 /// A script, whether it is run in whole calls, a bound on events, and the end.
 const RUNS: [(&str, bool, u32, End); 10] = [
@@ -132,7 +132,7 @@ fn has_task(task: Option<&Table>, owners: &[u16]) -> bool {
 }
 
 // Whether the view shows this of the node.
-fn shows_node(view: &View, node: Node, shown: &Shown) -> bool {
+fn shows_node(view: &View, node: Node, shown: &ExpectedView) -> bool {
     node.number() <= view.nodes()
         && view.status(node) == shown.status
         && number_of(view.coordinator(node)) == shown.coordinator
@@ -140,7 +140,7 @@ fn shows_node(view: &View, node: Node, shown: &Shown) -> bool {
 }
 
 // Whether the view shows this.
-fn shows(view: &View, shown: &Shown) -> bool {
+fn shows(view: &View, shown: &ExpectedView) -> bool {
     for number in 1..=shown.nodes {
         match Node::new(number) {
             Some(node) => {
@@ -215,7 +215,7 @@ fn runs_of_scripts(rt: HostRuntime) {
 }
 
 /// A new group of two nodes, one of one, and that once its node has recovered.
-const TWO_DOWN: Shown = Shown {
+const TWO_DOWN: ExpectedView = ExpectedView {
     events: 0,
     nodes: 2,
     status: Status::Down,
@@ -223,7 +223,7 @@ const TWO_DOWN: Shown = Shown {
     owners: &[],
 };
 
-const ONE_DOWN: Shown = Shown {
+const ONE_DOWN: ExpectedView = ExpectedView {
     events: 0,
     nodes: 1,
     status: Status::Down,
@@ -231,7 +231,7 @@ const ONE_DOWN: Shown = Shown {
     owners: &[],
 };
 
-const ONE_UP: Shown = Shown {
+const ONE_UP: ExpectedView = ExpectedView {
     events: 1,
     nodes: 1,
     status: Status::Election,
@@ -256,7 +256,7 @@ fn new_world_shows(alloc: Global, setup: Setup) -> bool {
 }
 
 // Whether the walk shows this.
-fn walk_shows(walk: &Walk, shown: &Shown) -> bool {
+fn walk_shows(walk: &Walk, shown: &ExpectedView) -> bool {
     match walk.view() {
         Ok(view) => shows(&view, shown),
         Err(_) => false,

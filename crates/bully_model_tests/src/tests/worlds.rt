@@ -19,9 +19,9 @@ bully,1,3,3\nrecover,1\nrecover,2\nstart,1\nrecover,3\nmove,3\nstart,3\nrun,3\nr
 start,3\ndrop,1\nrun,3\ndrop,1\ndrop,1\n";
 
 /// What an event is answered, or why it is refused; and who waits for a node then.
-type Told = (Result<Answer, Refused>, Option<u16>);
+type ApplyAnswer = (Result<Answer, Refused>, Option<u16>);
 
-const ALONE_TOLD: [Told; 6] = [
+const ALONE_TOLD: [ApplyAnswer; 6] = [
     (Ok(Answer::Done), None),
     (Ok(Answer::Done), None),
     (Ok(Answer::Done), None),
@@ -30,7 +30,7 @@ const ALONE_TOLD: [Told; 6] = [
     (Err(Refused::Full), None),
 ];
 
-const WAITING_TOLD: [Told; 9] = [
+const WAITING_TOLD: [ApplyAnswer; 9] = [
     (Ok(Answer::Done), None),
     (Ok(Answer::Done), None),
     (Ok(Answer::Done), None),
@@ -42,7 +42,7 @@ const WAITING_TOLD: [Told; 9] = [
     (Ok(Answer::Done), None),
 ];
 
-const DROPPED_TOLD: [Told; 13] = [
+const DROPPED_TOLD: [ApplyAnswer; 13] = [
     (Ok(Answer::Done), None),
     (Ok(Answer::Done), None),
     (Ok(Answer::Done), Some(1)),
@@ -63,7 +63,7 @@ const DROPPED_TOLD: [Told; 13] = [
 struct Case {
     trace: &'static str,
     events_max: u32,
-    told: &'static [Told],
+    told: &'static [ApplyAnswer],
     callee: u16,
     last: u16,
     events: u32,
@@ -105,7 +105,7 @@ const CASES: [Case; 3] = [
 ];
 
 // Whether this is told of the event, which the world takes.
-fn takes(world: &mut World, event: &Event, callee: Node, told: Option<&Told>) -> bool {
+fn takes(world: &mut World, event: &Event, callee: Node, told: Option<&ApplyAnswer>) -> bool {
     let Some((answer, waiting)) = told else {
         return false;
     };

@@ -8,10 +8,10 @@ use Rattle.bully_calls.specs.Pending.{Pending}
 use Rattle.bully_calls.specs.declared.event.Event.{Event}
 use Rattle.bully_calls.specs.declared.event.Refused.{Refused}
 use Rattle.bully_world.specs.Cause.{refuses, first_of, later_refusals, cause, is_pending, is_live_in}
-use Rattle.bully_world.specs.State.{MemberState, member_of}
+use Rattle.bully_world.specs.State.{StoredNode, node_state_of}
 use Rattle.bully_world.specs.StateAfter.{with_content}
 use Rattle.bully_world.specs.Step.{Step}
-use Rattle.bully_world.specs.World.{World, Member, member, pending, with_member}
+use Rattle.bully_world.specs.World.{World, NodeState, node_state, pending, with_node_state}
 use Rattle.bully_world.proofs.CallInvariant.{emptied_fits}
 use Rattle.bully_world.proofs.EventLaws.{OwnLaws, IsFree}
 use Rattle.bully_world.proofs.KeptLemmas.{kept_emptied}
@@ -24,7 +24,7 @@ orphan_there : (q : Option Pending) → is_pending q ≡ true → is_live_in q �
 orphan_there None there orphan = absurd (cc there)
 orphan_there (Some c) there orphan = (c, refl, orphan)
 
-drop_steps : (setup : Setup) (i : ℕ) (w : World) (count : ℕ) (m : MemberState) → IsFree setup w count (Event.Drop i) m → Step setup w (Event.Drop i) (with_member w i (member_of (with_content None m))) Answer.Discarded
+drop_steps : (setup : Setup) (i : ℕ) (w : World) (count : ℕ) (m : StoredNode) → IsFree setup w count (Event.Drop i) m → Step setup w (Event.Drop i) (with_node_state w i (node_state_of (with_content None m))) Answer.Discarded
 drop_steps setup i w count m f =
     let facts = drop_facts setup w count i f.none in
     let there = orphan_there (pending w i) facts.0 facts.1 in
@@ -43,7 +43,7 @@ drop_laws setup i = record {
   tag = λ m stays. absurd (grind (arith, nat_tests, stays));
 }
 
--- why one is refused at a node that is up, read off its member
-pub drop-cause : (setup : Setup) (w : World) (count i : ℕ) (m : Member) → member w i ≡ m → first_of (refuses setup w count (Event.Drop i)) later_refusals
+-- why one is refused at a node that is up, read off its node state
+pub drop-cause : (setup : Setup) (w : World) (count i : ℕ) (m : NodeState) → node_state w i ≡ m → first_of (refuses setup w count (Event.Drop i)) later_refusals
     ≡ (if not (is_pending m.pending) then Some Refused.NoCall else if is_live_in m.pending then Some Refused.NotOrphan else None)
 drop-cause setup w count i m here = grind (arith, here)

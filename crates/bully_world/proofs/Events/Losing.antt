@@ -9,10 +9,10 @@ use Rattle.bully_calls.specs.Slot.{pending_of}
 use Rattle.bully_calls.specs.declared.event.Event.{Event}
 use Rattle.bully_calls.specs.declared.event.Refused.{Refused}
 use Rattle.bully_world.specs.Cause.{refuses, first_of, later_refusals, cause, in_phase, callee_is_down}
-use Rattle.bully_world.specs.State.{MemberState, member_of, IsKept}
+use Rattle.bully_world.specs.State.{StoredNode, node_state_of, IsKept}
 use Rattle.bully_world.specs.StateAfter.{phased_state, node_answer, MayApply}
 use Rattle.bully_world.specs.Step.{Step}
-use Rattle.bully_world.specs.World.{World, Member, member, vector, pending, with_member}
+use Rattle.bully_world.specs.World.{World, NodeState, node_state, vector, pending, with_node_state}
 use Rattle.bully_world.proofs.CallInvariant.{with_phase_fits}
 use Rattle.bully_world.proofs.EventLaws.{OwnLaws, IsFree}
 use Rattle.bully_world.proofs.KeptLemmas.{kept_later, kept_phased}
@@ -27,16 +27,16 @@ unfailed f t e = grind arith
 callee_down : (w : World) (q : Option Pending) (c : Pending) → q ≡ Some c → callee_is_down w q ≡ true → (vector w c.call.callee).status ≡ Down
 callee_down w q c e t = grind arith
 
-lose_steps : (setup : Setup) (i : ℕ) (w : World) (count : ℕ) (m : MemberState) → IsFree setup w count (Event.Lose i) m → Step setup w (Event.Lose i) (with_member w i (member_of (phased_state Phase.Failed m))) (node_answer (Event.Lose i) m)
+lose_steps : (setup : Setup) (i : ℕ) (w : World) (count : ℕ) (m : StoredNode) → IsFree setup w count (Event.Lose i) m → Step setup w (Event.Lose i) (with_node_state w i (node_state_of (phased_state Phase.Failed m))) (node_answer (Event.Lose i) m)
 lose_steps setup i w count m f =
     let facts = lose_facts setup w count i f.none in
     let there = call_in_slot w i m f.here (λ f. not (is_failed f)) facts.0 in
     let is = pending_there w i m f.here there.0 there.1 in
     (pending_of m.generation there.0, is, unfailed there.0.phase there.2, callee_down w (pending w i) (pending_of m.generation there.0) is facts.1, phase_written w i m f.here there.0 Phase.Failed there.1, refl)
 
-lose_may : (setup : Setup) (i : ℕ) (w : World) (count : ℕ) (m : MemberState) → IsFree setup w count (Event.Lose i) m → IsKept setup count i m → MayApply setup (Event.Lose i) m
+lose_may : (setup : Setup) (i : ℕ) (w : World) (count : ℕ) (m : StoredNode) → IsFree setup w count (Event.Lose i) m → IsKept setup count i m → MayApply setup (Event.Lose i) m
 lose_may setup i w count m f kept =
-    content_test (λ f. not (is_failed f)) m.generation m.slot.content (ap (λ (x : Member). in_phase (λ f. not (is_failed f)) x.pending) (sym f.here) ∙ (lose_facts setup w count i f.none).0)
+    content_test (λ f. not (is_failed f)) m.generation m.slot.content (ap (λ (x : NodeState). in_phase (λ f. not (is_failed f)) x.pending) (sym f.here) ∙ (lose_facts setup w count i f.none).0)
 
 pub lose_laws : (setup : Setup) (i : ℕ) → OwnLaws setup (Event.Lose i)
 lose_laws setup i = record {
@@ -51,7 +51,7 @@ lose_laws setup i = record {
   tag = λ m stays. phased_tag Phase.Failed m;
 }
 
--- why one is refused at a node that is up, read off its member
-pub lose-cause : (setup : Setup) (w : World) (count i : ℕ) (m : Member) → member w i ≡ m → first_of (refuses setup w count (Event.Lose i)) later_refusals
+-- why one is refused at a node that is up, read off its node state
+pub lose-cause : (setup : Setup) (w : World) (count i : ℕ) (m : NodeState) → node_state w i ≡ m → first_of (refuses setup w count (Event.Lose i)) later_refusals
     ≡ (if not (in_phase (λ f. not (is_failed f)) m.pending) then Some Refused.NoCall else if not (callee_is_down w m.pending) then Some Refused.CalleeUp else None)
 lose-cause setup w count i m here = grind (arith, here)

@@ -17,15 +17,15 @@ use Rattle.bully_calls.specs.declared.event.Event.{Event}
 use Rattle.bully_calls.specs.declared.event.Refused.{Refused}
 use Rattle.bully_world.specs.Cause.{refuses, first_of, later_refusals, cause, in_phase}
 use Rattle.bully_world.specs.NodeInvariant.{NodeInvariant, WorldInvariant, SuitsCall, SuitsPhase, SuitsPending}
-use Rattle.bully_world.specs.State.{MemberState, member_of, IsKept}
+use Rattle.bully_world.specs.State.{StoredNode, node_state_of, IsKept}
 use Rattle.bully_world.specs.StateAfter.{proceeded_state, returned_state, node_after_return, return_answer, with_content, MayApply}
 use Rattle.bully_world.specs.Step.{Step, Returns}
 use Rattle.bully_world.specs.StepOf.{outcome_step}
-use Rattle.bully_world.specs.World.{World, Member, member, vector, point, pending, with_member}
+use Rattle.bully_world.specs.World.{World, NodeState, node_state, vector, point, pending, with_node_state}
 use Rattle.bully_world.proofs.CallInvariant.{emptied_fits}
 use Rattle.bully_world.proofs.EventLaws.{OwnLaws, IsFree}
 use Rattle.bully_world.proofs.KeptLemmas.{kept_later, kept_empty, kept_emptied, kept_proceeded}
-use Rattle.bully_world.proofs.MemberLemmas.{node_of_pending, call_of_pending}
+use Rattle.bully_world.proofs.NodeStateLemmas.{node_of_pending, call_of_pending}
 use Rattle.bully_world.proofs.MoveInvariant.{has_point, proceeds_fits}
 use Rattle.bully_world.proofs.SlotLemmas.{pending_there, call_in_slot, slot_emptied}
 
@@ -33,7 +33,7 @@ return_facts : (setup : Setup) (w : World) (count i : ℕ) → cause setup w cou
 return_facts setup w count i n = grind (arith, n)
 
 -- a call's return empties the slot
-returned_is : (setup : Setup) (i : ℕ) (o : Outcome) (m : MemberState) (q : Member) (p : Point) → q ≡ member_of m → next_point setup i q.vector.up q.point o ≡ Some p → member_of (proceeded_state setup i o (with_content None m)) ≡ record { vector = next_vector i q.point o q.vector; point = p; pending = None }
+returned_is : (setup : Setup) (i : ℕ) (o : Outcome) (m : StoredNode) (q : NodeState) (p : Point) → q ≡ node_state_of m → next_point setup i q.vector.up q.point o ≡ Some p → node_state_of (proceeded_state setup i o (with_content None m)) ≡ record { vector = next_vector i q.point o q.vector; point = p; pending = None }
 returned_is setup i o m q p is e = grind (arith, is, e)
 
 -- a call that isn't sent any more has an outcome
@@ -50,18 +50,18 @@ outcome_there kind Phase.Failed s t = (Outcome.Failed, refl)
 leads_on : (setup : Setup) (i : ℕ) (v : Vector) (p : Point) (c : Pending) (o : Outcome) → SuitsCall setup i v p c → c.is_live ≡ true → outcome_of c.phase ≡ Some o → next_point setup i v.up p o ≡ None → ⊥
 leads_on setup i v p c o fits live done none = grind (arith, fits.live live, fits.phase, done, none)
 
-module _ (setup : Setup) (i : ℕ) (w : World) (count : ℕ) (m : MemberState) (f : IsFree setup w count (Event.Return i) m) where
+module _ (setup : Setup) (i : ℕ) (w : World) (count : ℕ) (m : StoredNode) (f : IsFree setup w count (Event.Return i) m) where
   -- a live call's return moves node i on
   returns_by : (p : SlotCall) (o : Outcome) → m.slot.content ≡ Some p → outcome_of p.phase ≡ Some o → (b : Bool) → p.tag.generation == m.generation ≡ b
-      → Returns setup w i b o (with_member w i (member_of (if b then proceeded_state setup i o (with_content None m) else with_content None m))) (if b then answer_of o else Answer.Discarded)
+      → Returns setup w i b o (with_node_state w i (node_state_of (if b then proceeded_state setup i o (with_content None m) else with_content None m))) (if b then answer_of o else Answer.Discarded)
   returns_by p o e done true live =
       let c = pending_of m.generation p in
       let call = call_of_pending setup w i c f.all (pending_there w i m f.here p e) in
       let next = has_point (next_point setup i (vector w i).up (point w i) o) (leads_on setup i (vector w i) (point w i) c o call live done) in
-      ((next.0, next.1, ap (with_member w i) (returned_is setup i o m (member w i) next.0 f.here next.1)), refl)
+      ((next.0, next.1, ap (with_node_state w i) (returned_is setup i o m (node_state w i) next.0 f.here next.1)), refl)
   returns_by p o e done false live = (slot_emptied w i m f.here, refl)
 
-  return_with : (p : SlotCall) (o : Outcome) → m.slot.content ≡ Some p → outcome_of p.phase ≡ Some o → Step setup w (Event.Return i) (with_member w i (member_of (node_after_return setup i m m.slot.content))) (return_answer m.generation m.slot.content)
+  return_with : (p : SlotCall) (o : Outcome) → m.slot.content ≡ Some p → outcome_of p.phase ≡ Some o → Step setup w (Event.Return i) (with_node_state w i (node_state_of (node_after_return setup i m m.slot.content))) (return_answer m.generation m.slot.content)
   return_with p o e done =
       let c = pending_of m.generation p in
       let by = returns_by p o e done (p.tag.generation == m.generation) refl in
@@ -72,11 +72,11 @@ module _ (setup : Setup) (i : ℕ) (w : World) (count : ℕ) (m : MemberState) (
         o,
         pending_there w i m f.here p e,
         done,
-        subst (λ a. Returns setup w i c.is_live o (with_member w i (member_of (node_after_return setup i m m.slot.content))) a) (sym answer)
-            (subst (λ s. Returns setup w i c.is_live o (with_member w i (member_of s)) (if p.tag.generation == m.generation then answer_of o else Answer.Discarded)) (sym state) by),
+        subst (λ a. Returns setup w i c.is_live o (with_node_state w i (node_state_of (node_after_return setup i m m.slot.content))) a) (sym answer)
+            (subst (λ s. Returns setup w i c.is_live o (with_node_state w i (node_state_of s)) (if p.tag.generation == m.generation then answer_of o else Answer.Discarded)) (sym state) by),
       )
 
-  return_steps : Step setup w (Event.Return i) (with_member w i (member_of (node_after_return setup i m m.slot.content))) (return_answer m.generation m.slot.content)
+  return_steps : Step setup w (Event.Return i) (with_node_state w i (node_state_of (node_after_return setup i m m.slot.content))) (return_answer m.generation m.slot.content)
   return_steps =
       let there = call_in_slot w i m f.here (λ f. not (is_sent f)) (return_facts setup w count i f.none) in
       let call = call_of_pending setup w i (pending_of m.generation there.0) f.all (pending_there w i m f.here there.0 there.1) in
@@ -97,12 +97,12 @@ some_outcome setup i v at g (Some p) s t = by_phase p.phase s.phase t
     by_phase (Phase.Ran Answer.Discarded) s t = elim s [ ]
     by_phase Phase.Failed s t = refl
 
-return_may : (setup : Setup) (i : ℕ) (w : World) (count : ℕ) (m : MemberState) → IsFree setup w count (Event.Return i) m → IsKept setup count i m → MayApply setup (Event.Return i) m
+return_may : (setup : Setup) (i : ℕ) (w : World) (count : ℕ) (m : StoredNode) → IsFree setup w count (Event.Return i) m → IsKept setup count i m → MayApply setup (Event.Return i) m
 return_may setup i w count m f kept =
-    let fits : NodeInvariant setup i (member_of m) = subst (NodeInvariant setup i) f.here (f.all.fits i) in
-    some_outcome setup i m.vector.vector m.point m.generation m.slot.content fits.by_call (ap (λ (x : Member). in_phase (λ f. not (is_sent f)) x.pending) (sym f.here) ∙ return_facts setup w count i f.none)
+    let fits : NodeInvariant setup i (node_state_of m) = subst (NodeInvariant setup i) f.here (f.all.fits i) in
+    some_outcome setup i m.vector.vector m.point m.generation m.slot.content fits.by_call (ap (λ (x : NodeState). in_phase (λ f. not (is_sent f)) x.pending) (sym f.here) ∙ return_facts setup w count i f.none)
 
-kept_returned : (setup : Setup) (events i : ℕ) (m : MemberState) (q : Option SlotCall) → IsKept setup events i m → IsKept setup (events + 1) i (node_after_return setup i m q)
+kept_returned : (setup : Setup) (events i : ℕ) (m : StoredNode) (q : Option SlotCall) → IsKept setup events i m → IsKept setup (events + 1) i (node_after_return setup i m q)
 kept_returned setup events i m None k = kept_later setup events i m k
 kept_returned setup events i m (Some p) k = by_outcome (outcome_of p.phase)
   where
@@ -114,15 +114,15 @@ kept_returned setup events i m (Some p) k = by_outcome (outcome_of p.phase)
     by_outcome None = kept_later setup events i m k
     by_outcome (Some o) = by_test (p.tag.generation == m.generation) o
 
-returned_same : (setup : Setup) (i : ℕ) (m : MemberState) (q : Option SlotCall) → (node_after_return setup i m q).generation ≡ m.generation
+returned_same : (setup : Setup) (i : ℕ) (m : StoredNode) (q : Option SlotCall) → (node_after_return setup i m q).generation ≡ m.generation
 returned_same setup i m None = refl
 returned_same setup i m (Some p) = by_outcome (outcome_of p.phase)
   where
-    by_test : (b : Bool) (o : Outcome) → MemberState.generation (if b then proceeded_state setup i o (with_content None m) else with_content None m) ≡ m.generation
+    by_test : (b : Bool) (o : Outcome) → StoredNode.generation (if b then proceeded_state setup i o (with_content None m) else with_content None m) ≡ m.generation
     by_test true o = refl
     by_test false o = refl
 
-    by_outcome : (o : Option Outcome) → MemberState.generation (option_map_or (λ o. returned_state setup i p o m) o m) ≡ m.generation
+    by_outcome : (o : Option Outcome) → StoredNode.generation (option_map_or (λ o. returned_state setup i p o m) o m) ≡ m.generation
     by_outcome None = refl
     by_outcome (Some o) = by_test (p.tag.generation == m.generation) o
 
@@ -139,7 +139,7 @@ returns_computed setup w i true o w' a r = grind (arith, r)
 returns_computed setup w i false o w' a r = grind (arith, r)
 
 -- a return writes its own node alone
-returns_writes : (setup : Setup) (w : World) (i : ℕ) (is_live : Bool) (o : Outcome) (w' : World) (a : Answer) → Returns setup w i is_live o w' a → (m : Member) × (w' ≡ with_member w i m)
+returns_writes : (setup : Setup) (w : World) (i : ℕ) (is_live : Bool) (o : Outcome) (w' : World) (a : Answer) → Returns setup w i is_live o w' a → (m : NodeState) × (w' ≡ with_node_state w i m)
 returns_writes setup w i true o w' a r = (_, r.0.2)
 returns_writes setup w i false o w' a r = (_, r.0)
 
@@ -156,7 +156,7 @@ return_laws setup i = record {
   tag = λ m stays. absurd (grind (arith, nat_tests, stays));
 }
 
--- why one is refused at a node that is up, read off its member
-pub return-cause : (setup : Setup) (w : World) (count i : ℕ) (m : Member) → member w i ≡ m → first_of (refuses setup w count (Event.Return i)) later_refusals
+-- why one is refused at a node that is up, read off its node state
+pub return-cause : (setup : Setup) (w : World) (count i : ℕ) (m : NodeState) → node_state w i ≡ m → first_of (refuses setup w count (Event.Return i)) later_refusals
     ≡ (if not (in_phase (λ f. not (is_sent f)) m.pending) then Some Refused.NoCall else None)
 return-cause setup w count i m here = grind (arith, here)

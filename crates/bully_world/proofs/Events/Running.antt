@@ -20,16 +20,16 @@ use Rattle.bully_calls.specs.declared.event.Event.{Event}
 use Rattle.bully_calls.specs.declared.event.Refused.{Refused}
 use Rattle.bully_world.specs.Cause.{refuses, first_of, later_refusals, cause, in_phase, callee_is_down}
 use Rattle.bully_world.specs.NodeInvariant.{WorldInvariant, SuitsCall, SuitsCallee, SuitsTable}
-use Rattle.bully_world.specs.State.{MemberState, empty_state, kept_of, member_of, members_of, IsKept, AllKept, is_halt, halts, tag_in, tag_of_call}
+use Rattle.bully_world.specs.State.{StoredNode, empty_state, kept_of, node_state_of, world_in, IsKept, AllKept, is_halt, halts, tag_in, tag_of_call}
 use Rattle.bully_world.specs.StateAfter.{state_after, state_after_run, answer_after, run_answer, replied, phased_state, callee_state_after, stopped_state_by, with_vector, CanRun}
 use Rattle.bully_world.specs.Step.{Step, IsUp, stopped_by, called, ran, with_phase}
 use Rattle.bully_world.specs.Waiting.{sent_in, sent_callee}
-use Rattle.bully_world.specs.World.{World, Member, member, vector, point, pending, with_member}
+use Rattle.bully_world.specs.World.{World, NodeState, node_state, vector, point, pending, with_node_state}
 use Rattle.bully_world.proofs.ApplyLemmas.{node_in_setup}
 use Rattle.bully_world.proofs.EventLaws.{EventLaws, IsKeptWorld}
 use Rattle.bully_world.proofs.KeptLemmas.{kept_with, kept_phased, all_later, put_kept}
-use Rattle.bully_world.proofs.MemberLemmas.{call_of_pending}
-use Rattle.bully_world.proofs.MembersOf.{at_node-put_cases, member-members_of, members_of-put_node, members_of-length}
+use Rattle.bully_world.proofs.NodeStateLemmas.{call_of_pending}
+use Rattle.bully_world.proofs.WorldIn.{at_node-put_cases, node_state-world_in, world_in-put_node, world_in-length}
 use Rattle.bully_world.proofs.RunInvariant.{run_fits}
 use Rattle.bully_world.proofs.SlotLemmas.{content_test, pending_there, call_in_slot, phase_written, phased_tag}
 use Rattle.bully_world.proofs.WriteLemmas.{raised, put_keeps, put_raised}
@@ -54,13 +54,13 @@ run_possible setup i w count all n =
     call_there None t = absurd (grind arith)
     call_there (Some c) t = (c, refl, t)
 
--- What it makes of the callee's member.
+-- What it makes of the callee's node state.
 
 -- the tag in a node's slot is of a generation that the node has had
-abbrev pub IsTagged : MemberState → Type 0
+abbrev pub IsTagged : StoredNode → Type 0
 IsTagged m = IfSome m.slot.content (λ p. p.tag.generation ≤ m.generation)
 
-pub phased_tagged : (m : MemberState) (f : Phase) → IsTagged m → IsTagged (phased_state f m)
+pub phased_tagged : (m : StoredNode) (f : Phase) → IsTagged m → IsTagged (phased_state f m)
 phased_tagged m f h = by_content m.slot.content h
   where
     by_content : (q : Option SlotCall) → IfSome q (λ p. p.tag.generation ≤ m.generation) → IfSome (option_map (phased f) q) (λ p. p.tag.generation ≤ m.generation)
@@ -68,7 +68,7 @@ phased_tagged m f h = by_content m.slot.content h
     by_content (Some p) h = h
 
 -- a tag that is kept where its place is written anew
-put_tagged : (ms : List MemberState) (i j : ℕ) (s : MemberState) → IsTagged s → IsTagged (kept_of ms j) → IsTagged (kept_of (put_node ms i s) j)
+put_tagged : (ms : List StoredNode) (i j : ℕ) (s : StoredNode) → IsTagged s → IsTagged (kept_of ms j) → IsTagged (kept_of (put_node ms i s) j)
 put_tagged ms i j s ts tj = by_case (at_node-put_cases (empty_state 0) ms i j s)
   where
     by_case : ((j ≡ i) × (kept_of (put_node ms i s) j ≡ s)) ⊎ (kept_of (put_node ms i s) j ≡ kept_of ms j) → IsTagged (kept_of (put_node ms i s) j)
@@ -80,17 +80,17 @@ orphans : (q : Option SlotCall) (g : ℕ) → IfSome q (λ p. p.tag.generation �
 orphans None g h = refl
 orphans (Some p) g h = grind (arith, nat_tests, h)
 
-pub callee_after_is : (i : ℕ) (p : SlotCall) (g : ℕ) (m : MemberState) → IsTagged m → member_of (callee_state_after i p m) ≡ called i (pending_of g p) (member_of m)
+pub callee_after_is : (i : ℕ) (p : SlotCall) (g : ℕ) (m : StoredNode) → IsTagged m → node_state_of (callee_state_after i p m) ≡ called i (pending_of g p) (node_state_of m)
 callee_after_is i p g m h = by_kind p.call.kind
   where
-    by_kind : (kind : CallKind) → member_of (stopped_state_by kind (with_vector (callee_after i kind p.table m.vector.vector) m)) ≡ stopped_by kind (record (member_of m) { vector = callee_after i kind p.table m.vector.vector })
+    by_kind : (kind : CallKind) → node_state_of (stopped_state_by kind (with_vector (callee_after i kind p.table m.vector.vector) m)) ≡ stopped_by kind (record (node_state_of m) { vector = callee_after i kind p.table m.vector.vector })
     by_kind AreYouUp = refl
     by_kind AreYouNormal = refl
     by_kind Halt = ap (λ q. record { vector = callee_after i Halt p.table m.vector.vector; point = Idle; pending = q }) (orphans m.slot.content m.generation h)
     by_kind NewCoordinator = refl
     by_kind Ready = refl
 
-pub kept_callee : (setup : Setup) (events i j : ℕ) (p : SlotCall) (m : MemberState) → IsKept setup events j m → IsKept setup (events + 1) j (callee_state_after i p m)
+pub kept_callee : (setup : Setup) (events i j : ℕ) (p : SlotCall) (m : StoredNode) → IsKept setup events j m → IsKept setup (events + 1) j (callee_state_after i p m)
 kept_callee setup events i j p m k = by_kind p.call.kind (callee_after i p.call.kind p.table m.vector.vector)
   where
     by_kind : (kind : CallKind) (v : Vector) → IsKept setup (events + 1) j (stopped_state_by kind (with_vector v m))
@@ -100,7 +100,7 @@ kept_callee setup events i j p m k = by_kind p.call.kind (callee_after i p.call.
     by_kind NewCoordinator v = kept_with setup events j m v m.point m.generation (omega arith) (omega arith) k
     by_kind Ready v = kept_with setup events j m v m.point m.generation (omega arith) (omega arith) k
 
-callee_raised : (i : ℕ) (p : SlotCall) (m : MemberState) → (callee_state_after i p m).generation ≡ m.generation + raised (is_halt p.call.kind)
+callee_raised : (i : ℕ) (p : SlotCall) (m : StoredNode) → (callee_state_after i p m).generation ≡ m.generation + raised (is_halt p.call.kind)
 callee_raised i p m = by_kind p.call.kind (callee_after i p.call.kind p.table m.vector.vector)
   where
     by_kind : (kind : CallKind) (v : Vector) → (stopped_state_by kind (with_vector v m)).generation ≡ m.generation + raised (is_halt kind)
@@ -110,7 +110,7 @@ callee_raised i p m = by_kind p.call.kind (callee_after i p.call.kind p.table m.
     by_kind NewCoordinator v = omega arith
     by_kind Ready v = omega arith
 
-pub callee_slot : (i : ℕ) (p : SlotCall) (m : MemberState) → (callee_state_after i p m).slot ≡ m.slot
+pub callee_slot : (i : ℕ) (p : SlotCall) (m : StoredNode) → (callee_state_after i p m).slot ≡ m.slot
 callee_slot i p m = by_kind p.call.kind (callee_after i p.call.kind p.table m.vector.vector)
   where
     by_kind : (kind : CallKind) (v : Vector) → (stopped_state_by kind (with_vector v m)).slot ≡ m.slot
@@ -122,16 +122,16 @@ callee_slot i p m = by_kind p.call.kind (callee_after i p.call.kind p.table m.ve
 
 -- What it makes of the two places.
 
-abbrev answered : List MemberState → ℕ → SlotCall → List MemberState
+abbrev answered : List StoredNode → ℕ → SlotCall → List StoredNode
 answered ms i p = put_node ms i (phased_state (Phase.Ran (replied ms p)) (kept_of ms i))
 
-run_length : (ms : List MemberState) (i : ℕ) (q : Option SlotCall) → length (state_after_run ms i q) ≡ length ms
+run_length : (ms : List StoredNode) (i : ℕ) (q : Option SlotCall) → length (state_after_run ms i q) ≡ length ms
 run_length ms i None = refl
 run_length ms i (Some p) =
     length-put_node (answered ms i p) p.call.callee (callee_state_after i p (kept_of (answered ms i p) p.call.callee))
     ∙ length-put_node ms i (phased_state (Phase.Ran (replied ms p)) (kept_of ms i))
 
-run_kept : (setup : Setup) (count : ℕ) (ms : List MemberState) (i : ℕ) (q : Option SlotCall) → AllKept setup count ms → AllKept setup (count + 1) (state_after_run ms i q)
+run_kept : (setup : Setup) (count : ℕ) (ms : List StoredNode) (i : ℕ) (q : Option SlotCall) → AllKept setup count ms → AllKept setup (count + 1) (state_after_run ms i q)
 run_kept setup count ms i None kept = all_later setup count ms kept
 run_kept setup count ms i (Some p) kept =
     let f = Phase.Ran (replied ms p) in
@@ -139,14 +139,14 @@ run_kept setup count ms i (Some p) kept =
     let j = p.call.callee in
     put_kept setup (count + 1) (answered ms i p) j (callee_state_after i p (kept_of (answered ms i p) j)) (all_later setup count (answered ms i p) first) (λ node. kept_callee setup count i j p (kept_of (answered ms i p) j) (first j node))
 
-run_tags : (ms : List MemberState) (i j : ℕ) (q : Option SlotCall) → tag_in (kept_of (state_after_run ms i q) j) ≡ tag_in (kept_of ms j)
+run_tags : (ms : List StoredNode) (i j : ℕ) (q : Option SlotCall) → tag_in (kept_of (state_after_run ms i q) j) ≡ tag_in (kept_of ms j)
 run_tags ms i j None = refl
 run_tags ms i j (Some p) =
     let called_there = kept_of (answered ms i p) p.call.callee in
     put_keeps tag_in (answered ms i p) p.call.callee j (callee_state_after i p called_there) (ap (λ (s : Slot). option_map tag_of_call s.content) (callee_slot i p called_there))
     ∙ put_keeps tag_in ms i j (phased_state (Phase.Ran (replied ms p)) (kept_of ms i)) (phased_tag (Phase.Ran (replied ms p)) (kept_of ms i))
 
-run_sent : (ms : List MemberState) (i j : ℕ) (q : Option SlotCall) → j ≢ i → sent_in (kept_of (state_after_run ms i q) j) ≡ sent_in (kept_of ms j)
+run_sent : (ms : List StoredNode) (i j : ℕ) (q : Option SlotCall) → j ≢ i → sent_in (kept_of (state_after_run ms i q) j) ≡ sent_in (kept_of ms j)
 run_sent ms i j None d = refl
 run_sent ms i j (Some p) d =
     let called_there = kept_of (answered ms i p) p.call.callee in
@@ -164,12 +164,12 @@ other_node i Halt k s = omega arith
 other_node i NewCoordinator k s = omega arith
 other_node i Ready k s = omega arith
 
-module _ (setup : Setup) (i count : ℕ) (ms : List MemberState) (is : IsKeptWorld setup count ms) (none : cause setup (members_of ms) count (Event.Run i) ≡ None) where
+module _ (setup : Setup) (i count : ℕ) (ms : List StoredNode) (is : IsKeptWorld setup count ms) (none : cause setup (world_in ms) count (Event.Run i) ≡ None) where
   abbrev w : World
-  w = members_of ms
+  w = world_in ms
 
-  here : (j : ℕ) → member w j ≡ member_of (kept_of ms j)
-  here j = member-members_of ms j
+  here : (j : ℕ) → node_state w j ≡ node_state_of (kept_of ms j)
+  here j = node_state-world_in ms j
 
   facts : (in_phase is_sent (pending w i) ≡ true) × (callee_is_down w (pending w i) ≡ false)
   facts = run_facts setup w count i none
@@ -199,43 +199,43 @@ module _ (setup : Setup) (i count : ℕ) (ms : List MemberState) (is : IsKeptWor
   node = node_in_setup setup w count (Event.Run i) none
 
   callee_within : j ≤ length ms
-  callee_within = omega (arith, members_of-length ms, is.all.count, suits.to_node.1)
+  callee_within = omega (arith, world_in-length ms, is.all.count, suits.to_node.1)
 
   up : IsUp w j
   up = callee_is_up w (pending w i) c pending_is facts.1
 
-  put_is : (xs : List MemberState) (k : ℕ) (s : MemberState) (x : Member) → member_of s ≡ x → members_of (put_node xs k s) ≡ with_member (members_of xs) k x
-  put_is xs k s x e = members_of-put_node xs k s ∙ ap (λ q. with_member (members_of xs) k q) e
+  put_is : (xs : List StoredNode) (k : ℕ) (s : StoredNode) (x : NodeState) → node_state_of s ≡ x → world_in (put_node xs k s) ≡ with_node_state (world_in xs) k x
+  put_is xs k s x e = world_in-put_node xs k s ∙ ap (λ q. with_node_state (world_in xs) k q) e
 
-  run_by : members_of (state_after_run ms i (Some p)) ≡ ran w i c
+  run_by : world_in (state_after_run ms i (Some p)) ≡ ran w i c
   run_by =
       let f = Phase.Ran (replied ms p) in
-      let said : replied ms p ≡ reply p.call.kind (vector w j) = ap (λ (q : Member). reply p.call.kind q.vector) (sym (here j)) in
-      let first : members_of (answered ms i p) ≡ with_phase w i c (Phase.Ran (reply c.call.kind (vector w j))) =
-      members_of-put_node ms i (phased_state f (kept_of ms i)) ∙ phase_written w i (kept_of ms i) (here i) p f content ∙ ap (λ a. with_phase w i c (Phase.Ran a)) said in
-      let there : member (members_of (answered ms i p)) j ≡ member_of (kept_of (answered ms i p) j) = member-members_of (answered ms i p) j in
+      let said : replied ms p ≡ reply p.call.kind (vector w j) = ap (λ (q : NodeState). reply p.call.kind q.vector) (sym (here j)) in
+      let first : world_in (answered ms i p) ≡ with_phase w i c (Phase.Ran (reply c.call.kind (vector w j))) =
+      world_in-put_node ms i (phased_state f (kept_of ms i)) ∙ phase_written w i (kept_of ms i) (here i) p f content ∙ ap (λ a. with_phase w i c (Phase.Ran a)) said in
+      let there : node_state (world_in (answered ms i p)) j ≡ node_state_of (kept_of (answered ms i p) j) = node_state-world_in (answered ms i p) j in
       let tagged = put_tagged ms i j (phased_state f (kept_of ms i)) (phased_tagged (kept_of ms i) f (is.kept i node).tag) (is.kept j suits.to_node).tag in
       let second = callee_after_is i p (kept_of ms i).generation (kept_of (answered ms i p) j) tagged in
-      put_is (answered ms i p) j (callee_state_after i p (kept_of (answered ms i p) j)) (called i c (member (members_of (answered ms i p)) j)) (second ∙ ap (called i c) (sym there))
-      ∙ ap (λ q. with_member q j (called i c (member q j))) first
+      put_is (answered ms i p) j (callee_state_after i p (kept_of (answered ms i p) j)) (called i c (node_state (world_in (answered ms i p)) j)) (second ∙ ap (called i c) (sym there))
+      ∙ ap (λ q. with_node_state q j (called i c (node_state q j))) first
 
-  run_steps : Step setup w (Event.Run i) (members_of (state_after setup ms (Event.Run i))) (answer_after ms (Event.Run i))
+  run_steps : Step setup w (Event.Run i) (world_in (state_after setup ms (Event.Run i))) (answer_after ms (Event.Run i))
   run_steps =
-      let world = ap (λ q. members_of (state_after_run ms i q)) content ∙ run_by in
-      let answer = ap (run_answer ms) content ∙ ap (λ (q : Member). reply p.call.kind q.vector) (sym (here j)) in
+      let world = ap (λ q. world_in (state_after_run ms i q)) content ∙ run_by in
+      let answer = ap (run_answer ms) content ∙ ap (λ (q : NodeState). reply p.call.kind q.vector) (sym (here j)) in
       (c, pending_is, sent_is p.phase in_slot.2, up, world, answer)
 
   callee_up : (kept_of ms j).vector.vector.status ≢ Down
-  callee_up = subst (λ (m : Member). m.vector.status ≢ Down) (here j) up
+  callee_up = subst (λ (m : NodeState). m.vector.status ≢ Down) (here j) up
 
   sent_there : IsTrue (in_phase is_sent (option_map (pending_of (kept_of ms i).generation) (kept_of ms i).slot.content))
-  sent_there = ap (λ (q : Member). in_phase is_sent q.pending) (sym (here i)) ∙ facts.0
+  sent_there = ap (λ (q : NodeState). in_phase is_sent q.pending) (sym (here i)) ∙ facts.0
 
   run_can : count + 1 < 2 ^ 32 → CanRun ms i
   run_can room = record {
     call = p;
     content = content;
-    caller = omega (arith, members_of-length ms, is.all.count, node.1);
+    caller = omega (arith, world_in-length ms, is.all.count, node.1);
     callee = (suits.to_node.0, callee_within);
     other = other_node i p.call.kind j suits.callee;
     can = record {
@@ -253,7 +253,7 @@ module _ (setup : Setup) (i count : ℕ) (ms : List MemberState) (is : IsKeptWor
       let within : j ≤ length (answered ms i p) = omega (arith, callee_within, length-put_node ms i (phased_state f (kept_of ms i))) in
       ap (λ q. (kept_of (state_after_run ms i q) k).generation) content
       ∙ put_raised (answered ms i p) j k (callee_state_after i p (kept_of (answered ms i p) j)) (is_halt p.call.kind) suits.to_node.0 within (callee_raised i p (kept_of (answered ms i p) j))
-      ∙ ap (λ g. g + raised (is_halt p.call.kind && (j == k))) (put_keeps (λ (m : MemberState). m.generation) ms i k (phased_state f (kept_of ms i)) refl)
+      ∙ ap (λ g. g + raised (is_halt p.call.kind && (j == k))) (put_keeps (λ (m : StoredNode). m.generation) ms i k (phased_state f (kept_of ms i)) refl)
       ∙ ap (λ q. (kept_of ms k).generation + raised (halts k q)) (sym pending_is)
 
 pub run_laws : (setup : Setup) (i : ℕ) → EventLaws setup (Event.Run i)
@@ -271,7 +271,7 @@ run_laws setup i = record {
   sent = λ ms j other. run_sent ms i j (kept_of ms i).slot.content other;
 }
 
--- why one is refused at a node that is up, read off its member
-pub run-cause : (setup : Setup) (w : World) (count i : ℕ) (m : Member) → member w i ≡ m → first_of (refuses setup w count (Event.Run i)) later_refusals
+-- why one is refused at a node that is up, read off its node state
+pub run-cause : (setup : Setup) (w : World) (count i : ℕ) (m : NodeState) → node_state w i ≡ m → first_of (refuses setup w count (Event.Run i)) later_refusals
     ≡ (if not (in_phase is_sent m.pending) then Some Refused.NoCall else if callee_is_down w m.pending then Some Refused.CalleeDown else None)
 run-cause setup w count i m here = grind (arith, here)

@@ -17,14 +17,14 @@ use Rattle.bully_calls.specs.declared.event.Event.{Event}
 use Rattle.bully_calls.specs.declared.event.Refused.{Refused}
 use Rattle.bully_world.specs.Cause.{refuses, first_of, later_refusals, cause, is_call, is_pending}
 use Rattle.bully_world.specs.NodeInvariant.{NodeInvariant, SuitsPoint}
-use Rattle.bully_world.specs.State.{MemberState, member_of, IsKept}
+use Rattle.bully_world.specs.State.{StoredNode, node_state_of, IsKept}
 use Rattle.bully_world.specs.StateAfter.{started_state, opened_state, node_answer, MayApply}
 use Rattle.bully_world.specs.Step.{Step, IsUp, offer, sent, carried}
-use Rattle.bully_world.specs.World.{World, Member, member, pending, with_member}
+use Rattle.bully_world.specs.World.{World, NodeState, node_state, pending, with_node_state}
 use Rattle.bully_world.proofs.CallInvariant.{start_fits}
 use Rattle.bully_world.proofs.EventLaws.{OwnLaws, IsFree}
 use Rattle.bully_world.proofs.KeptLemmas.{kept_later}
-use Rattle.bully_world.proofs.MemberLemmas.{written_fits, node_of_up}
+use Rattle.bully_world.proofs.NodeStateLemmas.{written_fits, node_of_up}
 
 start_facts : (setup : Setup) (w : World) (count i : ℕ) → cause setup w count (Event.Start i) ≡ None → IsUp w i × (pending w i ≡ None) × (is_call (offer setup w i) ≡ true)
 start_facts setup w count i n = grind (arith, n)
@@ -36,19 +36,19 @@ call_there Want.Move t = absurd (grind arith)
 call_there Want.Plan t = absurd (grind arith)
 call_there Want.Await t = absurd (grind arith)
 
-started_is : (setup : Setup) (i : ℕ) (m : MemberState) (q : Member) (call : Call) → q ≡ member_of m → offered setup q.vector.coordinator q.point ≡ Want.Start call → member_of (started_state setup i m) ≡ record q { pending = Some (sent call q.vector) }
+started_is : (setup : Setup) (i : ℕ) (m : StoredNode) (q : NodeState) (call : Call) → q ≡ node_state_of m → offered setup q.vector.coordinator q.point ≡ Want.Start call → node_state_of (started_state setup i m) ≡ record q { pending = Some (sent call q.vector) }
 started_is setup i m q call is e =
-    let here : offered setup m.vector.vector.coordinator m.point ≡ Want.Start call = ap (λ (q : Member). offered setup q.vector.coordinator q.point) (sym is) ∙ e in
-    begun here ∙ ap (λ (q : Member). record q { pending = Some (sent call q.vector) }) (sym is)
+    let here : offered setup m.vector.vector.coordinator m.point ≡ Want.Start call = ap (λ (q : NodeState). offered setup q.vector.coordinator q.point) (sym is) ∙ e in
+    begun here ∙ ap (λ (q : NodeState). record q { pending = Some (sent call q.vector) }) (sym is)
   where
-    begun : offered setup m.vector.vector.coordinator m.point ≡ Want.Start call → member_of (started_state setup i m) ≡ record (member_of m) { pending = Some (sent call m.vector.vector) }
+    begun : offered setup m.vector.vector.coordinator m.point ≡ Want.Start call → node_state_of (started_state setup i m) ≡ record (node_state_of m) { pending = Some (sent call m.vector.vector) }
     begun e = grind (arith, nat_tests, e)
 
-start_steps : (setup : Setup) (i : ℕ) (w : World) (count : ℕ) (m : MemberState) → IsFree setup w count (Event.Start i) m → Step setup w (Event.Start i) (with_member w i (member_of (started_state setup i m))) (node_answer (Event.Start i) m)
+start_steps : (setup : Setup) (i : ℕ) (w : World) (count : ℕ) (m : StoredNode) → IsFree setup w count (Event.Start i) m → Step setup w (Event.Start i) (with_node_state w i (node_state_of (started_state setup i m))) (node_answer (Event.Start i) m)
 start_steps setup i w count m f =
     let facts = start_facts setup w count i f.none in
     let there = call_there (offer setup w i) facts.2 in
-    (facts.0, facts.1, there.0, there.1, ap (with_member w i) (started_is setup i m (member w i) there.0 f.here there.1), refl)
+    (facts.0, facts.1, there.0, there.1, ap (with_node_state w i) (started_is setup i m (node_state w i) there.0 f.here there.1), refl)
 
 -- a node whose point offers a Ready has a task
 has_task : (setup : Setup) (i : ℕ) (v : Vector) (p : Point) (call : Call) → offered setup v.coordinator p ≡ Want.Start call → call.kind ≡ Ready → SuitsPoint i v p → IsSome v.task
@@ -66,7 +66,7 @@ carries_task call None room k s l = absurd (cc s)
 carries_task call (Some table) room k s l = (k, l table refl)
 
 -- exactly a Ready carries a table, which fits in the slot
-carries : (setup : Setup) (i : ℕ) (m : MemberState) (call : Call) → NodeInvariant setup i (member_of m) → m.slot.room ≡ setup.partitions
+carries : (setup : Setup) (i : ℕ) (m : StoredNode) (call : Call) → NodeInvariant setup i (node_state_of m) → m.slot.room ≡ setup.partitions
     → offered setup m.vector.vector.coordinator m.point ≡ Want.Start call → CarriesFor call (carried call.kind m.vector.vector) m.slot.room
 carries setup i m call fits room offers = by_kind call.kind refl
   where
@@ -88,15 +88,15 @@ is_call_there Want.Move t = absurd (cc t)
 is_call_there Want.Plan t = absurd (cc t)
 is_call_there Want.Await t = absurd (cc t)
 
-start_may : (setup : Setup) (i : ℕ) (w : World) (count : ℕ) (m : MemberState) → IsFree setup w count (Event.Start i) m → IsKept setup count i m → MayApply setup (Event.Start i) m
+start_may : (setup : Setup) (i : ℕ) (w : World) (count : ℕ) (m : StoredNode) → IsFree setup w count (Event.Start i) m → IsKept setup count i m → MayApply setup (Event.Start i) m
 start_may setup i w count m f kept =
     let facts = start_facts setup w count i f.none in
-    let free = ap (λ (x : Member). x.pending) (sym f.here) ∙ facts.1 in
-    let offers = ap (λ (x : Member). is_call (offered setup x.vector.coordinator x.point)) (sym f.here) ∙ facts.2 in
-    let fits : NodeInvariant setup i (member_of m) = subst (NodeInvariant setup i) f.here (f.all.fits i) in
+    let free = ap (λ (x : NodeState). x.pending) (sym f.here) ∙ facts.1 in
+    let offers = ap (λ (x : NodeState). is_call (offered setup x.vector.coordinator x.point)) (sym f.here) ∙ facts.2 in
+    let fits : NodeInvariant setup i (node_state_of m) = subst (NodeInvariant setup i) f.here (f.all.fits i) in
     (is_call_there (offered setup m.vector.vector.coordinator m.point) offers, none_content m.generation m.slot.content free, λ call offers. carries setup i m call fits kept.slot_room offers)
 
-kept_started : (setup : Setup) (events i : ℕ) (m : MemberState) → IsKept setup events i m → IsKept setup events i (started_state setup i m)
+kept_started : (setup : Setup) (events i : ℕ) (m : StoredNode) → IsKept setup events i m → IsKept setup events i (started_state setup i m)
 kept_started setup events i m k = by_want (offered setup m.vector.vector.coordinator m.point)
   where
     by_want : (q : Want) → IsKept setup events i (elim q [ Want.Start call ↦ opened_state i call m | _ ↦ m ])
@@ -106,10 +106,10 @@ kept_started setup events i m k = by_want (offered setup m.vector.vector.coordin
     by_want Want.Plan = k
     by_want Want.Await = k
 
-started_same : (setup : Setup) (i : ℕ) (m : MemberState) → (started_state setup i m).generation ≡ m.generation
+started_same : (setup : Setup) (i : ℕ) (m : StoredNode) → (started_state setup i m).generation ≡ m.generation
 started_same setup i m = by_want (offered setup m.vector.vector.coordinator m.point)
   where
-    by_want : (q : Want) → MemberState.generation (elim q [ Want.Start call ↦ opened_state i call m | _ ↦ m ]) ≡ m.generation
+    by_want : (q : Want) → StoredNode.generation (elim q [ Want.Start call ↦ opened_state i call m | _ ↦ m ]) ≡ m.generation
     by_want (Want.Start call) = refl
     by_want Want.Nothing = refl
     by_want Want.Move = refl
@@ -120,7 +120,7 @@ pub start_laws : (setup : Setup) (i : ℕ) → OwnLaws setup (Event.Start i)
 start_laws setup i = record {
   computed = λ w w' a. ((λ t. grind (arith, t)), (λ s. grind (arith, s)));
   free = λ w w' count a all room s. grind (arith, s, room, (all.fits i).a_node);
-  fits = λ w w' a s all. rw s.4 (written_fits setup w i _ all (node_of_up setup w i all s.0) (start_fits setup i (member w i) s.2 (all.fits i) s.0 s.3));
+  fits = λ w w' a s all. rw s.4 (written_fits setup w i _ all (node_of_up setup w i all s.0) (start_fits setup i (node_state w i) s.2 (all.fits i) s.0 s.3));
   writes = λ w w' a s. (_, s.4);
   steps = start_steps setup i;
   may = start_may setup i;
@@ -129,7 +129,7 @@ start_laws setup i = record {
   tag = λ m stays. absurd (grind (arith, nat_tests, stays));
 }
 
--- why one is refused at a node that is up, read off its member
-pub start-cause : (setup : Setup) (w : World) (count i : ℕ) (m : Member) → member w i ≡ m → first_of (refuses setup w count (Event.Start i)) later_refusals
+-- why one is refused at a node that is up, read off its node state
+pub start-cause : (setup : Setup) (w : World) (count i : ℕ) (m : NodeState) → node_state w i ≡ m → first_of (refuses setup w count (Event.Start i)) later_refusals
     ≡ (if not (is_call (offered setup m.vector.coordinator m.point)) then Some Refused.NoStep else if is_pending m.pending then Some Refused.SlotBusy else None)
 start-cause setup w count i m here = grind (arith, here)

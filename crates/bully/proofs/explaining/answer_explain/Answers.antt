@@ -3,7 +3,7 @@ use Rattle.std.proofs.lemmas.Result.{IfOk-at_ok}
 use Rattle.std.specs.Prelude.{IfErr}
 use Rattle.bully_rows.specs.Rows.{is_of_form}
 use Rattle.bully_explain.specs.declared.explaining.Sheet.{Sheet}
-use Rattle.bully_account.specs.Told.{IsToldOf}
+use Rattle.bully_account.specs.TraceReport.{IsToldOf}
 use Rattle.bully.proofs.ExplainLemmas.{explained-answer, form-answer}
 use Rattle.bully.proofs.explaining.answer_explain.Goals as goal
 

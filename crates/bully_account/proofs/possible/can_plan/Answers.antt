@@ -3,7 +3,7 @@ use Rattle.std.proofs.Common.{◌≡◌, ◌∙◌, Some, None, ap, rules}
 use Rattle.bully_steps.specs.Prepared.{prepared_from}
 use Rattle.bully_steps.specs.Procedure.{state_of}
 use Rattle.bully_steps.specs.ProcedureState.{IsProcedureState, ProcedureState}
-use Rattle.bully_world.specs.State.{member_of, state_at}
+use Rattle.bully_world.specs.State.{node_state_of, state_at}
 use Rattle.bully_world.specs.Cause.{is_live_in}
 use Rattle.bully_world.specs.Turn.{procedure_in}
 use Rattle.bully_account.proofs.PossibleLemmas.{no-plan, plan-possible, prepared-over, unprepared}
@@ -14,7 +14,7 @@ returns-in-Some c =
     let w = c.args.world.now in
     let i = c.args.node in
     let s = state_at w i in
-    let m = member_of s in
+    let m = node_state_of s in
     let shown : state_of c.prepare.new.self ≡ prepared_from None (procedure_in w i) =
     c.in_ok-prepare.ensures.prepared ∙ ap (λ (h : ProcedureState). prepared_from None h) c.procedure-procedure.ensures.state in
     let is : IsProcedureState (prepared_from None (procedure_in w i)) = rw shown at c.node-planner.ensures.state in
@@ -27,7 +27,7 @@ returns c =
     let w = c.args.world.now in
     let i = c.args.node in
     let s = state_at w i in
-    let m = member_of s in
+    let m = node_state_of s in
     let shown : state_of c.prepare.new.self ≡ prepared_from None (procedure_in w i) =
     c.in_ok-prepare.ensures.prepared ∙ ap (λ (h : ProcedureState). prepared_from None h) c.procedure-procedure.ensures.state in
     let none : (prepared_from None (procedure_in w i)).table ≡ None = search rules in

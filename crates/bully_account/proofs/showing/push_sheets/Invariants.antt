@@ -1,5 +1,5 @@
 use Rattle.std.proofs.Common.{◌≡◌, length}
-use Rattle.bully_account.specs.Shown.{ShowsFrom}
+use Rattle.bully_account.specs.NodeSummary.{ShowsFrom}
 use Rattle.bully_account.proofs.showing.push_sheets.Given as goal
 
 abbrev pub invariant-loop-before : goal.invariant-loop-before

@@ -4,18 +4,18 @@ use Rattle.bully_agent.proofs.ServeLemmas.{serve_full, serve_far, serve_strange,
 use Rattle.bully_agent.proofs.requests.request_cause.Goals as goal
 
 pub returns-then-events-events_max-clause-why : goal.returns-then-events-events_max-clause-why
-returns-then-events-events_max-clause-why c = serve_full c.args.setup.now c.args.node c.args.events c.args.member.now c.args.request.now (omega (arith, c.if-events-events_max.true, c.events_max.ensures.events_max))
+returns-then-events-events_max-clause-why c = serve_full c.args.setup.now c.args.node c.args.events c.args.node_state.now c.args.request.now (omega (arith, c.if-events-events_max.true, c.events_max.ensures.events_max))
 
 pub returns-then-number-nodes-clause-why : goal.returns-then-number-nodes-clause-why
-returns-then-number-nodes-clause-why c = serve_far c.args.setup.now c.args.node c.args.events c.args.member.now c.args.request.now (omega (arith, c.if-number-nodes.true, c.number.ensures.number, c.nodes.ensures.nodes))
+returns-then-number-nodes-clause-why c = serve_far c.args.setup.now c.args.node c.args.events c.args.node_state.now c.args.request.now (omega (arith, c.if-number-nodes.true, c.number.ensures.number, c.nodes.ensures.nodes))
 
 pub returns-then-not-suits_node-clause-why : goal.returns-then-not-suits_node-clause-why
-returns-then-not-suits_node-clause-why c = serve_strange c.args.setup.now c.args.node c.args.events c.args.member.now c.args.request.now (λ s. absurd (grind (arith, c.suits_node.ensures.1 s, c.if-not-suits_node.true)))
+returns-then-not-suits_node-clause-why c = serve_strange c.args.setup.now c.args.node c.args.events c.args.node_state.now c.args.request.now (λ s. absurd (grind (arith, c.suits_node.ensures.1 s, c.if-not-suits_node.true)))
 
 pub returns-then-is_down-clause-why : goal.returns-then-is_down-clause-why
 returns-then-is_down-clause-why c =
     let room : c.args.events < c.args.setup.now.events_max = omega (arith, c.if-events-events_max.false, c.events_max.ensures.events_max) in
-    serve_down c.args.setup.now c.args.node c.args.events c.args.member.now c.args.request.now room (c.is_down.ensures.0 c.if-is_down.true)
+    serve_down c.args.setup.now c.args.node c.args.events c.args.node_state.now c.args.request.now room (c.is_down.ensures.0 c.if-is_down.true)
 
 pub returns-clause-can : goal.returns-clause-can
 returns-clause-can c = record {

@@ -1,4 +1,4 @@
--- What is tested of the member is the refusal in every world of which it may be a part.
+-- What is tested of the node state is the refusal in every world of which it may be a part.
 use Rattle.std.proofs.Common.{◌<◌, arith, sym, ◌∙◌, ap, subst}
 use Rattle.std.specs.Prelude.{if◌then◌else◌, Some}
 use Rattle.bully_base.specs.Setup.{IsNode}
@@ -19,7 +19,7 @@ returns-then-events-events_max-clause-cause c = λ w part met. full_cause c.args
 pub returns-in-Recover-clause-cause : goal.returns-in-Recover-clause-cause
 returns-in-Recover-clause-cause c = λ w part met.
     let i = c.in-Recover.field-0 in
-    let m = c.args.member.now in
+    let m = c.args.node_state.now in
     let setup = c.args.setup.now in
     let room : c.args.events < setup.events_max = omega (arith, c.if-events-events_max.false, c.events_max.ensures.events_max) in
     let node : IsNode setup i = subst (λ e. IsNode setup (node_of e)) c.in-Recover.is c.requires.is.is_node in
@@ -30,10 +30,10 @@ returns-in-Recover-clause-cause c = λ w part met.
 pub returns-in_default-clause-cause : goal.returns-in_default-clause-cause
 returns-in_default-clause-cause c = λ w part met.
     let room : c.args.events < c.args.setup.now.events_max = omega (arith, c.if-events-events_max.false, c.events_max.ensures.events_max) in
-    down_cause_at c.args.setup.now c.args.event.now c.args.events c.args.member.now c.requires.is.is_node room w c.is_down-is_down.result c.in_default.not-Recover part c.is_down-is_down.ensures.0 c.is_down-is_down.ensures.1 c.if-is_down.true
+    down_cause_at c.args.setup.now c.args.event.now c.args.events c.args.node_state.now c.requires.is.is_node room w c.is_down-is_down.result c.in_default.not-Recover part c.is_down-is_down.ensures.0 c.is_down-is_down.ensures.1 c.if-is_down.true
 
 pub returns-in_default-2-clause-cause : goal.returns-in_default-2-clause-cause
 returns-in_default-2-clause-cause c = λ w part met.
     let room : c.args.events < c.args.setup.now.events_max = omega (arith, c.if-events-events_max.false, c.events_max.ensures.events_max) in
-    later_cause_at c.args.setup.now c.args.event.now c.args.events c.args.member.now c.requires.is.is_node room w c.is_down-is_down.result c.own_cause.result c.requires.own c.in_default.not-Recover part c.is_down-is_down.ensures.0 c.is_down-is_down.ensures.1 c.own_cause.ensures
+    later_cause_at c.args.setup.now c.args.event.now c.args.events c.args.node_state.now c.requires.is.is_node room w c.is_down-is_down.result c.own_cause.result c.requires.own c.in_default.not-Recover part c.is_down-is_down.ensures.0 c.is_down-is_down.ensures.1 c.own_cause.ensures
     ∙ ap (λ t. if t then Some Refused.IsDown else c.own_cause.result) c.if-is_down.false

@@ -9,18 +9,18 @@ use Rattle.bully_agent.proofs.taking.take_alone.Goals as goal
 
 pub apply-requires : goal.apply-requires
 apply-requires c =
-    let can = alone_can c.args.setup.now c.args.event.now c.args.events c.args.member.now c.requires.own c.in-None.ensures.cause c.requires.is (c.in-None.ensures.small refl) in
+    let can = alone_can c.args.setup.now c.args.event.now c.args.events c.args.node_state.now c.requires.own c.in-None.ensures.cause c.requires.is (c.in-None.ensures.small refl) in
     record { at = can.at; room = can.room; may = can.may }
 
 pub returns-in-None-clause-is : goal.returns-in-None-clause-is
 returns-in-None-clause-is c =
     let e = c.args.event.now in
-    subst (IsAgentOf c.args.setup.now (node_of e) (c.args.events + 1)) (sym c.apply.ensures.after) (alone_agent c.args.setup.now e c.args.events c.args.member.now c.requires.own c.in-None.ensures.cause c.requires.is)
+    subst (IsAgentOf c.args.setup.now (node_of e) (c.args.events + 1)) (sym c.apply.ensures.after) (alone_agent c.args.setup.now e c.args.events c.args.node_state.now c.requires.own c.in-None.ensures.cause c.requires.is)
 
 pub returns-in-None-clause-follows : goal.returns-in-None-clause-follows
 returns-in-None-clause-follows c =
     let e = c.args.event.now in
     let setup = c.args.setup.now in
-    let m = c.args.member.now in
+    let m = c.args.node_state.now in
     subst (λ n. FollowsAt Always setup (node_of e) m e c.apply.result n) (sym c.apply.ensures.after)
     (subst (λ a. FollowsAt Always setup (node_of e) m e a (node_after setup e m)) (sym c.apply.ensures.answer) (alone_follows setup e c.args.events m c.requires.own c.in-None.ensures.cause))

@@ -13,7 +13,7 @@ const ROUNDS: u16 = 200;
 
 /// What a node doesn't do by itself.
 #[derive(Clone, Copy)]
-pub enum Deed {
+pub enum Input {
     Recover,
     Crash,
     Timeout,
@@ -42,12 +42,12 @@ impl Cluster {
     }
 
     /// The node at this place does so. None where the world takes another course.
-    pub fn happen(&mut self, place: usize, deed: Deed) -> Option<()> {
+    pub fn happen(&mut self, place: usize, input: Input) -> Option<()> {
         let agent = self.agents.get_mut(place)?;
-        let taken = match deed {
-            Deed::Recover => agent.recover(),
-            Deed::Crash => agent.crash(),
-            Deed::Timeout => agent.timeout(),
+        let taken = match input {
+            Input::Recover => agent.recover(),
+            Input::Crash => agent.crash(),
+            Input::Timeout => agent.timeout(),
         };
         log_step(&mut self.world, agent, taken.ok())
     }

@@ -14,6 +14,6 @@ returns-in-Ok-clause-ok c = (
 
 pub returns-in-Ok-clause-count : goal.returns-in-Ok-clause-count
 returns-in-Ok-clause-count c =
-    let a = c.args.agent.now in let members = with_node a.node a.member.vector.vector.up in
+    let a = c.args.agent.now in let members = with_node a.node a.node_state.vector.vector.up in
     let all = λ (old : Option (List ℕ)). planned-covers (quota a.setup (owners_before old) members) a.setup.partitions (owners_before old) members in
     grind (arith, c.in-Ok.ensures, all, c.if-count-from.false, c.from.ensures, c.partitions.ensures.partitions, c.setup-setup.ensures.setup)

@@ -1,10 +1,10 @@
 -- A node that the group doesn't have has no task.
 use Rattle.std.proofs.Common.{◌<◌, ap, arith, sym}
-use Rattle.bully_world.specs.World.{Member}
+use Rattle.bully_world.specs.World.{NodeState}
 use Rattle.bully_film.proofs.BehindLemmas.{beyond-empty}
 use Rattle.bully_film.proofs.scene.task_of.Goals as goal
 
 pub returns-then-number-nodes : goal.returns-then-number-nodes
 returns-then-number-nodes c =
     let past : c.args.world.now.setup.nodes < c.args.node = grind (arith, c.setup.ensures.setup, c.nodes.ensures.nodes, c.number.ensures.number, c.if-number-nodes.true) in
-    sym (ap (λ (m : Member). m.vector.task) (beyond-empty c.args.world.now c.args.node c.setup.ensures.reached past))
+    sym (ap (λ (m : NodeState). m.vector.task) (beyond-empty c.args.world.now c.args.node c.setup.ensures.reached past))

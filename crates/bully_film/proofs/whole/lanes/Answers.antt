@@ -11,7 +11,7 @@ loop-before-preserved c =
     let all : c.push.new.self.items ≡ c.loop-before.lanes.items ++ c.in_ok-lane.lane ∷ [] = c.in_ok-push.ensures.items in
     record {
       lanes = λ window trace is.
-          rw all (lanes-more (λ i. lane_of trace.setup is.before i is.shown) (row_before c.args.reel.now.scenes.items) 1 c.unwrap-node.result c.loop-before.lanes.items c.in_ok-lane.lane
+          rw all (lanes-more (λ i. lane_of trace.setup is.before i is.shown) (row_before c.args.finished.now.scenes.items) 1 c.unwrap-node.result c.loop-before.lanes.items c.in_ok-lane.lane
           (omega (arith, number, c.loop-before.invariant.count)) (c.loop-before.invariant.lanes window trace is) (c.in_ok-lane.ensures window trace is));
       count = search rules;
       end = c.loop-before.invariant.end;

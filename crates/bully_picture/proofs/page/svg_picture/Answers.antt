@@ -7,6 +7,6 @@ use Rattle.bully_picture.proofs.page.svg_picture.Goals as goal
 
 pub returns-clause-verdict : goal.returns-clause-verdict
 returns-clause-verdict c =
-    let reel = c.args.reel.now in
-    let titled : Has (string_bytes c.push_picture.new.text) (title_text reel.verdict reel.setup.nodes reel.setup.partitions (row_before reel.scenes.items) (length reel.scenes.items)) = search rules in
-    has-verdict (string_bytes c.push_picture.new.text) reel.verdict reel.setup.nodes reel.setup.partitions (row_before reel.scenes.items) (length reel.scenes.items) titled
+    let finished = c.args.finished.now in
+    let titled : Has (string_bytes c.push_picture.new.text) (title_text finished.verdict finished.setup.nodes finished.setup.partitions (row_before finished.scenes.items) (length finished.scenes.items)) = search rules in
+    has-verdict (string_bytes c.push_picture.new.text) finished.verdict finished.setup.nodes finished.setup.partitions (row_before finished.scenes.items) (length finished.scenes.items) titled

@@ -5,8 +5,8 @@ use Rattle.bully_play.proofs.turns.take_operator_turn.Given as goal
 
 abbrev pub invariant-loop-fault : goal.invariant-loop-fault
 invariant-loop-fault g l = record {
-  setup : g.S.Stage.setup l.stage ≡ g.S.Stage.setup l.fn.stage;
-  operates : (after : _) → OperatesOn g.S.Stage.applies l.turn l.schedule l.stage after → OperatesOn g.S.Stage.applies l.turn l.fn.schedule l.fn.stage after;
+  setup : g.S.Backend.setup l.backend ≡ g.S.Backend.setup l.fn.backend;
+  operates : (after : _) → OperatesOn g.S.Backend.applies l.turn l.schedule l.backend after → OperatesOn g.S.Backend.applies l.turn l.fn.schedule l.fn.backend after;
   left : (k : ℕ) → l.turn < k → faults_in k l.schedule ≡ faults_in k l.fn.schedule;
 }
 

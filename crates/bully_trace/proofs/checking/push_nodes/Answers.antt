@@ -9,7 +9,7 @@ pub loop-before-preserved : goal.loop-before-preserved
 loop-before-preserved c =
     let number : c.loop-before.before + 1 ≡ c.unwrap-node.result = grind (arith, c.new.ensures, c.unwrap-node.ensures) in
     record {
-      text = node_lines-next c.args.world.now.members (string_bytes c.args.text.now) (string_bytes c.loop-before.text) (string_bytes c.push_node_line.new.text) _ c.loop-before.before c.unwrap-node.result
+      text = node_lines-next c.args.world.now.states (string_bytes c.args.text.now) (string_bytes c.loop-before.text) (string_bytes c.push_node_line.new.text) _ c.loop-before.before c.unwrap-node.result
           number c.loop-before.invariant.text c.in_ok-push_node_line.ensures (ap (λ (v : StoredVector). node_line c.unwrap-node.result v.vector) c.vector.ensures.vector);
       end = c.loop-before.invariant.end;
     }

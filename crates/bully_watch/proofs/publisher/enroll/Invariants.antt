@@ -1,6 +1,6 @@
 use Rattle.std.proofs.Common.{◌≡◌, All, vec_len}
 use Rattle.left_right.specs.Sides.{view}
-use Rattle.bully_watch.specs.PageRule.{prefix_of}
+use Rattle.bully_watch.specs.CopyRule.{prefix_of}
 use Rattle.bully_watch.proofs.publisher.enroll.Given as goal
 
 abbrev pub invariant-loop-number : goal.invariant-loop-number

@@ -1,7 +1,7 @@
 use Rattle.std.proofs.Common.{drop, sym, subst}
 use Rattle.left_right.specs.Sides.{view}
-use Rattle.bully_watch.specs.PageRule.{LeadsToPage}
-use Rattle.bully_watch.proofs.PageLemmas.{page_after}
+use Rattle.bully_watch.specs.CopyRule.{LeadsToCopy}
+use Rattle.bully_watch.proofs.CopyLemmas.{copy_after}
 use Rattle.bully_watch.proofs.StepLemmas.{publishes}
 use Rattle.bully_watch.proofs.publisher.show.Goals as goal
 
@@ -14,11 +14,11 @@ pub returns-clause-shown : goal.returns-clause-shown
 returns-clause-shown g c =
     let w = c.args.writer in
     let v = rw c.in-Ok.is at c.publish_as-writer.ensures.values in
-    let after = page_after (view w.desk.place).seen (drop w.behind w.log.items) w.desk.shown.value.world c.publish_as-writer.result.0.desk.shown.value.world c.requires.taken.0 c.requires.shown c.requires.taken.1 v.0 in
-    subst (λ l. LeadsToPage l c.publish_as-writer.result.0.desk.shown.value.world) c.requires.all after.1
+    let after = copy_after (view w.desk.place).seen (drop w.behind w.log.items) w.desk.shown.value.world c.publish_as-writer.result.0.desk.shown.value.world c.requires.taken.0 c.requires.shown c.requires.taken.1 v.0 in
+    subst (λ l. LeadsToCopy l c.publish_as-writer.result.0.desk.shown.value.world) c.requires.all after.1
 
 pub returns-clause-setup : goal.returns-clause-setup
 returns-clause-setup g c =
     let w = c.args.writer in
     let v = rw c.in-Ok.is at c.publish_as-writer.ensures.values in
-    (page_after (view w.desk.place).seen (drop w.behind w.log.items) w.desk.shown.value.world c.publish_as-writer.result.0.desk.shown.value.world c.requires.taken.0 c.requires.shown c.requires.taken.1 v.0).0
+    (copy_after (view w.desk.place).seen (drop w.behind w.log.items) w.desk.shown.value.world c.publish_as-writer.result.0.desk.shown.value.world c.requires.taken.0 c.requires.shown c.requires.taken.1 v.0).0

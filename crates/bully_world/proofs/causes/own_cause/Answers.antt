@@ -1,9 +1,9 @@
--- Each arm's tests are those of the definitions at the member of the event's node.
+-- Each arm's tests are those of the definitions at the node state of the event's node.
 use Rattle.std.proofs.Common.{◌≤◌, arith, subst}
 use Rattle.bully_calls.specs.declared.event.Event.{Event}
 use Rattle.bully_calls.specs.Events.{node_of}
 use Rattle.bully_world.specs.NodeInvariant.{NodeInvariant}
-use Rattle.bully_world.specs.State.{member_of}
+use Rattle.bully_world.specs.State.{node_state_of}
 use Rattle.bully_steps.specs.Point.{IsPointOf}
 use Rattle.bully_world.proofs.CauseAt.{named_is, at_event}
 use Rattle.bully_world.proofs.Events.Checking.{check-cause, timeout-cause}
@@ -22,7 +22,7 @@ offer-requires-in-Move c = subst (λ e. IsPointOf c.args.setup.now (node_of e) c
 
 pub plan_cause-requires : goal.plan_cause-requires
 plan_cause-requires c =
-    let fits : NodeInvariant c.args.setup.now c.in-Plan.node (member_of c.args.named.now) = subst (λ e. NodeInvariant c.args.setup.now (node_of e) (member_of c.args.named.now)) c.in-Plan.is c.requires.fits in
+    let fits : NodeInvariant c.args.setup.now c.in-Plan.node (node_state_of c.args.named.now) = subst (λ e. NodeInvariant c.args.setup.now (node_of e) (node_state_of c.args.named.now)) c.in-Plan.is c.requires.fits in
     record {
       point = fits.is_point;
       node = subst (λ e. node_of e ≤ c.args.setup.now.nodes) c.in-Plan.is c.requires.node;
@@ -31,35 +31,35 @@ plan_cause-requires c =
 
 pub returns-in-Start : goal.returns-in-Start
 returns-in-Start c = λ w count here.
-    let there = named_is w (member_of c.args.named.now) c.args.event.now (Event.Start c.in-Start.node) c.in-Start.is here in
-    at_event c.args.setup.now w count c.args.event.now (Event.Start c.in-Start.node) _ c.in-Start.is (grind (arith, start-cause c.args.setup.now w count c.in-Start.node (member_of c.args.named.now) there, c.step_cause.ensures, c.offers_call.ensures, c.offer.ensures))
+    let there = named_is w (node_state_of c.args.named.now) c.args.event.now (Event.Start c.in-Start.node) c.in-Start.is here in
+    at_event c.args.setup.now w count c.args.event.now (Event.Start c.in-Start.node) _ c.in-Start.is (grind (arith, start-cause c.args.setup.now w count c.in-Start.node (node_state_of c.args.named.now) there, c.step_cause.ensures, c.offers_call.ensures, c.offer.ensures))
 
 pub returns-in-Move : goal.returns-in-Move
 returns-in-Move c = λ w count here.
-    let there = named_is w (member_of c.args.named.now) c.args.event.now (Event.Move c.in-Move.node) c.in-Move.is here in
-    at_event c.args.setup.now w count c.args.event.now (Event.Move c.in-Move.node) _ c.in-Move.is (grind (arith, move-cause c.args.setup.now w count c.in-Move.node (member_of c.args.named.now) there, c.step_cause-in-Move.ensures, c.offers_move.ensures, c.offer-in-Move.ensures))
+    let there = named_is w (node_state_of c.args.named.now) c.args.event.now (Event.Move c.in-Move.node) c.in-Move.is here in
+    at_event c.args.setup.now w count c.args.event.now (Event.Move c.in-Move.node) _ c.in-Move.is (grind (arith, move-cause c.args.setup.now w count c.in-Move.node (node_state_of c.args.named.now) there, c.step_cause-in-Move.ensures, c.offers_move.ensures, c.offer-in-Move.ensures))
 
 pub returns-in-Plan : goal.returns-in-Plan
 returns-in-Plan c = λ w count here.
-    let there = named_is w (member_of c.args.named.now) c.args.event.now (Event.Plan c.in-Plan.node c.in-Plan.table) c.in-Plan.is here in
-    at_event c.args.setup.now w count c.args.event.now (Event.Plan c.in-Plan.node c.in-Plan.table) _ c.in-Plan.is (grind (arith, plan-cause c.args.setup.now w count c.in-Plan.node (member_of c.args.named.now) c.in-Plan.table there, c.plan_cause.ensures))
+    let there = named_is w (node_state_of c.args.named.now) c.args.event.now (Event.Plan c.in-Plan.node c.in-Plan.table) c.in-Plan.is here in
+    at_event c.args.setup.now w count c.args.event.now (Event.Plan c.in-Plan.node c.in-Plan.table) _ c.in-Plan.is (grind (arith, plan-cause c.args.setup.now w count c.in-Plan.node (node_state_of c.args.named.now) c.in-Plan.table there, c.plan_cause.ensures))
 
 pub returns-in-Return : goal.returns-in-Return
 returns-in-Return c = λ w count here.
-    let there = named_is w (member_of c.args.named.now) c.args.event.now (Event.Return c.in-Return.field-0) c.in-Return.is here in
-    at_event c.args.setup.now w count c.args.event.now (Event.Return c.in-Return.field-0) _ c.in-Return.is (grind (arith, return-cause c.args.setup.now w count c.in-Return.field-0 (member_of c.args.named.now) there, c.refused_if-in-Return.ensures, c.has_come.ensures))
+    let there = named_is w (node_state_of c.args.named.now) c.args.event.now (Event.Return c.in-Return.field-0) c.in-Return.is here in
+    at_event c.args.setup.now w count c.args.event.now (Event.Return c.in-Return.field-0) _ c.in-Return.is (grind (arith, return-cause c.args.setup.now w count c.in-Return.field-0 (node_state_of c.args.named.now) there, c.refused_if-in-Return.ensures, c.has_come.ensures))
 
 pub returns-in-Drop : goal.returns-in-Drop
 returns-in-Drop c = λ w count here.
-    let there = named_is w (member_of c.args.named.now) c.args.event.now (Event.Drop c.in-Drop.field-0) c.in-Drop.is here in
-    at_event c.args.setup.now w count c.args.event.now (Event.Drop c.in-Drop.field-0) _ c.in-Drop.is (grind (arith, drop-cause c.args.setup.now w count c.in-Drop.field-0 (member_of c.args.named.now) there, c.drop_cause.ensures))
+    let there = named_is w (node_state_of c.args.named.now) c.args.event.now (Event.Drop c.in-Drop.field-0) c.in-Drop.is here in
+    at_event c.args.setup.now w count c.args.event.now (Event.Drop c.in-Drop.field-0) _ c.in-Drop.is (grind (arith, drop-cause c.args.setup.now w count c.in-Drop.field-0 (node_state_of c.args.named.now) there, c.drop_cause.ensures))
 
 pub returns-in-Check : goal.returns-in-Check
 returns-in-Check c = λ w count here.
-    let there = named_is w (member_of c.args.named.now) c.args.event.now (Event.Check c.in-Check.field-0) c.in-Check.is here in
-    at_event c.args.setup.now w count c.args.event.now (Event.Check c.in-Check.field-0) _ c.in-Check.is (grind (arith, check-cause c.args.setup.now w count c.in-Check.field-0 (member_of c.args.named.now) there, c.refused_if.ensures, c.is_at_rest.ensures, c.standing.ensures))
+    let there = named_is w (node_state_of c.args.named.now) c.args.event.now (Event.Check c.in-Check.field-0) c.in-Check.is here in
+    at_event c.args.setup.now w count c.args.event.now (Event.Check c.in-Check.field-0) _ c.in-Check.is (grind (arith, check-cause c.args.setup.now w count c.in-Check.field-0 (node_state_of c.args.named.now) there, c.refused_if.ensures, c.is_at_rest.ensures, c.stored_point.ensures))
 
 pub returns-in-Timeout : goal.returns-in-Timeout
 returns-in-Timeout c = λ w count here.
-    let there = named_is w (member_of c.args.named.now) c.args.event.now (Event.Timeout c.in-Timeout.field-0) c.in-Timeout.is here in
-    at_event c.args.setup.now w count c.args.event.now (Event.Timeout c.in-Timeout.field-0) _ c.in-Timeout.is (grind (arith, timeout-cause c.args.setup.now w count c.in-Timeout.field-0 (member_of c.args.named.now) there, c.refused_if-in-Timeout.ensures, c.is_at_rest-in-Timeout.ensures, c.standing-in-Timeout.ensures))
+    let there = named_is w (node_state_of c.args.named.now) c.args.event.now (Event.Timeout c.in-Timeout.field-0) c.in-Timeout.is here in
+    at_event c.args.setup.now w count c.args.event.now (Event.Timeout c.in-Timeout.field-0) _ c.in-Timeout.is (grind (arith, timeout-cause c.args.setup.now w count c.in-Timeout.field-0 (node_state_of c.args.named.now) there, c.refused_if-in-Timeout.ensures, c.is_at_rest-in-Timeout.ensures, c.stored_point-in-Timeout.ensures))

@@ -1,4 +1,4 @@
--- The two members stand in the two parts of the list.
+-- The two states stand in the two parts of the list.
 use Rattle.std.proofs.Common.{arith}
 use Rattle.std.proofs.lemmas.Grind.{common_steps}
 use Rattle.bully_world.proofs.SplitLemmas.{set-split, set-set}

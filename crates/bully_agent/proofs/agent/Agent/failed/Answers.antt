@@ -10,6 +10,6 @@ returns-clause-failed c =
     let a = c.self.inside in
     let ran = c.return_failure-answer in
     let room : a.events + 1 < a.setup.events_max = search rules in
-    let awaited : IsAwaited (agent a.setup a.node a.events a.number a.member) c.args.number = search rules in
+    let awaited : IsAwaited (agent a.setup a.node a.events a.number a.node_state) c.args.number = search rules in
     rw (← c.self.view_is)
-    (failed_is a.setup a.node a.events a.number a.member ran.new.member c.args.number (record { lost = Event.Lose a.node; returned = record { event = Event.Return a.node; answer = ran.result } }) room awaited refl refl ran.ensures.after ran.ensures.answer ran.ensures.loses ran.ensures.follows)
+    (failed_is a.setup a.node a.events a.number a.node_state ran.new.node_state c.args.number (record { lost = Event.Lose a.node; returned = record { event = Event.Return a.node; answer = ran.result } }) room awaited refl refl ran.ensures.after ran.ensures.answer ran.ensures.loses ran.ensures.follows)

@@ -9,11 +9,11 @@ pub take_alone-requires : goal.take_alone-requires
 take_alone-requires c =
     let a = c.self.inside in
     let named : node_of c.args.event ≡ a.node = c.requires.named ∙ ap (λ (s : AgentState). s.node) (sym c.self.view_is) in
-    record { own = c.requires.alone; is = subst (λ i. IsAgentOf a.setup i a.events a.member) (sym named) c.self.invariant }
+    record { own = c.requires.alone; is = subst (λ i. IsAgentOf a.setup i a.events a.node_state) (sym named) c.self.invariant }
 
 pub returns-clause-taken : goal.returns-clause-taken
 returns-clause-taken c =
     let a = c.self.inside in
     let named : node_of c.args.event ≡ a.node = c.requires.named ∙ ap (λ (s : AgentState). s.node) (sym c.self.view_is) in
     rw (← c.self.view_is)
-    (taken_is a.setup a.node a.events a.number a.member c.take_alone.new.member c.args.event c.number_after-self-inside.result (record { event = c.args.event; answer = c.in_ok-answer.answer }) c.in_ok-answer.ensures.room named refl c.in_ok-answer.ensures.after c.in_ok-answer.ensures.answer c.number_after-self-inside.ensures c.in_ok-answer.ensures.follows)
+    (taken_is a.setup a.node a.events a.number a.node_state c.take_alone.new.node_state c.args.event c.number_after-self-inside.result (record { event = c.args.event; answer = c.in_ok-answer.answer }) c.in_ok-answer.ensures.room named refl c.in_ok-answer.ensures.after c.in_ok-answer.ensures.answer c.number_after-self-inside.ensures c.in_ok-answer.ensures.follows)

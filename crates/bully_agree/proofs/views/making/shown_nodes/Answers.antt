@@ -1,7 +1,7 @@
 use Rattle.std.proofs.Common.{◌≡◌, ◌+◌, length, map, take, arith, ap, ◌∙◌}
 use Rattle.std.proofs.Math.Seq.{take-length}
 use Rattle.std.proofs.lemmas.List.{length-map}
-use Rattle.bully_world.specs.State.{member_of}
+use Rattle.bully_world.specs.State.{node_state_of}
 use Rattle.bully_agree.specs.View.{shown_of}
 use Rattle.bully_agree.proofs.ViewLemmas.{count_of_reached, shown-more}
 use Rattle.bully_agree.proofs.views.making.shown_nodes.Goals as goal
@@ -10,7 +10,7 @@ pub loop-before-preserved : goal.loop-before-preserved
 loop-before-preserved c =
     let count = count_of_reached c.args.world.now c.requires in
     let number : c.loop-before.before + 1 ≡ c.unwrap-node.result = grind (arith, c.new.ensures, c.unwrap-node.ensures) in
-    let more = shown-more c.args.world.now.members c.loop-before.nodes.items c.in_ok-shown_by.field-0 c.loop-before.before c.unwrap-node.result number
+    let more = shown-more c.args.world.now.states c.loop-before.nodes.items c.in_ok-shown_by.field-0 c.loop-before.before c.unwrap-node.result number
     (omega (arith, count, c.loop-before.invariant.end, c.loop-before-test.true)) c.loop-before.invariant.shown (grind (arith, c.in_ok-shown_by.ensures, c.vector.ensures.vector)) in
     record {
       shown = grind (arith, more, c.in_ok-push.ensures.items);
@@ -20,6 +20,6 @@ loop-before-preserved c =
 pub returns : goal.returns
 returns c =
     let count = count_of_reached c.args.world.now c.requires in
-    let size = length-map c.args.world.now.members member_of in
-    let all : c.loop-before.before ≡ length (map member_of c.args.world.now.members) = omega (arith, size, count, c.loop-before.invariant.end, c.loop-before-test.false, c.loop-before.auto.before-end) in
-    c.loop-before.invariant.shown ∙ ap (map shown_of) (ap (λ n. take n (map member_of c.args.world.now.members)) all ∙ take-length (map member_of c.args.world.now.members))
+    let size = length-map c.args.world.now.states node_state_of in
+    let all : c.loop-before.before ≡ length (map node_state_of c.args.world.now.states) = omega (arith, size, count, c.loop-before.invariant.end, c.loop-before-test.false, c.loop-before.auto.before-end) in
+    c.loop-before.invariant.shown ∙ ap (map shown_of) (ap (λ n. take n (map node_state_of c.args.world.now.states)) all ∙ take-length (map node_state_of c.args.world.now.states))

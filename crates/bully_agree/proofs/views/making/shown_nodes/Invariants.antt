@@ -6,6 +6,6 @@ use Rattle.bully_agree.proofs.views.making.shown_nodes.Given as goal
 -- the first nodes are shown
 abbrev pub invariant-loop-before : goal.invariant-loop-before
 invariant-loop-before l = record {
-  shown : l.nodes.items ≡ map shown_of (take l.before (world_of l.world).members);
+  shown : l.nodes.items ≡ map shown_of (take l.before (world_of l.world).states);
   end : l.before-end ≡ l.world.setup.nodes;
 }

@@ -22,8 +22,8 @@ use Rattle.std.proofs.raw_atomic.Walks.{proved}
 use Rattle.bully_handle.proofs.Words.{word, word-Good, word_in, Ptr-Good}
 use Rattle.bully_handle.specs.contracts.Loose as loose
 use Rattle.bully_handle.proofs.Loose.TheLaws as loose_laws
-use Rattle.bully_c.specs.contracts.held.Held as toy
-use Rattle.bully_c.proofs.held.Held.TheLaws as toy_laws
+use Rattle.bully_c.specs.contracts.session.AgentSession as toy
+use Rattle.bully_c.proofs.session.AgentSession.TheLaws as toy_laws
 use Rattle.bully_c.specs.contracts.handle.AgentHandle as handle
 use Rattle.bully_c.proofs.handle.AgentHandle.TheLaws as handle_laws
 use Rattle.bully_c.specs.contracts.handle.AgentHandle.swap as f

@@ -22,8 +22,8 @@ use Rattle.std.proofs.raw_atomic.Walks.{proved}
 use Rattle.bully_handle.proofs.Words.{word, word-Good, word_in, Ptr-Good}
 use Rattle.bully_handle.specs.contracts.Loose as loose
 use Rattle.bully_handle.proofs.Loose.TheLaws as loose_laws
-use Rattle.bully_c.specs.contracts.logs.HeldLog as toy
-use Rattle.bully_c.proofs.logs.HeldLog.TheLaws as toy_laws
+use Rattle.bully_c.specs.contracts.logs.LogSession as toy
+use Rattle.bully_c.proofs.logs.LogSession.TheLaws as toy_laws
 use Rattle.bully_c.specs.contracts.replica_handle.ReplicaHandle as handle
 use Rattle.bully_c.proofs.replica_handle.ReplicaHandle.TheLaws as handle_laws
 use Rattle.bully_c.specs.contracts.replica_handle.ReplicaHandle.swap as f

@@ -3,7 +3,7 @@ use Rattle.std.proofs.Common.{rules}
 use Rattle.bully_rows.specs.declared.trace.Row.{Row}
 use Rattle.bully_rows.specs.Kinds.{event_at}
 use Rattle.bully_film.specs.Film.{IsLook}
-use Rattle.bully_film.specs.Scene.{deed_in, node_in}
+use Rattle.bully_film.specs.Scene.{event_kind_in, node_in}
 use Rattle.bully_film.proofs.FilmLemmas.{filmed-on, filmed-over, node-told}
 use Rattle.bully_film.proofs.film.Film.take_node_event.Goals as goal
 
@@ -14,6 +14,6 @@ returns-then-is_over-clause-filmed c = λ setup rows at filmed.
 pub returns-clause-filmed : goal.returns-clause-filmed
 returns-clause-filmed c = λ setup rows at filmed.
     let row : Row = Row.Event (event_at c.args.event.kind c.args.event.node) in
-    let look : IsLook c.args.self.now (node_in row) (deed_in row) c.look-opening.result = rw (node-told c.args.event.kind c.args.event.node) (search rules) in
-    filmed-on setup rows row c.args.number c.args.self.now c.judge_event.new.self c.keep_shown.new.self c.look-opening.result c.keep_shown.result (search rules) look
-    c.judge_event.ensures.window c.judge_event.ensures.still c.judge_event.ensures.scenes c.judge_event.ensures.judged c.keep_shown.ensures.on at filmed
+    let look : IsLook c.args.self.now (node_in row) (event_kind_in row) c.look-scene_start.result = rw (node-told c.args.event.kind c.args.event.node) (search rules) in
+    filmed-on setup rows row c.args.number c.args.self.now c.judge_event.new.self c.keep_shown.new.self c.look-scene_start.result c.keep_shown.result (search rules) look
+    c.judge_event.ensures.window c.judge_event.ensures.at_end c.judge_event.ensures.scenes c.judge_event.ensures.judged c.keep_shown.ensures.on at filmed

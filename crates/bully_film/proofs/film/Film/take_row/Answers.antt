@@ -8,5 +8,5 @@ returns-then-is_over-clause-filmed c = λ setup rows at filmed. filmed-over setu
 
 pub returns-clause-filmed : goal.returns-clause-filmed
 returns-clause-filmed c = λ setup rows at filmed.
-    filmed-on setup rows c.args.row c.args.number c.args.self.now c.judge_row.new.self c.keep_shown.new.self c.look-opening.result c.keep_shown.result (search rules) (search rules)
-    c.judge_row.ensures.window c.judge_row.ensures.still c.judge_row.ensures.scenes c.judge_row.ensures.judged c.keep_shown.ensures.on at filmed
+    filmed-on setup rows c.args.row c.args.number c.args.self.now c.judge_row.new.self c.keep_shown.new.self c.look-scene_start.result c.keep_shown.result (search rules) (search rules)
+    c.judge_row.ensures.window c.judge_row.ensures.at_end c.judge_row.ensures.scenes c.judge_row.ensures.judged c.keep_shown.ensures.on at filmed

@@ -2,7 +2,7 @@ use Rattle.std.proofs.Common.{◌≡◌, ◌++◌, drop, take, sym, ap, ◌∙�
 use Rattle.std.proofs.lemmas.List.{take-append-drop}
 use Rattle.left_right.specs.Sides.{view}
 use Rattle.bully_watch.specs.History.{IsHistory}
-use Rattle.bully_watch.specs.PageRule.{IsPublisher}
+use Rattle.bully_watch.specs.CopyRule.{IsPublisher}
 use Rattle.bully_watch.specs.declared.knowledge.Knowledge.{Knowledge}
 use Rattle.bully_watch.specs.declared.knowledge.PublisherId.{PublisherId}
 use Rattle.bully_watch.proofs.PublisherLemmas.{taken_more}

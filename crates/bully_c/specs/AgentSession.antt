@@ -1,0 +1,83 @@
+-- What an agent behind a handle takes, and what its last step tells.
+use Rattle.std.specs.Prelude.{◌≡◌, ℕ, List, [], ◌∷◌, Option, Some, None, Result, Ok, Err, option_map}
+use Rattle.bully_calls.specs.declared.call.Answer.{Answer}
+use Rattle.bully_calls.specs.declared.call.Call.{Call}
+use Rattle.bully_calls.specs.Slot.{Slot}
+use Rattle.bully_calls.specs.declared.message.Reply.{Reply}
+use Rattle.bully_calls.specs.declared.message.Request.{Request}
+use Rattle.bully_agent.specs.Agent.{AgentState, IsRefused, IsTaken}
+use Rattle.bully_agent.specs.Calls.{IsFailed, IsReplyTo, IsRequested, IsReturned, IsServed, RefusesFailure, RefusesReply, RefusesRequest, TellsRun}
+use Rattle.bully_agent.specs.Part.{Always}
+use Rattle.bully_rows.specs.declared.detail.Detail.{Detail}
+use Rattle.bully_rows.specs.declared.trace.Row.{Row}
+use Rattle.bully_calls.specs.declared.event.Event.{Event}
+use Rattle.bully_calls.specs.declared.event.Refused.{Refused}
+use Rattle.bully_c.specs.declared.session.AgentSession.{AgentSession}
+use Rattle.bully_c.specs.declared.session.StepRows.{StepRows}
+
+-- ---- what is told
+
+-- the rows of it
+abbrev pub rows_told : StepRows → List Row
+rows_told StepRows.Nothing = []
+rows_told (StepRows.Event e) = Row.Event e ∷ []
+rows_told (StepRows.Call event) = Row.Detailed event ∷ []
+rows_told (StepRows.Failure i call answer) =
+    Row.Detailed (record { node = i; detail = Detail.Lose call }) ∷ Row.Detailed (record { node = i; detail = Detail.Return call answer }) ∷ []
+
+-- an event of a call of node i
+abbrev pub detail_told : ℕ → Option Detail → StepRows
+detail_told i None = StepRows.Nothing
+detail_told i (Some detail) = StepRows.Call (record { node = i; detail = detail })
+
+-- the call in a slot
+abbrev pub call_in : Slot → Option Call
+call_in slot = option_map (λ p. p.call) slot.content
+
+-- the failure of node i's call
+abbrev pub failure_told : ℕ → Answer → Option Call → StepRows
+failure_told i answer None = StepRows.Nothing
+failure_told i answer (Some call) = StepRows.Failure i call answer
+
+-- ---- what is taken
+
+-- the agent takes an event by itself, and tells it, or refuses it, and has not changed
+abbrev pub Takes : (ℕ → Event) → (AgentState → AgentState → StepRows → Type 0) → AgentSession → Result Answer Refused → AgentSession → Type 0
+Takes event Tells old (Ok answer) new =
+    IsTaken old.agent (event old.agent.node) new.agent (record { event = event old.agent.node; answer = answer }) × Tells old.agent new.agent new.told
+Takes event Tells old (Err why) new = IsRefused Always old.agent (event old.agent.node) why × (new ≡ old)
+
+-- what is told is the event
+abbrev pub TellsEvent : (ℕ → Event) → AgentState → AgentState → StepRows → Type 0
+TellsEvent event old new told = told ≡ StepRows.Event (event old.node)
+
+-- or the start of the call that is in the slot then
+abbrev pub TellsStart : AgentState → AgentState → StepRows → Type 0
+TellsStart old new told = told ≡ detail_told old.node (option_map Detail.Start (call_in new.node_state.slot))
+
+-- or that the call which was in the slot is dropped
+abbrev pub TellsDrop : AgentState → AgentState → StepRows → Type 0
+TellsDrop old new told = told ≡ detail_told old.node (option_map Detail.Drop (call_in old.node_state.slot))
+
+-- a request runs at the agent, and its run is told with the answer, or it is refused
+abbrev pub ServesRequest : Request → AgentSession → Result Reply Refused → AgentSession → Type 0
+ServesRequest request old (Ok reply) new =
+    IsServed old.agent request new.agent (record { event = Event.Run request.caller; reply = reply }) × TellsRun old.agent request reply × IsReplyTo request reply
+    × (new.told ≡ StepRows.Call (record { node = request.caller; detail = Detail.Run request.call reply.answer }))
+ServesRequest request old (Err why) new =
+    IsRefused (IsRequested old.agent.node request) old.agent (Event.Run request.caller) why
+    × RefusesRequest old.agent.setup old.agent.node old.agent.events old.agent.member request why × (new ≡ old)
+
+-- the agent's call returns with a reply, and the return is told with what it brings, or the reply is refused
+abbrev pub TakesReply : Reply → AgentSession → Result Answer Refused → AgentSession → Type 0
+TakesReply reply old (Ok answer) new =
+    IsReturned old.agent reply new.agent (record { event = Event.Return old.agent.node; answer = answer })
+    × (new.told ≡ detail_told old.agent.node (option_map (λ call. Detail.Return call answer) (call_in old.agent.node_state.slot)))
+TakesReply reply old (Err why) new = RefusesReply old.agent reply why × (new ≡ old)
+
+-- the agent's call failed, and its loss and return are told, or that is refused
+abbrev pub TakesFailure : ℕ → AgentSession → Result Answer Refused → AgentSession → Type 0
+TakesFailure number old (Ok answer) new =
+    IsFailed old.agent number new.agent (record { lost = Event.Lose old.agent.node; returned = record { event = Event.Return old.agent.node; answer = answer } })
+    × (new.told ≡ failure_told old.agent.node answer (call_in old.agent.node_state.slot))
+TakesFailure number old (Err why) new = RefusesFailure old.agent number why × (new ≡ old)

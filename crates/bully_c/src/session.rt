@@ -1,0 +1,210 @@
+//! What is kept behind a handle.
+ghost use Rattle.std.specs.Prelude.{◌≡◌, ◌++◌, ◌∷◌, [], OnOk, string_bytes};
+ghost use Rattle.bully_rows.specs.TraceText.{rows_text};
+ghost use Rattle.bully_rows.specs.declared.trace.Row.{Row as RowState};
+ghost use Rattle.bully_calls.specs.declared.event.Event.{Event as EventState};
+ghost use Rattle.bully_c.specs.AgentSession.{ServesRequest, Takes, TakesFailure, TakesReply, TellsDrop, TellsEvent, TellsStart, detail_told, failure_told, rows_told};
+ghost use Rattle.bully_c.specs.declared.session.StepRows.{StepRows as StepRowsState};
+
+use bully_agent::Agent;
+use bully_base::{Node, OutOfMemory};
+use bully_calls::{Answer, Call, Reply, Request};
+use bully_rows::{Detail, DetailedEvent, push_detailed, push_event};
+use bully_table::Table;
+use bully_world::{Event, Refused};
+
+/// The rows that the last step of an agent tells.
+#[derive(Drop)]
+pub enum StepRows {
+    /// It took none.
+    Nothing,
+    /// A row of this event.
+    Event(Event),
+    /// A row of this event of a call.
+    Call(DetailedEvent),
+    /// Two rows: the loss of this call of the node, and its return, which brings this.
+    Failure(Node, Call, Answer),
+}
+
+/// The agent, and what its last step told.
+#[derive(Drop)]
+pub struct AgentSession {
+    pub agent: Agent,
+    pub told: StepRows,
+}
+
+impl AgentSession {
+    /// An agent that took no step.
+    pub fn new(agent: Agent) -> AgentSession
+        ensures { result ≡ record { agent = agent; told = StepRowsState.Nothing } }
+    {
+        AgentSession {
+            agent,
+            told: StepRows::Nothing,
+        }
+    }
+
+    /// [`Agent::recover`].
+    pub fn recover(&mut self) -> Result<Answer, Refused>
+        ensures { Takes EventState.Recover (TellsEvent EventState.Recover) self.old result self.new }
+    {
+        let taken = self.agent.recover()?;
+        self.told = StepRows::Event(taken.event);
+        Ok(taken.answer)
+    }
+
+    /// [`Agent::crash`].
+    pub fn crash(&mut self) -> Result<Answer, Refused>
+        ensures { Takes EventState.Crash (TellsEvent EventState.Crash) self.old result self.new }
+    {
+        let taken = self.agent.crash()?;
+        self.told = StepRows::Event(taken.event);
+        Ok(taken.answer)
+    }
+
+    /// [`Agent::check`].
+    pub fn check(&mut self) -> Result<Answer, Refused>
+        ensures { Takes EventState.Check (TellsEvent EventState.Check) self.old result self.new }
+    {
+        let taken = self.agent.check()?;
+        self.told = StepRows::Event(taken.event);
+        Ok(taken.answer)
+    }
+
+    /// [`Agent::timeout`].
+    pub fn timeout(&mut self) -> Result<Answer, Refused>
+        ensures { Takes EventState.Timeout (TellsEvent EventState.Timeout) self.old result self.new }
+    {
+        let taken = self.agent.timeout()?;
+        self.told = StepRows::Event(taken.event);
+        Ok(taken.answer)
+    }
+
+    /// [`Agent::advance`].
+    pub fn advance(&mut self) -> Result<Answer, Refused>
+        ensures { Takes EventState.Move (TellsEvent EventState.Move) self.old result self.new }
+    {
+        let taken = self.agent.advance()?;
+        self.told = StepRows::Event(taken.event);
+        Ok(taken.answer)
+    }
+
+    /// [`Agent::plan`].
+    pub fn plan(&mut self, table: Table) -> Result<Answer, Refused>
+        ensures { Takes (λ i. EventState.Plan i table) (TellsEvent (λ i. EventState.Plan i table)) self.old result self.new }
+    {
+        let taken = self.agent.plan(table)?;
+        self.told = StepRows::Event(taken.event);
+        Ok(taken.answer)
+    }
+
+    /// [`Agent::start`].
+    pub fn start(&mut self) -> Result<Answer, Refused>
+        ensures { Takes EventState.Start TellsStart self.old result self.new }
+    {
+        let taken = self.agent.start()?;
+        let call = self.agent.slot().call();
+        self.told = told_of(self.agent.node(), call.map(|call| Detail::Start(call)));
+        Ok(taken.answer)
+    }
+
+    /// [`Agent::drop_orphan`].
+    pub fn drop_orphan(&mut self) -> Result<Answer, Refused>
+        ensures { Takes EventState.Drop TellsDrop self.old result self.new }
+    {
+        let call = self.agent.slot().call();
+        let taken = self.agent.drop_orphan()?;
+        self.told = told_of(self.agent.node(), call.map(|call| Detail::Drop(call)));
+        Ok(taken.answer)
+    }
+
+    /// [`Agent::serve`].
+    pub fn serve(&mut self, request: &Request) -> Result<Reply, Refused>
+        ensures { ServesRequest request.now self.old result self.new }
+    {
+        let served = self.agent.serve(request)?;
+        let reply = served.reply;
+        let detail = Detail::Run(request.call, reply.answer);
+        self.told = told_of(request.caller, Some(detail));
+        Ok(reply)
+    }
+
+    /// [`Agent::replied`].
+    pub fn replied(&mut self, reply: Reply) -> Result<Answer, Refused>
+        ensures { TakesReply reply self.old result self.new }
+    {
+        let call = self.agent.slot().call();
+        let answer = self.agent.replied(reply)?.answer;
+        self.told = told_of(
+            self.agent.node(),
+            call.map(|call| Detail::Return(call, answer)),
+        );
+        Ok(answer)
+    }
+
+    /// [`Agent::failed`].
+    pub fn failed(&mut self, number: u32) -> Result<Answer, Refused>
+        ensures { TakesFailure number self.old result self.new }
+    {
+        let call = self.agent.slot().call();
+        let answer = self.agent.failed(number)?.returned.answer;
+        self.told = failure_of(self.agent.node(), call, answer);
+        Ok(answer)
+    }
+
+    /// Appends the rows of the last step. Refused where an allocation fails.
+    pub fn push_rows(&self, text: &mut String) -> Result<(), OutOfMemory>
+        ensures { OnOk result (string_bytes text.new ≡ string_bytes text.old ++ rows_text (rows_told self.now.told)) }
+    {
+        match &self.told {
+            StepRows::Nothing => Ok(()),
+            StepRows::Event(event) => push_event(text, event),
+            StepRows::Call(event) => push_detailed(text, event),
+            StepRows::Failure(node, call, answer) => push_failure(text, *node, *call, *answer),
+        }
+    }
+}
+
+// What is told of an event of a call of this node.
+fn told_of(node: Node, detail: Option<Detail>) -> StepRows
+    ensures { result ≡ detail_told node detail }
+{
+    match detail {
+        Some(detail) => StepRows::Call(DetailedEvent { node, detail }),
+        None => StepRows::Nothing,
+    }
+}
+
+// What is told of the failure of the node's call.
+fn failure_of(node: Node, call: Option<Call>, answer: Answer) -> StepRows
+    ensures { result ≡ failure_told node answer call }
+{
+    match call {
+        Some(call) => StepRows::Failure(node, call, answer),
+        None => StepRows::Nothing,
+    }
+}
+
+// Appends the rows of a call that failed and returned.
+fn push_failure(
+    text: &mut String,
+    node: Node,
+    call: Call,
+    answer: Answer,
+) -> Result<(), OutOfMemory>
+    ensures { OnOk result (string_bytes text.new ≡ string_bytes text.old ++ rows_text (rows_told (StepRowsState.Failure node call answer))) }
+{
+    let lost = Call {
+        callee: call.callee,
+        kind: call.kind,
+    };
+    push_detail(text, node, Detail::Lose(lost))?;
+    push_detail(text, node, Detail::Return(call, answer))
+}
+
+// Appends the row of an event of a call of this node.
+fn push_detail(text: &mut String, node: Node, detail: Detail) -> Result<(), OutOfMemory>
+    ensures { OnOk result (string_bytes text.new ≡ string_bytes text.old ++ rows_text (RowState.Detailed (record { node = node; detail = detail }) ∷ [])) }
+{
+    push_detailed(text, &DetailedEvent { node, detail })
+}

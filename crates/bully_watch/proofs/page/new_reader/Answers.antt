@@ -1,5 +1,0 @@
-use Rattle.bully_watch.proofs.StepLemmas.{admits}
-use Rattle.bully_watch.proofs.page.new_reader.Goals as goal
-
-pub reader-requires : goal.reader-requires
-reader-requires c = admits
