@@ -1,3 +1,4 @@
+pub mod LineLemmas
 pub mod MemoryLemmas
 pub mod PossibleLemmas
 pub mod ShownLemmas

@@ -1,4 +1,4 @@
-use crate::lines::Lines;
+use crate::lines::{Lines, line_of};
 use crate::memory::Memories;
 use crate::moving::moves_point;
 use crate::showing::node_sheets;
@@ -83,7 +83,7 @@ impl Account {
             return;
         }
         let number = rows.number();
-        let line = line_of(rows);
+        let line = line_of(rows.source(), rows.end(), rows.fields());
         self.stop = Some(Stop { number, line, row });
     }
 
@@ -148,30 +148,4 @@ fn moves_point_by(world: &World, row: &Row) -> Option<bool> {
         Row::Detailed(event) => moves_point(world, &event.event()),
         Row::Claim(_) | Row::Whole(_) => Some(false),
     }
-}
-
-/// The line at which the row that was read last starts, counted from 1 by line feeds.
-pub fn line_of<R: Read + Drop>(rows: &RowReader<Lines<R>>) -> u64 {
-    let end = rows.end();
-    let ended = rows.source().ends_line(end.byte().saturating_sub(1));
-    end.line()
-        .saturating_sub(ended as u64)
-        .saturating_sub(lines_within(rows))
-}
-
-// How many line feeds there are within the fields of the row that was read last.
-fn lines_within<R: Read + Drop>(rows: &RowReader<Lines<R>>) -> u64 {
-    let fields = rows.fields();
-    let mut count = 0u64;
-    for place in 0..fields.len() {
-        if let Some(field) = fields.get(place) {
-            count = count.saturating_add(line_feeds(field) as u64);
-        }
-    }
-    count
-}
-
-// How many line feeds there are.
-fn line_feeds(text: &[u8]) -> usize {
-    text.iter().filter(|byte| **byte == b'\n').count()
 }

@@ -16,9 +16,9 @@ mod reading;
 mod showing;
 mod telling;
 
-pub use account::{Account, Stop, line_of};
+pub use account::{Account, Stop};
 pub use bully_rows::EventKind;
-pub use lines::Lines;
+pub use lines::{Lines, line_of};
 pub use memory::{Memory, Note, What};
 pub use possible::possible_now;
 pub use showing::{NodeSheet, NodeSummary, CallSummary, node_sheet, shown_of};

@@ -15,6 +15,7 @@ mod form;
 mod form_text;
 mod sentences;
 mod sheet_text;
+mod shown;
 mod sides;
 mod words;
 
