@@ -1,5 +1,5 @@
 -- A reader that keeps what it gave last, and the line at which a row of it starts.
-use Rattle.std.specs.Prelude.{◌≡◌, ℕ, ◌+◌, ◌-◌, ◌<◌, ◌≤◌, ◌==◌, ◌&&◌, Bool, not, List, [], ◌∷◌, take, slice_index, count_by, nat_le, if◌then◌else◌}
+use Rattle.std.specs.Prelude.{◌≡◌, ℕ, ◌+◌, ◌-◌, ◌^◌, ◌<◌, ◌≤◌, ◌==◌, ◌&&◌, Bool, not, List, [], ◌∷◌, length, take, slice_index, count_by, nat_le, if◌then◌else◌}
 use Rattle.bully_account.specs.declared.TheConstants.{KEPT}
 use Rattle.bully_account.specs.declared.lines.Lines.{Lines}
 
@@ -11,14 +11,22 @@ source_of lines = lines.reader
 abbrev pub last_of : {R : Type 0} → Lines R → List ℕ
 last_of lines = take lines.count lines.last
 
+-- how many bytes were given before them, and with them
+abbrev pub before_of : {R : Type 0} → Lines R → ℕ
+before_of lines = lines.before
+
+abbrev pub end_of : {R : Type 0} → Lines R → ℕ
+end_of lines = lines.before + lines.count
+
 -- nothing more was given when it was asked for last
 abbrev pub is_at_end : {R : Type 0} → Lines R → Bool
 is_at_end lines = lines.is_at_end
 
--- so many bytes were asked for, and these were given: they are kept, or that there are no more
-pub record Notes {R : Type 0} (asked : ℕ) (given : List ℕ) (lines : Lines R) : Type 0 where
-  pub last : 0 < length given → length given ≤ KEPT → last_of lines ≡ given
-  pub end : 0 < asked → is_at_end lines ≡ (length given == 0)
+-- so many bytes were asked for, and these were given: they are kept, and where they stand; or that there are no more
+pub record Notes {R : Type 0} (asked : ℕ) (given : List ℕ) (old new : Lines R) : Type 0 where
+  pub last : 0 < length given → length given ≤ KEPT → last_of new ≡ given
+  pub before : 0 < length given → end_of old < 2 ^ 64 → before_of new ≡ end_of old
+  pub end : 0 < asked → is_at_end new ≡ (length given == 0)
 
 -- the byte before which there are so many others is kept as a line feed that ended a line; where there was nothing more, it was
 -- the end of the input that ended the last row

@@ -35,24 +35,17 @@ impl<R: Read> Read for Lines<R> {
     fn read(&mut self, buf: &mut [u8]) -> io::Result<usize>
         ensures bound { ReadsAtMost result buf.new }
         ensures bytes { ReadConsumes (R.remaining (source_of self.old)) (R.remaining (source_of self.new)) result buf.new }
-        ensures noted { IfOk result (λ count. Notes (length buf.new) (take count buf.new) self.new) }
+        ensures noted { IfOk result (λ count. Notes (length buf.new) (take count buf.new) self.old self.new) }
     {
         let given = self.reader.read(buf)?;
-        if given > 0 {
-            let kept = given.min(KEPT);
-            self.before = self.before.saturating_add(self.count as u64);
-            self.last[..kept].copy_from_slice(&buf[..kept]);
-            self.count = kept;
-        }
-        if !buf.is_empty() {
-            self.is_at_end = given == 0;
-        }
+        self.note(buf.len(), &buf[..given]);
         Ok(given)
     }
 }
 
 impl<R: Read> Lines<R> {
-    ghost use Rattle.bully_account.specs.Lines.{source_of};
+    ghost use Rattle.std.specs.Prelude.{◌^◌, ◌<◌, ◌≤◌, length};
+    ghost use Rattle.bully_account.specs.Lines.{Notes, before_of, end_of, is_at_end, last_of, source_of};
 
     /// A reader of the same bytes, of which nothing was given yet.
     pub fn new(reader: R) -> Lines<R>
@@ -65,6 +58,32 @@ impl<R: Read> Lines<R> {
             before: 0,
             is_at_end: false,
         }
+    }
+
+    // So many bytes were asked for, and these were given.
+    fn note(&mut self, asked: usize, given: &[u8])
+        ensures noted { Notes asked given.now self.old self.new }
+        ensures source { source_of self.new ≡ source_of self.old }
+    {
+        if asked > 0 {
+            self.is_at_end = given.is_empty();
+        }
+        if !given.is_empty() {
+            self.keep(given);
+        }
+    }
+
+    // Keeps these bytes as those that were given last.
+    fn keep(&mut self, given: &[u8])
+        ensures last { length given.now ≤ KEPT → last_of self.new ≡ given.now }
+        ensures before { end_of self.old < 2 ^ 64 → before_of self.new ≡ end_of self.old }
+        ensures end { is_at_end self.new ≡ is_at_end self.old }
+        ensures source { source_of self.new ≡ source_of self.old }
+    {
+        let kept = given.len().min(KEPT);
+        self.before = self.before.saturating_add(self.count as u64);
+        self.last[..kept].copy_from_slice(&given[..kept]);
+        self.count = kept;
     }
 
     /// Whether a line ended with the byte before which there are so many others; not where it isn't kept any more, nor where
