@@ -78,7 +78,8 @@ impl Account {
         if self.judge.stopped().is_some() {
             keep(&mut self.stop, rows, row);
         } else {
-            self.memories.take_row(self.judge.world(), number, &row, moves);
+            self.memories
+                .take_row(self.judge.world(), number, &row, moves);
         }
     }
 

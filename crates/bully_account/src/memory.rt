@@ -228,7 +228,10 @@ impl Memories {
         self.note(node, &Note { row, what, moved });
         match event {
             Event::Start(_) => self.start(node, row),
-            Event::Run(_) => self.halt(node, call, row),
+            Event::Run(_) => {
+                let ran = world.slot(node).call();
+                self.halt(node, ran, row);
+            }
             Event::Plan(_, table) => self.plan(node, table),
             _ => {}
         }

@@ -3,7 +3,7 @@ ghost use Rattle.bully_rows.specs.Kinds.{every_event_kind};
 ghost use Rattle.bully_account.specs.Possible.{ArePossible, IsPossible, passes};
 
 use bully_base::{Node, OutOfMemory};
-use bully_rows::{EventKind, EVERY_DEED};
+use bully_rows::{EVERY_DEED, EventKind};
 use bully_trace::reached;
 use bully_world::{Event, World};
 use std::alloc::Global;

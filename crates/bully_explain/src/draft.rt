@@ -12,13 +12,21 @@ use std::fmt::Display;
 pub trait Plain: Display + Drop {}
 
 impl Plain for bool {}
+
 impl Plain for u16 {}
+
 impl Plain for u32 {}
+
 impl Plain for u64 {}
+
 impl Plain for usize {}
+
 impl Plain for i64 {}
+
 impl Plain for Key {}
+
 impl Plain for ConfigFault {}
+
 impl Plain for TraceCause {}
 
 /// A text to which pieces are appended. Where memory is short for one of them, nothing more is appended, and the text is refused

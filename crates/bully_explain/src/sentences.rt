@@ -159,7 +159,11 @@ fn push_stranger(text: &mut Draft, table: &Table, place: usize, node: Node)
 {
     text.push_between("partition ", place, " is owned by node ");
     text.push_value(table.owner(place).number());
-    text.push_between(", which is neither node ", node.number(), " nor in its up set");
+    text.push_between(
+        ", which is neither node ",
+        node.number(),
+        " nor in its up set",
+    );
 }
 
 // Appends how many partitions each member owns, which isn't its share.

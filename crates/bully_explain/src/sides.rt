@@ -16,12 +16,7 @@ pub fn push_heads(text: &mut Draft, head: &'static str) {
 }
 
 /// Appends the line of a part: its name, and a word for each side.
-pub fn push_words(
-    text: &mut Draft,
-    part: &'static str,
-    said: &'static str,
-    shown: &'static str,
-) {
+pub fn push_words(text: &mut Draft, part: &'static str, said: &'static str, shown: &'static str) {
     push_part(text, part);
     push_padded(text, said, COLUMN);
     text.push_str(shown);
