@@ -93,7 +93,7 @@ fn is_weight(item: &Value) -> bool {
     }
 }
 
-// Appends a value: a number, a text and a truth value as they are, and of the others of which kind they are.
+// Appends a value: a number and a truth value as they are, a text as it is shown, and of the others of which kind they are.
 fn push_value(text: &mut Draft, value: &Value) {
     match value {
         Value::Integer(number) => text.push_behind("is ", *number),
