@@ -81,9 +81,15 @@ fn cuts_off_the_verdict(alloc: Global, room: usize) -> bool
 #[test]
 fn failed_write(rt: HostRuntime) {
     for room in 0..69 {
-        assert!(rt; cuts_off_the_upgraded(rt.alloc(), room), "with room for {room}");
+        assert!(rt;
+            cuts_off_the_upgraded(rt.alloc(), room),
+            "with room for {room}"
+        );
     }
     for room in 0..26 {
-        assert!(rt; cuts_off_the_verdict(rt.alloc(), room), "with room for {room}");
+        assert!(rt;
+            cuts_off_the_verdict(rt.alloc(), room),
+            "with room for {room}"
+        );
     }
 }
