@@ -125,7 +125,7 @@ fn push_misfit(text: &mut Draft, fields: &ByteRecord, misfit: Misfit, setup: Opt
         text.push_count(fields.len(), "field");
         text.push_str(", and ");
     } else {
-        text.push_between("at field ", field, " there may stand ");
+        text.push_between("field ", field, " has to be ");
     }
     push_expected(text, misfit.expected, setup);
 }
