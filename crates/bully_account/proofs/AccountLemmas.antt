@@ -1,89 +1,19 @@
 -- What an account comes to behind each row.
 use Rattle.std.proofs.Common.{◌≡◌, ◌∙◌, ℕ, ◌+◌, ◌≤◌, ◌++◌, Bool, true, false, List, [], ◌∷◌, Option, Some, None, length, refl, sym, ap, subst, arith}
-use Rattle.std.specs.Prelude.{IfSome, IsSomeAnd, MatchOption, is_some, option_map}
+use Rattle.std.specs.Prelude.{IfSome, IsSomeAnd, MatchOption, option_map}
 use Rattle.bully_base.specs.Setup.{Setup}
-use Rattle.bully_world.specs.State.{WorldState}
 use Rattle.bully_rows.specs.declared.TheConstants.{ROWS_MAX}
 use Rattle.bully_rows.specs.declared.trace.Row.{Row}
-use Rattle.bully_rows.specs.declared.trace.TraceFault.{TraceFault}
 use Rattle.bully_rows.specs.Headers.{Record, header_with}
 use Rattle.bully_rows.specs.RecordsLeft.{EndsReading, HasRead, IsUnread, ReadSoFar, Takes as TakesRecord, rows_left}
 use Rattle.bully_rows.specs.Rows.{OfTrace}
 use Rattle.bully_rows.proofs.TraceLemmas.{header-missing, header-read, read-end, read-more}
-use Rattle.bully_trace.specs.declared.verdict.Verdict.{Verdict}
-use Rattle.bully_trace.specs.declared.verdict.Violation.{Violation}
 use Rattle.bully_trace.specs.Judging.{AreAllJudged, HasJudged, IsJudgedSoFar, JudgeState}
-use Rattle.bully_trace.specs.OneRow.{IsRowTaken, IsTakenBy, verdict_at, violation_of}
 use Rattle.bully_account.specs.declared.account.Stop.{Stop}
-use Rattle.bully_account.specs.Accounts.{AccountState, AreAllTaken, AreTaken, AreTakenSoFar, AreTakenToEnd, Begins, HasTaken, StopsAt, Takes, number_in}
+use Rattle.bully_account.specs.Accounts.{AccountState, AreAllTaken, AreTaken, AreTakenSoFar, AreTakenToEnd, Begins, HasTaken, Takes}
 use Rattle.bully_account.specs.Remembered.{Remembered}
 use Rattle.bully_account.specs.RowsOf.{AreRemembered, IsRowAt}
 use Rattle.bully_account.proofs.RowsLemmas.{remembered-more, row-last, row-more}
-
--- a row that is taken to the world leaves the setup as it is
-row-setup : (w : WorldState) (row : Row) (w' : WorldState) → IsRowTaken w row w' → w'.setup ≡ w.setup
-row-setup w (Row.Event e) w' (a, applied) = applied.setup
-row-setup w (Row.Detailed e) w' (a, applied) = applied.setup
-row-setup w (Row.Claim claim) w' same = ap (λ (x : WorldState). x.setup) same
-row-setup w (Row.Whole whole) w' same = ap (λ (x : WorldState). x.setup) same
-
-setup-by : (number : ℕ) (row : Row) (before after : JudgeState) (was is : Option Verdict) → before.stopped ≡ was → after.stopped ≡ is → IsTakenBy number row before after
-    → after.world.setup ≡ before.world.setup
-setup-by number row before after (Some verdict) is stopped now taken =
-    let same : after ≡ before = rw stopped at taken.decided in
-    ap (λ (j : JudgeState). j.world.setup) same
-setup-by number row before after None None stopped now taken = row-setup before.world row after.world (taken.taken stopped now)
-setup-by number row before after None (Some verdict) stopped now taken =
-    let same : after.world ≡ before.world = rw now at taken.stays in
-    ap (λ (w : WorldState). w.setup) same
-
-pub setup-kept : (number : ℕ) (row : Row) (before after : JudgeState) → IsTakenBy number row before after → after.world.setup ≡ before.world.setup
-setup-kept number row before after taken = setup-by number row before after before.stopped after.stopped refl refl taken
-
--- a verdict on a row has its number
-at-number : (number : ℕ) (violation : Violation) → number_in (verdict_at number violation) ≡ Some number
-at-number number (Violation.Refused why) = refl
-at-number number Violation.Differs = refl
-
-stops-new : (number : ℕ) (violation : Option Violation) (stopped : Option Verdict) (stop : Option Stop) → stopped ≡ option_map (verdict_at number) violation → is_some stopped ≡ true
-    → IsSomeAnd stop (λ s. s.number ≡ number) → StopsAt stopped stop
-stops-new number None stopped stop is some kept = absurd (cc (is, some))
-stops-new number (Some violation) stopped None is some kept = absurd kept
-stops-new number (Some violation) stopped (Some s) is some kept = rw is (at-number number violation ∙ ap (λ n. Some n) (sym kept))
-
-stop-by : (number : ℕ) (row : Row) (before after : JudgeState) (was : Option Verdict) (stop stop' : Option Stop) → before.stopped ≡ was → IsTakenBy number row before after
-    → StopsAt was stop → is_some after.stopped ≡ true → (stop ≡ None → IsSomeAnd stop' (λ s. (s.number ≡ number) × (s.row ≡ row))) → IfSome stop (λ s. stop' ≡ stop)
-    → StopsAt after.stopped stop'
-stop-by number row before after (Some verdict) None stop' stopped taken stops some first other = absurd stops
-stop-by number row before after (Some verdict) (Some s) stop' stopped taken stops some first other =
-    let same : after ≡ before = rw stopped at taken.decided in
-    let now : after.stopped ≡ Some verdict = ap (λ (j : JudgeState). j.stopped) same ∙ stopped in
-    rw (now, other) stops
-stop-by number row before after None stop stop' stopped taken none some first other =
-    stops-new number (violation_of before.world row) after.stopped stop' (taken.decides stopped) some (number-of stop' (first none))
-  where
-    number-of : (kept : Option Stop) → IsSomeAnd kept (λ s. (s.number ≡ number) × (s.row ≡ row)) → IsSomeAnd kept (λ s. s.number ≡ number)
-    number-of None is = is
-    number-of (Some s) is = is.0
-
--- the judge has stopped behind the row: that row is kept, or one before it
-pub stop-kept : (number : ℕ) (row : Row) (before after : JudgeState) (stop stop' : Option Stop) → IsTakenBy number row before after
-    → StopsAt before.stopped stop → is_some after.stopped ≡ true → (stop ≡ None → IsSomeAnd stop' (λ s. (s.number ≡ number) × (s.row ≡ row))) → IfSome stop (λ s. stop' ≡ stop)
-    → StopsAt after.stopped stop'
-stop-kept number row before after stop stop' taken stops some first other = stop-by number row before after before.stopped stop stop' refl taken stops some first other
-
-going-by : (number : ℕ) (row : Row) (before after : JudgeState) (was is : Option Verdict) (stop : Option Stop) → before.stopped ≡ was → after.stopped ≡ is
-    → IsTakenBy number row before after → StopsAt was stop → is_some is ≡ false → StopsAt is stop
-going-by number row before after was (Some verdict) stop stopped now taken stops none = absurd (cc none)
-going-by number row before after None None stop stopped now taken stops none = stops
-going-by number row before after (Some verdict) None stop stopped now taken stops none =
-    let same : after ≡ before = rw stopped at taken.decided in
-    absurd (cc (now, stopped, ap (λ (j : JudgeState). j.stopped) same))
-
--- it hasn't, and so no row is kept
-pub stop-going : (number : ℕ) (row : Row) (before after : JudgeState) (stop : Option Stop) → IsTakenBy number row before after → StopsAt before.stopped stop
-    → is_some after.stopped ≡ false → StopsAt after.stopped stop
-stop-going number row before after stop taken stops none = going-by number row before after before.stopped after.stopped stop refl refl taken stops none
 
 -- the row that decided is one of the rows, behind one more
 pub decided-more : (rows : List Row) (row : Row) (stop : Option Stop) → IfSome stop (λ s. IsRowAt rows s.number s.row) → IfSome stop (λ s. IsRowAt (rows ++ row ∷ []) s.number s.row)

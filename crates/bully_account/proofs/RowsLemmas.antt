@@ -1,14 +1,16 @@
 -- Which rows are remembered, behind one more row, and where one more is noted.
-use Rattle.std.proofs.Common.{◌≡◌, ◌∙◌, ℕ, ◌+◌, ◌-◌, ◌<◌, ◌≤◌, ◌++◌, List, [], ◌∷◌, Option, Some, None, length, drop, get_or, set, zero, suc, refl, sym, ap, subst, arith, length-append, length-drop, append_assoc}
-use Rattle.std.specs.Prelude.{IfSome, slice_get}
+use Rattle.std.proofs.Common.{◌≡◌, ◌∙◌, ℕ, ◌+◌, ◌-◌, ◌<◌, ◌≤◌, ◌++◌, Bool, true, false, List, [], ◌∷◌, Option, Some, None, length, drop, get_or, set, zero, suc, refl, sym, ap, subst, arith, length-append, length-drop, append_assoc}
+use Rattle.std.specs.Prelude.{IfSome, option_map, slice_get, if◌then◌else◌}
 use Rattle.bully_calls.specs.declared.event.Event.{Event}
+use Rattle.bully_calls.specs.Events.{node_of}
 use Rattle.bully_rows.specs.declared.trace.Row.{Row}
 use Rattle.bully_account.specs.declared.TheConstants.{ROWS_KEPT}
 use Rattle.bully_account.specs.declared.memory.Note.{Note}
+use Rattle.bully_account.specs.declared.memory.What.{What}
 use Rattle.bully_account.specs.Remembered.{Remembered, noted}
-use Rattle.bully_account.specs.RowsOf.{AreNotesOf, AreRemembered, IsEventAt, IsNoteOf, IsRemembered, IsRowAt}
+use Rattle.bully_account.specs.RowsOf.{AreNotesOf, AreRemembered, IsDoneBy, IsEventAt, IsNoteOf, IsRemembered, IsRowAt}
 
-value-or : {A : Type 0} → A → Option A → A
+abbrev value-or : {A : Type 0} → A → Option A → A
 value-or d None = d
 value-or d (Some x) = x
 
@@ -67,6 +69,11 @@ remembered-set rows i (suc k) (first ∷ others) d m (one, all) turns =
     let same : i + suc k ≡ (i + 1) + k = omega arith in
     (one, remembered-set rows (i + 1) k others d m all (λ within is. subst (λ j. IsRemembered rows j m) same (turns (omega (arith, within)) (subst (λ j. IsRemembered rows j (get_or others k d)) (sym same) is))))
 
+pub remembered-turn : (rows : List Row) (i k j : ℕ) (memories : List Remembered) (m m' : Remembered) → AreRemembered rows i memories → i + k ≡ j → m ≡ get_or memories k m
+    → (IsRemembered rows j m → IsRemembered rows j m') → AreRemembered rows i (set memories k m')
+remembered-turn rows i k j memories m m' all place value turns = remembered-set rows i k memories m m' all (λ within is.
+    subst (λ n. IsRemembered rows n m') (sym place) (turns (subst (λ x. IsRemembered rows j x) (sym value) (subst (λ n. IsRemembered rows n (get_or memories k m)) place is))))
+
 notes-append : (rows : List Row) (i : ℕ) (notes : List Note) (note : Note) → AreNotesOf rows i notes → IsNoteOf rows i note → AreNotesOf rows i (notes ++ note ∷ [])
 notes-append rows i [] note all one = (one, tt)
 notes-append rows i (first ∷ others) note (head, all) one = (head, notes-append rows i others note all one)
@@ -124,3 +131,35 @@ remembered-at rows i j zero (first ∷ others) m (head, all) is place =
     let one : first ≡ m = some-same is in
     subst (λ x. IsRemembered rows j x) one (subst (λ x. IsRemembered rows x first) same head)
 remembered-at rows i j (suc k) (first ∷ others) m (head, all) is place = remembered-at rows (i + 1) j k others m all is (omega (arith, place))
+
+pub remembered-told : {B : Type 0} (rows : List Row) (j k : ℕ) (memories : List Remembered) (o : Option B) (now : B → Remembered) → option_map now o ≡ slice_get memories k
+    → AreRemembered rows 1 memories → 1 + k ≡ j → IfSome o (λ m. IsRemembered rows j (now m))
+remembered-told rows j k memories None now same all place = tt
+remembered-told rows j k memories (Some b) now same all place = remembered-at rows 1 j k memories (now b) all (sym same) place
+
+-- a table is planned, if there is room for it
+pub remembered-if : (b : Bool) (rows : List Row) (i : ℕ) (m : Remembered) (number : ℕ) (table : List ℕ) → IsEventAt rows number (Event.Plan i table) → IsRemembered rows i m
+    → IsRemembered rows i (if b then record m { planned = Some table } else m)
+remembered-if true rows i m number table at is = remembered-planned rows i m number table at is
+remembered-if false rows i m number table at is = is
+
+-- what an event did to its node is noted
+pub noted-one : (rows : List Row) (i row : ℕ) (e : Event) (what : What) (moved : Bool) → IsEventAt rows row e → i ≡ node_of e → IsDoneBy (node_of e) e what
+    → IsNoteOf rows i (record { row = row; what = what; moved = moved })
+noted-one rows i row e what moved at same done = (e, at, subst (λ n. IsDoneBy n e what) (sym same) done)
+
+-- the event is this one of the node that it names
+pub start-at : (rows : List Row) (row i j : ℕ) (e : Event) → IsEventAt rows row e → e ≡ Event.Start j → i ≡ node_of e → IsEventAt rows row (Event.Start i)
+start-at rows row i j e at is same =
+    let node : i ≡ j = same ∙ ap node_of is in
+    subst (λ x. IsEventAt rows row x) (is ∙ ap (λ n. Event.Start n) (sym node)) at
+
+pub run-at : (rows : List Row) (row i j : ℕ) (e : Event) → IsEventAt rows row e → e ≡ Event.Run j → i ≡ node_of e → IsEventAt rows row (Event.Run i)
+run-at rows row i j e at is same =
+    let node : i ≡ j = same ∙ ap node_of is in
+    subst (λ x. IsEventAt rows row x) (is ∙ ap (λ n. Event.Run n) (sym node)) at
+
+pub plan-at : (rows : List Row) (row i j : ℕ) (table : List ℕ) (e : Event) → IsEventAt rows row e → e ≡ Event.Plan j table → i ≡ node_of e → IsEventAt rows row (Event.Plan i table)
+plan-at rows row i j table e at is same =
+    let node : i ≡ j = same ∙ ap node_of is in
+    subst (λ x. IsEventAt rows row x) (is ∙ ap (λ n. Event.Plan n table) (sym node)) at

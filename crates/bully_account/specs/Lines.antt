@@ -1,6 +1,6 @@
 -- A reader that keeps what it gave last, and the line at which a row of it starts.
 use Rattle.std.specs.Prelude.{◌≡◌, ℕ, ◌+◌, ◌-◌, ◌^◌, ◌<◌, ◌≤◌, ◌==◌, ◌&&◌, Bool, not, List, [], ◌∷◌, length, take, slice_index, count_by, nat_le, if◌then◌else◌}
-use Rattle.bully_account.specs.declared.TheConstants.{KEPT}
+use Rattle.bully_account.specs.declared.TheConstants.{BYTES_KEPT}
 use Rattle.bully_account.specs.declared.lines.Lines.{Lines}
 
 -- the reader underneath
@@ -24,7 +24,7 @@ is_at_end lines = lines.is_at_end
 
 -- so many bytes were asked for, and these were given: they are kept, and where they stand; or that there are no more
 pub record Notes {R : Type 0} (asked : ℕ) (given : List ℕ) (old new : Lines R) : Type 0 where
-  pub last : 0 < length given → length given ≤ KEPT → last_of new ≡ given
+  pub last : 0 < length given → length given ≤ BYTES_KEPT → last_of new ≡ given
   pub before : 0 < length given → end_of old < 2 ^ 64 → before_of new ≡ end_of old
   pub end : 0 < asked → is_at_end new ≡ (length given == 0)
 

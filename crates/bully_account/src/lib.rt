@@ -26,3 +26,6 @@ pub use telling::{TraceReport, tell};
 
 /// How many of its last rows a node has remembered.
 pub const ROWS_KEPT: usize = 5;
+
+/// How many of the bytes that a reader gave last are kept: as many as `csv` asks for at once.
+pub const BYTES_KEPT: usize = 8192;

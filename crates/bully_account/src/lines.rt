@@ -2,12 +2,10 @@ ghost use Rattle.std.specs.Prelude.{◌≡◌, ◌-◌};
 ghost use Rattle.csv.specs.Records.{fields_of};
 ghost use Rattle.bully_account.specs.Lines.{ends_line, feeds, feeds_within, start_line};
 
+use crate::BYTES_KEPT;
 use csv::{ByteRecord, Position};
 use std::io;
 use std::io::Read;
-
-/// How many of the bytes that were given last are kept: as many as `csv` asks for at once.
-const KEPT: usize = 8192;
 
 /// A reader that keeps what it gave last, so that it can be told whether a line ended at a place within that; and whether it
 /// had nothing more to give.
@@ -15,7 +13,7 @@ const KEPT: usize = 8192;
 pub struct Lines<R: Read> {
     reader: R,
     // The bytes that were given last, from the front.
-    last: [u8; KEPT],
+    last: [u8; BYTES_KEPT],
     // How many of them there are.
     count: usize,
     // How many bytes were given before them.
@@ -53,7 +51,7 @@ impl<R: Read> Lines<R> {
     {
         Lines {
             reader,
-            last: [0; KEPT],
+            last: [0; BYTES_KEPT],
             count: 0,
             before: 0,
             is_at_end: false,
@@ -75,12 +73,12 @@ impl<R: Read> Lines<R> {
 
     // Keeps these bytes as those that were given last.
     fn keep(&mut self, given: &[u8])
-        ensures last { length given.now ≤ KEPT → last_of self.new ≡ given.now }
+        ensures last { length given.now ≤ BYTES_KEPT → last_of self.new ≡ given.now }
         ensures before { end_of self.old < 2 ^ 64 → before_of self.new ≡ end_of self.old }
         ensures end { is_at_end self.new ≡ is_at_end self.old }
         ensures source { source_of self.new ≡ source_of self.old }
     {
-        let kept = given.len().min(KEPT);
+        let kept = given.len().min(BYTES_KEPT);
         self.before = self.before.saturating_add(self.count as u64);
         self.last[..kept].copy_from_slice(&given[..kept]);
         self.count = kept;
@@ -96,7 +94,7 @@ impl<R: Read> Lines<R> {
             return false;
         }
         let index = place - self.before;
-        index < self.count as u64 && index < KEPT as u64 && self.last[index as usize] == b'\n'
+        index < self.count as u64 && index < BYTES_KEPT as u64 && self.last[index as usize] == b'\n'
     }
 }
 
@@ -120,8 +118,9 @@ fn before_feeds(line: u64, fields: &ByteRecord) -> u64
 {
     let mut first = line;
     for place in 0..fields.len() {
-        if let Some(field) = fields.get(place) {
-            first = first.saturating_sub(feeds(field) as u64);
+        match fields.get(place) {
+            Some(field) => first = first.saturating_sub(feeds(field) as u64),
+            None => {}
         }
     }
     first

@@ -1,7 +1,8 @@
-ghost use Rattle.std.specs.Prelude.{◌≡◌, ◌+◌, ◌<◌, ◌≤◌, remove, vec_capacity, vec_len};
+ghost use Rattle.std.specs.Prelude.{◌≡◌, ◌+◌, ◌<◌, ◌≤◌, List, OnOk, remove, vec_capacity, vec_len};
 ghost use Rattle.bully_calls.specs.Events.{node_of};
 ghost use Rattle.bully_account.specs.Remembered.{noted};
-ghost use Rattle.bully_account.specs.RowsOf.{IsDoneBy};
+ghost use Rattle.bully_account.specs.RowsOf.{AreRemembered, IsDoneBy};
+ghost use Rattle.bully_rows.specs.declared.trace.Row.{Row as RowState};
 
 use crate::moving::is_idle;
 use crate::{EventKind, ROWS_KEPT};
@@ -171,11 +172,10 @@ pub struct Memories {
 }
 
 impl Memories {
-    ghost use Rattle.std.specs.Prelude.{◌-◌, ◌↔◌, ℕ, List, Some, length, IfOk, IfSome, IsNone, slice_get};
+    ghost use Rattle.std.specs.Prelude.{◌-◌, ◌↔◌, ℕ, IfOk, IsNone, slice_get};
     ghost use Rattle.std.specs.Option.{option_copied};
     ghost use Rattle.bully_calls.specs.declared.event.Event.{Event as EventState};
-    ghost use Rattle.bully_rows.specs.declared.trace.Row.{Row as RowState};
-    ghost use Rattle.bully_account.specs.RowsOf.{AreRemembered, IsEventAt, IsNoteOf, IsRowAt};
+    ghost use Rattle.bully_account.specs.RowsOf.{IsEventAt, IsNoteOf, IsRowAt};
 
     /// Before any row. Refused where an allocation fails.
     pub fn new(alloc: Global, setup: &Setup) -> Result<Memories, OutOfMemory>
@@ -184,13 +184,14 @@ impl Memories {
     {
         let mut nodes = Vec::with_capacity(alloc, usize::from(setup.nodes()))?;
         for _ in 0..setup.nodes() {
-            nodes.push(Memory::new(alloc, setup)?)?;
+            push_memory(alloc, &mut nodes, setup)?;
         }
         Ok(Memories { nodes })
     }
 
     /// What is remembered of the node's rows; none of a node that the group doesn't have.
     pub fn of(&self, node: Node) -> Option<&Memory>
+        ensures node { 0 < node }
         ensures memory { option_copied result ≡ slice_get self.now.nodes.items (node - 1) }
         ensures none { IsNone result ↔ (vec_len self.now.nodes < node) }
     {
@@ -284,4 +285,13 @@ impl Memories {
             self.nodes[place].plan(table);
         }
     }
+}
+
+// Appends what is remembered of one more node before any row.
+fn push_memory(alloc: Global, nodes: &mut Vec<Memory>, setup: &Setup) -> Result<(), OutOfMemory>
+    ensures count { OnOk result (vec_len nodes.new ≡ vec_len nodes.old + 1) }
+    ensures remembered { OnOk result ((rows : List RowState) → AreRemembered rows 1 nodes.old.items → AreRemembered rows 1 nodes.new.items) }
+{
+    nodes.push(Memory::new(alloc, setup)?)?;
+    Ok(())
 }
