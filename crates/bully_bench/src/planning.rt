@@ -86,7 +86,8 @@ fn members_of(bits: u64) -> NodeSet {
 fn random_tables(alloc: Global, setup: &Setup, random: &mut SplitMix64) -> Option<Vec<Table>> {
     let mut tables = Vec::new(alloc);
     for _ in 0..TABLES {
-        tables.push(random_table(alloc, setup, random)?).ok()?;
+        let table = random_table(alloc, setup, random)?;
+        tables.push(table).ok()?;
     }
     Some(tables)
 }

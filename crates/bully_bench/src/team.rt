@@ -102,7 +102,8 @@ fn split<L: Naming>(
     for before in 0..setup.nodes() {
         let node = Node::new(setup.nodes() - before)?;
         let hand = Hand::pop(seats, passes)?;
-        players.push(Player::new(alloc, setup, node, hand)).ok()?;
+        let player = Player::new(alloc, setup, node, hand);
+        players.push(player).ok()?;
     }
     players.reverse();
     Hand::pop(seats, passes)

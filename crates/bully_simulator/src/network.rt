@@ -48,12 +48,13 @@ impl Network {
     /// Nodes that are all Down. One of them crashes or recovers in every tenth step; of every third seed in every hundredth, so
     /// that more elections come to their end.
     pub fn new(alloc: Global, setup: &Setup, seed: u64, breach: Breach) -> Option<Network> {
+        let agents = agents_of(alloc, setup)?;
         Some(Network {
             alloc,
             random: Random(seed.wrapping_mul(2).wrapping_add(1)),
             breach,
             period: if seed % 3 == 0 { 100 } else { 10 },
-            agents: agents_of(alloc, setup)?,
+            agents,
             mail: Vec::new(alloc),
             rows: Vec::new(alloc),
             requests: 0,
@@ -340,7 +341,8 @@ impl Network {
 fn agents_of(alloc: Global, setup: &Setup) -> Option<Vec<Agent>> {
     let mut agents = Vec::new(alloc);
     for number in 1..=setup.nodes() {
-        agents.push(new_agent(alloc, setup, number)?).ok()?;
+        let agent = new_agent(alloc, setup, number)?;
+        agents.push(agent).ok()?;
     }
     Some(agents)
 }
