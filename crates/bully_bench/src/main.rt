@@ -41,51 +41,49 @@ fn main(rt: HostRuntime) -> ExitCode {
     let Some(task) = task_asked(&rt) else {
         return ExitCode::from(2);
     };
-    match answer(&rt, task) {
+    let alloc = rt.alloc();
+    let printed = match task {
+        Task::Plans(rounds) => print_plans(&rt, plan_rounds(alloc, rounds)),
+        Task::Records => print_records(&rt, count_records(alloc, rt.stdin())),
+        Task::Turns(nodes, count) => print_turns(&rt, take_turns(&rt, alloc, nodes, count)),
+        Task::Watch(nodes, observers, task) => {
+            let watched = watch_group(&rt, alloc, nodes, observers, task);
+            print_watched(&rt, task, watched)
+        }
+    };
+    match printed {
         Some(()) => ExitCode::from(0),
         None => ExitCode::from(4),
     }
 }
 
-// Does what is asked, and prints what came of it.
-fn answer(rt: &HostRuntime, task: Task) -> Option<()> {
-    let alloc = rt.alloc();
-    match task {
-        Task::Plans(rounds) => print_plans(rt, plan_rounds(alloc, rounds)?),
-        Task::Records => {
-            let records = count_records(alloc, rt.stdin())?;
-            println!(rt; "records {records}").ok()
-        }
-        Task::Turns(nodes, count) => print_turns(rt, take_turns(rt, alloc, nodes, count)?),
-        Task::Watch(nodes, observers, task) => {
-            let watched = watch_group(rt, alloc, nodes, observers, task)?;
-            print_watched(rt, task, watched)
-        }
-    }
-}
-
-fn print_plans(rt: &HostRuntime, sums: Sums) -> Option<()> {
+fn print_plans(rt: &HostRuntime, sums: Option<Sums>) -> Option<()> {
     let Sums {
         moves,
         bounds,
         owners,
-    } = sums;
+    } = sums?;
     println!(rt; "moves {moves}\nbounds {bounds}\nowners {owners}").ok()
 }
 
-fn print_turns(rt: &HostRuntime, taken: Taken) -> Option<()> {
-    let Taken { entries, made } = taken;
+fn print_records(rt: &HostRuntime, records: Option<u64>) -> Option<()> {
+    let records = records?;
+    println!(rt; "records {records}").ok()
+}
+
+fn print_turns(rt: &HostRuntime, taken: Option<Taken>) -> Option<()> {
+    let Taken { entries, made } = taken?;
     println!(rt; "entries {entries}\nmade {made}").ok()
 }
 
-fn print_watched(rt: &HostRuntime, task: Watching, watched: Watched) -> Option<()> {
+fn print_watched(rt: &HostRuntime, task: Watching, watched: Option<Watched>) -> Option<()> {
     let Watched {
         entries,
         looks,
         publishes,
         seen,
         made,
-    } = watched;
+    } = watched?;
     match task {
         Watching::Quiet(_) => println!(rt; "looks {looks}\nmade {made}").ok(),
         Watching::Publishing(_) => println!(rt; "looks {looks}\npublishes {publishes}").ok(),
@@ -106,21 +104,13 @@ fn task_named(name: &str, words: &mut Args) -> Option<Task> {
         "plan" => Some(Task::Plans(number_in(words)?)),
         "records" => Some(Task::Records),
         "turns" => Some(Task::Turns(nodes_in(words)?, number_in(words)?)),
-        "quiet" => Some(Task::Watch(
-            nodes_in(words)?,
-            1,
-            Watching::Quiet(number_in(words)?),
-        )),
+        "quiet" => Some(Task::Watch(nodes_in(words)?, 1, Watching::Quiet(number_in(words)?))),
         "publishing" => Some(Task::Watch(
             nodes_in(words)?,
             1,
             Watching::Publishing(number_in(words)?),
         )),
-        "watch" => Some(Task::Watch(
-            THREADS,
-            THREADS,
-            Watching::Threads(number_in(words)?),
-        )),
+        "watch" => Some(Task::Watch(THREADS, THREADS, Watching::Threads(number_in(words)?))),
         _ => None,
     }
 }

@@ -8,7 +8,11 @@ use std::io::{Read, Write};
 
 /// Learns the rows of a trace up to the first with which something is wrong, and writes the verdict that this is. None of a trace
 /// with a fault of form before that.
-pub fn learn_trace<R: Read + Drop, W: Write>(alloc: Global, input: R, output: &mut W) -> Option<()> {
+pub fn learn_trace<R: Read + Drop, W: Write>(
+    alloc: Global,
+    input: R,
+    output: &mut W,
+) -> Option<()> {
     let mut rows = RowReader::open(alloc, input);
     let mut follower = begun(alloc, &mut rows)?;
     let verdict = learned(alloc, &mut follower, &mut rows)?;
