@@ -2,8 +2,8 @@
 ghost use Rattle.std.specs.Prelude.{◌≡◌, Option, None, Some, MatchOption};
 ghost use Rattle.bully_c.specs.declared.session.AgentSession.{AgentSession};
 
-use crate::session::AgentSession;
 use crate::loose::Loose;
+use crate::session::AgentSession;
 use std::alloc::Global;
 use std::marker::Model;
 
