@@ -1,11 +1,11 @@
 -- What an account comes to behind each row.
-use Rattle.std.proofs.Common.{◌≡◌, ◌∙◌, ℕ, ◌+◌, ◌≤◌, ◌++◌, Bool, true, false, List, [], ◌∷◌, Option, Some, None, length, refl, sym, ap, subst, arith}
+use Rattle.std.proofs.Common.{◌≡◌, ℕ, ◌+◌, ◌≤◌, ◌++◌, Bool, true, false, List, [], ◌∷◌, Option, Some, None, length, refl, sym, subst, arith}
 use Rattle.std.specs.Prelude.{IfSome, IsSomeAnd, MatchOption, option_map}
 use Rattle.bully_base.specs.Setup.{Setup}
 use Rattle.bully_rows.specs.declared.TheConstants.{ROWS_MAX}
 use Rattle.bully_rows.specs.declared.trace.Row.{Row}
 use Rattle.bully_rows.specs.Headers.{Record, header_with}
-use Rattle.bully_rows.specs.RecordsLeft.{EndsReading, HasRead, IsUnread, ReadSoFar, Takes as TakesRecord, rows_left}
+use Rattle.bully_rows.specs.RecordsLeft.{HasRead, ReadSoFar, Takes as TakesRecord, rows_left}
 use Rattle.bully_rows.specs.Rows.{OfTrace}
 use Rattle.bully_rows.proofs.TraceLemmas.{header-missing, header-read, read-end, read-more}
 use Rattle.bully_trace.specs.Judging.{AreAllJudged, HasJudged, IsJudgedSoFar, JudgeState}

@@ -1,8 +1,8 @@
 -- How many line feeds there are within the first fields of a row.
-use Rattle.std.proofs.Common.{◌≡◌, ◌∙◌, ℕ, ◌+◌, ◌-◌, ◌<◌, ◌++◌, List, [], ◌∷◌, Some, None, Option, length, take, get_or, refl, sym, ap, arith}
+use Rattle.std.proofs.Common.{◌≡◌, ◌∙◌, ℕ, ◌+◌, ◌-◌, ◌<◌, ◌++◌, List, [], ◌∷◌, Some, length, take, ap, arith}
 use Rattle.std.proofs.lemmas.List.{take_all, take_more}
 use Rattle.csv.specs.Records.{field_at}
-use Rattle.csv.proofs.RecordFacts.{field-get, field-there}
+use Rattle.csv.proofs.RecordFacts.{field-get}
 use Rattle.bully_account.specs.Lines.{feeds, feeds_within}
 
 feeds-append : (fields : List (List ℕ)) (field : List ℕ) → feeds_within (fields ++ field ∷ []) ≡ feeds_within fields + feeds field

@@ -1,5 +1,5 @@
 -- Which rows are remembered, behind one more row, and where one more is noted.
-use Rattle.std.proofs.Common.{◌≡◌, ◌∙◌, ℕ, ◌+◌, ◌-◌, ◌<◌, ◌≤◌, ◌++◌, Bool, true, false, List, [], ◌∷◌, Option, Some, None, length, drop, get_or, set, zero, suc, refl, sym, ap, subst, arith, length-append, length-drop, append_assoc}
+use Rattle.std.proofs.Common.{◌≡◌, ◌∙◌, ℕ, ◌+◌, ◌-◌, ◌<◌, ◌≤◌, ◌++◌, Bool, true, false, List, [], ◌∷◌, Option, Some, None, length, drop, get_or, set, zero, suc, refl, sym, ap, subst, arith, length-drop, append_assoc}
 use Rattle.std.specs.Prelude.{IfSome, option_map, slice_get, if◌then◌else◌}
 use Rattle.bully_calls.specs.declared.event.Event.{Event}
 use Rattle.bully_calls.specs.Events.{node_of}

@@ -1,6 +1,6 @@
 use Rattle.std.proofs.Common.{◌≡◌, Some, Err, ap, arith, rules}
 use Rattle.std.specs.Prelude.{option_map}
-use Rattle.bully_trace.proofs.CheckLemmas.{judged-bad, judged-fault, judged-unbegun}
+use Rattle.bully_trace.proofs.CheckLemmas.{judged-bad, judged-unbegun}
 use Rattle.bully_account.specs.Accounts.{AccountState}
 use Rattle.bully_account.proofs.AccountLemmas.{judged-so-far, taken-row, taken-start, taken-to-end}
 use Rattle.bully_account.proofs.reading.read_each.Goals as goal

@@ -1,4 +1,4 @@
-use Rattle.std.proofs.Common.{arith, rules}
+use Rattle.std.proofs.Common.{arith}
 use Rattle.bully_account.proofs.RowsLemmas.{remembered-noted, remembered-turn}
 use Rattle.bully_account.proofs.memory.Memories.note.Goals as goal
 

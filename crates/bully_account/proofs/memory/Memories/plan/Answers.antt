@@ -1,4 +1,4 @@
-use Rattle.std.proofs.Common.{arith, rules}
+use Rattle.std.proofs.Common.{arith}
 use Rattle.bully_account.proofs.RowsLemmas.{remembered-if, remembered-turn}
 use Rattle.bully_account.proofs.memory.Memories.plan.Goals as goal
 
