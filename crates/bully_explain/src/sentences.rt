@@ -22,7 +22,9 @@ pub fn push_refused(
     let Verdict::Refused(_, cause) = verdict else {
         return;
     };
-    text.push_between("refused, ", cause_word(cause), ": ");
+    text.push_str("refused, ");
+    text.push_str(cause_word(cause));
+    text.push_str(": ");
     match sheet {
         Some(sheet) => push_cause(text, setup, event, cause, &sheet.shown),
         None => push_no_node(text, setup, event.node()),

@@ -21,3 +21,6 @@ returns-clause-shown c =
 
 pub returns-clause-plain : goal.returns-clause-plain
 returns-clause-plain c = shown-plain (chars c.args.raw.now)
+
+pub returns-in_err-push-clause-plain : goal.returns-in_err-push-clause-plain
+returns-in_err-push-clause-plain c = shown-plain (chars c.args.raw.now)
