@@ -4,7 +4,6 @@ use Rattle.std.specs.Prelude.{map, encode_utf8}
 use Rattle.std.specs.Str.{encode_utf8_all}
 use Rattle.std.proofs.lemmas.List.{append_assoc, append-nil, map-append, take_all, take_more}
 use Rattle.std.proofs.lemmas.Str.{encodes-append}
-use Rattle.std.proofs.lemmas.Bool.Decides.{nat_tests}
 use Rattle.bully_explain.specs.Shown.{AllPlain, is_control, shown_letter}
 
 shown-one : (cs : List ℕ) (c : ℕ) → encode_utf8_all (map shown_letter (cs ++ c ∷ [])) ≡ encode_utf8_all (map shown_letter cs) ++ encode_utf8 (shown_letter c)
