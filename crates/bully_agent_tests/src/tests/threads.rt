@@ -18,7 +18,7 @@ enum Wanted {
     Finished,
     /// One node's election: the operator recovers the node, and then that takes five steps.
     Election,
-    /// The operator recovers each of three nodes.
+    /// The operator recovers each of three nodes, whatever comes of it.
     Recoveries,
     /// One recovery, and nothing else.
     Recovery,
@@ -197,7 +197,7 @@ fn are_actors(closed: &Closed, actors: &[u16]) -> bool {
     true
 }
 
-// Whether each entry is that of whose event it is.
+// Whether each entry is the actor's whose event it is.
 fn has_its_actors(alloc: Global, config: &Config, closed: &Closed) -> bool {
     let Ok(mut world) = World::new(alloc, *config.setup()) else {
         return false;
