@@ -1,5 +1,7 @@
 pub mod BehindLemmas
+pub mod DistanceLemmas
 pub mod FilmLemmas
 pub mod LaneLemmas
 pub mod ReadLemmas
 pub mod StretchLemmas
+pub mod WindowLemmas
