@@ -1,6 +1,6 @@
 -- How far apart two numbers are that go on by one more digit each.
-use Rattle.std.proofs.Common.{suc, ◌≡◌, ◌∙◌, ℕ, ◌+◌, ◌-◌, ◌*◌, ◌<◌, ◌≤◌, ◌++◌, Bool, true, false, List, [], ◌∷◌, Some, None, if◌then◌else◌, get_or, length, take, refl, sym, ap, subst, arith}
-use Rattle.std.specs.Prelude.{min, nat_le}
+use Rattle.std.proofs.Common.{suc, ◌≡◌, ◌∙◌, ℕ, ◌+◌, ◌-◌, ◌*◌, ◌<◌, ◌≤◌, ◌++◌, Bool, true, false, List, [], ◌∷◌, Option, Some, None, if◌then◌else◌, get_or, length, take, refl, sym, ap, subst, arith}
+use Rattle.std.specs.Prelude.{IfSome, min, nat_le}
 use Rattle.std.specs.List.{list_all}
 use Rattle.std.proofs.lemmas.Bool.Decides.{nat_tests}
 use Rattle.std.proofs.lemmas.List.{take_more}
@@ -51,6 +51,17 @@ module _ (f t a b : ℕ) (below_a : a < 10) (below_b : b < 10) where
             rw under (ap Some same)
         by_order false e is = absurd (cc is)
 
+-- they are never told to be further apart than that
+pub apart-bound : (apart : Option ℕ) (f t : ℕ) → apart ≡ distance f t → IfSome apart (λ d. d ≤ BEYOND)
+apart-bound None f t is = tt
+apart-bound (Some d) f t is = by_order (nat_le f t) is
+  where
+    by_order : (order : Bool) → Some d ≡ (if order then Some (min (t - f) BEYOND) else None) → d ≤ BEYOND
+    by_order true e =
+        let far : d ≡ min (t - f) BEYOND = grind (arith, e) in
+        omega (arith, far)
+    by_order false e = absurd (cc e)
+
 -- ---- the digits of a number
 
 all-digits : (text : List ℕ) → is_numeral text ≡ true → list_all is_digit text ≡ true
@@ -91,6 +102,12 @@ digit-within text places place digit fits inside late is =
     ∙ read_on-more 0 (take i text) (get_or text i 0)
     ∙ ap (λ (k : ℕ). read_on 0 (take i text) * 10 + (get_or text k 0 - 48)) (sym now)
     ∙ ap (λ (d : ℕ). read_on 0 (take i text) * 10 + d) (sym is)
+
+-- before its first digit
+pub number-none : (text : List ℕ) (places : ℕ) → length text ≤ places → number_up_to text places 0 ≡ 0
+number-none text places fits =
+    let none : 0 + length text - places ≡ 0 = omega (arith, fits) in
+    ap (λ (k : ℕ). read_on 0 (take k text)) none
 
 -- at its end
 pub number-whole : (text : List ℕ) (places : ℕ) → number_up_to text places places ≡ read_on 0 text

@@ -163,5 +163,5 @@ finished-is (Some bytes) window film after finished (version, rows, means, filme
   record { version = version; setup = film.judge.world.setup; rows = rows },
   means,
   finished-rows film.judge.world.setup version window rows film finished filmed in_window
-  (subst (λ f. Finishes f finished) is (record { same = same_setup; judge = judge; stop = stop; scenes = scenes; at_end = at_end; verdict = verdict })),
+      (subst (λ f. Finishes f finished) is (record { same = same_setup; judge = judge; stop = stop; scenes = scenes; at_end = at_end; verdict = verdict })),
 )

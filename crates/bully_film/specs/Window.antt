@@ -3,7 +3,7 @@ use Rattle.std.specs.Prelude.{ℕ, ◌+◌, ◌<◌, ◌≤◌, Bool, List, Opti
 use Rattle.std.specs.List.{after_first, before_first}
 use Rattle.std.specs.Option.{option_and_then}
 use Rattle.bully_table.specs.Numeral.{number_of}
-use Rattle.bully_film.specs.declared.window.TheConstants.{BEYOND, WINDOW_MAX}
+use Rattle.bully_film.specs.declared.window.TheConstants.{BEYOND, WINDOW_MAX, WINDOW_ROWS}
 
 -- those from one row to another, and of these the last ones, so many; rows are counted from 1, the header
 pub record WindowState : Type 0 where
@@ -28,6 +28,10 @@ row_or_beyond row = min row BEYOND
 -- the row, or the one behind the header in place of that
 abbrev pub behind_header : ℕ → ℕ
 behind_header row = if nat_lt row 2 then 2 else row
+
+-- the last rows of a trace
+abbrev pub at_the_end : WindowState
+at_the_end = record { from = 2; to = BEYOND; most = WINDOW_ROWS }
 
 -- the window of these rows
 abbrev pub asked : ℕ → ℕ → WindowState

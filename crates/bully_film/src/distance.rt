@@ -15,7 +15,9 @@ pub fn distance(from: &[u8], to: &[u8]) -> Option<u32>
     let places = from.len().max(to.len());
     let mut apart = Some(0);
     for place in 0..places {
-        apart = next_distance(apart, digit_at(from, places, place), digit_at(to, places, place));
+        let from_digit = digit_at(from, places, place);
+        let to_digit = digit_at(to, places, place);
+        apart = next_distance(apart, from_digit, to_digit);
     }
     apart
 }
@@ -29,7 +31,11 @@ fn digit_at(number: &[u8], places: usize, place: usize) -> u8
     ensures next { number_up_to number.now places (place + 1) ≡ number_up_to number.now places place * 10 + result }
 {
     let zeros = places - number.len();
-    if place < zeros { 0 } else { number[place - zeros] - b'0' }
+    if place < zeros {
+        0
+    } else {
+        number[place - zeros] - b'0'
+    }
 }
 
 // How far apart two numbers are that go on by these digits.

@@ -39,11 +39,11 @@ impl Model for Window {
 
 impl Window {
     ghost use Rattle.std.specs.Prelude.{◌≡◌, ◌<◌};
-    ghost use Rattle.bully_film.specs.Window.{window_between, window_in};
+    ghost use Rattle.bully_film.specs.Window.{at_the_end, window_between, window_in};
 
     /// The last [`WINDOW_ROWS`] rows of a trace.
     pub fn at_the_end() -> Window
-        ensures { result ≡ record { from = 2; to = BEYOND; most = WINDOW_ROWS } }
+        ensures { result ≡ at_the_end }
     {
         Window {
             from: 2,
