@@ -13,6 +13,9 @@ use Rattle.bully_film.specs.Distance.{distance, number_up_to}
 -- ---- by their digits
 
 module _ (f t a b : ℕ) (below_a : a < 10) (below_b : b < 10) where
+  apart-below : nat_le (f * 10 + a) (t * 10 + b) ≡ false → None ≡ distance (f * 10 + a) (t * 10 + b)
+  apart-below over = sym (ap (λ order. if order then Some (min (t * 10 + b - (f * 10 + a)) BEYOND) else None) over)
+
   -- the second is below the first
   pub apart-none : None ≡ distance f t → None ≡ distance (f * 10 + a) (t * 10 + b)
   apart-none is = by_order (nat_le f t) refl is
@@ -21,8 +24,7 @@ module _ (f t a b : ℕ) (below_a : a < 10) (below_b : b < 10) where
       by_order true e is = absurd (cc is)
       by_order false e is =
           let above : t < f = grind (arith, nat_tests, e) in
-          let over : nat_le (f * 10 + a) (t * 10 + b) ≡ false = grind (arith, nat_tests, above, below_a, below_b) in
-          rw over refl
+          apart-below (grind (arith, nat_tests, above, below_a, below_b))
 
   module _ (d : ℕ) where
     -- they were the same, and now it is
@@ -31,11 +33,10 @@ module _ (f t a b : ℕ) (below_a : a < 10) (below_b : b < 10) where
       where
         by_order : (order : Bool) → nat_le f t ≡ order → Some d ≡ (if order then Some (min (t - f) BEYOND) else None) → None ≡ distance (f * 10 + a) (t * 10 + b)
         by_order true e is =
-            let far : d ≡ min (t - f) BEYOND = grind (arith, is) in
+            let far : d ≡ min (t - f) BEYOND = cc is in
             let order : f ≤ t = grind (arith, nat_tests, e) in
             let above : t * 10 + b < f * 10 + a = omega (arith, far, order, less, below_a) in
-            let over : nat_le (f * 10 + a) (t * 10 + b) ≡ false = grind (arith, nat_tests, above) in
-            rw over refl
+            apart-below (grind (arith, nat_tests, above))
         by_order false e is = absurd (cc is)
 
     pub apart-more : Some d ≡ distance f t → a ≤ d * 10 + b → Some (min (d * 10 + b - a) BEYOND) ≡ distance (f * 10 + a) (t * 10 + b)
@@ -43,12 +44,12 @@ module _ (f t a b : ℕ) (below_a : a < 10) (below_b : b < 10) where
       where
         by_order : (order : Bool) → nat_le f t ≡ order → Some d ≡ (if order then Some (min (t - f) BEYOND) else None) → Some (min (d * 10 + b - a) BEYOND) ≡ distance (f * 10 + a) (t * 10 + b)
         by_order true e is =
-            let far : d ≡ min (t - f) BEYOND = grind (arith, is) in
+            let far : d ≡ min (t - f) BEYOND = cc is in
             let order : f ≤ t = grind (arith, nat_tests, e) in
             let below : f * 10 + a ≤ t * 10 + b = omega (arith, far, order, more, below_a) in
             let under : nat_le (f * 10 + a) (t * 10 + b) ≡ true = grind (arith, nat_tests, below) in
             let same : min (d * 10 + b - a) BEYOND ≡ min (t * 10 + b - (f * 10 + a)) BEYOND = omega (arith, far, order, more, below_a, below_b) in
-            rw under (ap Some same)
+            ap Some same ∙ sym (ap (λ order. if order then Some (min (t * 10 + b - (f * 10 + a)) BEYOND) else None) under)
         by_order false e is = absurd (cc is)
 
 -- they are never told to be further apart than that
@@ -58,7 +59,7 @@ apart-bound (Some d) f t is = by_order (nat_le f t) is
   where
     by_order : (order : Bool) → Some d ≡ (if order then Some (min (t - f) BEYOND) else None) → d ≤ BEYOND
     by_order true e =
-        let far : d ≡ min (t - f) BEYOND = grind (arith, e) in
+        let far : d ≡ min (t - f) BEYOND = cc e in
         omega (arith, far)
     by_order false e = absurd (cc e)
 
@@ -86,7 +87,7 @@ pub digit-before : (text : List ℕ) (places place : ℕ) → length text ≤ pl
 digit-before text places place fits before =
     let now : place + length text - places ≡ 0 = omega (arith, fits, before) in
     let next : place + 1 + length text - places ≡ 0 = omega (arith, fits, before) in
-    rw (now, next) refl
+    ap (λ (k : ℕ). read_on 0 (take k text)) next ∙ sym (ap (λ (k : ℕ). read_on 0 (take k text) * 10 + 0) now)
 
 -- within it
 pub digit-within : (text : List ℕ) (places place digit : ℕ) → length text ≤ places → place < places → places - length text ≤ place

@@ -151,33 +151,37 @@ row-stays rows row (Some number) stop (r, is, there) = (r, is, get-more rows (ro
 -- it is kept where the judge stops at it
 pub noted-by : (number : ℕ) (row : Row) (film after : FilmState) (judge : JudgeState) → film.judge.stopped ≡ None → IsTakenBy number row film.judge judge
     → after.judge ≡ judge → after.stop ≡ (if is_some judge.stopped then Some row else film.stop) → IsNoted number row film after
-noted-by number row film after judge going taken judged kept = rw judged (by_violation (violation_of film.judge.world row) (taken.decides going))
+noted-by number row film after judge going taken judged kept =
+    subst (λ (j : JudgeState). ((decided j.stopped ≡ Some number) × (after.stop ≡ Some row)) ⊎ ((j.stopped ≡ None) × (after.stop ≡ film.stop))) (sym judged)
+    (by_violation (violation_of film.judge.world row) (taken.decides going))
   where
     by_violation : (violation : Option Violation) → judge.stopped ≡ option_map (verdict_at number) violation
         → ((decided judge.stopped ≡ Some number) × (after.stop ≡ Some row)) ⊎ ((judge.stopped ≡ None) × (after.stop ≡ film.stop))
-    by_violation None on = inr (on, rw on at kept)
-    by_violation (Some Violation.Differs) on = inl (ap decided on, rw on at kept)
-    by_violation (Some (Violation.Refused why)) on = inl (ap decided on, rw on at kept)
+    by_violation None on = inr (on, kept ∙ ap (λ stopped. if is_some stopped then Some row else film.stop) on)
+    by_violation (Some Violation.Differs) on = inl (ap decided on, kept ∙ ap (λ stopped. if is_some stopped then Some row else film.stop) on)
+    by_violation (Some (Violation.Refused why)) on = inl (ap decided on, kept ∙ ap (λ stopped. if is_some stopped then Some row else film.stop) on)
 
--- one more row was judged
-module _ (rows : List Row) (row : Row) (number : ℕ) (film after : FilmState) (at : length rows + 2 ≡ number) (taken : IsNoted number row film after) where
-  noted-unlawful : decided after.judge.stopped ≡ None → after.judge.stopped ≡ None
-  noted-unlawful none = elim taken [ inl (is, kept) ↦ absurd (cc (sym is ∙ none)) | inr (going, same) ↦ going ]
+-- one more row was judged: whether it decided, which row did, and how far the rows go up to that
+noted-unlawful : (number : ℕ) (row : Row) (film after : FilmState) → IsNoted number row film after → decided after.judge.stopped ≡ None → after.judge.stopped ≡ None
+noted-unlawful number row film after (inl (is, kept)) none = absurd (cc (sym is ∙ none))
+noted-unlawful number row film after (inr (going, same)) none = going
 
-  noted-stop : film.judge.stopped ≡ None → IsRowAt rows (decided film.judge.stopped) film.stop → IsRowAt (rows ++ row ∷ []) (decided after.judge.stopped) after.stop
-  noted-stop going stop = elim taken [
-    | inl (is, kept) ↦ rw is (row, kept, subst (λ k. slice_get (rows ++ row ∷ []) k ≡ Some row) place (get-last rows row))
-    | inr (on, same) ↦ rw on (same ∙ (rw going at stop))
-  ]
-    where
-      place : length rows ≡ number - 2
-      place = omega (arith, at)
+noted-stop : (rows : List Row) (row : Row) (number : ℕ) (film after : FilmState) → length rows + 2 ≡ number → film.judge.stopped ≡ None
+    → IsRowAt rows (decided film.judge.stopped) film.stop → IsNoted number row film after → IsRowAt (rows ++ row ∷ []) (decided after.judge.stopped) after.stop
+noted-stop rows row number film after at going stop (inl (is, kept)) =
+    let place : length rows ≡ number - 2 = omega (arith, at) in
+    let there : slice_get (rows ++ row ∷ []) (number - 2) ≡ Some row = subst (λ (k : ℕ). slice_get (rows ++ row ∷ []) k ≡ Some row) place (get-last rows row) in
+    subst (λ n. IsRowAt (rows ++ row ∷ []) n after.stop) (sym is) (row, kept, there)
+noted-stop rows row number film after at going stop (inr (on, same)) =
+    let none : film.stop ≡ None = subst (λ stopped. IsRowAt rows (decided stopped) film.stop) going stop in
+    subst (λ stopped. IsRowAt (rows ++ row ∷ []) (decided stopped) after.stop) (sym on) (same ∙ none)
 
-  noted-last : last_judged (rows ++ row ∷ []) (decided after.judge.stopped) ≡ number
-  noted-last = elim taken [
-    | inl (is, kept) ↦ rw is refl
-    | inr (on, same) ↦ rw on (omega (arith, length-append rows (row ∷ []), at))
-  ]
+noted-last : (rows : List Row) (row : Row) (number : ℕ) (film after : FilmState) → length rows + 2 ≡ number → IsNoted number row film after
+    → last_judged (rows ++ row ∷ []) (decided after.judge.stopped) ≡ number
+noted-last rows row number film after at (inl (is, kept)) = ap (last_judged (rows ++ row ∷ [])) is
+noted-last rows row number film after at (inr (on, same)) =
+    let last : length (rows ++ row ∷ []) + 1 ≡ number = omega (arith, length-append rows (row ∷ []), at) in
+    ap (λ stopped. last_judged (rows ++ row ∷ []) (decided stopped)) on ∙ last
 
 -- ---- one more row
 
@@ -237,14 +241,18 @@ filmed-beyond setup rows row number film after going is same_at_end same_scenes 
   judged = judged;
   scenes = same_scenes ∙ filmed.scenes;
   window = rw same_window filmed.window;
-  unlawful = noted-unlawful rows row number film after at taken;
-  stop = noted-stop rows row number film after at taken going filmed.stop;
-  ends = rw same_window (omega (arith, last film.at_end is filmed.at_end, before, at, noted-last rows row number film after at taken));
+  unlawful = noted-unlawful number row film after taken;
+  stop = noted-stop rows row number film after at going filmed.stop taken;
+  ends = subst (λ (w : WindowState). length filmed.before + length filmed.shown + 1 ≡ min w.to (last_judged (rows ++ row ∷ []) (decided after.judge.stopped))) (sym same_window)
+      (upto ∙ ap (min film.window.to) (sym (noted-last rows row number film after at taken)));
   at_end = rw (same_at_end, same_window) (by_at_end film.at_end is filmed.at_end);
 }
   where
     before : length filmed.before + length filmed.shown + 1 ≡ min film.window.to (length rows + 1)
-    before = rw going at filmed.ends
+    before = filmed.ends ∙ ap (λ stopped. min film.window.to (last_judged rows (decided stopped))) going
+
+    upto : length filmed.before + length filmed.shown + 1 ≡ min film.window.to number
+    upto = omega (arith, last film.at_end is filmed.at_end, before, at)
 
     last : (at_end : Option (List NodeSnapshot)) → is_none at_end ≡ false
         → MatchOption at_end
@@ -279,9 +287,10 @@ filmed-shot setup rows row number film after going unclosed same_at_end same_win
   judged = judged;
   scenes = shot ∙ ap (λ s. kept film.window film.scenes s) seen ∙ ap (λ l. kept film.window l (scene_at setup (filmed.before ++ filmed.shown) row)) filmed.scenes ∙ next.scenes_are;
   window = rw same_window next.in_window;
-  unlawful = noted-unlawful rows row number film after at taken;
-  stop = noted-stop rows row number film after at taken going filmed.stop;
-  ends = rw same_window (omega (arith, upto.0, upto.1, at, length-append rows (row ∷ []), noted-last rows row number film after at taken));
+  unlawful = noted-unlawful number row film after taken;
+  stop = noted-stop rows row number film after at going filmed.stop taken;
+  ends = subst (λ (w : WindowState). length next.before' + length next.shown' + 1 ≡ min w.to (last_judged (rows ++ row ∷ []) (decided after.judge.stopped))) (sym same_window)
+      (here ∙ ap (min film.window.to) (sym (noted-last rows row number film after at taken)));
   at_end = rw (same_at_end, unclosed, same_window) (subst (λ all. HasJudged setup all after.judge) rows_are judged, λ _. refl, upto);
 }
   where
@@ -313,6 +322,9 @@ filmed-shot setup rows row number film after going unclosed same_at_end same_win
       omega (arith, length-append next.before' next.shown', ap length rows_are),
       omega (arith, length-append next.before' next.shown', ap length next.all, length-append (filmed.before ++ filmed.shown) (row ∷ []), length-append filmed.before filmed.shown, state.2),
     )
+
+    here : length next.before' + length next.shown' + 1 ≡ min film.window.to number
+    here = omega (arith, upto.0, upto.1, at, length-append rows (row ∷ []))
 
 -- and then how the nodes stand is kept, where this was the window's last row
 filmed-closed : (setup : Setup) (rows : List Row) (number : ℕ) (film after : FilmState) → film.at_end ≡ None → length rows + 1 ≡ number
@@ -375,11 +387,17 @@ filmed-first setup film after fits judged going scenes stop unclosed is = filmed
   scenes = scenes;
   window = by_from (grind (arith, fits.header));
   unlawful = λ _. going;
-  stop = rw going stop;
-  ends = rw going (omega (arith, fits.header, fits.last));
-  at_end = rw unclosed (judged, λ _. refl, refl, omega (arith, fits.header, fits.last));
+  stop = subst (λ stopped. IsRowAt [] (decided stopped) film.stop) (sym going) stop;
+  ends = one ∙ sym (ap (λ stopped. min film.window.to (last_judged [] (decided stopped))) going);
+  at_end = rw unclosed (judged, λ _. refl, (refl, behind));
 })
   where
+    behind : 1 ≤ film.window.to
+    behind = omega (arith, fits.header, fits.last)
+
+    one : 1 ≡ min film.window.to 1
+    one = omega (arith, behind)
+
     by_from : (2 ≡ film.window.from) ⊎ (2 < film.window.from) → IsInWindow film.window [] []
     by_from (inl at) = inl (at, omega (arith, fits.some))
     by_from (inr below) = inr (inl (below, refl))

@@ -1,6 +1,6 @@
 -- What the filmed rows of a text come to.
 use Rattle.std.proofs.Common.{◌≡◌, ◌∙◌, ◌+◌, ◌<◌, ◌≤◌, Bool, true, false, ◌++◌, ℕ, List, [], ◌∷◌, Option, Some, None, inl, inr, length, refl, sym, subst, arith, ap}
-use Rattle.std.specs.Prelude.{MatchOption, IfSome}
+use Rattle.std.specs.Prelude.{MatchOption, IfSome, min}
 use Rattle.bully_base.specs.Setup.{Setup}
 use Rattle.bully_world.specs.State.{world_of}
 use Rattle.bully_world.specs.World.{first_world}
@@ -18,7 +18,7 @@ use Rattle.bully_trace.specs.Verdict.{IsJudged}
 use Rattle.bully_film.specs.declared.film.FinishedFilm.{FinishedFilm}
 use Rattle.bully_film.specs.declared.snapshot.NodeSnapshot.{NodeSnapshot}
 use Rattle.bully_film.specs.Behind.{world_behind}
-use Rattle.bully_film.specs.Film.{AreAllFilmed, AreFilmed, Begins, FilmState, HasFilmed, IsFilmedSoFar, IsFilmedToEnd, IsFilmOf, TakesRow, closed, decided, deciding}
+use Rattle.bully_film.specs.Film.{AreAllFilmed, AreFilmed, Begins, FilmState, HasFilmed, IsFilmedSoFar, IsFilmedToEnd, IsFilmOf, IsRowAt, TakesRow, closed, decided, deciding, last_judged}
 use Rattle.bully_film.specs.Scene.{snapshots_of}
 use Rattle.bully_film.specs.Window.{WindowState}
 use Rattle.bully_film.proofs.BehindLemmas.{decided-told, judged-world}
@@ -121,15 +121,16 @@ finished-rows : (setup : Setup) (version : Version) (window : WindowState) (rows
 finished-rows setup version window rows film finished filmed same_window finishes = record {
   same = finishes.same ∙ filmed.judged.same;
   judged = (world_of film.judge.world, told);
-  judge = rw (finishes.judge) filmed.judged;
-  stop = rw (finishes.stop, row) filmed.stop;
+  judge = subst (HasJudged setup rows) (sym finishes.judge) filmed.judged;
+  stop = subst (λ stop. IsRowAt rows (deciding finished.verdict) stop) (sym finishes.stop) (subst (λ number. IsRowAt rows number film.stop) (sym row) filmed.stop);
   before = filmed.before;
   shown = filmed.shown;
   beyond = filmed.beyond;
   all = filmed.all;
   scenes = finishes.scenes ∙ filmed.scenes;
   window = rw (← same_window) filmed.window;
-  ends = rw (row, ← same_window) filmed.ends;
+  ends = filmed.ends ∙ ap (λ number. min film.window.to (last_judged rows number)) (sym row)
+      ∙ ap (λ (w : WindowState). min w.to (last_judged rows (deciding finished.verdict))) same_window;
   at_end = by_at_end film.at_end refl filmed.at_end;
 }
   where

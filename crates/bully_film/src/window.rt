@@ -1,6 +1,6 @@
 ghost use Rattle.std.specs.Prelude.{◌≡◌, true, option_map};
 ghost use Rattle.bully_table.specs.Numeral.{is_numeral, number_of};
-ghost use Rattle.bully_film.specs.Window.{behind_header, row_or_beyond};
+ghost use Rattle.bully_film.specs.Window.{behind_header, can_be_shown, row_or_beyond};
 
 use crate::distance::distance;
 use bully_rows::ROWS_MAX;
@@ -73,7 +73,7 @@ impl Window {
     pub fn between(from: u32, to: u32) -> Option<Window>
         ensures { result ≡ window_between from to }
     {
-        if from == 0 || to < from || to - from >= WINDOW_MAX {
+        if !can_be_shown(from, to) {
             return None;
         }
         Some(Window {
@@ -104,6 +104,13 @@ impl Window {
     {
         self.most
     }
+}
+
+// Whether rows from one to another can be asked for.
+fn can_be_shown(from: u32, to: u32) -> bool
+    ensures { result ≡ can_be_shown from to }
+{
+    0 < from && from <= to && to - from < WINDOW_MAX
 }
 
 // The row, or the one behind the header in place of that.
