@@ -71,12 +71,17 @@ all-digits (b ∷ []) is = grind (arith, is)
 all-digits (b ∷ c ∷ rest) is = grind (arith, is)
 
 -- each is one
-pub digit-at : (text : List ℕ) (i : ℕ) → is_numeral text ≡ true → i < length text → is_digit (get_or text i 0) ≡ true
+digit-at : (text : List ℕ) (i : ℕ) → is_numeral text ≡ true → i < length text → is_digit (get_or text i 0) ≡ true
 digit-at text i is within = by_test (is_digit (get_or text i 0)) refl
   where
     by_test : (b : Bool) → is_digit (get_or text i 0) ≡ b → is_digit (get_or text i 0) ≡ true
     by_test true e = e
     by_test false e = absurd (cc (sym (list_all_at is_digit text i 0 within e) ∙ all-digits text is))
+
+pub digit-bounds : (text : List ℕ) (i : ℕ) → is_numeral text ≡ true → i < length text → (48 ≤ get_or text i 0) × (get_or text i 0 ≤ 57)
+digit-bounds text i is within =
+    let digit = digit-at text i is within in
+    (grind (arith, nat_tests, digit), grind (arith, nat_tests, digit))
 
 read_on-more : (n : ℕ) (xs : List ℕ) (b : ℕ) → read_on n (xs ++ b ∷ []) ≡ read_on n xs * 10 + (b - 48)
 read_on-more n [] b = refl

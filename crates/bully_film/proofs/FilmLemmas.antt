@@ -251,9 +251,6 @@ filmed-beyond setup rows row number film after going is same_at_end same_scenes 
     before : length filmed.before + length filmed.shown + 1 ≡ min film.window.to (length rows + 1)
     before = filmed.ends ∙ ap (λ stopped. min film.window.to (last_judged rows (decided stopped))) going
 
-    upto : length filmed.before + length filmed.shown + 1 ≡ min film.window.to number
-    upto = omega (arith, last film.at_end is filmed.at_end, before, at)
-
     last : (at_end : Option (List NodeSnapshot)) → is_none at_end ≡ false
         → MatchOption at_end
         (HasJudged setup (filmed.before ++ filmed.shown) film.judge × (film.judge.stopped ≡ None → filmed.beyond ≡ []) × (length filmed.before + length filmed.shown + 1 < film.window.to))
@@ -261,6 +258,9 @@ filmed-beyond setup rows row number film after going is same_at_end same_scenes 
         → length filmed.before + length filmed.shown + 1 ≡ film.window.to
     last None none at = absurd (cc none)
     last (Some s) some at = at.0
+
+    upto : length filmed.before + length filmed.shown + 1 ≡ min film.window.to number
+    upto = omega (arith, last film.at_end is filmed.at_end, before, at)
 
     by_at_end : (at_end : Option (List NodeSnapshot)) → is_none at_end ≡ false
         → MatchOption at_end

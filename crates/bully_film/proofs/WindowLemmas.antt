@@ -15,7 +15,7 @@ use Rattle.bully_film.specs.Window.{WindowState, asked, behind_header, can_be_sh
 
 -- their rows can't be shown, or they can
 shown-not : (from to : ℕ) → can_be_shown from to ≡ false → None ≡ window_between from to
-shown-not from to no = sym (ap (λ b. if b then Some (asked from to) else None) no)
+shown-not from to isnt = sym (ap (λ b. if b then Some (asked from to) else None) isnt)
 
 shown : (from to : ℕ) → 0 < from → from ≤ to → to < from + WINDOW_MAX → window_between from to ≡ Some (asked from to)
 shown from to some order close =
@@ -83,16 +83,16 @@ abbrev pub window_of_parts : List ℕ → List ℕ → Option WindowState
 window_of_parts x y = option_and_then (λ f. option_and_then (λ t. window_between f t) (number_of y)) (number_of x)
 
 numeral-not : (text : List ℕ) → is_numeral text ≡ false → number_of text ≡ None
-numeral-not text no = ap (λ b. if b then Some (read_on 0 text) else None) no
+numeral-not text isnt = ap (λ b. if b then Some (read_on 0 text) else None) isnt
 
 pub numeral-is : (text : List ℕ) → is_numeral text ≡ true → number_of text ≡ Some (read_on 0 text)
 numeral-is text is = ap (λ b. if b then Some (read_on 0 text) else None) is
 
 pub parts-none_from : (x y : List ℕ) → is_numeral x ≡ false → None ≡ window_of_parts x y
-parts-none_from x y no = sym (ap (λ q. window_from q (number_of y)) (numeral-not x no))
+parts-none_from x y isnt = sym (ap (λ q. window_from q (number_of y)) (numeral-not x isnt))
 
 pub parts-none_to : (x y : List ℕ) → is_numeral y ≡ false → None ≡ window_of_parts x y
-parts-none_to x y no = by_from (number_of x) ∙ sym (ap (λ q. window_from (number_of x) q) (numeral-not y no))
+parts-none_to x y isnt = by_from (number_of x) ∙ sym (ap (λ q. window_from (number_of x) q) (numeral-not y isnt))
   where
     by_from : (from : Option ℕ) → None ≡ window_from from None
     by_from None = refl
