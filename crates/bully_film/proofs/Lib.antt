@@ -4,4 +4,3 @@ pub mod FilmLemmas
 pub mod LaneLemmas
 pub mod ReadLemmas
 pub mod StretchLemmas
-pub mod WindowLemmas
