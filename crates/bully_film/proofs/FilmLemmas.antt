@@ -20,7 +20,7 @@ use Rattle.bully_film.specs.declared.scene.SceneStart.{SceneStart}
 use Rattle.bully_film.specs.declared.scene.Scene.{Scene}
 use Rattle.bully_film.specs.declared.snapshot.NodeSnapshot.{NodeSnapshot}
 use Rattle.bully_film.specs.Behind.{world_behind}
-use Rattle.bully_film.specs.Film.{FilmState, GoesOn, HasFilmed, HasShot, IsInWindow, IsLook, IsNoted, IsRowAt, closed, decided, kept, last_judged, noted}
+use Rattle.bully_film.specs.Film.{FilmState, GoesOn, HasFilmed, HasShot, IsInWindow, IsLook, IsNoted, IsRowAt, closed, decided, kept, last_judged}
 use Rattle.bully_film.specs.Scene.{event_kind_in, node_in, scene_at, scene_of, scenes_from, snapshots_of}
 use Rattle.bully_film.specs.Window.{IsWindow, WindowState}
 use Rattle.bully_film.proofs.BehindLemmas.{judged-world}
