@@ -181,7 +181,7 @@ planning-node setup w i fits at = by_case (fits.fits i).a_node
 
 -- ---- events
 
-step-event : (setup : Setup) (w : World) (e : Event) (w' : World) (a : Answer) → WorldInvariant setup w → Step setup w e w' a → IsEventOf setup e
+pub step-event : (setup : Setup) (w : World) (e : Event) (w' : World) (a : Answer) → WorldInvariant setup w → Step setup w e w' a → IsEventOf setup e
 step-event setup w (Event.Recover i) w' a fits step = step.0
 step-event setup w (Event.Crash i) w' a fits step = node_of_up setup w i fits step.0
 step-event setup w (Event.Check i) w' a fits step = node_of_up setup w i fits step.0
