@@ -1,6 +1,7 @@
 -- An annotated trace is one that a text can tell, and has the events of the trace that it is made of.
 use Rattle.std.proofs.Common.{◌≡◌, ◌∙◌, ℕ, ◌+◌, ◌≤◌, ◌++◌, Bool, true, false, List, [], ◌∷◌, length, Option, Some, None, MatchOption, Result, Ok, All, if◌then◌else◌, arith, refl, sym, ap, subst}
-use Rattle.std.specs.Prelude.{◌&&◌, IfSome}
+use Rattle.std.specs.Prelude.{◌&&◌, Err, IfOk, IfSome}
+use Rattle.std.specs.Io.KnownBytes.{Appends}
 use Rattle.std.specs.Bool.{MatchBool}
 use Rattle.std.proofs.lemmas.Bool.{and_parts}
 use Rattle.std.proofs.lemmas.List.Elements.{All-append, All-cons, All-nil}
@@ -25,9 +26,12 @@ use Rattle.bully_rows.specs.declared.trace.Claim.{Claim}
 use Rattle.bully_rows.specs.declared.trace.Row.{Row}
 use Rattle.bully_rows.specs.EventsTold.{call_told, event_of_detailed}
 use Rattle.bully_rows.specs.ReadBack.{AreOwners, IsDetailTold, IsEventTold, IsNamed, IsReply, IsRowTold, IsTold}
+use Rattle.bully_rows.specs.Rows.{IsTraceOf, OfTrace, records_of}
 use Rattle.bully_rows.specs.Trace.{Trace}
 use Rattle.bully_rows.specs.Whole.{Whole, whole_of}
+use Rattle.bully_rows.proofs.ReadBackLemmas.{written-means}
 use Rattle.bully_rows.proofs.SetupTold.{event-told, node-named}
+use Rattle.bully_rows.proofs.ToldTraces.{reads-told}
 use Rattle.bully_trace.specs.declared.verdict.Verdict.{Verdict}
 use Rattle.bully_trace.specs.Details.{has_answer, has_call, is_so, is_true, is_whole, said_of, same_answer, says}
 use Rattle.bully_trace.specs.Verdict.{IsJudged, IsVerdict, events_of}
@@ -40,7 +44,10 @@ use Rattle.bully_world.specs.World.{World, first_world, vector}
 use Rattle.bully_world.proofs.ApplyLemmas.{node_in_setup}
 use Rattle.bully_world.proofs.NamedLemmas.{AllNameNodes, IsEventOf, OwnedByNodes, lawful-names, step-event}
 use Rattle.bully_world.proofs.NodeInvariantLemmas.{lawful_fits}
+use Rattle.bully_annotate.specs.declared.annotation.Annotation.{Annotation}
 use Rattle.bully_annotate.specs.Annotated.{annotated, event_rows, place_of, rows_said, said_row, same_vector, shown_change, shown_row, shown_unless}
+use Rattle.bully_annotate.specs.Annotation.{IsAnnotationOf, is_written}
+use Rattle.bully_annotate.specs.Told.{AnnotatedHasEvents, AnnotatedIsTold}
 use Rattle.bully_annotate.proofs.SaidLemmas.{IsReachedBy, IsSaid, claim-node, place-node, reached-more, said-event, said-so, whole-claim}
 
 -- ---- vectors that are shown
@@ -215,7 +222,7 @@ trace-as : (trace : Trace) (after : ℕ) (w : World) → IsSetup trace.setup →
 trace-as trace after w within v =
     rows-as trace.setup (first_world trace.setup) 0 2 trace.rows after w within ([], [], record { leads = refl; bounded = omega arith }, refl) v
 
-pub annotated-told : (trace : Trace) (after : ℕ) (w : World) → IsTold trace → IsVerdict trace (Verdict.Lawful after) w → length (annotated trace).rows ≤ ROWS_MAX → IsTold (annotated trace)
+pub annotated-told : AnnotatedIsTold
 annotated-told trace after w told v few =
     let all = trace-as trace after w told.setup v in
     record {
@@ -227,5 +234,32 @@ annotated-told trace after w told v few =
       rows = all.told;
     }
 
-pub annotated-events : (trace : Trace) (after : ℕ) (w : World) → IsSetup trace.setup → IsVerdict trace (Verdict.Lawful after) w → events_of (annotated trace).rows ≡ events_of trace.rows
-annotated-events trace after w within v = (trace-as trace after w within v).same
+pub annotated-events : AnnotatedHasEvents
+annotated-events trace after w told v = (trace-as trace after w told.setup v).same
+
+-- ---- what was written
+
+-- of a text that means the trace
+of-trace : (known : Option (List ℕ)) (trace : Trace) (P : Trace → Type 0) → IsTraceOf known trace → (IsTold trace → P trace) → OfTrace known P
+of-trace None trace P is holds = tt
+of-trace (Some bytes) trace P is holds = (trace, is, holds (reads-told (records_of bytes) trace is).0)
+
+-- the annotated trace has the events of the trace that was read
+pub written-events : {E : Type 0} (known : Option (List ℕ)) (trace : Trace) (result : Result Annotation E) (Writes : List ℕ → Type 0) (silent : Type 0) → IsTraceOf known trace
+    → IfOk result (λ told. IsAnnotationOf trace told Writes silent)
+    → IfOk result (λ told. is_written told ≡ true → OfTrace known (λ trace. events_of (annotated trace).rows ≡ events_of trace.rows))
+written-events known trace (Ok (Annotation.Written count)) Writes silent is (w, verdict, lawful, few, writes) written =
+    of-trace known trace (λ trace. events_of (annotated trace).rows ≡ events_of trace.rows) is (λ told. annotated-events trace count w told verdict)
+written-events known trace (Ok (Annotation.Unlawful verdict)) Writes silent is holds written = absurd (cc written)
+written-events known trace (Ok Annotation.TooLong) Writes silent is holds written = absurd (cc written)
+written-events known trace (Err why) Writes silent is holds = tt
+
+-- where nothing stood before, what is written means the annotated trace
+pub written-back : {E : Type 0} (known : Option (List ℕ)) (trace : Trace) (result : Result Annotation E) (old new : Option (List ℕ)) (silent : Type 0) → IsTraceOf known trace
+    → IfOk result (λ told. IsAnnotationOf trace told (Appends old new) silent)
+    → IfOk result (λ told. is_written told ≡ true → old ≡ Some [] → OfTrace known (λ trace. IsTraceOf new (annotated trace)))
+written-back known trace (Ok (Annotation.Written count)) old new silent is (w, verdict, lawful, few, writes) written none =
+    of-trace known trace (λ trace. IsTraceOf new (annotated trace)) is (λ told. written-means {E = ℕ} (Ok tt) (annotated trace) old new writes none (annotated-told trace count w told verdict few))
+written-back known trace (Ok (Annotation.Unlawful verdict)) old new silent is holds written none = absurd (cc written)
+written-back known trace (Ok Annotation.TooLong) old new silent is holds written none = absurd (cc written)
+written-back known trace (Err why) old new silent is holds = tt

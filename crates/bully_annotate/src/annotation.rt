@@ -1,9 +1,10 @@
-ghost use Rattle.std.specs.Prelude.{◌≡◌, ◌≢◌, ◌⊎◌, ⊤, ℕ, false, IfErr, IfOk};
+ghost use Rattle.std.specs.Prelude.{◌≡◌, ◌≢◌, ◌⊎◌, ⊤, ℕ, [], true, false, Some, IfErr, IfOk};
 ghost use Rattle.std.specs.Io.KnownBytes.{Appends};
+ghost use Rattle.bully_annotate.specs.Annotated.{annotated};
 ghost use Rattle.bully_annotate.specs.Annotation.{IsAnnotationOf, IsWritable, is_written};
 ghost use Rattle.bully_annotate.specs.Says.{IsTraceWritten};
-ghost use Rattle.bully_rows.specs.Rows.{HasNoFault, IsFirstFault, IsOfWriting, IsReadAtItsRow, OfTrace};
-ghost use Rattle.bully_trace.specs.Verdict.{IsVerdict};
+ghost use Rattle.bully_rows.specs.Rows.{HasNoFault, IsFirstFault, IsOfWriting, IsReadAtItsRow, IsTraceOf, OfTrace};
+ghost use Rattle.bully_trace.specs.Verdict.{IsVerdict, events_of};
 ghost use Rattle.bully_trace.specs.declared.verdict.Verdict.{Verdict as VerdictState};
 ghost use Rattle.bully_world.specs.World.{World};
 
@@ -29,8 +30,9 @@ pub enum Annotation {
 
 /// Annotates a lawful trace: reads one of any version, and writes the one of version 3 with the same setup and the same events, in
 /// which everything is said: of each event of a call which call it is and what was answered; each claim with all of its
-/// node's vector; and behind each event such a claim of the node whose vector it changed, if it changed one. Where the trace isn't
-/// lawful, its verdict is told and nothing is written, nor where that would have more rows than a trace may.
+/// node's vector; and behind each event such a claim of the node whose vector it changed, if it changed one. Where nothing stood
+/// before, what is written means that very trace. Where the trace isn't lawful, its verdict is told and nothing is written, nor where
+/// that would have more rows than a trace may.
 /// Refused as [`bully_rows::read_trace`] refuses the trace, and then nothing was written; as `OutOfMemory` where a world or a line
 /// can't be made, with nothing written; then as `Write`, and then a prefix of the text may have been written. The last two are at
 /// row 0. The rows are kept as they were read, beside a world and the longest line: of what is written, no more than a line lies in
@@ -42,6 +44,10 @@ pub fn annotate<R: Read + Drop, W: Write>(
 ) -> Result<Annotation, TraceFault>
     ensures annotated { IfOk result (λ told. OfTrace (R.remaining reader)
         (λ trace. IsAnnotationOf trace told (Appends (W.contents writer.old) (W.contents writer.new)) (writer.new ≡ writer.old))) }
+    ensures events { IfOk result (λ told. is_written told ≡ true → OfTrace (R.remaining reader)
+        (λ trace. events_of (annotated trace).rows ≡ events_of trace.rows)) }
+    ensures read_back { IfOk result (λ told. is_written told ≡ true → W.contents writer.old ≡ Some [] → OfTrace (R.remaining reader)
+        (λ trace. IsTraceOf (W.contents writer.new) (annotated trace))) }
     ensures unwritten { IfOk result (λ told. is_written told ≡ false → writer.new ≡ writer.old) }
     ensures fault { IfErr result (IsFirstFault (R.remaining reader)) }
     ensures behind { IfErr result (IsReadAtItsRow (R.remaining reader)) }
