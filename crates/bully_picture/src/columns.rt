@@ -6,7 +6,7 @@ ghost use Rattle.bully_trace.specs.VerdictText.{verdict_head};
 use crate::paper::Paper;
 use crate::words::{decides, push_followed, push_meaning, push_row_text};
 use bully_base::{Node, OutOfMemory, Status};
-use bully_film::{FinishedFilm, Scene, NodeSnapshot, lane_of};
+use bully_film::{FinishedFilm, NodeSnapshot, Scene, lane_of};
 use bully_trace::push_verdict_head;
 use std::alloc::Global;
 
@@ -71,7 +71,11 @@ const CHANGE: usize = 16;
 /// The picture of what a film shows as text: the verdict; a line for each row that changes a status or a coordinator, and for the one
 /// that decided, with those of each node in a column; and how many rows lie between. Below it stands this text. Refused where an
 /// allocation fails.
-pub fn text_picture(alloc: Global, finished: &FinishedFilm, below: &str) -> Result<String, OutOfMemory>
+pub fn text_picture(
+    alloc: Global,
+    finished: &FinishedFilm,
+    below: &str,
+) -> Result<String, OutOfMemory>
     ensures verdict { IfOk result (λ text. Has (string_bytes text) (verdict_head finished.now.verdict)) }
 {
     let mut text = String::new(alloc);
@@ -97,7 +101,11 @@ fn push_picture(
 }
 
 // Writes the lines of the rows.
-fn push_lines(alloc: Global, lines: &mut Paper, finished: &FinishedFilm) -> Result<(), OutOfMemory> {
+fn push_lines(
+    alloc: Global,
+    lines: &mut Paper,
+    finished: &FinishedFilm,
+) -> Result<(), OutOfMemory> {
     let mut now = Vec::with_capacity(alloc, usize::from(finished.setup.nodes()))?;
     push_starts(alloc, &mut now, finished)?;
     push_rows(lines, finished, now.as_mut_slice());
@@ -105,7 +113,11 @@ fn push_lines(alloc: Global, lines: &mut Paper, finished: &FinishedFilm) -> Resu
 }
 
 // Appends how each node stands before the first row, from node 1 on.
-fn push_starts(alloc: Global, now: &mut Vec<NodeSnapshot>, finished: &FinishedFilm) -> Result<(), OutOfMemory> {
+fn push_starts(
+    alloc: Global,
+    now: &mut Vec<NodeSnapshot>,
+    finished: &FinishedFilm,
+) -> Result<(), OutOfMemory> {
     for before in 0..finished.setup.nodes() {
         let node = Node::new(before + 1).unwrap();
         let lane = lane_of(alloc, finished, node)?;
@@ -209,7 +221,13 @@ fn push_cell(lines: &mut Paper, snapshot: &NodeSnapshot, form: Form) {
 }
 
 // Writes how a node stands in a column: this word of its status, and behind this its coordinator.
-fn push_stand(lines: &mut Paper, word: &str, between: &str, snapshot: &NodeSnapshot, column: usize) {
+fn push_stand(
+    lines: &mut Paper,
+    word: &str,
+    between: &str,
+    snapshot: &NodeSnapshot,
+    column: usize,
+) {
     let start = lines.len();
     push_followed(lines, word, between, snapshot.coordinator);
     fill(lines, start, column);

@@ -12,7 +12,7 @@ use crate::marks::draw_row;
 use crate::paper::Paper;
 use crate::words::decides;
 use bully_base::{OutOfMemory, Setup};
-use bully_film::{Lane, FinishedFilm, lanes, row_before};
+use bully_film::{FinishedFilm, Lane, lanes, row_before};
 use bully_trace::{Verdict, push_verdict_head};
 use std::alloc::Global;
 
@@ -75,7 +75,12 @@ fn push_picture(
 }
 
 // Draws all but the words of the title.
-fn draw(canvas: &mut Canvas, finished: &FinishedFilm, names: &[&str], below: &str) -> Result<(), OutOfMemory> {
+fn draw(
+    canvas: &mut Canvas,
+    finished: &FinishedFilm,
+    names: &[&str],
+    below: &str,
+) -> Result<(), OutOfMemory> {
     let lanes = lanes(canvas.alloc, finished)?;
     push_head(&mut canvas.head, finished.verdict, &canvas.layout, below);
     canvas.lines.push(LEGEND);
@@ -150,7 +155,11 @@ fn push_title(text: &mut String, finished: &FinishedFilm) -> Result<(), OutOfMem
 {
     push_verdict_head(text, finished.verdict)?;
     push_size(text, &finished.setup)?;
-    push_shown(text, row_before(finished.scenes.as_slice()), finished.scenes.len())?;
+    push_shown(
+        text,
+        row_before(finished.scenes.as_slice()),
+        finished.scenes.len(),
+    )?;
     text.push(')')
 }
 

@@ -8,16 +8,16 @@
 
 ghost use Rattle.bully_play.specs.Play.{LawfulTold};
 
+mod backend;
 mod playing;
 mod recording;
 mod schedule;
-mod backend;
 mod trace;
 mod turns;
 
+pub use backend::Backend;
 pub use playing::{PlayFault, play};
 pub use schedule::Schedule;
-pub use backend::Backend;
 pub use trace::trace_with;
 pub use turns::{take_node_turn, take_operator_turn};
 
