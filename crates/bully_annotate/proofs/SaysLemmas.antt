@@ -1,5 +1,5 @@
 -- What is written of one row.
-use Rattle.std.proofs.Common.{add-one, drop-cons, suc, take, ◌≤◌, ◌≡◌, ◌∙◌, ℕ, ◌+◌, ◌++◌, Bool, true, false, List, [], ◌∷◌, Option, Some, None, MatchOption, length, drop, refl, sym, ap, subst, arith}
+use Rattle.std.proofs.Common.{add-one, drop-cons, suc, take, ◌<◌, ◌≤◌, ◌≡◌, ◌∙◌, ℕ, ◌+◌, ◌++◌, Bool, true, false, List, [], ◌∷◌, Option, Some, None, MatchOption, length, drop, refl, sym, ap, subst, arith}
 use Rattle.std.specs.Bool.{MatchBool}
 use Rattle.std.specs.Prelude.{IfOk, OnOk, Result, Ok, Err, slice_get}
 use Rattle.std.specs.Io.KnownBytes.{Appends}

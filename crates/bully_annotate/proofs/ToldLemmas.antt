@@ -245,21 +245,29 @@ of-trace None trace P is holds = tt
 of-trace (Some bytes) trace P is holds = (trace, is, holds (reads-told (records_of bytes) trace is).0)
 
 -- the annotated trace has the events of the trace that was read
+events-of : (known : Option (List ℕ)) (trace : Trace) (told : Annotation) (Writes : List ℕ → Type 0) (silent : Type 0) → IsTraceOf known trace
+    → IsAnnotationOf trace told Writes silent → is_written told ≡ true → OfTrace known (λ trace. events_of (annotated trace).rows ≡ events_of trace.rows)
+events-of known trace (Annotation.Written count) Writes silent is (w, verdict, lawful, few, writes) written =
+    of-trace known trace (λ trace. events_of (annotated trace).rows ≡ events_of trace.rows) is (λ told. annotated-events trace count w told verdict)
+events-of known trace (Annotation.Unlawful verdict) Writes silent is holds written = absurd (cc written)
+events-of known trace Annotation.TooLong Writes silent is holds written = absurd (cc written)
+
 pub written-events : {E : Type 0} (known : Option (List ℕ)) (trace : Trace) (result : Result Annotation E) (Writes : List ℕ → Type 0) (silent : Type 0) → IsTraceOf known trace
     → IfOk result (λ told. IsAnnotationOf trace told Writes silent)
     → IfOk result (λ told. is_written told ≡ true → OfTrace known (λ trace. events_of (annotated trace).rows ≡ events_of trace.rows))
-written-events known trace (Ok (Annotation.Written count)) Writes silent is (w, verdict, lawful, few, writes) written =
-    of-trace known trace (λ trace. events_of (annotated trace).rows ≡ events_of trace.rows) is (λ told. annotated-events trace count w told verdict)
-written-events known trace (Ok (Annotation.Unlawful verdict)) Writes silent is holds written = absurd (cc written)
-written-events known trace (Ok Annotation.TooLong) Writes silent is holds written = absurd (cc written)
+written-events known trace (Ok told) Writes silent is holds = events-of known trace told Writes silent is holds
 written-events known trace (Err why) Writes silent is holds = tt
 
 -- where nothing stood before, what is written means the annotated trace
+back-of : (known : Option (List ℕ)) (trace : Trace) (told : Annotation) (old new : Option (List ℕ)) (silent : Type 0) → IsTraceOf known trace
+    → IsAnnotationOf trace told (Appends old new) silent → is_written told ≡ true → old ≡ Some [] → OfTrace known (λ trace. IsTraceOf new (annotated trace))
+back-of known trace (Annotation.Written count) old new silent is (w, verdict, lawful, few, writes) written none =
+    of-trace known trace (λ trace. IsTraceOf new (annotated trace)) is (λ told. written-means {E = ℕ} (Ok tt) (annotated trace) old new writes none (annotated-told trace count w told verdict few))
+back-of known trace (Annotation.Unlawful verdict) old new silent is holds written none = absurd (cc written)
+back-of known trace Annotation.TooLong old new silent is holds written none = absurd (cc written)
+
 pub written-back : {E : Type 0} (known : Option (List ℕ)) (trace : Trace) (result : Result Annotation E) (old new : Option (List ℕ)) (silent : Type 0) → IsTraceOf known trace
     → IfOk result (λ told. IsAnnotationOf trace told (Appends old new) silent)
     → IfOk result (λ told. is_written told ≡ true → old ≡ Some [] → OfTrace known (λ trace. IsTraceOf new (annotated trace)))
-written-back known trace (Ok (Annotation.Written count)) old new silent is (w, verdict, lawful, few, writes) written none =
-    of-trace known trace (λ trace. IsTraceOf new (annotated trace)) is (λ told. written-means {E = ℕ} (Ok tt) (annotated trace) old new writes none (annotated-told trace count w told verdict few))
-written-back known trace (Ok (Annotation.Unlawful verdict)) old new silent is holds written none = absurd (cc written)
-written-back known trace (Ok Annotation.TooLong) old new silent is holds written none = absurd (cc written)
+written-back known trace (Ok told) old new silent is holds = back-of known trace told old new silent is holds
 written-back known trace (Err why) old new silent is holds = tt

@@ -97,7 +97,7 @@ kind-read setup caller number callee AreYouUp (Some owners) within carries = abs
 kind-read setup caller number callee AreYouNormal (Some owners) within carries = absurd (cc carries.0)
 kind-read setup caller number callee Halt (Some owners) within carries = absurd (cc carries.0)
 kind-read setup caller number callee NewCoordinator (Some owners) within carries = absurd (cc carries.0)
-kind-read setup caller number callee Ready (Some owners) within carries = ap (ready_request caller number callee) (table-read setup owners within (carries.1, carries.2))
+kind-read setup caller number callee Ready (Some owners) within carries = ap (ready_request caller number callee) (table-read setup owners within carries.1)
 
 callee-read : (setup : Setup) (caller number : ℕ) (text rest : List ℕ) (callee : ℕ) → field text ≡ decimal callee → behind text ≡ rest → node_in setup (decimal callee) ≡ Some callee
     → request_by_callee setup caller number (node_in setup (field text)) (behind text) ≡ request_by_kind setup caller number callee rest

@@ -40,11 +40,12 @@ number-told setup text k e =
 -- what a word names has that word
 word-of : {A : Type 0} (word_of : A → List ℕ) (word : List ℕ) (xs : List A) (y : A) → first_named word_of word xs ≡ Some y → bytes_eq word (word_of y) ≡ true
 word-of word_of word [] y e = absurd (cc e)
-word-of word_of word (x ∷ xs) y e = by_test (bytes_eq word (word_of x)) refl e
+word-of word_of word (x ∷ xs) y e = by_test (bytes_eq word (word_of x)) refl e (word-of word_of word xs y)
   where
-    by_test : (b : Bool) → bytes_eq word (word_of x) ≡ b → (if b then Some x else first_named word_of word xs) ≡ Some y → bytes_eq word (word_of y) ≡ true
-    by_test true here e = subst (λ z. bytes_eq word (word_of z) ≡ true) (same_Some x y e) here
-    by_test false here e = word-of word_of word xs y e
+    by_test : (b : Bool) → bytes_eq word (word_of x) ≡ b → (if b then Some x else first_named word_of word xs) ≡ Some y
+        → (first_named word_of word xs ≡ Some y → bytes_eq word (word_of y) ≡ true) → bytes_eq word (word_of y) ≡ true
+    by_test true here e more = subst (λ z. bytes_eq word (word_of z) ≡ true) (same_Some x y e) here
+    by_test false here e more = more e
 
 -- ---- requests
 
@@ -62,7 +63,7 @@ module _ (setup : Setup) (caller number callee : ℕ) (from : IsNode setup calle
   ready-told (Ok owners) text r at e =
       let is : record { caller = caller; number = number; call = record { callee = callee; kind = Ready }; table = Some owners } ≡ r = cc e in
       let (count, each) = table-told setup text owners at in
-      subst (IsRequestTold setup) is (record { caller = from; number = low; callee = to; table = (refl, count, each) })
+      subst (IsRequestTold setup) is (record { caller = from; number = low; callee = to; table = (refl, (count, each)) })
 
   plain-told : (q : Option CallKind) (text : List ℕ) (r : Request) → bytes_eq (field text) (call_word Ready) ≡ false → call_named text ≡ q → plain_request caller number callee q ≡ Ok r
       → IsRequestTold setup r
@@ -111,8 +112,8 @@ answer-told setup caller number (Some a) text r from low at e =
     let is : record { caller = caller; number = number; answer = a } ≡ r = cc e in
     subst (IsReplyTold setup) is (record { caller = from; number = low; answer = by_word (bytes_eq text (answer_word Yes)) (bytes_eq text (answer_word No)) at })
   where
-    by_word : (yes no : Bool) → (if yes then Some Yes else if no then Some No else None) ≡ Some a → (a ≡ Yes) ⊎ (a ≡ No)
-    by_word true no e = inl (sym (same_Some Yes a e))
+    by_word : (is_yes is_no : Bool) → (if is_yes then Some Yes else if is_no then Some No else None) ≡ Some a → (a ≡ Yes) ⊎ (a ≡ No)
+    by_word true is_no e = inl (sym (same_Some Yes a e))
     by_word false true e = inr (sym (same_Some No a e))
     by_word false false e = absurd (cc e)
 
