@@ -1,2 +1,4 @@
 mod EscapeLemmas
+mod HarmlessLemmas
 mod TitleLemmas
+mod WrittenLemmas

@@ -1,2 +1,5 @@
+pub mod Drawn
 pub mod Escaping
+pub mod Harmless
 pub mod Title
+pub mod Written

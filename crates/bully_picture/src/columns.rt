@@ -92,7 +92,7 @@ fn push_picture(
 {
     push_lines(alloc, lines, finished)?;
     push_verdict_head(text, finished.verdict)?;
-    text.push_str(lines.as_str())?;
+    lines.copy_to(text)?;
     text.push_str(below)
 }
 
@@ -101,7 +101,7 @@ fn push_lines(alloc: Global, lines: &mut Paper, finished: &FinishedFilm) -> Resu
     let mut now = Vec::with_capacity(alloc, usize::from(finished.setup.nodes()))?;
     push_starts(alloc, &mut now, finished)?;
     push_rows(lines, finished, now.as_mut_slice());
-    lines.check_memory()
+    Ok(())
 }
 
 // Appends how each node stands before the first row, from node 1 on.
@@ -209,7 +209,13 @@ fn push_cell(lines: &mut Paper, snapshot: &NodeSnapshot, form: Form) {
 }
 
 // Writes how a node stands in a column: this word of its status, and behind this its coordinator.
-fn push_stand(lines: &mut Paper, word: &str, between: &str, snapshot: &NodeSnapshot, column: usize) {
+fn push_stand(
+    lines: &mut Paper,
+    word: &'static str,
+    between: &'static str,
+    snapshot: &NodeSnapshot,
+    column: usize,
+) {
     let start = lines.len();
     push_followed(lines, word, between, snapshot.coordinator);
     fill(lines, start, column);

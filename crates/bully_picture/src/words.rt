@@ -1,4 +1,6 @@
 //! The words of a picture.
+ghost use Rattle.std.specs.Prelude.{◌≡◌};
+ghost use Rattle.bully_picture.specs.Drawn.{decides, kind_text};
 
 use crate::paper::Paper;
 use bully_base::{Node, Status};
@@ -8,7 +10,9 @@ use bully_rows::{EventKind, SAW, status_word};
 use bully_trace::Verdict;
 
 /// The call as the profile names it.
-pub fn kind_text(kind: CallKind) -> &'static str {
+pub fn kind_text(kind: CallKind) -> &'static str
+    ensures { result.now ≡ kind_text kind }
+{
     match kind {
         CallKind::AreYouUp => "AreYouUp",
         CallKind::AreYouNormal => "AreYouNormal",
@@ -19,7 +23,9 @@ pub fn kind_text(kind: CallKind) -> &'static str {
 }
 
 /// Whether the row of this number decided.
-pub fn decides(verdict: Verdict, row: u32) -> bool {
+pub fn decides(verdict: Verdict, row: u32) -> bool
+    ensures { result ≡ decides verdict row }
+{
     match verdict {
         Verdict::Lawful(_) => false,
         Verdict::Refused(decided, _) | Verdict::Differs(decided) => row == decided,
@@ -37,7 +43,12 @@ pub fn push_stand(paper: &mut Paper, stand: Stand) {
 }
 
 /// Writes a word of how a node stands, and behind these words whom the node follows; the word alone, where that is nobody.
-pub fn push_followed(paper: &mut Paper, word: &str, between: &str, coordinator: Option<Node>) {
+pub fn push_followed(
+    paper: &mut Paper,
+    word: &'static str,
+    between: &'static str,
+    coordinator: Option<Node>,
+) {
     paper.push(word);
     if let Some(node) = coordinator {
         paper.push_node(between, node, "");

@@ -1,0 +1,42 @@
+-- What is written on a paper.
+use Rattle.std.specs.Prelude.{◌≡◌, ℕ, ◌-◌, Bool, false, List, [], ◌++◌, codes, length, replicate}
+use Rattle.std.specs.Fmt.{decimal}
+use Rattle.bully_picture.specs.Title.{Has}
+
+-- a paper: the text on it, and whether memory was wanting for any of it
+pub record Written : Type 0 where
+  pub text : List ℕ
+  pub has_failed : Bool
+
+-- nothing is written yet
+abbrev pub blank : Written
+blank = record { text = []; has_failed = false }
+
+-- this was written behind what stood there, unless memory is wanting
+abbrev pub Writes : Written → Written → List ℕ → Type 0
+Writes old new part = new.has_failed ≡ false → (old.has_failed ≡ false) × (new.text ≡ old.text ++ part)
+
+-- something was written behind what stood there, and then this holds of the whole text, unless memory is wanting
+abbrev pub Gains : Written → Written → (List ℕ → Type 0) → Type 0
+Gains old new Holds =
+    new.has_failed ≡ false → (old.has_failed ≡ false) × ((part : List ℕ) × (new.text ≡ old.text ++ part)) × Holds new.text
+
+-- the same, without saying what holds
+abbrev pub Extends : Written → Written → Type 0
+Extends old new = Gains old new (λ _. Unit {0})
+
+-- this holds of the text, unless memory is wanting
+abbrev pub IsIn : Written → (List ℕ → Type 0) → Type 0
+IsIn paper Holds = paper.has_failed ≡ false → Holds paper.text
+
+-- memory wasn't wanting, and all that was written stands in this text
+abbrev pub IsCopied : Written → List ℕ → Type 0
+IsCopied paper text = (paper.has_failed ≡ false) × Has text paper.text
+
+-- a number with spaces before it, so that it takes seven columns, if it has no more digits
+abbrev pub right_text : ℕ → List ℕ
+right_text number = replicate (7 - length (decimal number)) 32 ++ decimal number
+
+-- what is written of an attribute that is a number
+abbrev pub attribute_text : List ℕ → ℕ → List ℕ
+attribute_text name number = codes " " ++ name ++ codes "=\"" ++ decimal number ++ codes "\""
