@@ -1,3 +1,4 @@
+mod DrawnLemmas
 mod EscapeLemmas
 mod HarmlessLemmas
 mod TitleLemmas
