@@ -13,21 +13,23 @@ abbrev pub blank : Written
 blank = record { text = []; has_failed = false }
 
 -- this was written behind what stood there, unless memory is wanting
-abbrev pub Writes : Written → Written → List ℕ → Type 0
-Writes old new part = new.has_failed ≡ false → (old.has_failed ≡ false) × (new.text ≡ old.text ++ part)
+pub record Writes (old new : Written) (part : List ℕ) : Type 0 where
+  pub memory : new.has_failed ≡ false → old.has_failed ≡ false
+  pub text : new.has_failed ≡ false → new.text ≡ old.text ++ part
 
--- something was written behind what stood there, and then this holds of the whole text, unless memory is wanting
-abbrev pub Gains : Written → Written → (List ℕ → Type 0) → Type 0
-Gains old new Holds =
-    new.has_failed ≡ false → (old.has_failed ≡ false) × ((part : List ℕ) × (new.text ≡ old.text ++ part)) × Holds new.text
-
--- the same, without saying what holds
-abbrev pub Extends : Written → Written → Type 0
-Extends old new = Gains old new (λ _. Unit {0})
+-- something was
+pub record Extends (old new : Written) : Type 0 where
+  pub memory : new.has_failed ≡ false → old.has_failed ≡ false
+  pub text : new.has_failed ≡ false → (part : List ℕ) × (new.text ≡ old.text ++ part)
 
 -- this holds of the text, unless memory is wanting
 abbrev pub IsIn : Written → (List ℕ → Type 0) → Type 0
 IsIn paper Holds = paper.has_failed ≡ false → Holds paper.text
+
+-- something was written, and this holds of the whole text
+pub record Gains (old new : Written) (Holds : List ℕ → Type 0) : Type 0 where
+  pub extends : Extends old new
+  pub holds : IsIn new Holds
 
 -- memory wasn't wanting, and all that was written stands in this text
 abbrev pub IsCopied : Written → List ℕ → Type 0

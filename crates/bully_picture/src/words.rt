@@ -1,6 +1,7 @@
 //! The words of a picture.
 ghost use Rattle.std.specs.Prelude.{◌≡◌};
 ghost use Rattle.bully_picture.specs.Drawn.{decides, kind_text};
+ghost use Rattle.bully_picture.specs.Written.{Extends};
 
 use crate::paper::Paper;
 use bully_base::{Node, Status};
@@ -48,7 +49,9 @@ pub fn push_followed(
     word: &'static str,
     between: &'static str,
     coordinator: Option<Node>,
-) {
+)
+    ensures { Extends paper.old paper.new }
+{
     paper.push(word);
     if let Some(node) = coordinator {
         paper.push_node(between, node, "");
@@ -56,7 +59,9 @@ pub fn push_followed(
 }
 
 /// Writes the row as it stands in a trace of version 1, but for a claim's status and a plan's table.
-pub fn push_row_text(paper: &mut Paper, scene: &Scene) {
+pub fn push_row_text(paper: &mut Paper, scene: &Scene)
+    ensures { Extends paper.old paper.new }
+{
     let word = match scene.event_kind {
         Some(event_kind) => event_kind.word(),
         None => SAW,
@@ -66,7 +71,9 @@ pub fn push_row_text(paper: &mut Paper, scene: &Scene) {
 }
 
 /// Writes what the row does behind its text, where that alone doesn't say it.
-pub fn push_meaning(paper: &mut Paper, scene: &Scene) {
+pub fn push_meaning(paper: &mut Paper, scene: &Scene)
+    ensures { Extends paper.old paper.new }
+{
     let meaning = meaning(scene);
     if !meaning.is_empty() {
         paper.push(": ");
