@@ -3,7 +3,7 @@ ghost use Rattle.bully_rows.specs.Kinds.{every_event_kind};
 ghost use Rattle.bully_account.specs.Possible.{ArePossible, IsPossible, passes};
 
 use bully_base::{Node, OutOfMemory};
-use bully_rows::{EventKind, EVERY_DEED};
+use bully_rows::{EVERY_EVENT_KIND, EventKind};
 use bully_trace::reached;
 use bully_world::{Event, World};
 use std::alloc::Global;
@@ -27,7 +27,7 @@ fn event_kinds_passing(
 ) -> Result<Vec<EventKind>, OutOfMemory>
     ensures { IfOk result (λ event_kinds. event_kinds.items ≡ filter (passes world.now node can_plan) every_event_kind) }
 {
-    EVERY_DEED
+    EVERY_EVENT_KIND
         .iter()
         .copied()
         .filter(|event_kind| passes(world, node, *event_kind, can_plan))

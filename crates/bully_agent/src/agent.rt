@@ -285,7 +285,13 @@ impl Agent {
         ensures refusal { IfErr result (RefusesRequest self.old.setup self.old.node self.old.events self.old.node_state request.now) }
         ensures unchanged { IfErr result (λ _. self.new ≡ self.old) }
     {
-        let cause = request_cause(&self.setup, self.node, self.events, &self.node_state, request);
+        let cause = request_cause(
+            &self.setup,
+            self.node,
+            self.events,
+            &self.node_state,
+            request,
+        );
         if let Some(why) = cause {
             return Err(why);
         }
@@ -323,7 +329,13 @@ impl Agent {
         if !self.is_due(reply) {
             return Err(Refused::NoCall);
         }
-        let answer = return_reply(&self.setup, self.node, self.events, &mut self.node_state, told);
+        let answer = return_reply(
+            &self.setup,
+            self.node,
+            self.events,
+            &mut self.node_state,
+            told,
+        );
         self.events += 1;
         Ok(TakenStep {
             event: Event::Return(self.node),

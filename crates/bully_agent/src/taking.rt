@@ -12,7 +12,12 @@ use bully_world::{Event, NodeState, Refused, own_cause};
 /// Why such an event is refused, with so many events told; none where it isn't. `node_state` is that of the event's node.
 // (inlined, as `Agent::take_event` is)
 #[inline(always)]
-pub fn alone_cause(setup: &Setup, events: u32, node_state: &NodeState, event: &Event) -> Option<Refused>
+pub fn alone_cause(
+    setup: &Setup,
+    events: u32,
+    node_state: &NodeState,
+    event: &Event,
+) -> Option<Refused>
     requires own { IsAlone event.now }
     requires is { IsAgentOf setup.now (node_of event.now) events node_state.now }
     ensures cause { CauseAt Always setup.now (node_of event.now) events node_state.now event.now result }

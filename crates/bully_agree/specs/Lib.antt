@@ -3,6 +3,6 @@ pub mod Agreement
 pub mod Fencing
 pub mod KeptSetup
 pub mod Runs
-pub mod CallProgress
+pub mod Progress
 pub mod View
 pub mod WholeCalls

@@ -1,6 +1,6 @@
 ghost use Rattle.std.specs.Prelude.{◌≡◌, Some, None, length, true, false, IfErr, IfOk, IfNone, IfSome, OnOk, if◌then◌else◌};
 ghost use Rattle.bully_agree.specs.Runs.{CanRun, IsWholeFault, RunsTo};
-ghost use Rattle.bully_agree.specs.CallProgress.{may_stand, progress_after, whole_fault};
+ghost use Rattle.bully_agree.specs.Progress.{may_stand, progress_after, whole_fault};
 ghost use Rattle.bully_agree.specs.View.{ViewAgrees, view_of};
 ghost use Rattle.bully_agree.specs.WholeCalls.{BreaksAt, is_whole, settles, gives_back};
 ghost use Rattle.bully_world.specs.State.{world_of};
@@ -36,7 +36,7 @@ impl From<RunFault> for WholeFault {
 
 /// How far the call at hand has come: there is none, the node's was started, or the node's ran or was lost.
 #[derive(Clone, Copy)]
-enum CallProgress {
+enum Progress {
     Between,
     Started(Node),
     Over(Node),
@@ -69,7 +69,7 @@ fn first_break(events: &[Event]) -> Option<usize>
     ensures breaks { IfSome result (λ index. BreaksAt events.now index × (is_whole events.now ≡ false)) }
     ensures whole { IfNone result (is_whole events.now ≡ true) }
 {
-    let mut progress = CallProgress::Between;
+    let mut progress = Progress::Between;
     for (index, event) in events.iter().enumerate() {
         match progress.after(event) {
             Some(next) => progress = next,
@@ -77,32 +77,34 @@ fn first_break(events: &[Event]) -> Option<usize>
         }
     }
     match progress {
-        CallProgress::Between => None,
+        Progress::Between => None,
         _ => Some(events.len()),
     }
 }
 
-impl CallProgress {
+impl Progress {
     // The progress behind the event; none where it may not stand here.
-    fn after(self, event: &Event) -> Option<CallProgress>
+    fn after(self, event: &Event) -> Option<Progress>
         ensures { result ≡ (if may_stand self event.now then Some (progress_after self event.now) else None) }
     {
         match self {
-            CallProgress::Between => after_no_call(event),
-            CallProgress::Started(caller) => is_settled(event, caller).then_some(CallProgress::Over(caller)),
-            CallProgress::Over(caller) => is_returned(event, caller).then_some(CallProgress::Between),
+            Progress::Between => after_no_call(event),
+            Progress::Started(caller) => is_settled(event, caller).then_some(Progress::Over(
+                caller,
+            )),
+            Progress::Over(caller) => is_returned(event, caller).then_some(Progress::Between),
         }
     }
 }
 
 // The progress behind an event while no call is at hand.
-fn after_no_call(event: &Event) -> Option<CallProgress>
-    ensures { result ≡ (if may_stand CallProgress.Between event.now then Some (progress_after CallProgress.Between event.now) else None) }
+fn after_no_call(event: &Event) -> Option<Progress>
+    ensures { result ≡ (if may_stand Progress.Between event.now then Some (progress_after Progress.Between event.now) else None) }
 {
     match event {
-        Event::Start(caller) => Some(CallProgress::Started(*caller)),
+        Event::Start(caller) => Some(Progress::Started(*caller)),
         Event::Run(_) | Event::Lose(_) | Event::Return(_) => None,
-        _ => Some(CallProgress::Between),
+        _ => Some(Progress::Between),
     }
 }
 

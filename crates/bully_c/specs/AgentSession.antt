@@ -66,7 +66,7 @@ ServesRequest request old (Ok reply) new =
     × (new.told ≡ StepRows.Call (record { node = request.caller; detail = Detail.Run request.call reply.answer }))
 ServesRequest request old (Err why) new =
     IsRefused (IsRequested old.agent.node request) old.agent (Event.Run request.caller) why
-    × RefusesRequest old.agent.setup old.agent.node old.agent.events old.agent.member request why × (new ≡ old)
+    × RefusesRequest old.agent.setup old.agent.node old.agent.events old.agent.node_state request why × (new ≡ old)
 
 -- the agent's call returns with a reply, and the return is told with what it brings, or the reply is refused
 abbrev pub TakesReply : Reply → AgentSession → Result Answer Refused → AgentSession → Type 0

@@ -7,11 +7,11 @@
 
 mod agents;
 mod handle;
-mod session;
 mod logs;
 mod replica_handle;
 mod replicas;
 mod requests;
+mod session;
 mod shown;
 mod status;
 mod tables;

@@ -92,7 +92,13 @@ pub extern "C" fn bully_c_agent_serve(
 }
 
 // The request of this line runs, where there is room for the reply.
-fn served(alloc: Global, session: &mut AgentSession, line: &[u8], reply: &mut [u8], length: &mut usize) -> u32
+fn served(
+    alloc: Global,
+    session: &mut AgentSession,
+    line: &[u8],
+    reply: &mut [u8],
+    length: &mut usize,
+) -> u32
     ensures { IsServe line.now reply.old length.old reply.new length.new session.old result session.new }
 {
     let request = match request_in(alloc, session.agent.setup(), line) {

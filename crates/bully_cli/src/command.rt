@@ -11,11 +11,11 @@ use std::alloc::{AllocError, Global};
 pub fn command_line<'a>(alloc: Global) -> Result<Command<'a>, AllocError>
     ensures { ReadsAs program result }
 {
-    let about = "Judges the trace on the standard input";
+    let about = "Judges the trace on standard input";
     let check = described_command(alloc, "check", about, help::CHECK);
-    let about = "Writes the trace on the standard input as one of version 2 or 3";
+    let about = "Upgrades the trace on standard input to version 2 or 3";
     let upgrade = described_command(alloc, "upgrade", about, help::UPGRADE);
-    let about = "Writes the lawful trace on the standard input with everything said";
+    let about = "Annotates the lawful trace on standard input: each call, answer and vector";
     let annotate = described_command(alloc, "annotate", about, help::ANNOTATE);
     let command = joined(bare_command(alloc), Ok(check), Command::subcommand);
     let command = joined(command, explain_command(alloc), Command::subcommand);
@@ -73,7 +73,7 @@ fn bare_command<'a>(alloc: Global) -> Result<Command<'a>, AllocError>
 fn explain_command<'a>(alloc: Global) -> Result<Command<'a>, AllocError>
     ensures { IsLocalCommand explain_app result }
 {
-    let about = "Explains the verdict on the trace on the standard input";
+    let about = "Explains the verdict on the trace on standard input";
     described_command(alloc, "explain", about, help::EXPLAIN).arg(explained_arg(alloc))
 }
 
@@ -90,7 +90,7 @@ fn draw_command<'a>(alloc: Global) -> Result<Command<'a>, AllocError>
 fn rows_command<'a>(alloc: Global) -> Result<Command<'a>, AllocError>
     ensures { IsLocalCommand (with_rule (new_app (codes "draw")) rows_rule) result }
 {
-    let about = "Draws the trace on the standard input as an SVG picture";
+    let about = "Draws the trace on standard input as an SVG picture";
     described_command(alloc, "draw", about, help::DRAW).arg(rows_arg(alloc))
 }
 
@@ -156,7 +156,7 @@ fn rows_arg<'a>(alloc: Global) -> Arg<'a>
     ensures rule { rule_of result ≡ rows_rule }
     ensures local { result.global ≡ false }
 {
-    let help = "The rows that are drawn, counted from 1, the header: 2000 at most";
+    let help = "The rows to draw, at most 2000; row 1 is the header";
     option_arg(alloc, "rows", "FROM-TO", help)
 }
 
@@ -183,7 +183,7 @@ fn text_arg<'a>(alloc: Global) -> Arg<'a>
     Arg::new(alloc, "text")
         .long("text")
         .action(ArgAction::SetTrue)
-        .help("Draws it as text, for a terminal")
+        .help("Draws the trace as text, for a terminal")
 }
 
 fn config_arg<'a>(alloc: Global) -> Arg<'a>

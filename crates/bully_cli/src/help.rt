@@ -8,8 +8,8 @@ pub const VERSION: &str = "0.5.0\n\
 
 /// What help tells of the program.
 pub const PROGRAM: &str = "\
-    A trace is read on standard input. What is asked for is written on standard\n\
-    output, and a fault as one line on standard error.\n\
+    A command reads a trace on standard input, or the configuration at a path. It\n\
+    writes the result on standard output, and a fault as one line on standard error.\n\
     \n\
     Statuses: 0 done, 1 the trace is refused or differs, 2 bad words, 3 a fault of\n\
     form in a trace or a configuration, or a trace too long to annotate, 4 something\n\
@@ -32,9 +32,9 @@ pub const CHECK: &str = "\
 pub const EXPLAIN: &str = "\
     Reads a trace on standard input as 'check' does, and writes on standard output\n\
     what the rule saw at the row that decided: where the node stood, what was in its\n\
-    slot, what it could have done, and its last rows. Of a fault of form it says on\n\
+    slot, what it could have done, and its last rows. For a fault of form it says on\n\
     standard error what may stand there. With --config it reads a configuration, and\n\
-    says so of its first fault.\n\
+    does the same for its first fault.\n\
     \n\
     Statuses: 0 lawful, or no fault in the configuration, 1 refused or differs, 3 a\n\
     fault of form, 4 Read, Write or OutOfMemory.\n\
@@ -44,7 +44,7 @@ pub const EXPLAIN: &str = "\
 /// What help tells of `upgrade`.
 pub const UPGRADE: &str = "\
     Reads a trace of any version on standard input, and writes it on standard\n\
-    output as one of version 2, or of version 3 where a row says more, with the\n\
+    output as one of version 2, or of version 3 if a row says more, with the\n\
     same rows and the same verdict. It judges nothing.\n\
     \n\
     Statuses: 0 written, 3 a fault of the trace's form, 4 Read, Write or OutOfMemory.\n\
@@ -54,9 +54,9 @@ pub const UPGRADE: &str = "\
 /// What help tells of `annotate`.
 pub const ANNOTATE: &str = "\
     Reads a lawful trace of any version on standard input, and writes it on standard\n\
-    output as one of version 3 in which everything is said: which call each event is\n\
-    of and what was answered, and behind each event the whole vector of the node that\n\
-    it changed. Of a trace that isn't lawful the verdict stands on standard error.\n\
+    output as one of version 3 that says everything: the call of each event, the\n\
+    answer to it, and behind each event the whole vector of the node that it changed.\n\
+    If the trace isn't lawful, it writes the verdict on standard error.\n\
     \n\
     Statuses: 0 written, 1 refused or differs, 3 a fault of the trace's form, or more\n\
     rows than a trace may have, 4 Read, Write or OutOfMemory.\n\
@@ -88,8 +88,8 @@ pub const PLAY: &str = "\
 /// What help tells of `run`.
 pub const RUN: &str = "\
     Reads the configuration, runs its group with a thread for the operator and one\n\
-    for each node, and writes its history as a trace on standard output. It may be\n\
-    another one each time, and is lawful.\n\
+    for each node, and writes its history as a trace on standard output. Each run\n\
+    may write another history, and each history is lawful.\n\
     \n\
     Statuses: 0 written, 3 a fault in the configuration, 4 Read, Write, Spawn, Finish\n\
     or OutOfMemory.\n\
@@ -102,7 +102,7 @@ pub const TABLE: &str = "\
     their weights, with the fewest moves from the old one. Writes the owners, how\n\
     many partitions move, and how many could stay, each on a line of standard output.\n\
     \n\
-    Statuses: 0 written, 2 a member that is no name or owners that are no table, 3 a\n\
-    fault in the configuration, 4 Read, Write or OutOfMemory.\n\
+    Statuses: 0 written, 2 no such member, or owners that are no table, 3 a fault in\n\
+    the configuration, 4 Read, Write or OutOfMemory.\n\
     \n\
     Example: bully table examples/three_nodes.toml a b --old '1 2 2 2 3'";

@@ -106,7 +106,7 @@ fn push_value(text: &mut Draft, value: &Value) {
 
 // Appends what may stand at the key.
 fn push_expected(text: &mut Draft, document: &Table, key: Key) {
-    text.push_str("; there may stand ");
+    text.push_str("; it has to be ");
     match key {
         Key::Nodes => text.push_behind("an integer from 1 to ", NODES_MAX),
         Key::Partitions => text.push_behind("an integer from 1 to ", PARTITIONS_MAX),
@@ -170,7 +170,7 @@ fn push_unlisted(text: &mut Draft, document: &Table) {
     if let Some(word) = unlisted_key(document, false) {
         text.push_str(word);
         return text.push_str(
-            " is no key; there may stand nodes, partitions, events, turns, period, names, weights, keep and fault",
+            " is no key; the keys are nodes, partitions, events, turns, period, names, weights, keep and fault",
         );
     }
     for (place, item) in items_at(document, Key::Fault).iter().enumerate() {
@@ -179,7 +179,7 @@ fn push_unlisted(text: &mut Draft, document: &Table) {
             return text.push_between(
                 " is no key of fault ",
                 place + 1,
-                "; there may stand at, node and kind",
+                "; its keys are at, node and kind",
             );
         }
     }

@@ -26,7 +26,7 @@ pub fn push_claimed(text: &mut Draft, setup: &Setup, claim: Claim, sheet: Option
 
 // Appends the status and the coordinator that are claimed of the node, and beside them what the group shows.
 fn push_claim(text: &mut Draft, claim: Claim, shown: &NodeSummary) {
-    text.push_between("node ", claim.node.number(), " isn't as it is claimed\n");
+    text.push_between("node ", claim.node.number(), " isn't as the row claims\n");
     push_heads(text, "claimed");
     push_words(
         text,
@@ -77,7 +77,7 @@ pub fn push_detailed(text: &mut Draft, world: &World, event: &DetailedEvent) {
     text.push_between(
         "differs: the call of node ",
         number,
-        " isn't as it is told\n",
+        " isn't what the row says\n",
     );
     push_heads(text, "told");
     push_calls(text, event.detail.call(), &shown);

@@ -133,7 +133,7 @@ fn push_misfit(text: &mut Draft, fields: &ByteRecord, misfit: Misfit, setup: Opt
     if field == 0 {
         text.push_between("it has ", fields.len(), " fields, and ");
     } else {
-        text.push_between("at field ", field, " there may stand ");
+        text.push_between("field ", field, " has to be ");
     }
     push_expected(text, misfit.expected, setup);
 }

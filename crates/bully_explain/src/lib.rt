@@ -18,7 +18,7 @@ mod sheet_text;
 mod sides;
 mod words;
 
-pub use bully_account::{EventKind, NodeSheet, NodeSummary, CallSummary};
+pub use bully_account::{CallSummary, EventKind, NodeSheet, NodeSummary};
 pub use config::{ConfigSheet, explain_config};
 pub use explaining::{Sheet, explain};
 pub use sheet_text::reason;

@@ -2,7 +2,9 @@ use crate::differing::{push_claimed, push_detailed, push_whole_claimed};
 use crate::draft::Draft;
 use crate::sentences::push_refused;
 use crate::words::{push_held, push_offer, push_point, push_vector, push_what};
-use bully_account::{Account, EventKind, Memory, NodeSheet, Note, NodeSummary, CallSummary, Stop, node_sheet};
+use bully_account::{
+    Account, CallSummary, EventKind, Memory, NodeSheet, NodeSummary, Note, Stop, node_sheet,
+};
 use bully_base::{NODES_MAX, Node, OutOfMemory, Status};
 use bully_rows::Row;
 use bully_steps::Point;

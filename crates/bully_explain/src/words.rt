@@ -1,7 +1,7 @@
 //! The pieces of a sheet: nodes, points, calls and slots, as text.
 
 use crate::draft::Draft;
-use bully_account::{EventKind, Memory, NodeSummary, CallSummary, What};
+use bully_account::{CallSummary, EventKind, Memory, NodeSummary, What};
 use bully_base::{NODES_MAX, Node, NodeSet};
 use bully_calls::{Answer, Call, CallKind, Phase};
 use bully_rows::status_word;

@@ -2,12 +2,12 @@ ghost use Rattle.std.specs.Prelude.{◌≡◌, IfSome, OnOk};
 ghost use Rattle.bully_film.specs.Film.{kept};
 
 use crate::scene::{
-    SceneStart, Scene, event_kind_at, event_kind_in, is_quiet, node_in, open_on, quiet_shot, shot,
+    Scene, SceneStart, event_kind_at, event_kind_in, is_quiet, node_in, open_on, quiet_shot, shot,
 };
 use crate::snapshot::{NodeSnapshot, snapshots};
 use crate::window::Window;
 use bully_base::{Node, OutOfMemory, Setup};
-use bully_rows::{EventKind, NodeEventKind, Header, NodeEvent, Row, Version};
+use bully_rows::{EventKind, Header, NodeEvent, NodeEventKind, Row, Version};
 use bully_trace::{Judge, Verdict};
 use bully_world::World;
 use std::alloc::Global;

@@ -15,7 +15,11 @@ use std::alloc::Global;
 
 /// How the node stood before the rows that the finished film shows, and behind each of them. The node is at most the setup's last. Refused
 /// where an allocation fails.
-pub fn lane_of(alloc: Global, finished: &FinishedFilm, node: Node) -> Result<Vec<NodeSnapshot>, OutOfMemory>
+pub fn lane_of(
+    alloc: Global,
+    finished: &FinishedFilm,
+    node: Node,
+) -> Result<Vec<NodeSnapshot>, OutOfMemory>
     requires { node ≤ finished.now.setup.nodes }
     ensures { (window : WindowState) (trace : Trace) (is : IsFilmOf window finished.now trace) → IfOk result (λ snapshots. snapshots.items ≡ lane_seen trace.setup is.before node is.shown) }
 {
@@ -51,7 +55,12 @@ fn lane_in(
     ensures { IfOk result (λ snapshots. snapshots.items ≡ lane_in node scenes.now at_end.now) }
 {
     let mut snapshots = Vec::new(alloc);
-    push_lane(&mut snapshots, scenes, node, start_snapshot(scenes, node, at_end))?;
+    push_lane(
+        &mut snapshots,
+        scenes,
+        node,
+        start_snapshot(scenes, node, at_end),
+    )?;
     Ok(snapshots)
 }
 

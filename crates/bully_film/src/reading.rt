@@ -12,7 +12,11 @@ use std::io::Read;
 
 /// Judges a trace as [`bully_trace::check`] does, and tells what the rows of the window show. Each row is judged as it is read, and
 /// none is kept but the one that decides. Refused as [`bully_trace::check`] refuses the trace, where it isn't for writing.
-pub fn film_of<R: Read + Drop>(alloc: Global, reader: R, window: Window) -> Result<FinishedFilm, TraceFault>
+pub fn film_of<R: Read + Drop>(
+    alloc: Global,
+    reader: R,
+    window: Window,
+) -> Result<FinishedFilm, TraceFault>
     ensures told { IfOk result (λ finished. OfTrace (R.remaining reader) (IsFilmOf window finished)) }
     ensures fault { IfErr result (EndsReading (R.remaining reader)) }
 {

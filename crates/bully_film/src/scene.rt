@@ -14,7 +14,7 @@ use crate::OWNERS_SHOWN;
 use crate::snapshot::{NodeSnapshot, snapshot_beside, snapshot_of};
 use bully_base::{Node, OutOfMemory, Status};
 use bully_calls::CallKind;
-use bully_rows::{EventKind, NodeEventKind, NodeEvent, Row};
+use bully_rows::{EventKind, NodeEvent, NodeEventKind, Row};
 use bully_steps::Point;
 use bully_table::Table;
 use bully_world::World;
@@ -154,7 +154,10 @@ pub fn shot(number: u32, scene_start: &SceneStart, world: &World) -> Result<Scen
 pub fn is_quiet(scene_start: &SceneStart) -> bool
     ensures { result ≡ is_quiet scene_start.now.event_kind }
 {
-    !matches!(scene_start.event_kind, Some(EventKind::Run) | Some(EventKind::Plan))
+    !matches!(
+        scene_start.event_kind,
+        Some(EventKind::Run) | Some(EventKind::Plan)
+    )
 }
 
 /// As `shot`, of a row that is quiet.

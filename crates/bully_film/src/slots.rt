@@ -25,7 +25,11 @@ pub struct Holding {
 
 /// What the slot of a node held that stood so behind each of these rows, of which the first has this number. Refused where an
 /// allocation fails.
-pub fn holdings(alloc: Global, first: u32, snapshots: &[NodeSnapshot]) -> Result<Vec<Holding>, OutOfMemory>
+pub fn holdings(
+    alloc: Global,
+    first: u32,
+    snapshots: &[NodeSnapshot],
+) -> Result<Vec<Holding>, OutOfMemory>
     requires { first + length snapshots.now < 2 ^ 32 }
     ensures spread { IfOk result (λ holdings. spread_held holdings.items ≡ map held_in snapshots.now) }
     ensures joined { IfOk result (λ holdings. AreJoinedHeld first holdings.items (first + length snapshots.now)) }

@@ -9,8 +9,8 @@ ghost use Rattle.bully_rows.specs.Trace.{Trace};
 use crate::film::FinishedFilm;
 use crate::lane::lane_of;
 use crate::scene::Scene;
-use crate::snapshot::NodeSnapshot;
 use crate::slots::{Holding, holdings};
+use crate::snapshot::NodeSnapshot;
 use crate::stretches::{Bar, bars};
 use bully_base::{Node, OutOfMemory};
 use std::alloc::{AllocError, Global};
@@ -57,7 +57,12 @@ fn lane_at(alloc: Global, finished: &FinishedFilm, node: Node) -> Result<Lane, O
 }
 
 // The lane of a node that stood so behind each row from this one on.
-fn stretched(alloc: Global, node: Node, first: u32, snapshots: &[NodeSnapshot]) -> Result<Lane, OutOfMemory>
+fn stretched(
+    alloc: Global,
+    node: Node,
+    first: u32,
+    snapshots: &[NodeSnapshot],
+) -> Result<Lane, OutOfMemory>
     ensures { IfOk result (IsLane node first snapshots.now) }
 {
     if snapshots.len() >= (u32::MAX - first) as usize {

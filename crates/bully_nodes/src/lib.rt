@@ -5,8 +5,8 @@
 //! on the history being lawful, and its crashes and recoveries faults of the configuration.
 #![tactic(auto)]
 
-mod jobs;
 mod access;
+mod jobs;
 mod running;
 mod writing;
 

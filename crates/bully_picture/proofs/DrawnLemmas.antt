@@ -39,9 +39,10 @@ stretch-arrows : (text : List ℕ) (i first last : ℕ) (held : Option HeldCall)
 stretch-arrows text i first last held rest has behind zero row low end =
     let here : last + 1 ≡ row = omega (arith, end) in
     subst (λ k. HasArrows text i k rest) here behind
-stretch-arrows text i first last held rest has behind (suc n) row low end =
-    (arrow-at text i first last row held low (omega (arith, end)) has,
-    stretch-arrows text i first last held rest has behind n (row + 1) (omega (arith, low)) (omega (arith, end)))
+stretch-arrows text i first last held rest has behind (suc n) row low end = (
+  arrow-at text i first last row held low (omega (arith, end)) has,
+  stretch-arrows text i first last held rest has behind n (row + 1) (omega (arith, low)) (omega (arith, end)),
+)
 
 holdings-arrows : (text : List ℕ) (i row end : ℕ) (holdings : List Holding) → AreJoinedHeld row holdings end → HasHoldings text i holdings → HasArrows text i row (spread_held holdings)
 holdings-arrows text i row end [] joined has = tt

@@ -74,8 +74,8 @@ pub one-more : {X : Type 0} (P : List ℕ → X → Type 0) → ((text more : Li
 one-more P kept xs i x a b within is so_far gained good =
     let grown = gained.extends.text good in
     let before : All (P b.text) (take i xs) =
-        subst (λ t. All (P t) (take i xs)) (sym grown.1)
-        (All-weaker (P a.text) (P (a.text ++ grown.0)) (kept a.text grown.0) (take i xs) (so_far (gained.extends.memory good))) in
+    subst (λ t. All (P t) (take i xs)) (sym grown.1)
+    (All-weaker (P a.text) (P (a.text ++ grown.0)) (kept a.text grown.0) (take i xs) (so_far (gained.extends.memory good))) in
     All-more (P b.text) xs i x within before (subst (P b.text) is (gained.holds good))
 
 -- the same behind what was written before

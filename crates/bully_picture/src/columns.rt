@@ -8,7 +8,7 @@ ghost use Rattle.bully_trace.specs.VerdictText.{verdict_head};
 use crate::paper::Paper;
 use crate::words::{decides, push_followed, push_meaning, push_row_text};
 use bully_base::{Node, OutOfMemory, Status};
-use bully_film::{FinishedFilm, Scene, NodeSnapshot, lane_of};
+use bully_film::{FinishedFilm, NodeSnapshot, Scene, lane_of};
 use bully_trace::push_verdict_head;
 use std::alloc::Global;
 
@@ -73,7 +73,11 @@ const CHANGE: usize = 16;
 /// The picture of what a film shows as text: the verdict; a line for each row that changes a status or a coordinator, and for the one
 /// that decided, with those of each node in a column; and how many rows lie between. Below it stands this text. Refused where an
 /// allocation fails.
-pub fn text_picture(alloc: Global, finished: &FinishedFilm, below: &str) -> Result<String, OutOfMemory>
+pub fn text_picture(
+    alloc: Global,
+    finished: &FinishedFilm,
+    below: &str,
+) -> Result<String, OutOfMemory>
     ensures verdict { IfOk result (λ text. Has (string_bytes text) (verdict_head finished.now.verdict)) }
     ensures rows { IfOk result (λ text. HasTold (string_bytes text) finished.now.verdict finished.now.scenes.items) }
     ensures below { IfOk result (λ text. Has (string_bytes text) below.now) }
@@ -113,7 +117,11 @@ fn push_lines(alloc: Global, lines: &mut Paper, finished: &FinishedFilm) -> Resu
 }
 
 // Appends how each node stands before the first row, from node 1 on.
-fn push_starts(alloc: Global, now: &mut Vec<NodeSnapshot>, finished: &FinishedFilm) -> Result<(), OutOfMemory> {
+fn push_starts(
+    alloc: Global,
+    now: &mut Vec<NodeSnapshot>,
+    finished: &FinishedFilm,
+) -> Result<(), OutOfMemory> {
     for before in 0..finished.setup.nodes() {
         let node = Node::new(before + 1).unwrap();
         let lane = lane_of(alloc, finished, node)?;

@@ -106,7 +106,12 @@ pub fn draw_names(alloc: Global, layout: &Layout, setup: &Setup, names: &[&str])
     let mut paper = Paper::new(alloc);
     for before in 0..setup.nodes() {
         let node = Node::new(before + 1).unwrap();
-        draw_name(&mut paper, layout, node, names.get(usize::from(before)).copied());
+        draw_name(
+            &mut paper,
+            layout,
+            node,
+            names.get(usize::from(before)).copied(),
+        );
     }
     paper
 }

@@ -12,7 +12,7 @@ use crate::layout::{ASIDE, HALF, Layout, WORDS_MIN};
 use crate::paper::Paper;
 use crate::words::{decides, push_meaning, push_row_text};
 use bully_base::Node;
-use bully_film::{Scene, NodeSnapshot, Stand};
+use bully_film::{NodeSnapshot, Scene, Stand};
 use bully_rows::EventKind;
 use bully_table::Table;
 use bully_trace::Verdict;

@@ -18,7 +18,7 @@ use crate::marks::{draw_numbers, draw_row};
 use crate::paper::Paper;
 use crate::words::decides;
 use bully_base::{OutOfMemory, Setup};
-use bully_film::{Lane, FinishedFilm, lanes, row_before};
+use bully_film::{FinishedFilm, Lane, lanes, row_before};
 use bully_trace::{Verdict, push_verdict_head};
 use std::alloc::Global;
 
@@ -225,7 +225,11 @@ fn push_title(text: &mut String, finished: &FinishedFilm) -> Result<(), OutOfMem
 {
     push_verdict_head(text, finished.verdict)?;
     push_size(text, &finished.setup)?;
-    push_shown(text, row_before(finished.scenes.as_slice()), finished.scenes.len())?;
+    push_shown(
+        text,
+        row_before(finished.scenes.as_slice()),
+        finished.scenes.len(),
+    )?;
     text.push(')')
 }
 

@@ -6,7 +6,7 @@ ghost use Rattle.bully_picture.specs.Written.{Extends};
 use crate::paper::Paper;
 use bully_base::{Node, Status};
 use bully_calls::CallKind;
-use bully_film::{Scene, NodeSnapshot, Stand};
+use bully_film::{NodeSnapshot, Scene, Stand};
 use bully_rows::{EventKind, SAW, status_word};
 use bully_trace::Verdict;
 

@@ -6,15 +6,15 @@
 //! configuration, and on what a turn does on their backend.
 #![tactic(auto)]
 
+mod backend;
 mod playing;
 mod recording;
 mod schedule;
-mod backend;
 mod trace;
 mod turns;
 
+pub use backend::Backend;
 pub use playing::{PlayFault, play};
 pub use schedule::Schedule;
-pub use backend::Backend;
 pub use trace::trace_with;
 pub use turns::{take_node_turn, take_operator_turn};

@@ -7,8 +7,8 @@ ghost use Rattle.bully_steps.specs.Driver.{chosen_every};
 ghost use Rattle.bully_steps.specs.Procedure.{state_of};
 ghost use Rattle.bully_steps.specs.ProcedureState.{HasSameNode};
 
-use crate::schedule::Schedule;
 use crate::backend::Backend;
+use crate::schedule::Schedule;
 use bully_base::OutOfMemory;
 use bully_config::{Fault, FaultKind};
 use bully_steps::{Choice, Driver, Procedure};

@@ -181,7 +181,7 @@ impl EventKind {
 }
 
 /// All kinds of event, in the order of the table of rows in docs/FORMATS.md.
-pub const EVERY_DEED: [EventKind; 11] = [
+pub const EVERY_EVENT_KIND: [EventKind; 11] = [
     EventKind::Recover,
     EventKind::Crash,
     EventKind::Check,

@@ -24,8 +24,8 @@ mod writing;
 pub use detail::{Detail, DetailedEvent};
 pub use header::{Header, Version, read_weights, version_for};
 pub use kind::{
-    CHECK, CRASH, DROP, EventKind, EVERY_DEED, NodeEventKind, LOSE, MOVE, NodeEvent, PLAN, RECOVER, RETURN,
-    RUN, START, TIMEOUT, kind_named,
+    CHECK, CRASH, DROP, EVERY_EVENT_KIND, EventKind, LOSE, MOVE, NodeEvent, NodeEventKind, PLAN,
+    RECOVER, RETURN, RUN, START, TIMEOUT, kind_named,
 };
 pub use reading::read_trace;
 pub use row::{number_within, read_coordinator, read_node};

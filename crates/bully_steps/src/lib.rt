@@ -10,14 +10,14 @@ mod plan_taking;
 mod point;
 mod point_kind;
 mod procedure;
-mod stored_point;
 mod states;
+mod stored_point;
 
 pub use driver::{Choice, Driver};
 pub use point::{Point, Want, begin_check, begin_recovery, begin_timeout};
 pub use point_kind::PointKind;
 pub use procedure::Procedure;
-pub use stored_point::StoredPoint;
 pub use states::{
     Announcing, Asking, Checking, Halting, Idle, Inquiring, Planned, Planning, Readying,
 };
+pub use stored_point::StoredPoint;

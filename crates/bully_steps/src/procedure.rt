@@ -321,7 +321,13 @@ impl Procedure {
         ensures { state_of self.new ≡ procedure_state (state_of self.old).setup (state_of self.old).node generation stored_point.now up.now coordinator awaits }
     {
         self.set_generation(generation);
-        self.go_to(stored_point.kind(), stored_point.left(), up, coordinator, awaits);
+        self.go_to(
+            stored_point.kind(),
+            stored_point.left(),
+            up,
+            coordinator,
+            awaits,
+        );
     }
 
     // Becomes the same in this of the node's generations.

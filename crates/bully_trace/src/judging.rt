@@ -14,7 +14,9 @@ use crate::{Verdict, Violation};
 use bully_agree::Walk;
 use bully_base::OutOfMemory;
 use bully_calls::Answer;
-use bully_rows::{Claim, DetailedEvent, NodeEventKind, Header, NodeEvent, Row, Version, WholeClaim};
+use bully_rows::{
+    Claim, DetailedEvent, Header, NodeEvent, NodeEventKind, Row, Version, WholeClaim,
+};
 use bully_world::{Event, Refused, World};
 use std::alloc::Global;
 use std::marker::Model;

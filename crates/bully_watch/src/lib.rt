@@ -8,9 +8,9 @@
 mod entry;
 mod knowledge;
 mod observer;
-mod world_copy;
 mod publisher;
 mod told;
+mod world_copy;
 
 pub use entry::Entry;
 pub use knowledge::PublisherId;

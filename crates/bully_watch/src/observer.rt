@@ -4,8 +4,8 @@ ghost use Rattle.left_right.specs.Sides.{view};
 ghost use Rattle.bully_watch.specs.Observation.{longer, Looks};
 ghost use Rattle.bully_watch.specs.CopyRule.{prefix_of};
 
-use crate::world_copy::{Look, CopyReader};
 use crate::told::Told;
+use crate::world_copy::{CopyReader, Look};
 use bully_agree::{View, view};
 use core::mem::replace_with;
 use std::alloc::Global;

@@ -8,8 +8,10 @@ ghost use Rattle.bully_watch.specs.CopyRule.{IsPublisher, LeadsToCopy, prefix_of
 
 use crate::Entry;
 use crate::observer::Observer;
-use crate::world_copy::{Learn, NextKnowledge, WorldCopy, CopyReader, CopyWriter, Publish, Tell, new_reader};
 use crate::told::Told;
+use crate::world_copy::{
+    CopyReader, CopyWriter, Learn, NextKnowledge, Publish, Tell, WorldCopy, new_reader,
+};
 use bully_base::{OutOfMemory, Setup};
 use bully_world::World;
 use core::mem::replace_with;

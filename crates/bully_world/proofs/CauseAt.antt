@@ -16,26 +16,26 @@ use Rattle.bully_calls.specs.Events.{node_of}
 use Rattle.bully_world.specs.Cause.{refuses, first_of, later_refusals, cause, is_down_at}
 use Rattle.bully_world.specs.NodeInvariant.{WorldInvariant, SuitsPending}
 use Rattle.bully_world.specs.State.{StoredNode, empty_state, node_state_of, world_in}
-use Rattle.bully_world.specs.World.{World, NodeState, member}
-use Rattle.bully_world.proofs.WorldIn.{member-world_in, world_in-length}
+use Rattle.bully_world.specs.World.{World, NodeState, node_state}
+use Rattle.bully_world.proofs.WorldIn.{node_state-world_in, world_in-length}
 
--- what stands at a node's place is its member
-pub member-place : (ms : List StoredNode) (k i : ℕ) (s : StoredNode) → k + 1 ≡ i → k < length ms → s ≡ slice_index_or ms k s → member (world_in ms) i ≡ node_state_of s
-member-place ms k i s e l is = member-world_in ms i ∙ ap node_state_of (at_node-place (empty_state 0) s ms k i e l ∙ sym is)
+-- what stands at a node's place is its node_state
+pub node_state-place : (ms : List StoredNode) (k i : ℕ) (s : StoredNode) → k + 1 ≡ i → k < length ms → s ≡ slice_index_or ms k s → node_state (world_in ms) i ≡ node_state_of s
+node_state-place ms k i s e l is = node_state-world_in ms i ∙ ap node_state_of (at_node-place (empty_state 0) s ms k i e l ∙ sym is)
 
 pub place-within : (setup : Setup) (ms : List StoredNode) (k i : ℕ) → WorldInvariant setup (world_in ms) → k + 1 ≡ i → i ≤ setup.nodes → k < length ms
 place-within setup ms k i all e l = omega (arith, world_in-length ms, all.count)
 
--- the member of an event that is this one
-pub named_is : (w : World) (m : NodeState) (e f : Event) → e ≡ f → member w (node_of e) ≡ m → member w (node_of f) ≡ m
-named_is w m e f same is = ap (λ x. member w (node_of x)) (sym same) ∙ is
+-- the node_state of an event that is this one
+pub named_is : (w : World) (m : NodeState) (e f : Event) → e ≡ f → node_state w (node_of e) ≡ m → node_state w (node_of f) ≡ m
+named_is w m e f same is = ap (λ x. node_state w (node_of x)) (sym same) ∙ is
 
 -- what refuses an event that is this one
 pub at_event : (setup : Setup) (w : World) (count : ℕ) (e f : Event) (r : Option Refused) → e ≡ f → r ≡ first_of (refuses setup w count f) later_refusals → r ≡ first_of (refuses setup w count e) later_refusals
 at_event setup w count e f r same is = is ∙ ap (λ x. first_of (refuses setup w count x) later_refusals) (sym same)
 
 -- a call in a slot goes to a node of the setup
-pub callee-within : (setup : Setup) (ms : List StoredNode) (i : ℕ) (s : StoredNode) → WorldInvariant setup (world_in ms) → member (world_in ms) i ≡ node_state_of s
+pub callee-within : (setup : Setup) (ms : List StoredNode) (i : ℕ) (s : StoredNode) → WorldInvariant setup (world_in ms) → node_state (world_in ms) i ≡ node_state_of s
     → IfSome s.slot.content (λ p. (0 < p.call.callee) × (p.call.callee ≤ length ms))
 callee-within setup ms i s all here = by_slot s.slot.content (all_calls s.slot.content refl)
   where
@@ -56,7 +56,7 @@ cause-later setup w count (Event.Recover i) other room node = absurd (other i re
 cause-later setup w count e other room node = grind (arith, nat_tests, room, node)
 
 -- a status that is Down, as a test
-pub down-test : (w : World) (i : ℕ) (m : NodeState) (b : Bool) → member w i ≡ m → (b ≡ true → m.vector.status ≡ Down) → (m.vector.status ≡ Down → b ≡ true) → b ≡ is_down_at w i
+pub down-test : (w : World) (i : ℕ) (m : NodeState) (b : Bool) → node_state w i ≡ m → (b ≡ true → m.vector.status ≡ Down) → (m.vector.status ≡ Down → b ≡ true) → b ≡ is_down_at w i
 down-test w i m b here to from = subst (λ (x : NodeState). b ≡ is_down x.vector.status) (sym here) (by_status m.vector.status b to from)
   where
     by_status : (s : Status) (b : Bool) → (b ≡ true → s ≡ Down) → (s ≡ Down → b ≡ true) → b ≡ is_down s

@@ -47,7 +47,12 @@ pub fn cause_of(setup: &Setup, events: u32, states: &[NodeState], event: &Event)
 
 // The same of a node that is up, from the refusals behind IsUp on. `named` is the node state of the event's node.
 #[inline(always)]
-fn later_cause(setup: &Setup, states: &[NodeState], named: &NodeState, event: &Event) -> Option<Refused>
+fn later_cause(
+    setup: &Setup,
+    states: &[NodeState],
+    named: &NodeState,
+    event: &Event,
+) -> Option<Refused>
     requires fits { WorldInvariant setup.now (world_in states.now) }
     requires node { node_of event.now ≤ setup.now.nodes }
     requires named { node_state (world_in states.now) (node_of event.now) ≡ node_state_of named.now }
@@ -126,7 +131,10 @@ fn is_unfailed(node_state: &NodeState) -> bool
 fn has_come(node_state: &NodeState) -> bool
     ensures { result ≡ in_phase (λ f. not (is_sent f)) (node_state_of node_state.now).pending }
 {
-    matches!(node_state.slot().phase(), Some(Phase::Ran(_) | Phase::Failed))
+    matches!(
+        node_state.slot().phase(),
+        Some(Phase::Ran(_) | Phase::Failed)
+    )
 }
 
 // The refusal, where it holds.

@@ -125,7 +125,8 @@ impl NodeState {
         requires { IsPointOf setup.now node self.now.point }
         ensures { result ≡ offered setup.now self.now.vector.vector.coordinator self.now.point }
     {
-        self.stored_point.offers(setup, node, self.vector.coordinator())
+        self.stored_point
+            .offers(setup, node, self.vector.coordinator())
     }
 
     /// The node recovers. Its task stays as it is where the setup keeps.
@@ -305,7 +306,8 @@ impl NodeState {
             Event::Recover(node) => self.recover(setup, *node),
             Event::Crash(_) => self.crash(setup),
             Event::Check(node) => {
-                self.stored_point.begin_check(setup, *node, status, coordinator);
+                self.stored_point
+                    .begin_check(setup, *node, status, coordinator);
             }
             Event::Timeout(node) => self.stored_point.begin_timeout(*node, status, coordinator),
             Event::Start(node) => self.start_offered(setup, *node),

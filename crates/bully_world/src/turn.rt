@@ -164,7 +164,12 @@ fn agrees_with(procedure: &Procedure, node_state: &NodeState) -> bool
     let kind = stored_point.kind();
     let vector = node_state.vector();
     procedure.generation() == node_state.generation()
-        && is_same_point(&procedure.kind(), procedure.left(), &kind, stored_point.left())
+        && is_same_point(
+            &procedure.kind(),
+            procedure.left(),
+            &kind,
+            stored_point.left(),
+        )
         && procedure.awaits() == holds_live_call(node_state.slot(), node_state.generation())
         && is_same_set(procedure.up(), up_at(&kind, vector.up()))
         && is_same_node(

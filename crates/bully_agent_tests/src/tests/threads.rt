@@ -2,10 +2,11 @@
 //! their turns in rounds do what `play` does.
 
 use super::gates::{Keeper, Rule};
+use bully_base::Node;
 use bully_config::Config;
 use bully_group::Closed;
 use bully_nodes::{play, run_nodes, write_history};
-use bully_world::Event;
+use bully_world::{Event, World};
 use std::alloc::Global;
 use std::sync::Wait;
 use std::thread::Threads;
@@ -168,7 +169,7 @@ fn comes_to(alloc: Global, config: &Config, closed: &Closed, wanted: Wanted) -> 
         Wanted::Finished => true,
         Wanted::Election => {
             has_recovery(closed, 1)
-                && count_of(closed, 1) == 5
+                && are_actors(closed, &[0, 1, 1, 1, 1, 1])
                 && is_written(alloc, closed, ELECTION.as_bytes())
         }
         Wanted::Recoveries => {
@@ -176,19 +177,55 @@ fn comes_to(alloc: Global, config: &Config, closed: &Closed, wanted: Wanted) -> 
         }
         Wanted::Recovery => has_recovery(closed, 1)
             && is_written(alloc, closed, RECOVERY.as_bytes()),
-        Wanted::Played => is_as_played(alloc, config, closed),
+        Wanted::Played => {
+            is_as_played(alloc, config, closed) && has_its_actors(alloc, config, closed)
+        }
     }
 }
 
-// How many entries of the history are the node's.
-fn count_of(closed: &Closed, number: u16) -> u32 {
-    let mut count: u32 = 0;
-    for entry in closed.history() {
-        if entry.actor == number {
-            count = count.saturating_add(1);
+// Whether the entries of the history are these actors', in this order.
+fn are_actors(closed: &Closed, actors: &[u16]) -> bool {
+    let history = closed.history();
+    if history.len() != actors.len() {
+        return false;
+    }
+    for (entry, actor) in history.iter().zip(actors) {
+        if entry.actor != *actor {
+            return false;
         }
     }
-    count
+    true
+}
+
+// Whether each entry is that of whose event it is.
+fn has_its_actors(alloc: Global, config: &Config, closed: &Closed) -> bool {
+    let Ok(mut world) = World::new(alloc, *config.setup()) else {
+        return false;
+    };
+    for entry in closed.history() {
+        if whose(&world, &entry.event) != Some(entry.actor) || world.apply(&entry.event).is_err() {
+            return false;
+        }
+    }
+    true
+}
+
+// Whose event it is: a recovery and a crash are the operator's, a run is its callee's, and what else a node does is its own.
+fn whose(world: &World, event: &Event) -> Option<u16> {
+    match event {
+        Event::Recover(_) | Event::Crash(_) => Some(0),
+        Event::Run(caller) => callee_of(world, *caller),
+        _ => Some(event.node().number()),
+    }
+}
+
+// The callee of the call in the caller's slot.
+fn callee_of(world: &World, caller: Node) -> Option<u16> {
+    if caller.number() > world.setup().nodes() {
+        return None;
+    }
+    let call = world.slot(caller).call()?;
+    Some(call.callee.number())
 }
 
 // Whether the operator recovers the node.

@@ -1,6 +1,6 @@
 //! What is done with watched groups of one node, and what has to be told of it.
 
-use super::asks::{Ask, Call, Case, Action};
+use super::asks::{Action, Ask, Call, Case};
 use super::observers::{Place, Watch, Which};
 
 // Nothing is asked yet.

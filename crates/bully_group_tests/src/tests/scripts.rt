@@ -1,6 +1,6 @@
 //! The groups that are tried.
 
-use super::asks::{Ask, Call, Case, Action};
+use super::asks::{Action, Ask, Call, Case};
 use super::observers::Place;
 use bully_calls::Answer;
 

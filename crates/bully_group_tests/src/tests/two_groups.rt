@@ -4,7 +4,9 @@ ghost use Rattle.std.specs.Prelude.{◌≡◌, ◌+◌, [], IfSome};
 ghost use Rattle.bully_group.specs.Locked.{name_of};
 ghost use Rattle.bully_steps.specs.Procedure.{state_of};
 
-use super::asks::{Ask, Beside, Call, Case, Action, ask_all, beside_for, ends_as, publisher_beside};
+use super::asks::{
+    Action, Ask, Beside, Call, Case, ask_all, beside_for, ends_as, publisher_beside,
+};
 use super::held::{Opened, Way, open};
 use super::observers::Place;
 use bully_base::Setup;

@@ -2,7 +2,7 @@
 
 ghost use Rattle.std.specs.Prelude.{◌<◌};
 
-use super::scripts::{ALONE, OTHERS_DOWN};
+use super::scripts::{ALONE, ALONE_UPGRADED, OTHERS_DOWN};
 use bully_rows::{TraceCause, TraceFault, read_trace};
 use bully_trace::{check, upgrade};
 use std::alloc::Global;
@@ -57,23 +57,39 @@ const UNWRITTEN: TraceFault = TraceFault {
     cause: TraceCause::Write,
 };
 
-// Whether an upgraded trace of 69 bytes isn't written where the writer takes only so many, nor a verdict of 26 bytes.
-// (which bytes are taken, `tests/cases/streams.txt` shows)
-fn are_cut_off(alloc: Global, room: usize) -> bool
+// Whether an upgraded trace of 69 bytes isn't written if the writer takes only so many, and those are its first.
+fn cuts_off_the_upgraded(alloc: Global, room: usize) -> bool
     requires { room < 69 }
 {
     let mut taken = [0u8; 69];
     // (a slice takes as many bytes as it has)
     let mut narrow = &mut taken[..room];
     let upgraded = upgrade(alloc, ALONE.as_bytes(), &mut narrow);
-    let mut narrower = &mut taken[..room.min(25)];
-    let judged = check(alloc, ALONE.as_bytes(), &mut narrower);
-    upgraded == Err(UNWRITTEN) && judged == Err(UNWRITTEN)
+    upgraded == Err(UNWRITTEN) && ALONE_UPGRADED.as_bytes().starts_with(&taken[..room])
+}
+
+// The same of a verdict of 26 bytes.
+fn cuts_off_the_verdict(alloc: Global, room: usize) -> bool
+    requires { room < 26 }
+{
+    let mut taken = [0u8; 26];
+    let mut narrow = &mut taken[..room];
+    let judged = check(alloc, ALONE.as_bytes(), &mut narrow);
+    judged == Err(UNWRITTEN) && b"lawful 6\n1 normal 1 1 1,1\n".starts_with(&taken[..room])
 }
 
 #[test]
 fn failed_write(rt: HostRuntime) {
     for room in 0..69 {
-        assert!(rt; are_cut_off(rt.alloc(), room), "with room for {room}");
+        assert!(rt;
+            cuts_off_the_upgraded(rt.alloc(), room),
+            "with room for {room}"
+        );
+    }
+    for room in 0..26 {
+        assert!(rt;
+            cuts_off_the_verdict(rt.alloc(), room),
+            "with room for {room}"
+        );
     }
 }
