@@ -2,7 +2,6 @@
 use Rattle.std.proofs.Common.{◌≡◌, ◌∙◌, ℕ, Bool, true, false, not, ◌||◌, ◌&&◌, ◌==◌, ◌++◌, List, [], ◌∷◌, refl, sym, ap, subst, codes, if◌then◌else◌, arith}
 use Rattle.std.specs.Prelude.{Contains}
 use Rattle.std.specs.Str.{IsUtf8, chars}
-use Rattle.std.proofs.lemmas.Bool.Decides.{nat_tests}
 use Rattle.std.proofs.lemmas.List.{append_assoc, append-nil}
 use Rattle.std.proofs.lemmas.List.Elements.{All-contains_itself}
 use Rattle.std.proofs.lemmas.Str.{chars-encodes, encodes-append, scalars-chars}
@@ -75,7 +74,7 @@ scalar-first c cs is = by (scalar c) (scalars cs) is
   where
     by : (a b : Bool) → (a && b) ≡ true → (a ≡ true) × (b ≡ true)
     by true b both = (refl, both)
-    by false b both = (both, absurd (cc))
+    by false b both = (both, cc)
 
 all_marks-scalars : (cs : List ℕ) → scalars cs ≡ true → scalars (all_marks cs) ≡ true
 all_marks-scalars [] are = refl
@@ -99,32 +98,40 @@ harmless-all letters are before behind letter is = harmless-at before behind let
 abbrev is_kept : ℕ → Bool
 is_kept c = (c == 60) || ((c == 62) || ((c == 38) || ((c == 34) || ((c == 39) || is_forbidden c))))
 
+clash : true ≡ false → ⊥
+clash e = cc
+
 plain-letter : (c : ℕ) (behind : List ℕ) → is_kept c ≡ false → IsHarmlessLetter c behind
 plain-letter c behind free = record {
-  no_less_than = λ is. absurd (grind (arith, nat_tests));
-  no_greater_than = λ is. absurd (grind (arith, nat_tests));
-  no_double_quote = λ is. absurd (grind (arith, nat_tests));
-  no_single_quote = λ is. absurd (grind (arith, nat_tests));
+  no_less_than = λ is. clash (subst (λ x. is_kept x ≡ false) is free);
+  no_greater_than = λ is. clash (subst (λ x. is_kept x ≡ false) is free);
+  no_double_quote = λ is. clash (subst (λ x. is_kept x ≡ false) is free);
+  no_single_quote = λ is. clash (subst (λ x. is_kept x ≡ false) is free);
   no_control = last (c == 60) (c == 62) (c == 38) (c == 34) (c == 39) (is_forbidden c) free;
-  entity = λ is. absurd (grind (arith, nat_tests));
+  entity = λ is. absurd (clash (subst (λ x. is_kept x ≡ false) is free));
 }
   where
     last : (a b d e f g : Bool) → (a || (b || (d || (e || (f || g))))) ≡ false → g ≡ false
-    last a b d e f g none = grind arith
+    last true b d e f g none = absurd (clash none)
+    last false true d e f g none = absurd (clash none)
+    last false false true e f g none = absurd (clash none)
+    last false false false true f g none = absurd (clash none)
+    last false false false false true g none = absurd (clash none)
+    last false false false false false g none = none
 
 -- an & before the name of an entity
 ampersand : (behind : List ℕ) → BeginsEntity behind → IsHarmlessLetter 38 behind
 ampersand behind begins = record {
-  no_less_than = λ is. absurd (grind arith);
-  no_greater_than = λ is. absurd (grind arith);
-  no_double_quote = λ is. absurd (grind arith);
-  no_single_quote = λ is. absurd (grind arith);
+  no_less_than = λ is. omega arith;
+  no_greater_than = λ is. omega arith;
+  no_double_quote = λ is. omega arith;
+  no_single_quote = λ is. omega arith;
   no_control = refl;
   entity = λ _. begins;
 }
 
 none-kept : (a b d e f g : Bool) → a ≡ false → b ≡ false → d ≡ false → e ≡ false → f ≡ false → g ≡ false → (a || (b || (d || (e || (f || g))))) ≡ false
-none-kept a b d e f g na nb nd ne nf ng = grind arith
+none-kept a b d e f g na nb nd ne nf ng = rw (na, nb, nd, ne, nf, ng)
 
 marks-harmless : (c : ℕ) (rest : List ℕ) → AreHarmless rest → AreHarmless (marks c ++ rest)
 marks-harmless c rest are =

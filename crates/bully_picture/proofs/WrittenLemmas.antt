@@ -24,7 +24,7 @@ noted old mid new part (Ok x) same wrote kept memory = record {
 }
 noted old mid new part (Err e) same wrote kept memory = record {
   memory = λ good. sym same ∙ (memory good).0;
-  text = λ good. let is : IsOk (Err {T = Unit {0}} e) = (memory good).1 in absurd (cc);
+  text = λ good. let is = (memory good).1 in absurd (cc);
 }
 
 -- two writes are one

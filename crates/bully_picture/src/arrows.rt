@@ -1,5 +1,4 @@
 //! Calls as arrows, and their replies.
-ghost use Rattle.std.specs.Prelude.{◌≡◌, Some};
 ghost use Rattle.bully_picture.specs.Drawn.{HasHoldings, arrow_label, held_label};
 ghost use Rattle.bully_picture.specs.Title.{Has};
 ghost use Rattle.bully_picture.specs.Written.{Gains, Writes};

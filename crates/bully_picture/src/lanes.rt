@@ -1,5 +1,5 @@
 //! The bars of a node, and its name over them.
-ghost use Rattle.std.specs.Prelude.{◌≡◌, nat_le, option_map, slice_get};
+ghost use Rattle.std.specs.Prelude.{nat_le, option_map, slice_get};
 ghost use Rattle.bully_picture.specs.Drawn.{HasNodes, node_label};
 ghost use Rattle.bully_picture.specs.Title.{Has};
 ghost use Rattle.bully_picture.specs.Written.{Gains, IsIn};
@@ -133,7 +133,7 @@ fn draw_name(paper: &mut Paper, layout: &Layout, node: Node, name: Option<&str>)
 
 // Writes as much of a name as the lane has room for, and all of it where the pointer rests.
 fn push_name(paper: &mut Paper, node: Node, name: &str, lane: u32)
-    ensures { Gains paper.old paper.new (λ text. Has text (node_label true node (Some name.now))) }
+    ensures { Gains paper.old paper.new (λ text. Has text (node_label (nat_le WORDS_MIN lane) node (Some name.now))) }
 {
     paper.push_start(name, letters_in(name, lane));
     paper.push_node("<title>node ", node, ": ");

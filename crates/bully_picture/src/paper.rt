@@ -1,5 +1,5 @@
 //! What pictures are written on.
-ghost use Rattle.std.specs.Prelude.{◌≡◌, ◌++◌, codes, false, length, string_bytes, IsOk, OnOk};
+ghost use Rattle.std.specs.Prelude.{◌≡◌, ◌++◌, codes, false, length, string_bytes, true, IsOk, OnOk};
 ghost use Rattle.std.specs.Fmt.{decimal};
 ghost use Rattle.std.specs.Str.{chars};
 ghost use Rattle.bully_picture.specs.Escaping.{escaped, shortened};
