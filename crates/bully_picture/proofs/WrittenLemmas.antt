@@ -1,6 +1,6 @@
 -- What stands on a paper behind several writes.
-use Rattle.std.proofs.Common.{◌≡◌, ◌∙◌, ℕ, ◌+◌, ◌<◌, ◌++◌, List, [], true, false, Result, Ok, Err, get_or, length, take, refl, sym, ap, subst}
-use Rattle.std.specs.Prelude.{All, IsOk, OnOk}
+use Rattle.std.proofs.Common.{◌≡◌, ◌∙◌, ℕ, ◌+◌, ◌<◌, ◌++◌, List, [], Bool, true, false, ◌||◌, Result, Ok, Err, get_or, length, take, refl, sym, ap, subst}
+use Rattle.std.specs.Prelude.{All, OnOk, is_err}
 use Rattle.std.proofs.lemmas.List.{append_assoc, append-nil}
 use Rattle.std.proofs.lemmas.List.Elements.{All-more, All-weaker}
 use Rattle.bully_picture.specs.Title.{Has}
@@ -15,16 +15,25 @@ pub has-within : (text middle part : List ℕ) → Has text middle → Has middl
 has-within text middle part (before, behind, is) (front, back, within) =
     (before ++ front, back ++ behind, is ∙ ap (λ m. before ++ m ++ behind) within ∙ simp append_assoc)
 
+or-first : (a b : Bool) → (a || b) ≡ false → a ≡ false
+or-first true b none = none
+or-first false b none = refl
+
+or-second : (a b : Bool) → (a || b) ≡ false → b ≡ false
+or-second true true none = none
+or-second true false none = refl
+or-second false b none = none
+
 -- a write of which was noted how it went
-pub noted : {E : Type 0} (old mid new : Written) (part : List ℕ) (r : Result (Unit {0}) E) → mid.has_failed ≡ old.has_failed → OnOk r (mid.text ≡ old.text ++ part)
-    → new.text ≡ mid.text → (new.has_failed ≡ false → (mid.has_failed ≡ false) × IsOk r) → Writes old new part
-noted old mid new part (Ok x) same wrote kept memory = record {
-  memory = λ good. sym same ∙ (memory good).0;
+pub noted : {E : Type 0} (before old new : Written) (part : List ℕ) (r : Result (Unit {0}) E) → before.has_failed ≡ old.has_failed → OnOk r (old.text ≡ before.text ++ part)
+    → new.text ≡ old.text → new.has_failed ≡ (old.has_failed || is_err r) → Writes before new part
+noted before old new part (Ok x) same wrote kept is = record {
+  memory = λ good. same ∙ or-first old.has_failed false (sym is ∙ good);
   text = λ good. kept ∙ wrote;
 }
-noted old mid new part (Err e) same wrote kept memory = record {
-  memory = λ good. sym same ∙ (memory good).0;
-  text = λ good. let is = (memory good).1 in absurd (cc);
+noted before old new part (Err e) same wrote kept is = record {
+  memory = λ good. same ∙ or-first old.has_failed true (sym is ∙ good);
+  text = λ good. let failed : true ≡ false = or-second old.has_failed true (sym is ∙ good) in absurd (cc);
 }
 
 -- two writes are one

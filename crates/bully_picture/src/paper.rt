@@ -1,9 +1,9 @@
 //! What pictures are written on.
-ghost use Rattle.std.specs.Prelude.{◌≡◌, ◌++◌, codes, false, length, string_bytes, true, IsOk, OnOk};
+ghost use Rattle.std.specs.Prelude.{◌≡◌, ℕ, List, ◌++◌, codes, false, length, string_bytes, true, OnOk};
 ghost use Rattle.std.specs.Fmt.{decimal};
 ghost use Rattle.std.specs.Str.{chars};
 ghost use Rattle.bully_picture.specs.Escaping.{escaped, shortened};
-ghost use Rattle.bully_picture.specs.Written.{Writes, attribute_text, blank, right_text};
+ghost use Rattle.bully_picture.specs.Written.{Writes, Written, attribute_text, blank, right_text};
 
 use crate::escaping::{push_escaped, push_start};
 use bully_base::{Node, OutOfMemory};
@@ -141,13 +141,10 @@ impl Paper {
         self.note(written);
     }
 
-    // Notes it, where memory was wanting.
+    // Notes how a write went: behind what stood before it, this part.
     fn note(&mut self, written: Result<(), OutOfMemory>)
-        ensures text { self.new.text ≡ self.old.text }
-        ensures memory { self.new.has_failed ≡ false → (self.old.has_failed ≡ false) × IsOk written }
+        ensures { (before : Written) (part : List ℕ) → before.has_failed ≡ self.old.has_failed → OnOk written (self.old.text ≡ before.text ++ part) → Writes before self.new part }
     {
-        if written.is_err() {
-            self.has_failed = true;
-        }
+        self.has_failed |= written.is_err();
     }
 }
