@@ -1,12 +1,12 @@
 -- What is written of a text is harmless, letter by letter.
-use Rattle.std.proofs.Common.{◌≡◌, ◌∙◌, ℕ, Bool, true, false, not, ◌||◌, ◌&&◌, ◌==◌, ◌++◌, List, [], ◌∷◌, refl, sym, ap, subst, codes, if◌then◌else◌, arith}
-use Rattle.std.specs.Prelude.{Contains}
+use Rattle.std.proofs.Common.{◌≡◌, ◌∙◌, ℕ, zero, suc, length, take, Bool, true, false, not, ◌||◌, ◌&&◌, ◌==◌, ◌++◌, List, [], ◌∷◌, refl, sym, ap, subst, codes, if◌then◌else◌, arith}
+use Rattle.std.specs.Prelude.{Contains, nat_le}
 use Rattle.std.specs.Str.{IsUtf8, chars}
 use Rattle.std.proofs.lemmas.List.{append_assoc, append-nil}
 use Rattle.std.proofs.lemmas.List.Elements.{All-contains_itself}
 use Rattle.std.proofs.lemmas.Str.{chars-encodes, encodes-append, scalars-chars}
 use lib.Utf8.{encode, encodes, scalar, scalars}
-use Rattle.bully_picture.specs.Escaping.{escaped, escaped_letter, is_forbidden}
+use Rattle.bully_picture.specs.Escaping.{escaped, escaped_letter, is_forbidden, shortened}
 use Rattle.bully_picture.specs.Harmless.{BeginsEntity, IsHarmless, IsHarmlessLetter, entities}
 
 -- the letters that are written of one
@@ -25,13 +25,13 @@ all_marks (c ∷ cs) = marks c ++ all_marks cs
 
 -- what holds of both arms holds of the choice
 chosen : (b : Bool) (x y : List ℕ) (P : List ℕ → Type 0) → (b ≡ true → P x) → (b ≡ false → P y) → P (if b then x else y)
-chosen true x y P yes no = yes refl
-chosen false x y P yes no = no refl
+chosen true x y P first second = first refl
+chosen false x y P first second = second refl
 
 -- the arms are written alike
 written-alike : (b : Bool) (x y xs ys : List ℕ) → x ≡ encodes xs → y ≡ encodes ys → (if b then x else y) ≡ encodes (if b then xs else ys)
-written-alike true x y xs ys yes no = yes
-written-alike false x y xs ys yes no = no
+written-alike true x y xs ys first second = first
+written-alike false x y xs ys first second = second
 
 one-written : (c : ℕ) → encode c ≡ encodes (c ∷ [])
 one-written c = sym (append-nil (encode c))
@@ -136,11 +136,11 @@ none-kept a b d e f g na nb nd ne nf ng = rw (na, nb, nd, ne, nf, ng)
 marks-harmless : (c : ℕ) (rest : List ℕ) → AreHarmless rest → AreHarmless (marks c ++ rest)
 marks-harmless c rest are =
     let P : List ℕ → Type 0 = λ l. AreHarmless (l ++ rest) in
-    chosen (c == 60) _ _ P (λ _. (ampersand _ (codes "lt;", rest, (0, omega arith, refl), refl), plain-letter 108 _ refl, plain-letter 116 _ refl, plain-letter 59 _ refl, are))
-    (λ no60. chosen (c == 62) _ _ P (λ _. (ampersand _ (codes "gt;", rest, (1, omega arith, refl), refl), plain-letter 103 _ refl, plain-letter 116 _ refl, plain-letter 59 _ refl, are))
-    (λ no62. chosen (c == 38) _ _ P (λ _. (ampersand _ (codes "amp;", rest, (2, omega arith, refl), refl), plain-letter 97 _ refl, plain-letter 109 _ refl, plain-letter 112 _ refl, plain-letter 59 _ refl, are))
-    (λ no38. chosen (c == 34) _ _ P (λ _. (ampersand _ (codes "quot;", rest, (3, omega arith, refl), refl), plain-letter 113 _ refl, plain-letter 117 _ refl, plain-letter 111 _ refl, plain-letter 116 _ refl, plain-letter 59 _ refl, are))
-    (λ no34. chosen (c == 39) _ _ P (λ _. (ampersand _ (codes "#39;", rest, (4, omega arith, refl), refl), plain-letter 35 _ refl, plain-letter 51 _ refl, plain-letter 57 _ refl, plain-letter 59 _ refl, are))
+    chosen (c == 60) _ _ P (λ _. (ampersand _ (codes "lt;", rest, (0, omega arith, refl), refl), (plain-letter 108 _ refl, (plain-letter 116 _ refl, (plain-letter 59 _ refl, are)))))
+    (λ no60. chosen (c == 62) _ _ P (λ _. (ampersand _ (codes "gt;", rest, (1, omega arith, refl), refl), (plain-letter 103 _ refl, (plain-letter 116 _ refl, (plain-letter 59 _ refl, are)))))
+    (λ no62. chosen (c == 38) _ _ P (λ _. (ampersand _ (codes "amp;", rest, (2, omega arith, refl), refl), (plain-letter 97 _ refl, (plain-letter 109 _ refl, (plain-letter 112 _ refl, (plain-letter 59 _ refl, are))))))
+    (λ no38. chosen (c == 34) _ _ P (λ _. (ampersand _ (codes "quot;", rest, (3, omega arith, refl), refl), (plain-letter 113 _ refl, (plain-letter 117 _ refl, (plain-letter 111 _ refl, (plain-letter 116 _ refl, (plain-letter 59 _ refl, are)))))))
+    (λ no34. chosen (c == 39) _ _ P (λ _. (ampersand _ (codes "#39;", rest, (4, omega arith, refl), refl), (plain-letter 35 _ refl, (plain-letter 51 _ refl, (plain-letter 57 _ refl, (plain-letter 59 _ refl, are))))))
     (λ no39. chosen (is_forbidden c) _ _ P (λ _. (plain-letter 65533 _ refl, are))
     (λ none. (plain-letter c _ (none-kept (c == 60) (c == 62) (c == 38) (c == 34) (c == 39) (is_forbidden c) no60 no62 no38 no34 no39 none), are)))))))
 
@@ -153,3 +153,18 @@ pub escaped-harmless : (cs : List ℕ) → scalars cs ≡ true → IsHarmless (c
 escaped-harmless cs are =
     let letters : chars (escaped cs) ≡ all_marks cs = ap chars (all-written cs) ∙ chars-encodes (all_marks cs) (all_marks-scalars cs are) in
     subst IsHarmless (sym letters) (harmless-all (all_marks cs) (all-harmless cs))
+
+take-scalars : (n : ℕ) (cs : List ℕ) → scalars cs ≡ true → scalars (take n cs) ≡ true
+take-scalars zero cs are = refl
+take-scalars (suc n) [] are = refl
+take-scalars (suc n) (c ∷ cs) are =
+    let each = scalar-first c cs are in
+    ap (λ t. t && scalars (take n cs)) each.0 ∙ take-scalars n cs each.1
+
+-- so is what is written of a text that is cut off
+pub start-harmless : (most : ℕ) (raw : List ℕ) → IsUtf8 raw → IsHarmless (chars (escaped (shortened most (chars raw))))
+start-harmless most raw is = escaped-harmless (shortened most (chars raw)) (by (nat_le (length (chars raw)) most))
+  where
+    by : (b : Bool) → scalars (if b then chars raw else take most (chars raw) ++ 8230 ∷ []) ≡ true
+    by true = scalars-chars raw is
+    by false = scalars-append (take most (chars raw)) (8230 ∷ []) (take-scalars most (chars raw) (scalars-chars raw is)) refl
