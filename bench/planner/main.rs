@@ -5,17 +5,24 @@
 //! It makes 64 random tables of 256 partitions over 64 nodes. Each round plans from one of them, in turn, for a random
 //! set of members. It prints the sums of the moves and of the bounds, and a number that the owners of all plans make.
 
-// The other calls of it are the oracle's.
-#[allow(dead_code)]
-#[path = "../random.rs"]
-mod random;
-
-use random::Random;
 use std::env;
 
 const NODES: usize = 64;
 const PARTITIONS: usize = 256;
 const TABLES: usize = 64;
+
+/// Pseudo-random numbers: SplitMix64.
+struct Random(u64);
+
+impl Random {
+    fn next(&mut self) -> u64 {
+        self.0 = self.0.wrapping_add(0x9e37_79b9_7f4a_7c15);
+        let mut mixed = self.0;
+        mixed = (mixed ^ mixed >> 30).wrapping_mul(0xbf58_476d_1ce4_e5b9);
+        mixed = (mixed ^ mixed >> 27).wrapping_mul(0x94d0_49bb_1331_11eb);
+        mixed ^ mixed >> 31
+    }
+}
 
 struct Plan {
     owners: [u8; PARTITIONS],

@@ -3,8 +3,8 @@
 
     BULLY_LIBRARY=FOLDER network.py NODES SEED STEPS [BREACH] > TRACE
 
-It does over the binding, step by step and with the same random numbers, what the program of `crates/bully_bench` does in Rattle:
-so both write the same trace. With a BREACH one premise is broken now and then:
+It does over the binding, step by step and with the same random numbers, what `crates/bully_simulator` does in Rattle: so both write
+the same trace. With a BREACH one premise is broken now and then:
 
     slow      calls are taken as failed while their callees are up
     invented  replies are made up

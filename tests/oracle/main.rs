@@ -20,7 +20,6 @@ mod annotating;
 mod checking;
 mod csv_text;
 mod generating;
-#[path = "../../bench/random.rs"]
 mod random;
 mod reading;
 mod rows;

@@ -1,11 +1,10 @@
-use crate::lines::{Lines, one_line};
 use csv::{ByteRecord, Reader, ReaderBuilder};
 use std::alloc::Global;
 use std::io::Read;
 
 /// How many records `csv` finds in an input, read as `bully check` reads it. None where the reader or an allocation
 /// fails.
-pub fn count_records<R: Read + Drop>(alloc: Global, input: R) -> Option<Lines> {
+pub fn count_records<R: Read + Drop>(alloc: Global, input: R) -> Option<u64> {
     let mut records = ReaderBuilder::new()
         .has_headers(false)
         .flexible(true)
@@ -15,10 +14,10 @@ pub fn count_records<R: Read + Drop>(alloc: Global, input: R) -> Option<Lines> {
 }
 
 // The same, each record read into this one.
-fn count_into<R: Read>(records: &mut Reader<R>, record: &mut ByteRecord) -> Option<Lines> {
+fn count_into<R: Read>(records: &mut Reader<R>, record: &mut ByteRecord) -> Option<u64> {
     for count in 0..u64::MAX {
         if !records.read_byte_record(record).ok()? {
-            return Some(one_line("records", count));
+            return Some(count);
         }
     }
     None

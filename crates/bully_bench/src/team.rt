@@ -1,7 +1,6 @@
 ghost use Rattle.std.specs.Prelude.{◌≡◌};
 
 use crate::hand::Hand;
-use crate::lists::push;
 use crate::player::Player;
 use bully_base::{Limits, Node, Setup};
 use bully_group::{Group, Naming, Pass, Seat};
@@ -103,9 +102,8 @@ fn split<L: Naming>(
     for before in 0..setup.nodes() {
         let node = Node::new(setup.nodes() - before)?;
         let hand = Hand::pop(seats, passes)?;
-        if !push(players, Player::new(alloc, setup, node, hand)) {
-            return None;
-        }
+        let player = Player::new(alloc, setup, node, hand);
+        players.push(player).ok()?;
     }
     players.reverse();
     Hand::pop(seats, passes)

@@ -1,6 +1,5 @@
 ghost use Rattle.std.specs.Prelude.{◌≡◌, ◌+◌, None};
 
-use crate::lines::Lines;
 use crate::team::Team;
 use bully_base::{EVENTS_MAX, Setup};
 use bully_group::{Group, Naming};
@@ -13,10 +12,16 @@ use std::marker::Brand;
 use std::sync::Wait;
 use std::sync::ledger::Blank;
 
-/// Takes so many turns of nodes, one after the other, in a new group with four partitions for each node: how many entries
-/// there are, and a number that all of them make. None where a turn can't be taken, or for a number of nodes that no group
-/// has.
-pub fn take_turns<R: Wait>(rt: &R, alloc: Global, nodes: u16, count: u32) -> Option<Lines> {
+/// What turns came to: how many entries there are, and a number that all of them make.
+#[derive(Clone, Copy)]
+pub struct Taken {
+    pub entries: u64,
+    pub made: u64,
+}
+
+/// Takes so many turns of nodes, one after the other, in a new group with four partitions for each node. None where a turn can't be
+/// taken, or for a number of nodes that no group has.
+pub fn take_turns<R: Wait>(rt: &R, alloc: Global, nodes: u16, count: u32) -> Option<Taken> {
     let partitions = nodes.checked_mul(4)?;
     let setup = Setup::new(nodes, partitions, EVENTS_MAX).ok()?;
     let parts = u64::from(setup.nodes()) + 1;
@@ -29,7 +34,7 @@ fn turns_by<L: Naming, R: Wait>(
     setup: Setup,
     blank: Blank,
     count: u32,
-) -> Option<Lines>
+) -> Option<Taken>
     requires setup { setup ≡ L.setup }
     requires unwatched { L.publisher ≡ None }
     requires name { blank.name ≡ L.name }
@@ -41,9 +46,9 @@ fn turns_by<L: Naming, R: Wait>(
     let team = Team::new(alloc, &setup, seats, passes);
     let has_played = play(rt, &group, team, count);
     let locked = group.close();
-    let lines = lines_of(locked.history());
+    let taken = taken_in(locked.history());
     locked.end(rt);
-    if has_played { Some(lines) } else { None }
+    if has_played { Some(taken) } else { None }
 }
 
 // So many turns of the group. Whether they could be taken.
@@ -55,13 +60,15 @@ fn play<L: Naming, R: Wait>(rt: &R, group: &Group<L>, team: Option<Team<L>>, cou
 }
 
 // The number of the entries, and what they make.
-fn lines_of(history: &[Entry]) -> Lines {
+fn taken_in(history: &[Entry]) -> Taken {
     let mut made = 0;
     for entry in history {
         made = with_entry(made, entry);
     }
-    let entries = history.len() as u64;
-    Lines([Some(("entries", entries)), Some(("made", made)), None])
+    Taken {
+        entries: history.len() as u64,
+        made,
+    }
 }
 
 fn with_entry(made: u64, entry: &Entry) -> u64 {

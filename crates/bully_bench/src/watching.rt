@@ -1,16 +1,15 @@
 ghost use Rattle.std.specs.Prelude.{◌≡◌, ◌+◌, ◌≤◌, [], Some};
 
 use crate::hand::Hand;
-use crate::lines::Lines;
-use crate::lists::push;
 use crate::player::Player;
-use crate::random::Random;
 use crate::team::Team;
 use crate::turns::{joined, with_owners};
 use bully_agree::View;
 use bully_base::{EVENTS_MAX, Node, Setup};
 use bully_group::{Group, Naming};
 use bully_watch::{Observer, Publisher};
+use rand_core::{Rng, SeedableRng};
+use rand_xoshiro::SplitMix64;
 use std::alloc::Global;
 use std::marker::Brand;
 use std::sync::Wait;
@@ -43,16 +42,23 @@ pub enum Watching {
     Threads(u32),
 }
 
-// What came of it.
+/// What came of it.
 #[derive(Clone, Copy)]
-struct Watched {
-    looks: u64, // how many there were
-    publishes: u64, // how many there were beside them, by a thread that publishes after each turn
-    seen: u32, // how many entries were seen at most
-    made: u64, // a number that all of the last view makes
+pub struct Watched {
+    /// How many entries there are at the end.
+    pub entries: u64,
+    /// How many looks there were.
+    pub looks: u64,
+    /// How many publishes there were beside them, by a thread that publishes after each turn.
+    pub publishes: u64,
+    /// How many entries were seen at most.
+    pub seen: u32,
+    /// A number that all of the last view makes.
+    pub made: u64,
 }
 
 const NOTHING: Watched = Watched {
+    entries: 0,
     looks: 0,
     publishes: 0,
     seen: 0,
@@ -67,7 +73,7 @@ pub fn watch_group<R: Threads + Wait + Sync>(
     nodes: u16,
     observers: u16,
     task: Watching,
-) -> Option<Lines> {
+) -> Option<Watched> {
     let partitions = nodes.checked_mul(4)?;
     let setup = Setup::new(nodes, partitions, EVENTS_MAX).ok()?;
     let parts = u64::from(setup.nodes()) + 1;
@@ -93,7 +99,7 @@ fn watched_by<L: Naming + Send + Sync, R: Threads + Wait + Sync>(
     observers: Vec<Observer>,
     blank: Blank,
     task: Watching,
-) -> Option<Lines>
+) -> Option<Watched>
     requires setup { (setup ≡ L.setup) × (publisher.publisher.setup ≡ setup) }
     requires publisher { L.publisher ≡ Some publisher.publisher }
     requires new { (publisher.shown ≡ []) × (publisher.taken ≡ []) }
@@ -107,28 +113,14 @@ fn watched_by<L: Naming + Send + Sync, R: Threads + Wait + Sync>(
             let locked = group.close();
             let entries = locked.history().len() as u64;
             locked.end(rt);
-            lines_of(task, entries, watched)
+            let watched = watched?;
+            Some(Watched { entries, ..watched })
         }
         Err((publisher, _, _)) => {
             publisher.end(rt);
             None
         }
     }
-}
-
-// The lines that tell what came of it, behind so many entries.
-fn lines_of(task: Watching, entries: u64, watched: Option<Watched>) -> Option<Lines> {
-    let watched = watched?;
-    let first = match task {
-        Watching::Threads(_) => Some(("entries", entries)),
-        _ => None,
-    };
-    let last = match task {
-        Watching::Quiet(_) => ("made", watched.made),
-        Watching::Publishing(_) => ("publishes", watched.publishes),
-        Watching::Threads(_) => ("seen", u64::from(watched.seen)),
-    };
-    Some(Lines([first, Some(("looks", watched.looks)), Some(last)]))
 }
 
 // What one thread of a group is for.
@@ -151,30 +143,11 @@ fn watch<L: Naming + Send + Sync, R: Threads + Wait + Sync>(
     mut observers: Vec<Observer>,
     task: Watching,
 ) -> Option<Watched> {
+    let mut team = team?;
     let mut jobs = Vec::new(alloc);
-    if add_jobs(rt, group, team, &mut observers, &mut jobs, task) {
-        in_threads(rt, group, jobs, ending(task))
-    } else {
-        None
-    }
-}
-
-// All jobs of this task. Whether they could be made.
-fn add_jobs<L: Naming, R: Wait>(
-    rt: &R,
-    group: &Group<L>,
-    team: Option<Team<L>>,
-    observers: &mut Vec<Observer>,
-    jobs: &mut Vec<Job<L>>,
-    task: Watching,
-) -> bool {
-    let Some(mut team) = team else {
-        return false;
-    };
-    if !add_others(rt, group, &mut team, observers, jobs, task) {
-        return false;
-    }
-    push(jobs, Job::Lead(team, task))
+    add_others(rt, group, &mut team, &mut observers, &mut jobs, task)?;
+    jobs.push(Job::Lead(team, task)).ok()?;
+    in_threads(rt, group, jobs, ending(task))
 }
 
 // The jobs beside that of the team.
@@ -185,34 +158,36 @@ fn add_others<L: Naming, R: Wait>(
     observers: &mut Vec<Observer>,
     jobs: &mut Vec<Job<L>>,
     task: Watching,
-) -> bool {
+) -> Option<()> {
     match task {
         Watching::Quiet(looks) | Watching::Publishing(looks) => {
-            settle(rt, group, team) && add_looks(jobs, observers, Some(looks))
+            settle(rt, group, team)?;
+            add_looks(jobs, observers, Some(looks))
         }
         Watching::Threads(turns) => {
-            add_turns(jobs, team, turns) && add_looks(jobs, observers, None)
+            add_turns(jobs, team, turns)?;
+            add_looks(jobs, observers, None)
         }
     }
 }
 
 // Takes the first rounds of turns, and publishes them.
-fn settle<L: Naming, R: Wait>(rt: &R, group: &Group<L>, team: &mut Team<L>) -> bool {
+fn settle<L: Naming, R: Wait>(rt: &R, group: &Group<L>, team: &mut Team<L>) -> Option<()> {
     let turns = team.turns_in(ROUNDS);
-    team.take_turns(rt, group, turns) && team.operator.publish(rt, group)
+    if team.take_turns(rt, group, turns) && team.operator.publish(rt, group) {
+        Some(())
+    } else {
+        None
+    }
 }
 
 // So many turns of each of the team's players.
-fn add_turns<L: Naming>(jobs: &mut Vec<Job<L>>, team: &mut Team<L>, turns: u32) -> bool {
+fn add_turns<L: Naming>(jobs: &mut Vec<Job<L>>, team: &mut Team<L>, turns: u32) -> Option<()> {
     for _ in 0..team.players.len() {
-        let Some(player) = team.players.pop() else {
-            return false;
-        };
-        if !push(jobs, Job::Play(player, turns)) {
-            return false;
-        }
+        let player = team.players.pop()?;
+        jobs.push(Job::Play(player, turns)).ok()?;
     }
-    true
+    Some(())
 }
 
 // So many looks of each observer, or looks until the others have ended.
@@ -220,16 +195,12 @@ fn add_looks<L: Naming>(
     jobs: &mut Vec<Job<L>>,
     observers: &mut Vec<Observer>,
     looks: Option<u32>,
-) -> bool {
+) -> Option<()> {
     for _ in 0..observers.len() {
-        let Some(observer) = observers.pop() else {
-            return false;
-        };
-        if !push(jobs, Job::Look(observer, looks)) {
-            return false;
-        }
+        let observer = observers.pop()?;
+        jobs.push(Job::Look(observer, looks)).ok()?;
     }
-    true
+    Some(())
 }
 
 // How many jobs of this task the others wait for: that of the observer, or those of the operator and of each node.
@@ -444,9 +415,9 @@ fn operate<L: Naming, R: Wait>(
     operator: &mut Hand<L>,
     turns: u32,
 ) -> Option<Watched> {
-    let mut random = Random(1982);
+    let mut random = SplitMix64::seed_from_u64(1982);
     for before in 0..turns {
-        let number = (random.next() % u64::from(THREADS)) as u16 + 1;
+        let number = (random.next_u64() % u64::from(THREADS)) as u16 + 1;
         let crashes = (before + 1) % CRASHES == 0;
         if !operator.operate(rt, group, number, crashes) {
             return None;

@@ -4,3 +4,5 @@ pub mod SetupLemmas
 pub mod StepLemmas
 pub mod ReplyLemmas
 mod LogRowLemmas
+mod Heap
+mod LooseLemmas

@@ -1,4 +1,5 @@
 pub mod Numbers
+pub mod Ownership
 pub mod AgentSession
 pub mod Arguments
 pub mod Exports

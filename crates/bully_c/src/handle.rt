@@ -2,8 +2,8 @@
 ghost use Rattle.std.specs.Prelude.{◌≡◌, Option, None, Some, MatchOption};
 ghost use Rattle.bully_c.specs.declared.session.AgentSession.{AgentSession};
 
+use crate::loose::Loose;
 use crate::session::AgentSession;
-use bully_handle::Loose;
 use std::alloc::Global;
 use std::marker::Model;
 
@@ -16,7 +16,7 @@ pub struct AgentHandle {
 
 impl Model for AgentHandle {
     ghost use Rattle.std.specs.Prelude.{Option};
-    ghost use Rattle.bully_handle.specs.Ownership.{loose_owns};
+    ghost use Rattle.bully_c.specs.Ownership.{loose_owns};
     ghost use Rattle.bully_c.specs.contracts.session.AgentSession.{the_row};
 
     ghost also_owns = { λ h. loose_owns the_row h.at h.value };

@@ -1,13 +1,14 @@
 //! What C may call: each export is the call of bully_agent, bully_replica, bully_trace or bully_table behind it, of arguments that it
 //! tests.
 //!
-//! It stands on these, on the crates below them, on bully_lines for requests and replies, and on bully_handle. `include/bully.h` says
-//! what each export does, answers and in which order, and `bindings/c/bully.c` stands between it and C.
+//! It stands on these, on the crates below them, and on bully_lines for requests and replies. `include/bully.h` says what each export
+//! does, answers and in which order, and `bindings/c/bully.c` stands between it and C.
 #![tactic(auto)]
 
 mod agents;
 mod handle;
 mod logs;
+mod loose;
 mod replica_handle;
 mod replicas;
 mod requests;

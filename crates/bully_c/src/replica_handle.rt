@@ -3,7 +3,7 @@ ghost use Rattle.std.specs.Prelude.{◌≡◌, Option, None, Some, MatchOption};
 ghost use Rattle.bully_c.specs.declared.logs.LogSession.{LogSession};
 
 use crate::logs::LogSession;
-use bully_handle::Loose;
+use crate::loose::Loose;
 use std::alloc::Global;
 use std::marker::Model;
 
@@ -16,7 +16,7 @@ pub struct ReplicaHandle {
 
 impl Model for ReplicaHandle {
     ghost use Rattle.std.specs.Prelude.{Option};
-    ghost use Rattle.bully_handle.specs.Ownership.{loose_owns};
+    ghost use Rattle.bully_c.specs.Ownership.{loose_owns};
     ghost use Rattle.bully_c.specs.contracts.logs.LogSession.{the_row};
 
     ghost also_owns = { λ h. loose_owns the_row h.at h.value };

@@ -1,23 +1,23 @@
 //! Worked cases of groups and of observers.
 
 mod asks;
-mod held;
 mod observers;
 mod races;
 mod scenes;
 mod scripts;
+mod test_group;
 mod two_groups;
 
 use asks::{Case, tried};
 use bully_base::Setup;
 use bully_watch::{OpenFault, Publisher};
-use held::Way;
 use races::never_fall_in_two_threads;
 use scenes::SCENES;
 use scripts::CASES;
 use std::alloc::Global;
 use std::process::Abort;
 use std::sync::Wait;
+use test_group::Way;
 use two_groups::DEALS;
 
 // Tries each case. A group is called bare, and through its lock.

@@ -4,8 +4,8 @@ ghost use Rattle.std.specs.Prelude.{◌≡◌, ◌+◌, [], IfSome, None};
 ghost use Rattle.bully_group.specs.Locked.{name_of};
 ghost use Rattle.bully_steps.specs.Procedure.{state_of};
 
-use super::held::{Opened, TestGroup, Way, ended, open};
 use super::observers::{Place, Watch, Watchers, Which, publisher_for, rounds};
+use super::test_group::{Opened, TestGroup, Way, ended, open};
 use super::two_groups::{Other, used_as_told};
 use bully_agree::View;
 use bully_base::{Node, Setup, Status};

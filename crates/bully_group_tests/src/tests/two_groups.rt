@@ -7,8 +7,8 @@ ghost use Rattle.bully_steps.specs.Procedure.{state_of};
 use super::asks::{
     Action, Ask, Beside, Call, Case, ask_all, beside_for, ends_as, publisher_beside,
 };
-use super::held::{Opened, Way, open};
 use super::observers::Place;
+use super::test_group::{Opened, Way, open};
 use bully_base::Setup;
 use bully_group::{Naming, Seat};
 use bully_watch::Publisher;

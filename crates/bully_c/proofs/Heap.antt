@@ -12,7 +12,7 @@ use prog.Routine.{Env}
 use prog.Wired.{Wired}
 use Rattle.std.specs.contracts.alloc.Global as heap
 use Rattle.std.proofs.alloc.Global.TheLaws as heap_laws
-use Rattle.bully_handle.proofs.Destruct++none.drop.Code as nothing
+use Rattle.bully_c.proofs.Destruct++none.drop.Code as nothing
 
 abbrev pub Heap : RattleType
 Heap = arg (bare (layout heap.the_row)) no heap.the_row
@@ -22,8 +22,8 @@ heap_told = arg_laws (bare (layout heap.the_row)) no heap.the_row heap_laws.the_
 
 -- the table by which it is dropped
 abbrev pub drops : Dict
-drops = impl ("bully_handle::Destruct++none::drop" ∷ []) (tcons (layout Heap) tnil) dnil
+drops = impl ("bully_c::Destruct++none::drop" ∷ []) (tcons (layout Heap) tnil) dnil
 
 pub dropped : (γ : Env) → Wired γ nothing.code → Bound γ Heap drops
 unfolding nothing.code
-dropped γ wired = glues "bully_handle::Destruct++none::drop" γ wired Heap heap_told
+dropped γ wired = glues "bully_c::Destruct++none::drop" γ wired Heap heap_told

@@ -1,5 +1,4 @@
 use crate::agents::{answer_of, asked, failed, new_agent, place_of, started};
-use crate::lists::push;
 use crate::random::Random;
 use bully_agent::Agent;
 use bully_base::{Node, Setup, Status};
@@ -31,7 +30,8 @@ enum Mail {
     Tell(Reply, Call),
 }
 
-/// Nodes on their own, what is on its way between them, and their log: rows in which all is said.
+/// Nodes on their own, what is on its way between them, and their log: rows in which all is said. It delays what they tell each other
+/// while nodes crash and recover. A step that answers nothing was refused memory, or an agent refused what it shouldn't.
 #[derive(Drop)]
 pub struct Network {
     alloc: Global,
@@ -48,10 +48,7 @@ impl Network {
     /// Nodes that are all Down. One of them crashes or recovers in every tenth step; of every third seed in every hundredth, so
     /// that more elections come to their end.
     pub fn new(alloc: Global, setup: &Setup, seed: u64, breach: Breach) -> Option<Network> {
-        let mut agents = Vec::new(alloc);
-        if !add_agents(alloc, setup, &mut agents) {
-            return None;
-        }
+        let agents = agents_of(alloc, setup)?;
         Some(Network {
             alloc,
             random: Random(seed.wrapping_mul(2).wrapping_add(1)),
@@ -74,24 +71,18 @@ impl Network {
         self.requests
     }
 
-    /// So many steps, and then each node's vector comes into the log. Whether that could be done: not where memory is refused,
-    /// or where an agent refuses what it shouldn't.
-    pub fn run(&mut self, steps: u32) -> bool {
+    /// So many steps, and then each node's vector comes into the log.
+    pub fn run(&mut self, steps: u32) -> Option<()> {
         for _ in 0..steps {
-            if !self.step() {
-                return false;
-            }
+            self.step()?;
         }
         self.claim_all()
     }
 
-    // One step: a crash or a recovery, once in a period; else a delivery, a node's turn, its timer, or a look at it. Whether it
-    // could be taken, as of all that follow.
-    fn step(&mut self) -> bool {
-        let Some(place) = self.random.below(self.agents.len()) else {
-            return false;
-        };
-        if self.random.below(self.period) == Some(0) {
+    // One step: a crash or a recovery, once in a period; else a delivery, a node's turn, its timer, or a look at it.
+    fn step(&mut self) -> Option<()> {
+        let place = self.random.below(self.agents.len())?;
+        if self.random.below(self.period)? == 0 {
             return self.fall_or_rise(place);
         }
         match self.random.next() % 20 {
@@ -103,13 +94,11 @@ impl Network {
     }
 
     // Each node's vector comes into the log.
-    fn claim_all(&mut self) -> bool {
+    fn claim_all(&mut self) -> Option<()> {
         for place in 0..self.agents.len() {
-            if !self.claim(place) {
-                return false;
-            }
+            self.claim(place)?;
         }
-        true
+        Some(())
     }
 
     // Whether the premise is broken now, if it is this one.
@@ -117,39 +106,34 @@ impl Network {
         self.breach == breach && self.random.next() % 8 == 0
     }
 
-    fn log(&mut self, row: Row) -> bool {
-        push(&mut self.rows, row)
+    fn log(&mut self, row: Row) -> Option<()> {
+        self.rows.push(row).ok()
     }
 
     // The step's event comes into the log, if it was taken.
-    fn log_taken(&mut self, taken: Result<TakenStep, Refused>) -> bool {
+    fn log_taken(&mut self, taken: Result<TakenStep, Refused>) -> Option<()> {
         match taken {
             Ok(taken) => self.log(Row::Event(taken.event)),
-            Err(_) => false,
+            Err(_) => None,
         }
     }
 
-    fn log_call(&mut self, node: Node, detail: Detail) -> bool {
+    fn log_call(&mut self, node: Node, detail: Detail) -> Option<()> {
         self.log(Row::Detailed(DetailedEvent { node, detail }))
     }
 
-    fn send(&mut self, mail: Mail) -> bool {
-        push(&mut self.mail, mail)
+    fn send(&mut self, mail: Mail) -> Option<()> {
+        self.mail.push(mail).ok()
     }
 
     // The node's vector comes into the log.
-    fn claim(&mut self, place: usize) -> bool {
-        let Some(agent) = self.agents.get(place) else {
-            return false;
-        };
-        match claim_of(self.alloc, agent) {
-            Some(claim) => self.log(Row::Whole(claim)),
-            None => false,
-        }
+    fn claim(&mut self, place: usize) -> Option<()> {
+        let claim = claim_of(self.alloc, self.agents.get(place)?)?;
+        self.log(Row::Whole(claim))
     }
 
     // A node that is up crashes; one that is Down recovers, at times in a process of its own.
-    fn fall_or_rise(&mut self, place: usize) -> bool {
+    fn fall_or_rise(&mut self, place: usize) -> Option<()> {
         let is_new = self.random.next() % 2 == 0;
         if self.is_down(place) {
             self.rise(place, is_new)
@@ -159,10 +143,8 @@ impl Network {
     }
 
     // The node crashes, and what it sent is lost.
-    fn fall(&mut self, place: usize) -> bool {
-        let Some(agent) = self.agents.get_mut(place) else {
-            return false;
-        };
+    fn fall(&mut self, place: usize) -> Option<()> {
+        let agent = self.agents.get_mut(place)?;
         let node = agent.node();
         let taken = agent.crash();
         self.forget(node);
@@ -170,13 +152,11 @@ impl Network {
     }
 
     // The node recovers, in another process if it is to be new.
-    fn rise(&mut self, place: usize, is_new: bool) -> bool {
+    fn rise(&mut self, place: usize, is_new: bool) -> Option<()> {
         let alloc = self.alloc;
-        let Some(agent) = self.agents.get_mut(place) else {
-            return false;
-        };
-        if is_new && !make_anew(alloc, agent) {
-            return false;
+        let agent = self.agents.get_mut(place)?;
+        if is_new {
+            make_anew(alloc, agent)?;
         }
         let taken = agent.recover();
         self.log_taken(taken)
@@ -190,80 +170,71 @@ impl Network {
     }
 
     // The node's timer: it checks, or has a timeout.
-    fn time(&mut self, place: usize) -> bool {
+    fn time(&mut self, place: usize) -> Option<()> {
         let checks = self.random.next() % 2 == 0;
-        let Some(agent) = self.agents.get_mut(place) else {
-            return false;
-        };
+        let agent = self.agents.get_mut(place)?;
         let taken = if checks {
             agent.check()
         } else {
             agent.timeout()
         };
         match taken {
-            Err(Refused::IsDown | Refused::Busy) => true,
+            Err(Refused::IsDown | Refused::Busy) => Some(()),
             taken => self.log_taken(taken),
         }
     }
 
     // The first node from this place on that can do something does it.
-    fn go_on(&mut self, place: usize) -> bool {
+    fn go_on(&mut self, place: usize) -> Option<()> {
         let count = self.agents.len();
         for offset in 0..count {
-            let next = place.wrapping_add(offset) % count;
-            match self.turn(next) {
-                Turn::Nothing => {}
-                Turn::Done => return true,
-                Turn::Failed => return false,
+            if self.turn(place.wrapping_add(offset) % count)? {
+                return Some(());
             }
         }
-        true
+        Some(())
     }
 
-    // The node does what it wants to do next.
-    fn turn(&mut self, place: usize) -> Turn {
+    // The node does what it wants to do next. Whether it did something.
+    fn turn(&mut self, place: usize) -> Option<bool> {
         let alloc = self.alloc;
-        let Some(agent) = self.agents.get_mut(place) else {
-            return Turn::Failed;
-        };
-        let is_done = match agent.wants() {
-            Want::Nothing => return Turn::Nothing,
+        let agent = self.agents.get_mut(place)?;
+        match agent.wants() {
+            Want::Nothing => return Some(false),
             Want::Await => return self.give_up(place),
-            Want::Start(call) => self.start(place, call),
+            Want::Start(call) => self.start(place, call)?,
             Want::Move => {
                 let taken = agent.advance();
-                self.log_taken(taken)
+                self.log_taken(taken)?;
             }
             Want::Plan => {
                 let taken = planned(alloc, agent);
-                self.log_taken(taken)
+                self.log_taken(taken)?;
             }
-        };
-        turned(is_done)
+        }
+        Some(true)
     }
 
     // The node starts its call, whose request is on its way then.
-    fn start(&mut self, place: usize, call: Call) -> bool {
-        let Some(agent) = self.agents.get_mut(place) else {
-            return false;
-        };
+    fn start(&mut self, place: usize, call: Call) -> Option<()> {
+        let agent = self.agents.get_mut(place)?;
         let node = agent.node();
-        match started(agent) {
-            Some(request) => {
-                self.send(Mail::Ask(request)) && self.log_call(node, Detail::Start(call))
-            }
-            None => false,
-        }
+        let request = started(agent)?;
+        self.send(Mail::Ask(request))?;
+        self.log_call(node, Detail::Start(call))
     }
 
-    // An orphan is dropped at times.
-    fn give_up(&mut self, place: usize) -> Turn {
+    // An orphan is dropped at times. Whether it was.
+    fn give_up(&mut self, place: usize) -> Option<bool> {
         if self.random.next() % 4 != 0 {
-            return Turn::Nothing;
+            return Some(false);
         }
         match self.orphan(place) {
-            Some(call) => turned(self.drop_orphan(place, call)),
-            None => Turn::Nothing,
+            Some(call) => {
+                self.drop_orphan(place, call)?;
+                Some(true)
+            }
+            None => Some(false),
         }
     }
 
@@ -276,18 +247,16 @@ impl Network {
     }
 
     // The node's call is dropped, and with it what it sent.
-    fn drop_orphan(&mut self, place: usize, call: Call) -> bool {
-        let Some(agent) = self.agents.get_mut(place) else {
-            return false;
-        };
+    fn drop_orphan(&mut self, place: usize, call: Call) -> Option<()> {
+        let agent = self.agents.get_mut(place)?;
         let node = agent.node();
-        let dropped = answer_of(agent.drop_orphan());
+        answer_of(agent.drop_orphan()).ok()?;
         self.forget(node);
-        dropped.is_ok() && self.log_call(node, Detail::Drop(call))
+        self.log_call(node, Detail::Drop(call))
     }
 
     // Something that is on its way comes; where nothing is, a node goes on.
-    fn deliver(&mut self, place: usize) -> bool {
+    fn deliver(&mut self, place: usize) -> Option<()> {
         let Some(index) = self.random.below(self.mail.len()) else {
             return self.go_on(place);
         };
@@ -298,7 +267,7 @@ impl Network {
     }
 
     // A request comes to its callee, or fails where that is Down.
-    fn ask(&mut self, request: &Request) -> bool {
+    fn ask(&mut self, request: &Request) -> Option<()> {
         let (caller, number, call) = (request.caller, request.number, request.call);
         if self.is_down(place_of(call.callee)) || self.breaks(Breach::Slow) {
             return self.fail(caller, number, call);
@@ -312,62 +281,50 @@ impl Network {
             };
             return self.tell(reply, call);
         }
-        self.serve(request) && (!self.breaks(Breach::Twice) || self.serve(request))
+        self.serve(request)?;
+        if self.breaks(Breach::Twice) {
+            self.serve(request)?;
+        }
+        Some(())
     }
 
     // The request runs at its callee, and its reply is on its way then.
-    fn serve(&mut self, request: &Request) -> bool {
-        let Some(callee) = self.agents.get_mut(place_of(request.call.callee)) else {
-            return false;
-        };
-        match asked(callee, request) {
-            Some(reply) => {
-                self.log_run(request, reply.answer) && self.send(Mail::Tell(reply, request.call))
-            }
-            None => false,
-        }
-    }
-
-    fn log_run(&mut self, request: &Request, answer: Answer) -> bool {
+    fn serve(&mut self, request: &Request) -> Option<()> {
+        let callee = self.agents.get_mut(place_of(request.call.callee))?;
+        let reply = asked(callee, request)?;
         self.requests = self.requests.wrapping_add(1);
-        self.log_call(request.caller, Detail::Run(request.call, answer))
-    }
-
-    // The call failed, and returned with this answer.
-    fn log_failure(&mut self, caller: Node, call: Call, answer: Answer) -> bool {
-        let Call { callee, kind } = call;
-        if !self.log_call(caller, Detail::Lose(Call { callee, kind })) {
-            return false;
-        }
-        self.log_call(caller, Detail::Return(Call { callee, kind }, answer))
+        self.log_call(request.caller, Detail::Run(request.call, reply.answer))?;
+        self.send(Mail::Tell(reply, request.call))
     }
 
     // The caller's call failed, and is over.
-    fn fail(&mut self, caller: Node, number: u32, call: Call) -> bool {
-        let returned = match self.agents.get_mut(place_of(caller)) {
-            Some(agent) => failed(agent, number),
-            None => return false,
-        };
-        match returned {
+    fn fail(&mut self, caller: Node, number: u32, call: Call) -> Option<()> {
+        let agent = self.agents.get_mut(place_of(caller))?;
+        match failed(agent, number) {
             Ok(answer) => self.log_failure(caller, call, answer),
-            Err(Refused::NoCall) => true,
-            Err(_) => false,
+            Err(Refused::NoCall) => Some(()),
+            Err(_) => None,
         }
     }
 
+    // The call failed, and returned with this answer.
+    fn log_failure(&mut self, caller: Node, call: Call, answer: Answer) -> Option<()> {
+        let Call { callee, kind } = call;
+        self.log_call(caller, Detail::Lose(Call { callee, kind }))?;
+        self.log_call(caller, Detail::Return(Call { callee, kind }, answer))
+    }
+
     // A reply comes to its caller, which lets it go where that call is over; it is lost where its callee is Down.
-    fn tell(&mut self, reply: Reply, call: Call) -> bool {
+    fn tell(&mut self, reply: Reply, call: Call) -> Option<()> {
         let caller = reply.caller;
         if self.is_down(place_of(call.callee)) {
             return self.fail(caller, reply.number, call);
         }
-        let Some(agent) = self.agents.get_mut(place_of(caller)) else {
-            return false;
-        };
+        let agent = self.agents.get_mut(place_of(caller))?;
         match answer_of(agent.replied(reply)) {
             Ok(answer) => self.log_call(caller, Detail::Return(call, answer)),
-            Err(Refused::NoCall) => true,
-            Err(_) => false,
+            Err(Refused::NoCall) => Some(()),
+            Err(_) => None,
         }
     }
 
@@ -380,28 +337,14 @@ impl Network {
     }
 }
 
-// What a node did, whose turn it was: something, if it could.
-enum Turn {
-    Nothing,
-    Done,
-    Failed,
-}
-
-fn turned(is_done: bool) -> Turn {
-    if is_done { Turn::Done } else { Turn::Failed }
-}
-
-// The nodes of a group, all Down. Whether there was memory for them.
-fn add_agents(alloc: Global, setup: &Setup, agents: &mut Vec<Agent>) -> bool {
+// The nodes of a group, all Down.
+fn agents_of(alloc: Global, setup: &Setup) -> Option<Vec<Agent>> {
+    let mut agents = Vec::new(alloc);
     for number in 1..=setup.nodes() {
-        let Some(agent) = new_agent(alloc, setup, number) else {
-            return false;
-        };
-        if !push(agents, agent) {
-            return false;
-        }
+        let agent = new_agent(alloc, setup, number)?;
+        agents.push(agent).ok()?;
     }
-    true
+    Some(agents)
 }
 
 // The node plans, from the task that it has. Memory that is refused is told as a step that isn't offered.
@@ -412,16 +355,12 @@ fn planned(alloc: Global, agent: &mut Agent) -> Result<TakenStep, Refused> {
     }
 }
 
-// The node, which is Down, comes to another process, with its log and with the task that it kept. Whether there was memory for it.
-fn make_anew(alloc: Global, agent: &mut Agent) -> bool {
+// The node, which is Down, comes to another process, with its log and with the task that it kept.
+fn make_anew(alloc: Global, agent: &mut Agent) -> Option<()> {
     let task = agent.vector().task();
-    match Agent::new(alloc, agent.setup(), agent.node(), agent.events(), task) {
-        Ok(made) => {
-            *agent = made;
-            true
-        }
-        Err(_) => false,
-    }
+    let made = Agent::new(alloc, agent.setup(), agent.node(), agent.events(), task).ok()?;
+    *agent = made;
+    Some(())
 }
 
 // A claim of all of the node's vector.

@@ -13,10 +13,10 @@ use denote.Steps.{nothing}
 use denote.Triple.Walked.{ends_at, says}
 use Rattle.std.specs.Prelude.{None}
 use Rattle.std.proofs.raw_atomic.Walks.{proved}
-use Rattle.bully_handle.proofs.Words.{word, word-Good, word_in}
-use Rattle.bully_handle.specs.contracts.Loose.none as f
-use Rattle.bully_handle.proofs.Loose.none.Statement.{statement}
-use Rattle.bully_handle.proofs.Loose.none.Code as code
+use Rattle.bully_c.proofs.LooseLemmas.{word, word-Good, word_in}
+use Rattle.bully_c.specs.contracts.loose.Loose.none as f
+use Rattle.bully_c.proofs.loose.Loose.none.Statement.{statement}
+use Rattle.bully_c.proofs.loose.Loose.none.Code as code
 
 pub none_spec : {M : Type 1} → statement M
 none_spec 𝓤 𝓛 𝓜 𝓡 wired T L =

@@ -1,6 +1,5 @@
 //! A trace that a replica learns row by row, and what comes of it, as `bully check` writes it.
 
-use crate::lines::{Lines, NO_LINES};
 use bully_replica::{FollowFault, Follower};
 use bully_rows::RowReader;
 use bully_trace::{Verdict, verdict_lines};
@@ -13,7 +12,7 @@ pub fn learn_trace<R: Read + Drop, W: Write>(
     alloc: Global,
     input: R,
     output: &mut W,
-) -> Option<Lines> {
+) -> Option<()> {
     let mut rows = RowReader::open(alloc, input);
     let mut follower = begun(alloc, &mut rows)?;
     let verdict = learned(alloc, &mut follower, &mut rows)?;
@@ -49,12 +48,9 @@ fn write_verdict<W: Write>(
     output: &mut W,
     verdict: Verdict,
     follower: &Follower,
-) -> Option<Lines> {
+) -> Option<()> {
     let Ok(text) = verdict_lines(alloc, verdict, follower.replica().world()) else {
         return None;
     };
-    match output.write_all(text.as_bytes()) {
-        Ok(()) => Some(NO_LINES),
-        Err(_) => None,
-    }
+    output.write_all(text.as_bytes()).ok()
 }

@@ -21,7 +21,7 @@ use Rattle.std.proofs.GlobalToken.{dealloc_token-Testable}
 use Rattle.std_alloc.specs.Box.Ownership.{box_owns}
 pub use Rattle.core.proofs.atomic.Steps.{Ptr-Good}
 pub use Rattle.std_alloc.proofs.RcSteps.{word, word-Good}
-use Rattle.bully_handle.specs.Ownership.{may_free, loose_owns}
+use Rattle.bully_c.specs.Ownership.{may_free, loose_owns}
 
 -- the fields of a struct that is one pointer
 abbrev pub Word : RattleType

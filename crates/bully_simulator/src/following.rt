@@ -1,8 +1,6 @@
 //! Nodes on their own that do what a trace says, and a world that does.
 
 use crate::agents::{answer_of, asked, failed, new_agent, place_of, started};
-use crate::lines::{Lines, one_line};
-use crate::lists::push;
 use bully_agent::Agent;
 use bully_base::{Node, Setup};
 use bully_calls::{Answer, Reply, Request};
@@ -25,123 +23,75 @@ pub enum Turns {
 
 /// How many events of the trace were followed, up to one that is refused, before these turns were taken. None where nodes on
 /// their own aren't those of the world, where a turn is refused, or where memory is.
-pub fn follow_trace<R: Read + Drop>(alloc: Global, input: R, turns: Turns) -> Option<Lines> {
+pub fn follow_trace<R: Read + Drop>(alloc: Global, input: R, turns: Turns) -> Option<u32> {
     let Trace { setup, rows, .. } = read_trace(alloc, input).ok()?;
-    follow(alloc, &setup, rows.as_slice(), turns)
-}
-
-fn follow(alloc: Global, setup: &Setup, rows: &[Row], turns: Turns) -> Option<Lines> {
-    let mut world = World::new(alloc, *setup).ok()?;
-    let mut actors = Vec::new(alloc);
-    if add_actors(alloc, setup, &mut actors) {
-        both_go_on(&mut actors, &mut world, rows, turns)
-    } else {
-        None
-    }
+    let mut actors = actors_of(alloc, &setup)?;
+    let mut world = World::new(alloc, setup).ok()?;
+    go_on(&mut actors, &mut world, rows.as_slice(), turns)
 }
 
 // Both follow the rows, and one of them takes these turns.
-fn both_go_on(
-    actors: &mut [Actor],
-    world: &mut World,
-    rows: &[Row],
-    turns: Turns,
-) -> Option<Lines> {
-    if !both_follow(actors, world, rows) {
-        return None;
+fn go_on(actors: &mut [Actor], world: &mut World, rows: &[Row], turns: Turns) -> Option<u32> {
+    follow(actors, world, rows)?;
+    let followed = world.events();
+    match turns {
+        Turns::None => {}
+        Turns::OfAgents(number) => agents_turn(actors, number)?,
+        Turns::OfWorld(number) => world_turns(world, number)?,
     }
-    let followed = u64::from(world.events());
-    let are_taken = match turns {
-        Turns::None => true,
-        Turns::OfAgents(number) => agents_turn(actors, number),
-        Turns::OfWorld(number) => world_turns(world, number),
-    };
-    if are_taken {
-        Some(one_line("followed", followed))
-    } else {
-        None
-    }
+    Some(followed)
 }
 
-// Both follow the rows, up to an event that is refused. Whether they do the same.
-fn both_follow(actors: &mut [Actor], world: &mut World, rows: &[Row]) -> bool {
+// Both follow the rows, up to an event that is refused. None where they don't do the same.
+fn follow(actors: &mut [Actor], world: &mut World, rows: &[Row]) -> Option<()> {
     for row in rows {
-        let taken = match row {
-            Row::Event(event) => both_take(actors, world, event),
-            Row::Detailed(told) => both_take(actors, world, &told.event()),
-            _ => Some(true),
+        let is_taken = match row {
+            Row::Event(event) => both_take(actors, world, event)?,
+            Row::Detailed(told) => both_take(actors, world, &told.event())?,
+            _ => true,
         };
-        match taken {
-            Some(true) => {}
-            Some(false) => return true,
-            None => return false,
+        if !is_taken {
+            return Some(());
         }
     }
-    true
+    Some(())
 }
 
-// Turns of the first node, which asks whether the last one is up, its coordinator. Whether they could be taken.
-fn agents_turn(actors: &mut [Actor], number: u32) -> bool {
-    let Some((first, others)) = actors.split_first_mut() else {
-        return false;
-    };
-    match others.last_mut() {
-        Some(last) => take_turns(&mut first.agent, &mut last.agent, number),
-        None => false,
-    }
-}
-
-fn take_turns(caller: &mut Agent, callee: &mut Agent, number: u32) -> bool {
+// Turns of the first node, which asks whether the last one is up, its coordinator.
+fn agents_turn(actors: &mut [Actor], number: u32) -> Option<()> {
+    let (first, others) = actors.split_first_mut()?;
+    let last = others.last_mut()?;
     for _ in 0..number {
-        if !turn(caller, callee) {
-            return false;
-        }
+        turn(&mut first.agent, &mut last.agent)?;
     }
-    true
+    Some(())
 }
 
 #[inline(always)]
-fn turn(caller: &mut Agent, callee: &mut Agent) -> bool {
-    if answer_of(caller.timeout()).is_err() {
-        return false;
-    }
-    match reply_of(callee, caller) {
-        Some(reply) => answer_of(caller.replied(reply)).is_ok(),
-        None => false,
-    }
-}
-
-// The callee's reply to the call that the caller starts.
-#[inline(always)]
-fn reply_of(callee: &mut Agent, caller: &mut Agent) -> Option<Reply> {
+fn turn(caller: &mut Agent, callee: &mut Agent) -> Option<()> {
+    answer_of(caller.timeout()).ok()?;
     let request = started(caller)?;
-    asked(callee, &request)
+    let reply = asked(callee, &request)?;
+    answer_of(caller.replied(reply)).ok()?;
+    Some(())
 }
 
-// The same turns in the world. Whether they could be taken.
-fn world_turns(world: &mut World, number: u32) -> bool {
-    let Some(node) = Node::new(1) else {
-        return false;
-    };
+// The same turns in the world.
+fn world_turns(world: &mut World, number: u32) -> Option<()> {
+    let node = Node::new(1)?;
     for _ in 0..number {
-        if !world_turn(world, node) {
-            return false;
-        }
+        world_turn(world, node)?;
     }
-    true
+    Some(())
 }
 
 #[inline(always)]
-fn world_turn(world: &mut World, node: Node) -> bool {
-    apply(world, Event::Timeout(node))
-        && apply(world, Event::Start(node))
-        && apply(world, Event::Run(node))
-        && apply(world, Event::Return(node))
-}
-
-#[inline(always)]
-fn apply(world: &mut World, event: Event) -> bool {
-    world.apply(&event).is_ok()
+fn world_turn(world: &mut World, node: Node) -> Option<()> {
+    world.apply(&Event::Timeout(node)).ok()?;
+    world.apply(&Event::Start(node)).ok()?;
+    world.apply(&Event::Run(node)).ok()?;
+    world.apply(&Event::Return(node)).ok()?;
+    Some(())
 }
 
 // Whether both take the event, or refuse it; none where they don't do the same.
@@ -179,18 +129,15 @@ struct Actor {
     mail: OnItsWay,
 }
 
-// The nodes of a group, all Down. Whether there was memory for them.
-fn add_actors(alloc: Global, setup: &Setup, actors: &mut Vec<Actor>) -> bool {
+// The nodes of a group, all Down.
+fn actors_of(alloc: Global, setup: &Setup) -> Option<Vec<Actor>> {
+    let mut actors = Vec::new(alloc);
     for number in 1..=setup.nodes() {
-        let Some(agent) = new_agent(alloc, setup, number) else {
-            return false;
-        };
+        let agent = new_agent(alloc, setup, number)?;
         let mail = OnItsWay::Nothing;
-        if !push(actors, Actor { agent, mail }) {
-            return false;
-        }
+        actors.push(Actor { agent, mail }).ok()?;
     }
-    true
+    Some(actors)
 }
 
 // What the event is answered, or why it is refused; none where there is no such node, or nothing on its way, or where memory is

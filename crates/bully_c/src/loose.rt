@@ -1,10 +1,6 @@
-//! A box as its pointer, for a struct that C holds.
-//!
-//! It stands on the kit alone. bully_c relies on a value coming out of its pointer as it went in, and on null having none.
-#![tactic(auto)]
-
+//! A box as its pointer, for what C holds.
 ghost use Rattle.std.specs.Prelude.{◌≡◌, Option, None, Some, MatchOption};
-ghost use Rattle.bully_handle.specs.Ownership.{loose_owns};
+ghost use Rattle.bully_c.specs.Ownership.{loose_owns};
 
 use std::alloc::Global;
 use std::marker::Model;

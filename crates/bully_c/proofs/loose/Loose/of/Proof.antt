@@ -37,11 +37,11 @@ use Rattle.std_alloc.specs.contracts.boxed.Box as box
 use Rattle.std_alloc.proofs.boxed.Box.TheLaws as box_laws
 use Rattle.std_alloc.specs.contracts.boxed.Box.into_raw as g
 use Rattle.std_alloc.proofs.boxed.Box.into_raw.Met.{met}
-use Rattle.bully_handle.proofs.Heap.{Heap, heap_told, drops, dropped}
-use Rattle.bully_handle.proofs.Words.{word, word-Good, word_in, Ptr-Good}
-use Rattle.bully_handle.specs.contracts.Loose.of as f
-use Rattle.bully_handle.proofs.Loose.of.Statement.{statement}
-use Rattle.bully_handle.proofs.Loose.of.Code as code
+use Rattle.bully_c.proofs.Heap.{Heap, heap_told, drops, dropped}
+use Rattle.bully_c.proofs.LooseLemmas.{word, word-Good, word_in, Ptr-Good}
+use Rattle.bully_c.specs.contracts.loose.Loose.of as f
+use Rattle.bully_c.proofs.loose.Loose.of.Statement.{statement}
+use Rattle.bully_c.proofs.loose.Loose.of.Code as code
 use denote.Param.Laws.{param_laws}
 
 pub of_spec : {M : Type 1} → statement M
@@ -65,7 +65,7 @@ of_spec {M} 𝓤 𝓛 𝓜 𝓡 wired T L dx glue =
     sets ! (of_opd ! (get ! refl)) refl told.2 $
     calls_at ! (framed 𝓤 H 𝓜 𝓣) k (met 𝓤 𝓛 𝓜 𝓡 (code.calls-std::boxed::Box::into_raw 𝓡.env wired) T Heap L heap_told ghosts dict drops dx
     (passed 𝓡.env (code.calls-std::impls::GlobalAllocator::allocate 𝓡.env wired) (code.calls-std::impls::GlobalAllocator::deallocate 𝓡.env wired) (code.calls-std::impls::GlobalAllocator::grow 𝓡.env wired) (code.calls-std::impls::GlobalAllocator::shrink 𝓡.env wired) M 𝓤 𝓛 𝓜 𝓡)
-    (dropped 𝓡.env (code.calls-bully_handle::Destruct++none::drop 𝓡.env wired) M 𝓤 𝓛 𝓜 𝓡) glue) y
+    (dropped 𝓡.env (code.calls-bully_c::Destruct++none::drop 𝓡.env wired) M 𝓤 𝓛 𝓜 𝓡) glue) y
     (and_then ! (get ! refl) (no_more !)) (λ u.
     use1 𝓛 (later (some (λ (r : Ptr). ((‵ (flft κs.0 qs.0) ⊛ ‵ (flft [] full_share) ⊛ ‵ ftrue) ⊛ ‵ (RawPtr.own_val r (u ∷ [])))
     ⊛ some (λ (ls : Lasts (g.ended T Heap ghosts dict drops dx) y.0.0 y.0.3). ‵ (lasts (g.ended T Heap ghosts dict drops dx) y.0.0 y.0.3 ls) ⊛ ‵ (box_owns (ghosts.dealloc_token v.alloc) (param 0 T) r v.value))))) (id⊢ 𝓤 _) $

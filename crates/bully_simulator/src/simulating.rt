@@ -1,7 +1,3 @@
-//! Nodes on their own over a simulated network, which delays what they tell each other while nodes crash and recover. `bully check`
-//! judges its traces, and scripts measure it.
-
-use crate::lines::{Lines, NO_LINES, one_line};
 use crate::network::{Breach, Network};
 use bully_base::{EVENTS_MAX, Setup};
 use bully_rows::{ROWS_MAX, Row, Rows, Trace, write_trace};
@@ -17,6 +13,24 @@ pub struct Simulation {
     pub breach: Breach,
 }
 
+/// Writes the trace of a network.
+pub fn tell_trace<W: Write>(alloc: Global, output: &mut W, simulation: &Simulation) -> Option<()> {
+    let setup = setup_of(simulation)?;
+    let network = network_of(alloc, &setup, simulation)?;
+    let trace = trace_of(setup, network.into_rows())?;
+    match write_trace(alloc, output, &trace) {
+        Ok(()) => Some(()),
+        Err(_) => None,
+    }
+}
+
+/// How many requests ran in a network.
+pub fn count_requests(alloc: Global, simulation: &Simulation) -> Option<u64> {
+    let setup = setup_of(simulation)?;
+    let network = network_of(alloc, &setup, simulation)?;
+    Some(network.requests())
+}
+
 // What the network is set up with: as many partitions as nodes; of an even seed tasks are kept over a crash.
 fn setup_of(simulation: &Simulation) -> Option<Setup> {
     let nodes = simulation.nodes;
@@ -29,26 +43,8 @@ fn setup_of(simulation: &Simulation) -> Option<Setup> {
 // The network behind its steps, at whose end each node's vector stands.
 fn network_of(alloc: Global, setup: &Setup, simulation: &Simulation) -> Option<Network> {
     let mut network = Network::new(alloc, setup, simulation.seed, simulation.breach)?;
-    if network.run(simulation.steps) {
-        Some(network)
-    } else {
-        None
-    }
-}
-
-/// Writes the trace of a network.
-pub fn tell_trace<W: Write>(
-    alloc: Global,
-    output: &mut W,
-    simulation: &Simulation,
-) -> Option<Lines> {
-    let setup = setup_of(simulation)?;
-    let network = network_of(alloc, &setup, simulation)?;
-    let trace = trace_of(setup, network.into_rows())?;
-    match write_trace(alloc, output, &trace) {
-        Ok(()) => Some(NO_LINES),
-        Err(_) => None,
-    }
+    network.run(simulation.steps)?;
+    Some(network)
 }
 
 // The trace with these rows; none where they are too many.
@@ -58,11 +54,4 @@ fn trace_of(setup: Setup, rows: Vec<Row>) -> Option<Trace> {
     } else {
         None
     }
-}
-
-/// How many requests ran in a network.
-pub fn count_requests(alloc: Global, simulation: &Simulation) -> Option<Lines> {
-    let setup = setup_of(simulation)?;
-    let network = network_of(alloc, &setup, simulation)?;
-    Some(one_line("requests", network.requests()))
 }

@@ -42,13 +42,13 @@ use Rattle.std_alloc.proofs.boxed.Box.TheLaws as box_laws
 use Rattle.std_alloc.proofs.ResultValues.{and_tt}
 use Rattle.std_alloc.specs.contracts.boxed.Box.from_raw as g
 use Rattle.std_alloc.proofs.boxed.Box.from_raw.Met.{met}
-use Rattle.bully_handle.proofs.Heap.{Heap, heap_told, drops, dropped}
-use Rattle.bully_handle.proofs.Words.{word, word-Good, loose_cases, Ptr-Good}
-use Rattle.bully_handle.specs.contracts.Loose as loose
-use Rattle.bully_handle.proofs.Loose.TheLaws as loose_laws
-use Rattle.bully_handle.specs.contracts.Loose.into_box as f
-use Rattle.bully_handle.proofs.Loose.into_box.Statement.{statement}
-use Rattle.bully_handle.proofs.Loose.into_box.Code as code
+use Rattle.bully_c.proofs.Heap.{Heap, heap_told, drops, dropped}
+use Rattle.bully_c.proofs.LooseLemmas.{word, word-Good, loose_cases, Ptr-Good}
+use Rattle.bully_c.specs.contracts.loose.Loose as loose
+use Rattle.bully_c.proofs.loose.Loose.TheLaws as loose_laws
+use Rattle.bully_c.specs.contracts.loose.Loose.into_box as f
+use Rattle.bully_c.proofs.loose.Loose.into_box.Statement.{statement}
+use Rattle.bully_c.proofs.loose.Loose.into_box.Code as code
 
 pub into_box_spec : {M : Type 1} → statement M
 into_box_spec {M} 𝓤 𝓛 𝓜 𝓡 wired T L =
@@ -95,7 +95,7 @@ into_box_spec {M} 𝓤 𝓛 𝓜 𝓡 wired T L =
     first ! $ blocks ! $ sets ! (of_opd ! (get ! refl)) refl told.2 $ sets ! (of_opd ! (get ! refl)) refl (tt, tt) $
     calls_at_last ! (framed 𝓤 H 𝓜 𝓣) k (met 𝓤 𝓛 𝓜 𝓡 (code.calls-std::boxed::Box::from_raw 𝓡.env wired) T Heap L heap_told ghosts dict drops
     (passed 𝓡.env (code.calls-std::impls::GlobalAllocator::allocate 𝓡.env wired) (code.calls-std::impls::GlobalAllocator::deallocate 𝓡.env wired) (code.calls-std::impls::GlobalAllocator::grow 𝓡.env wired) (code.calls-std::impls::GlobalAllocator::shrink 𝓡.env wired) M 𝓤 𝓛 𝓜 𝓡)
-    (dropped 𝓡.env (code.calls-bully_handle::Destruct++none::drop 𝓡.env wired) M 𝓤 𝓛 𝓜 𝓡)) y
+    (dropped 𝓡.env (code.calls-bully_c::Destruct++none::drop 𝓡.env wired) M 𝓤 𝓛 𝓜 𝓡)) y
     (and_then ! (get ! refl) (and_then ! (get ! refl) (no_more !))) (λ u.
     use1 𝓛 (later (some (λ (r : B.Denot). ((‵ (flft κs.0 qs.0) ⊛ ‵ (flft [] full_share) ⊛ ‵ ftrue) ⊛ ‵ (B.own_val r (u ∷ [])))
     ⊛ some (λ (ls : Lasts (g.ended T Heap ghosts dict drops) y.0.0 y.0.3). ‵ (lasts (g.ended T Heap ghosts dict drops) y.0.0 y.0.3 ls) ⊛ (raw (fact 𝓤 (r.value ≡ x)) ⊛ raw (fact 𝓤 (r.alloc ≡ a))))))) (id⊢ 𝓤 _) $

@@ -1,2 +1,0 @@
-pub mod Heap
-pub mod Words
