@@ -2,4 +2,5 @@ mod DrawnLemmas
 mod EscapeLemmas
 mod HarmlessLemmas
 mod TitleLemmas
+mod ToldLemmas
 mod WrittenLemmas

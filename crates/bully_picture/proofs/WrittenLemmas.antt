@@ -64,6 +64,10 @@ extends-then {a} {b} {c} first second = record {
       (f.0 ++ s.0, s.1 ∙ ap (λ t. t ++ s.0) f.1 ∙ append_assoc a.text f.0 s.0);
 }
 
+-- every text has no letters
+pub nothing-gained : (a : Written) → Gains a a (λ text. Has text [])
+nothing-gained a = record { extends = extends-same a; holds = λ good. ([], a.text, refl) }
+
 -- what is so after a second step
 pub gains-later : {a b c : Written} {P : List ℕ → Type 0} → Extends a b → Gains b c P → Gains a c P
 gains-later first second = record { extends = extends-then first second.extends; holds = second.holds }
