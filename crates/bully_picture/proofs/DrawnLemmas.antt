@@ -99,10 +99,10 @@ pub names-more : (is_wide : Bool) (name_at : ℕ → Option (List ℕ)) (k i : �
 names-more is_wide name_at k i name a b number named so_far gained good =
     let grown = gained.extends.text good in
     let here : Has b.text (node_label is_wide (k + 1) (name_at k)) =
-        subst (λ n. Has b.text (node_label is_wide n (name_at k))) number (subst (λ n. Has b.text (node_label is_wide i n)) named (gained.holds good)) in
+    subst (λ n. Has b.text (node_label is_wide n (name_at k))) number (subst (λ n. Has b.text (node_label is_wide i n)) named (gained.holds good)) in
     below_more (λ j. Has b.text (node_label is_wide (j + 1) (name_at j))) k
     (λ j low. subst (λ t. Has t (node_label is_wide (j + 1) (name_at j))) (sym grown.1)
-        (has-more (node_label is_wide (j + 1) (name_at j)) a.text grown.0 (so_far (gained.extends.memory good) j low)))
+    (has-more (node_label is_wide (j + 1) (name_at j)) a.text grown.0 (so_far (gained.extends.memory good) j low)))
     here
 
 -- of a call that failed nothing is drawn
@@ -122,6 +122,10 @@ pub holdings-one : (i : ℕ) (holdings : List Holding) (k : ℕ) (h : Holding) (
 holdings-one i holdings k h start a b =
     let label : Holding → List ℕ = λ one. held_label i one.first one.last one.held in
     one-gained (λ text one. Has text (label one)) (λ text more one. has-more (label one) text more) holdings k h start a b
+
+pub holdings-all : (i : ℕ) (holdings : List Holding) (k : ℕ) (start a : Written) → length holdings ≤ k → Gains start a (λ text. HasHoldings text i (take k holdings))
+    → Gains start a (λ text. HasHoldings text i holdings)
+holdings-all i holdings k start a all so_far = subst (λ l. Gains start a (λ text. HasHoldings text i l)) (take_all k holdings all) so_far
 
 -- one more lane has its arrows
 pub lanes-more : (lanes : List Lane) (k : ℕ) (lane : Lane) (holdings : List Holding) (a b : Written) → k < length lanes → lane ≡ get_or lanes k lane → holdings ≡ lane.holdings.items

@@ -1,6 +1,6 @@
 -- What is written on a paper.
-use Rattle.std.specs.Prelude.{◌≡◌, ℕ, ◌-◌, Bool, false, List, [], ◌++◌, codes, length, replicate}
-use Rattle.std.specs.Fmt.{decimal}
+use Rattle.std.specs.Prelude.{◌≡◌, ℕ, ◌-◌, ◌^◌, Bool, false, List, [], ◌++◌, codes}
+use Rattle.std.specs.Fmt.{decimal, format_spec, styled_decimal}
 use Rattle.bully_picture.specs.Title.{Has}
 
 -- a paper: the text on it, and whether memory was wanting for any of it
@@ -35,9 +35,9 @@ pub record Gains (old new : Written) (Holds : List ℕ → Type 0) : Type 0 wher
 abbrev pub IsCopied : Written → List ℕ → Type 0
 IsCopied paper text = (paper.has_failed ≡ false) × Has text paper.text
 
--- a number with spaces before it, so that it takes seven columns, if it has no more digits
+-- a number as `{:>7}` has it: with spaces before it, so that it takes seven columns
 abbrev pub right_text : ℕ → List ℕ
-right_text number = replicate (7 - length (decimal number)) 32 ++ decimal number
+right_text number = styled_decimal (format_spec 32 3 0 7 (2 ^ 64 - 1)) number
 
 -- what is written of an attribute that is a number
 abbrev pub attribute_text : List ℕ → ℕ → List ℕ

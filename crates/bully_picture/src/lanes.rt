@@ -1,5 +1,5 @@
 //! The bars of a node, and its name over them.
-ghost use Rattle.std.specs.Prelude.{nat_le, option_map, slice_get};
+ghost use Rattle.std.specs.Prelude.{◌≡◌, nat_le, option_map, slice_get};
 ghost use Rattle.bully_picture.specs.Drawn.{HasNodes, node_label};
 ghost use Rattle.bully_picture.specs.Title.{Has};
 ghost use Rattle.bully_picture.specs.Written.{Gains, IsIn};
@@ -106,14 +106,21 @@ pub fn draw_names(alloc: Global, layout: &Layout, setup: &Setup, names: &[&str])
     let mut paper = Paper::new(alloc);
     for before in 0..setup.nodes() {
         let node = Node::new(before + 1).unwrap();
-        draw_name(
-            &mut paper,
-            layout,
-            node,
-            names.get(usize::from(before)).copied(),
-        );
+        draw_name(&mut paper, layout, node, name_at(names, before));
     }
     paper
+}
+
+// The name at this place; none behind the last.
+fn name_at<'a>(names: &[&'a str], place: u16) -> Option<&'a str>
+    ensures { option_map (λ s. s.now) result ≡ option_map (λ s. s.now) (slice_get names.now place) }
+{
+    let place = usize::from(place);
+    if place < names.len() {
+        Some(names[place])
+    } else {
+        None
+    }
 }
 
 // Writes the name of a node over its lane.
