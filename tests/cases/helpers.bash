@@ -6,6 +6,13 @@ claims() {
     yes 'saw,1,down,-' | head -n "$1"
 }
 
+# Prints a trace of one node that owns all of 4,096 partitions, with so many claims behind that, each of them true.
+owner() {
+    printf 'bully,2,1,4096,1,clear\nrecover,1\nmove,1\nmove,1\nmove,1\nplan,1,%s\nmove,1\n' \
+        "$(yes 1 | head -n 4096 | paste -sd ' ')"
+    yes 'saw,1,normal,1' | head -n "$1"
+}
+
 # Prints the configuration of one node with so many faults, each of them its recovery at the first turn.
 faults() {
     head -n 5 one_node.toml

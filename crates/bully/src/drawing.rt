@@ -1,11 +1,8 @@
-ghost use Rattle.std.specs.Prelude.{◌≡◌, ◌≤◌, ◌⊎◌, ℕ, List, None, IfOk, IfSome, IsSome, option_map, string_bytes};
-ghost use Rattle.std.specs.Io.KnownBytes.{Appends, Keeps};
+ghost use Rattle.std.specs.Prelude.{◌≡◌, ◌≤◌, ◌⊎◌, ℕ, List, IfOk, IfSome, IsSome, option_map, string_bytes};
+ghost use Rattle.std.specs.Io.KnownBytes.{Appends};
 ghost use Rattle.bully.specs.Answer.{Tells, stop_line, verdict_status};
-ghost use Rattle.bully.specs.DrawAnswer.{IsDrawAnswer, IsPictureAnswer};
+ghost use Rattle.bully.specs.DrawAnswer.{IsDrawAnswer, IsPictureAnswer, IsPictureOf, is_given, window_asked};
 ghost use Rattle.bully.specs.ConfigAnswer.{IsNotDone};
-ghost use Rattle.bully_film.specs.Window.{CanBeShown, asked};
-ghost use Rattle.bully_picture.specs.Title.{Has};
-ghost use Rattle.bully_trace.specs.VerdictText.{verdict_head};
 
 use crate::checking::verdict_status;
 use crate::configs::{bytes_at, config_of};
@@ -39,7 +36,7 @@ pub fn answer_draw<H: Files + AllocGlobal, R: Read + Drop, W: Write, E: Write>(
     errors: &mut E,
 ) -> u8
     ensures answer { IfSome (R.remaining input) (λ bytes.
-        IsDrawAnswer bytes (option_map (λ s. s.now) words.now.rows) (option_map (λ s. s.now) words.now.names) (W.contents output.old) (W.contents output.new) (E.contents errors.old) (E.contents errors.new) result) }
+        IsDrawAnswer bytes (option_map (λ s. s.now) words.now.rows) (option_map (λ s. s.now) words.now.text) (option_map (λ s. s.now) words.now.names) (W.contents output.old) (W.contents output.new) (E.contents errors.old) (E.contents errors.new) result) }
     ensures silent { (result ≡ 2) ⊎ (result ≡ 3) → output.new ≡ output.old }
     ensures status { result ≤ 4 }
 {
@@ -62,13 +59,14 @@ fn draw_words<H: Files + AllocGlobal, R: Read + Drop, W: Write, E: Write>(
     errors: &mut E,
 ) -> u8
     ensures answer { IfSome (R.remaining input) (λ bytes.
-        IsDrawAnswer bytes (option_map (λ s. s.now) words.now.rows) (option_map (λ s. s.now) words.now.names) (W.contents output.old) (W.contents output.new) (E.contents errors.old) (E.contents errors.new) result) }
+        IsPictureAnswer bytes window (is_given (option_map (λ s. s.now) words.now.text)) (W.contents output.old) (W.contents output.new) (E.contents errors.old) (E.contents errors.new) result)
+        ⊎ (IsSome (option_map (λ s. s.now) words.now.names) × ((file : List ℕ) × IsNotDone file (W.contents output.old) (W.contents output.new) (E.contents errors.old) (E.contents errors.new) result)) }
     ensures silent { (result ≡ 2) ⊎ (result ≡ 3) → output.new ≡ output.old }
     ensures status { result ≤ 4 }
 {
     let drawing = Drawing {
         window,
-        is_text: is_asked(words.text),
+        is_text: is_given(words.text),
     };
     match words.names {
         Some(path) => draw_named(rt, path, drawing, input, output, errors),
@@ -77,34 +75,23 @@ fn draw_words<H: Files + AllocGlobal, R: Read + Drop, W: Write, E: Write>(
 }
 
 // Whether the flag was given.
-fn is_asked(flag: Option<&str>) -> bool {
+fn is_given(flag: Option<&str>) -> bool
+    ensures { result ≡ is_given (option_map (λ s. s.now) flag.entry) }
+{
     match flag {
-        Some(text) => text == "true",
+        Some(flag) => flag == "true",
         None => false,
     }
 }
 
 // The window of the words, as `2-50`; the one at the end without words. None where they are no window.
 fn window_of(rows: Option<&str>) -> Option<Window>
-    ensures given { result ≡ None → IsSome (option_map (λ s. s.now) rows.entry) }
+    ensures { result ≡ window_asked (option_map (λ s. s.now) rows.entry) }
 {
     match rows {
-        Some(rows) => window_between(rows),
+        Some(rows) => Window::read(rows),
         None => Some(Window::at_the_end()),
     }
-}
-
-// The window of two numbers with a dash between them.
-fn window_between(rows: &str) -> Option<Window>
-    ensures { IfSome result (λ w. (from : ℕ) × (to : ℕ) × CanBeShown from to × (w ≡ asked from to)) }
-{
-    let (from, to) = rows.split_once('-')?;
-    Window::between(row_number(from)?, row_number(to)?)
-}
-
-// The number of a row.
-fn row_number(text: &str) -> Option<u32> {
-    text.parse::<u32>().ok()
 }
 
 // Draws the trace on the input, with the names of the configuration at the path.
@@ -116,7 +103,7 @@ fn draw_named<H: Files + AllocGlobal, R: Read + Drop, W: Write, E: Write>(
     output: &mut W,
     errors: &mut E,
 ) -> u8
-    ensures answer { IfSome (R.remaining input) (λ bytes. IsPictureAnswer bytes (W.contents output.old) (W.contents output.new) (E.contents errors.old) (E.contents errors.new) result)
+    ensures answer { IfSome (R.remaining input) (λ bytes. IsPictureAnswer bytes drawing.window drawing.is_text (W.contents output.old) (W.contents output.new) (E.contents errors.old) (E.contents errors.new) result)
         ⊎ ((file : List ℕ) × IsNotDone file (W.contents output.old) (W.contents output.new) (E.contents errors.old) (E.contents errors.new) result) }
     ensures silent { (result ≡ 2) ⊎ (result ≡ 3) → output.new ≡ output.old }
     ensures status { result ≤ 4 }
@@ -136,7 +123,7 @@ fn draw_with<R: Read + Drop, W: Write, E: Write>(
     output: &mut W,
     errors: &mut E,
 ) -> u8
-    ensures answer { IfSome (R.remaining input) (λ bytes. IsPictureAnswer bytes (W.contents output.old) (W.contents output.new) (E.contents errors.old) (E.contents errors.new) result)
+    ensures answer { IfSome (R.remaining input) (λ bytes. IsPictureAnswer bytes drawing.window drawing.is_text (W.contents output.old) (W.contents output.new) (E.contents errors.old) (E.contents errors.new) result)
         ⊎ IsNotDone file.now (W.contents output.old) (W.contents output.new) (E.contents errors.old) (E.contents errors.new) result }
     ensures silent { (result ≡ 2) ⊎ (result ≡ 3) → output.new ≡ output.old }
     ensures status { result ≤ 4 }
@@ -156,7 +143,7 @@ fn draw_input<R: Read + Drop, W: Write, E: Write>(
     output: &mut W,
     errors: &mut E,
 ) -> u8
-    ensures answer { IfSome (R.remaining input) (λ bytes. IsPictureAnswer bytes (W.contents output.old) (W.contents output.new) (E.contents errors.old) (E.contents errors.new) result) }
+    ensures answer { IfSome (R.remaining input) (λ bytes. IsPictureAnswer bytes drawing.window drawing.is_text (W.contents output.old) (W.contents output.new) (E.contents errors.old) (E.contents errors.new) result) }
     ensures silent { (result ≡ 2) ⊎ (result ≡ 3) → output.new ≡ output.old }
     ensures status { result ≤ 4 }
 {
@@ -175,7 +162,7 @@ fn draw_finished<W: Write, E: Write>(
     output: &mut W,
     errors: &mut E,
 ) -> u8
-    ensures answer { ((picture : List ℕ) × Has picture (verdict_head finished.now.verdict) × (((result ≡ verdict_status finished.now.verdict) × Appends (W.contents output.old) (W.contents output.new) picture × (errors.new ≡ errors.old))
+    ensures answer { ((picture : List ℕ) × IsPictureOf is_text finished.now picture × (((result ≡ verdict_status finished.now.verdict) × Appends (W.contents output.old) (W.contents output.new) picture × (errors.new ≡ errors.old))
         ⊎ ((result ≡ 4) × Tells (E.contents errors.old) (E.contents errors.new) (stop_line Stop.Write))))
         ⊎ ((result ≡ 4) × (output.new ≡ output.old) × Tells (E.contents errors.old) (E.contents errors.new) (stop_line Stop.OutOfMemory)) }
     ensures status { (result ≤ 1) ⊎ (result ≡ 4) }
@@ -198,7 +185,7 @@ fn picture_of(
     is_text: bool,
     names: Option<&Config>,
 ) -> Result<String, OutOfMemory>
-    ensures { IfOk result (λ picture. Has (string_bytes picture) (verdict_head finished.now.verdict)) }
+    ensures { IfOk result (λ picture. IsPictureOf is_text finished.now (string_bytes picture)) }
 {
     let below = below(alloc, finished)?;
     if is_text {

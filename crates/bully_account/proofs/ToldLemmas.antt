@@ -1,5 +1,5 @@
 -- What is told of a text, from what its rows came to.
-use Rattle.std.proofs.Common.{◌≡◌, ℕ, true, List, Option, Some, None, Result, Ok, Err, refl}
+use Rattle.std.proofs.Common.{◌≡◌, ℕ, List, Option, Some, None, Result, Ok, Err, refl}
 use Rattle.std.specs.Prelude.{IfOk, IfErr}
 use Rattle.bully_base.specs.Setup.{Setup}
 use Rattle.bully_world.specs.State.{IsReached, world_of}
@@ -9,7 +9,7 @@ use Rattle.bully_rows.specs.declared.trace.TraceFault.{TraceFault}
 use Rattle.bully_trace.specs.declared.verdict.Verdict.{Verdict}
 use Rattle.bully_trace.specs.Judging.{AreAllJudged, HasJudged, JudgeState}
 use Rattle.bully_rows.specs.RecordsLeft.{EndsReading}
-use Rattle.bully_rows.specs.Rows.{OfTrace, is_of_form, no_memory}
+use Rattle.bully_rows.specs.Rows.{OfTrace, no_memory}
 use Rattle.bully_trace.specs.Verdict.{IsJudged}
 use Rattle.bully_rows.proofs.TraceLemmas.{memory-ends}
 use Rattle.bully_account.specs.declared.showing.NodeSheet.{NodeSheet}

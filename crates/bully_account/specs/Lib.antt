@@ -1,5 +1,7 @@
 pub mod Possible
 pub mod NodeSummary
 pub mod Remembered
+pub mod RowsOf
+pub mod Accounts
 pub mod TraceReport
 pub mod Lines

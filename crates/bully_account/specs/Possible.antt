@@ -1,5 +1,5 @@
 -- What may come next at a node: the kinds of event that nothing refuses there.
-use Rattle.std.specs.Prelude.{◌≡◌, ◌↔◌, ℕ, Bool, true, List, Option, Some, None, filter, is_none}
+use Rattle.std.specs.Prelude.{◌≡◌, ◌↔◌, ℕ, Bool, true, List, None, filter, is_none}
 use Rattle.std.specs.Option.{option_map_or}
 use Rattle.bully_calls.specs.declared.event.Event.{Event}
 use Rattle.bully_calls.specs.Events.{node_of}

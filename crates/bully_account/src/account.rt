@@ -1,4 +1,6 @@
-use crate::lines::Lines;
+ghost use Rattle.std.specs.Prelude.{◌≡◌, None, IfSome, IsSomeAnd};
+
+use crate::lines::{Lines, line_of};
 use crate::memory::Memories;
 use crate::moving::moves_point;
 use crate::showing::node_sheets;
@@ -19,8 +21,8 @@ pub struct Stop {
     pub row: Row,
 }
 
-/// What the rows of a trace came to: the judge that took them, what is remembered of each node's rows, and the row that
-/// decided, where one did. Contracts see the judge.
+/// What the rows of a trace came to: the judge that took them, the row that decided, where one did, and what is remembered of
+/// each node's rows.
 #[derive(Drop)]
 pub struct Account {
     judge: Judge,
@@ -29,16 +31,21 @@ pub struct Account {
 }
 
 impl Model for Account {
-    ghost use Rattle.bully_trace.specs.Judging.{JudgeState};
+    ghost use Rattle.bully_account.specs.Accounts.{AccountState, IsAccount};
 
-    ghost Value = { JudgeState };
+    ghost Value = { AccountState };
 
-    ghost view = { λ a. a.judge };
+    ghost view = { λ a. record { judge = a.judge; stop = a.stop; memories = a.memories.nodes.items } };
+
+    ghost invariant = { λ a. IsAccount a.judge a.stop a.memories.nodes.items };
 }
 
 impl Account {
-    ghost use Rattle.std.specs.Prelude.{◌≡◌, ◌+◌, ◌++◌, ◌∷◌, [], List, length, IfOk};
+    ghost use Rattle.std.specs.Prelude.{◌≡◌, ◌↔◌, ◌+◌, ◌-◌, ◌<◌, ◌++◌, ◌∷◌, [], List, length, IfOk, IfSome, IsNone, slice_get};
+    ghost use Rattle.std.specs.Option.{option_copied};
+    ghost use Rattle.bully_account.specs.Accounts.{HasTaken, StopsAt};
     ghost use Rattle.bully_account.specs.NodeSummary.{ShowsAll};
+    ghost use Rattle.bully_account.specs.RowsOf.{IsRemembered, IsRowAt};
     ghost use Rattle.bully_base.specs.Setup.{Setup as SetupState};
     ghost use Rattle.bully_rows.specs.declared.trace.Row.{Row as RowState};
     ghost use Rattle.bully_trace.specs.Judging.{HasJudged};
@@ -48,8 +55,8 @@ impl Account {
 
     /// An account behind this header, before any row. Refused where an allocation fails.
     pub fn new(alloc: Global, header: Header) -> Result<Account, OutOfMemory>
-        ensures judged { IfOk result (HasJudged header.setup []) }
-        ensures version { IfOk result (λ account. account.version ≡ header.version) }
+        ensures taken { IfOk result (HasTaken header.setup []) }
+        ensures version { IfOk result (λ account. account.judge.version ≡ header.version) }
     {
         let memories = Memories::new(alloc, &header.setup)?;
         Ok(Account {
@@ -62,62 +69,38 @@ impl Account {
     /// Takes the row that was read last. The first event that the world refuses, or the first claim or detail that is
     /// false of it, decides: that row is kept, and no later one changes anything.
     pub fn take_row<R: Read + Drop>(&mut self, rows: &RowReader<Lines<R>>, row: Row)
-        ensures version { self.new.version ≡ self.old.version }
-        ensures judged { (setup : SetupState) (before : List RowState) → length before + 2 ≡ rows.now.number → HasJudged setup before self.old → HasJudged setup (before ++ row ∷ []) self.new }
+        ensures version { self.new.judge.version ≡ self.old.judge.version }
+        ensures taken { (setup : SetupState) (before : List RowState) → length before + 2 ≡ rows.now.number → HasTaken setup before self.old → HasTaken setup (before ++ row ∷ []) self.new }
     {
         let number = rows.number();
         let moves = moves_point_by(self.judge.world(), &row);
         self.judge.take_row(number, &row);
         if self.judge.stopped().is_some() {
-            self.keep(rows, row);
+            keep(&mut self.stop, rows, row);
         } else {
-            self.remember(number, &row, moves);
-        }
-    }
-
-    // Keeps the row as the one that decided, where none was kept yet.
-    fn keep<R: Read + Drop>(&mut self, rows: &RowReader<Lines<R>>, row: Row)
-        ensures { self.new ≡ self.old }
-    {
-        if self.stop.is_some() {
-            return;
-        }
-        let number = rows.number();
-        let line = line_of(rows);
-        self.stop = Some(Stop { number, line, row });
-    }
-
-    // Remembers the row of this number, which the judge took; whether it moved its node is told, where that was seen before.
-    fn remember(&mut self, number: u32, row: &Row, moves: Option<bool>)
-        ensures { self.new ≡ self.old }
-    {
-        let world = self.judge.world();
-        match row {
-            Row::Event(event) => self.memories.take_event(world, number, event, moves),
-            Row::Detailed(event) => self
-                .memories
-                .take_event(world, number, &event.event(), moves),
-            Row::Claim(_) | Row::Whole(_) => {}
+            self.memories
+                .take_row(self.judge.world(), number, &row, moves);
         }
     }
 
     /// The version of the trace.
     pub fn version(&self) -> Version
-        ensures { result ≡ self.now.version }
+        ensures { result ≡ self.now.judge.version }
     {
         self.judge.version()
     }
 
     /// The verdict on the rows that were taken.
     pub fn verdict(&self) -> Verdict
-        ensures { (setup : SetupState) (rows : List RowState) → HasJudged setup rows self.now → IsJudged setup (first_world setup) 0 2 rows result (world_of self.now.world) }
+        ensures { (setup : SetupState) (rows : List RowState) → HasJudged setup rows self.now.judge
+            → IsJudged setup (first_world setup) 0 2 rows result (world_of self.now.judge.world) }
     {
         self.judge.verdict()
     }
 
     /// The world that the rows were taken to: where one decided, that before it.
     pub fn world(&self) -> &World
-        ensures { result.now ≡ self.now.world }
+        ensures { result.now ≡ self.now.judge.world }
     {
         self.judge.world()
     }
@@ -125,20 +108,41 @@ impl Account {
     /// What the world that the rows were taken to has of each node, from node 1 on: where a row decided, the world before it.
     /// Refused where an allocation fails.
     pub fn nodes(&self, alloc: Global) -> Result<Vec<NodeSheet>, OutOfMemory>
-        ensures { IfOk result (λ sheets. ShowsAll self.now.world sheets.items) }
+        ensures { IfOk result (λ sheets. ShowsAll self.now.judge.world sheets.items) }
     {
         node_sheets(alloc, self.world())
     }
 
     /// The row that decided; none where the trace is lawful.
-    pub fn stop(&self) -> Option<&Stop> {
+    pub fn stop(&self) -> Option<&Stop>
+        ensures kept { option_copied result ≡ self.now.stop }
+        ensures stops { StopsAt self.now.judge.stopped self.now.stop }
+        ensures row { (setup : SetupState) (rows : List RowState) → HasTaken setup rows self.now → IfSome result (λ stop. IsRowAt rows stop.now.number stop.now.row) }
+    {
         self.stop.as_ref()
     }
 
     /// What is remembered of the node's rows; none of a node that the group doesn't have.
-    pub fn memory(&self, node: Node) -> Option<&Memory> {
+    pub fn memory(&self, node: Node) -> Option<&Memory>
+        ensures memory { option_copied result ≡ slice_get self.now.memories (node - 1) }
+        ensures none { IsNone result ↔ (self.now.judge.world.setup.nodes < node) }
+        ensures rows { (setup : SetupState) (rows : List RowState) → HasTaken setup rows self.now → IfSome result (λ memory. IsRemembered rows node memory.now) }
+    {
         self.memories.of(node)
     }
+}
+
+// Keeps the row that was read last as the one that decided, where none was kept yet.
+fn keep<R: Read + Drop>(stop: &mut Option<Stop>, rows: &RowReader<Lines<R>>, row: Row)
+    ensures kept { stop.old ≡ None → IsSomeAnd stop.new (λ s. (s.number ≡ rows.now.number) × (s.row ≡ row)) }
+    ensures other { IfSome stop.old (λ s. stop.new ≡ stop.old) }
+{
+    if stop.is_some() {
+        return;
+    }
+    let number = rows.number();
+    let line = line_of(rows.source(), rows.end(), rows.fields());
+    *stop = Some(Stop { number, line, row });
 }
 
 // Whether the row takes its node to another point; none where that is seen behind it alone.
@@ -148,30 +152,4 @@ fn moves_point_by(world: &World, row: &Row) -> Option<bool> {
         Row::Detailed(event) => moves_point(world, &event.event()),
         Row::Claim(_) | Row::Whole(_) => Some(false),
     }
-}
-
-/// The line at which the row that was read last starts, counted from 1 by line feeds.
-pub fn line_of<R: Read + Drop>(rows: &RowReader<Lines<R>>) -> u64 {
-    let end = rows.end();
-    let ended = rows.source().ends_line(end.byte().saturating_sub(1));
-    end.line()
-        .saturating_sub(ended as u64)
-        .saturating_sub(lines_within(rows))
-}
-
-// How many line feeds there are within the fields of the row that was read last.
-fn lines_within<R: Read + Drop>(rows: &RowReader<Lines<R>>) -> u64 {
-    let fields = rows.fields();
-    let mut count = 0u64;
-    for place in 0..fields.len() {
-        if let Some(field) = fields.get(place) {
-            count = count.saturating_add(line_feeds(field) as u64);
-        }
-    }
-    count
-}
-
-// How many line feeds there are.
-fn line_feeds(text: &[u8]) -> usize {
-    text.iter().filter(|byte| **byte == b'\n').count()
 }

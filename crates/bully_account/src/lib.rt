@@ -3,8 +3,8 @@
 //!
 //! It stands on bully_trace, whose judge decides, and on the crates below it. bully_explain, which makes the sheet of all this,
 //! relies on the verdict being that of `check`, on what is shown of a node being what the world before the row has of it, on the
-//! kinds of event that are listed as possible being those that nothing refuses, and on nothing being told where a read fails. Which rows
-//! are remembered, and where one starts, is tested.
+//! kinds of event that are listed as possible being those that nothing refuses, on what is remembered of a node being of its rows, and on
+//! nothing being told where a read fails. That each of its last rows is remembered is tested, and that `csv` tells where a row ends.
 #![tactic(auto)]
 
 mod account;
@@ -16,9 +16,9 @@ mod reading;
 mod showing;
 mod telling;
 
-pub use account::{Account, Stop, line_of};
+pub use account::{Account, Stop};
 pub use bully_rows::EventKind;
-pub use lines::Lines;
+pub use lines::{Lines, line_of};
 pub use memory::{Memory, Note, What};
 pub use possible::possible_now;
 pub use showing::{CallSummary, NodeSheet, NodeSummary, node_sheet, shown_of};
@@ -26,3 +26,6 @@ pub use telling::{TraceReport, tell};
 
 /// How many of its last rows a node has remembered.
 pub const ROWS_KEPT: usize = 5;
+
+/// How many of the bytes that a reader gave last are kept: as many as `csv` asks for at once.
+pub const BYTES_KEPT: usize = 8192;

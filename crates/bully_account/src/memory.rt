@@ -1,10 +1,14 @@
-ghost use Rattle.std.specs.Prelude.{◌≡◌, ◌+◌, ◌<◌, ◌≤◌, remove, vec_capacity, vec_len};
+ghost use Rattle.std.specs.Prelude.{◌≡◌, ◌+◌, ◌<◌, ◌≤◌, List, OnOk, remove, vec_capacity, vec_len};
+ghost use Rattle.bully_calls.specs.Events.{node_of};
 ghost use Rattle.bully_account.specs.Remembered.{noted};
+ghost use Rattle.bully_account.specs.RowsOf.{AreRemembered, IsDoneBy};
+ghost use Rattle.bully_rows.specs.declared.trace.Row.{Row as RowState};
 
 use crate::moving::is_idle;
 use crate::{EventKind, ROWS_KEPT};
 use bully_base::{Node, OutOfMemory, Setup};
 use bully_calls::{Call, CallKind};
+use bully_rows::Row;
 use bully_table::{Table, TableRoom};
 use bully_world::{Event, World};
 use std::alloc::Global;
@@ -149,7 +153,9 @@ fn forget_first(notes: &mut Vec<Note>)
 }
 
 // What the event did to its node, in whose slot this call is afterwards.
-fn what_of(event: &Event, call: Option<Call>) -> What {
+fn what_of(event: &Event, call: Option<Call>) -> What
+    ensures { IsDoneBy (node_of event.now) event.now result }
+{
     match event {
         Event::Start(_) => match call {
             Some(call) => What::Started(call),
@@ -166,23 +172,50 @@ pub struct Memories {
 }
 
 impl Memories {
+    ghost use Rattle.std.specs.Prelude.{◌-◌, ◌↔◌, ℕ, IfOk, IsNone, slice_get};
+    ghost use Rattle.std.specs.Option.{option_copied};
+    ghost use Rattle.bully_calls.specs.declared.event.Event.{Event as EventState};
+    ghost use Rattle.bully_account.specs.RowsOf.{IsEventAt, IsNoteOf, IsRowAt};
+
     /// Before any row. Refused where an allocation fails.
-    pub fn new(alloc: Global, setup: &Setup) -> Result<Memories, OutOfMemory> {
+    pub fn new(alloc: Global, setup: &Setup) -> Result<Memories, OutOfMemory>
+        ensures count { IfOk result (λ m. vec_len m.nodes ≡ setup.now.nodes) }
+        ensures remembered { IfOk result (λ m. (rows : List RowState) → AreRemembered rows 1 m.nodes.items) }
+    {
         let mut nodes = Vec::with_capacity(alloc, usize::from(setup.nodes()))?;
         for _ in 0..setup.nodes() {
-            nodes.push(Memory::new(alloc, setup)?)?;
+            push_memory(alloc, &mut nodes, setup)?;
         }
         Ok(Memories { nodes })
     }
 
     /// What is remembered of the node's rows; none of a node that the group doesn't have.
-    pub fn of(&self, node: Node) -> Option<&Memory> {
+    pub fn of(&self, node: Node) -> Option<&Memory>
+        ensures node { 0 < node }
+        ensures memory { option_copied result ≡ slice_get self.now.nodes.items (node - 1) }
+        ensures none { IsNone result ↔ (vec_len self.now.nodes < node) }
+    {
         self.nodes.get(usize::from(node.number() - 1))
     }
 
-    /// Remembers the event of this row, which led to the world, and whether it took its node to another point; where that isn't
-    /// told, it did if the node isn't idle now. A Halt that ran is remembered of the callee, too.
-    pub fn take_event(&mut self, world: &World, row: u32, event: &Event, moves: Option<bool>) {
+    /// Remembers the row of this number, which led to the world, and whether it took its node to another point; where that isn't
+    /// told, it did if the node isn't idle now. A Halt that ran is remembered of the callee, too, and a claim of nobody.
+    pub fn take_row(&mut self, world: &World, number: u32, row: &Row, moves: Option<bool>)
+        ensures count { vec_len self.new.nodes ≡ vec_len self.old.nodes }
+        ensures remembered { (rows : List RowState) → IsRowAt rows number row.now → AreRemembered rows 1 self.old.nodes.items → AreRemembered rows 1 self.new.nodes.items }
+    {
+        match row {
+            Row::Event(event) => self.take_event(world, number, event, moves),
+            Row::Detailed(event) => self.take_event(world, number, &event.event(), moves),
+            Row::Claim(_) | Row::Whole(_) => {}
+        }
+    }
+
+    // Remembers the event of this row.
+    fn take_event(&mut self, world: &World, row: u32, event: &Event, moves: Option<bool>)
+        ensures count { vec_len self.new.nodes ≡ vec_len self.old.nodes }
+        ensures remembered { (rows : List RowState) → IsEventAt rows row event.now → AreRemembered rows 1 self.old.nodes.items → AreRemembered rows 1 self.new.nodes.items }
+    {
         let node = event.node();
         if node.number() > world.setup().nodes() {
             return;
@@ -206,7 +239,10 @@ impl Memories {
     }
 
     // The call of the caller ran in this row: a Halt stopped its callee.
-    fn halt(&mut self, caller: Node, call: Option<Call>, row: u32) {
+    fn halt(&mut self, caller: Node, call: Option<Call>, row: u32)
+        ensures count { vec_len self.new.nodes ≡ vec_len self.old.nodes }
+        ensures remembered { (rows : List RowState) → IsEventAt rows row (EventState.Run caller) → AreRemembered rows 1 self.old.nodes.items → AreRemembered rows 1 self.new.nodes.items }
+    {
         let Some(call) = call else {
             return;
         };
@@ -218,7 +254,10 @@ impl Memories {
     }
 
     // One more row of the node.
-    fn note(&mut self, node: Node, note: &Note) {
+    fn note(&mut self, node: Node, note: &Note)
+        ensures count { vec_len self.new.nodes ≡ vec_len self.old.nodes }
+        ensures remembered { (rows : List RowState) → IsNoteOf rows node note.now → AreRemembered rows 1 self.old.nodes.items → AreRemembered rows 1 self.new.nodes.items }
+    {
         let place = usize::from(node.number() - 1);
         if place < self.nodes.len() {
             self.nodes[place].note(note);
@@ -226,18 +265,33 @@ impl Memories {
     }
 
     // The node started a call in this row.
-    fn start(&mut self, node: Node, row: u32) {
+    fn start(&mut self, node: Node, row: u32)
+        ensures count { vec_len self.new.nodes ≡ vec_len self.old.nodes }
+        ensures remembered { (rows : List RowState) → IsEventAt rows row (EventState.Start node) → AreRemembered rows 1 self.old.nodes.items → AreRemembered rows 1 self.new.nodes.items }
+    {
         let place = usize::from(node.number() - 1);
         if place < self.nodes.len() {
             self.nodes[place].start(row);
         }
     }
 
-    // The node planned this table.
-    fn plan(&mut self, node: Node, table: &Table) {
+    // The node planned this table in some row.
+    fn plan(&mut self, node: Node, table: &Table)
+        ensures count { vec_len self.new.nodes ≡ vec_len self.old.nodes }
+        ensures remembered { (rows : List RowState) (row : ℕ) → IsEventAt rows row (EventState.Plan node table.now) → AreRemembered rows 1 self.old.nodes.items → AreRemembered rows 1 self.new.nodes.items }
+    {
         let place = usize::from(node.number() - 1);
         if place < self.nodes.len() {
             self.nodes[place].plan(table);
         }
     }
+}
+
+// Appends what is remembered of one more node before any row.
+fn push_memory(alloc: Global, nodes: &mut Vec<Memory>, setup: &Setup) -> Result<(), OutOfMemory>
+    ensures count { OnOk result (vec_len nodes.new ≡ vec_len nodes.old + 1) }
+    ensures remembered { OnOk result ((rows : List RowState) → AreRemembered rows 1 nodes.old.items → AreRemembered rows 1 nodes.new.items) }
+{
+    nodes.push(Memory::new(alloc, setup)?)?;
+    Ok(())
 }

@@ -1,5 +1,6 @@
 ghost use Rattle.std.specs.Prelude.{◌≡◌, ℕ, List, Option, None, IfErr, MatchOption, OnOk};
-ghost use Rattle.bully_trace.specs.Judging.{Begins, IsJudgedToEnd, IsNoRow, IsNoStart, TakesRow};
+ghost use Rattle.bully_account.specs.Accounts.{AreTakenToEnd, Begins, Takes};
+ghost use Rattle.bully_trace.specs.Judging.{IsNoRow, IsNoStart};
 ghost use Rattle.bully_rows.specs.RecordsLeft.{EndsReading, IsUnread};
 
 use crate::Account;
@@ -16,7 +17,7 @@ pub fn read_each<R: Read + Drop>(
     account: &mut Option<Account>,
 ) -> Result<(), TraceFault>
     requires { account.old ≡ None }
-    ensures judged { (known : Option (List ℕ)) → IsUnread known rows.old → OnOk result (IsJudgedToEnd known account.new) }
+    ensures taken { (known : Option (List ℕ)) → IsUnread known rows.old → OnOk result (AreTakenToEnd known account.new) }
     ensures fault { (known : Option (List ℕ)) → IsUnread known rows.old → IfErr result (EndsReading known) }
 {
     while rows.advance()? {
@@ -35,8 +36,8 @@ fn take_row<R: Read + Drop>(
     rows: &RowReader<Lines<R>>,
     account: &mut Account,
 ) -> Result<(), TraceFault>
-    ensures taken { OnOk result (TakesRow rows.now account.old account.new) }
-    ensures fault { IfErr result (IsNoRow rows.now account.old) }
+    ensures taken { OnOk result (Takes rows.now account.old account.new) }
+    ensures fault { IfErr result (IsNoRow rows.now account.old.judge) }
 {
     match rows.row(alloc, account.version(), account.world().setup())? {
         Some(row) => account.take_row(rows, row),
@@ -52,7 +53,7 @@ fn begin<R: Read + Drop>(
     rows: &RowReader<Lines<R>>,
     account: &mut Option<Account>,
 ) -> Result<(), TraceFault>
-    ensures begun { OnOk result (MatchOption account.new ⊥ (λ judge. Begins rows.now.fields judge)) }
+    ensures begun { OnOk result (MatchOption account.new ⊥ (λ a. Begins rows.now.fields a)) }
     ensures fault { IfErr result (IsNoStart rows.now.fields) }
 {
     let header = rows.header()?;

@@ -1,8 +1,8 @@
-ghost use Rattle.std.specs.Prelude.{◌≡◌, ℕ, List, [], Option, None, true, IfErr, IfOk, IsSome};
+ghost use Rattle.std.specs.Prelude.{◌≡◌, ℕ, List, [], Option, None, true, IfErr, IfOk, IfSome, IsSome};
 ghost use Rattle.bully_account.specs.TraceReport.{IsToldOf, IsUntold};
-ghost use Rattle.bully_trace.specs.Judging.{AreAllJudged};
+ghost use Rattle.bully_account.specs.Accounts.{AreAllTaken, HasTaken};
 ghost use Rattle.bully_rows.specs.RecordsLeft.{EndsReading, IsUnread};
-ghost use Rattle.bully_rows.specs.Rows.{is_of_form, no_memory};
+ghost use Rattle.bully_rows.specs.Rows.{OfTrace, is_of_form, no_memory};
 ghost use Rattle.bully_trace.specs.declared.verdict.Verdict.{Verdict as VerdictState};
 
 use crate::lines::Lines;
@@ -32,6 +32,8 @@ pub fn tell<R: Read + Drop>(
     ensures told { (known : Option (List ℕ)) → IsUnread known rows.old → IfOk result (λ told. IsToldOf known told.nodes.items told.verdict) }
     ensures form { IfOk result (λ told. IfErr told.verdict (λ fault. is_of_form fault.cause ≡ true)) }
     ensures account { IfOk result (λ told. IfOk told.verdict (λ verdict. IsSome account.new)) }
+    ensures taken { (known : Option (List ℕ)) → IsUnread known rows.old
+        → IfOk result (λ told. IfOk told.verdict (λ verdict. IfSome account.new (λ a. OfTrace known (λ trace. HasTaken trace.setup trace.rows a)))) }
     ensures sheets { IfOk result (λ told. IfErr told.verdict (λ fault. told.nodes.items ≡ [])) }
     ensures fault { (known : Option (List ℕ)) → IsUnread known rows.old → IfErr result (EndsReading known) }
     ensures untold { IfErr result IsUntold }
@@ -47,7 +49,7 @@ pub fn tell<R: Read + Drop>(
 
 // The verdict, and what is shown of each node.
 fn verdict_told(alloc: Global, account: &Account) -> Result<TraceReport, TraceFault>
-    ensures told { (known : Option (List ℕ)) → AreAllJudged known account.now.world.setup account.now → IfOk result (λ told. IsToldOf known told.nodes.items told.verdict) }
+    ensures told { (known : Option (List ℕ)) → AreAllTaken known account.now → IfOk result (λ told. IsToldOf known told.nodes.items told.verdict) }
     ensures verdict { IfOk result (λ told. (verdict : VerdictState) × (told.verdict ≡ Ok verdict)) }
     ensures fault { IfErr result (λ fault. fault ≡ no_memory) }
 {

@@ -120,11 +120,11 @@ local setup i v p c fits = record {
 pub all_local : (setup : Setup) (w : World) → WorldInvariant setup w → AllLocal setup.nodes (summary_of setup w)
 all_local setup w all i = local setup i (vector w i) (point w i) (pending w i) (all.fits i)
 
--- node i's summary, where it is this node state
+-- node i's summary, where this is its state
 abbrev pub summary_at : Setup → ℕ → NodeState → NodeSummary
 summary_at setup i m = summary setup.nodes i m.vector m.point m.pending
 
--- w' is w with this node state as node i
+-- w' is w with this state of node i
 pub turns : (setup : Setup) (w w' : World) (i : ℕ) (m : NodeState) → node_state w' i ≡ m → ((j : ℕ) → j ≢ i → node_state w' j ≡ node_state w j)
     → Turns (summary_of setup w) (summary_of setup w') i (summary_at setup i m)
 turns setup w w' i m here others = record { same = λ j. by_case j (grind arith) }

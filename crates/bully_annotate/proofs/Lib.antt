@@ -1,3 +1,4 @@
 pub mod SaidLemmas
 pub mod SaysLemmas
 pub mod ShownLemmas
+pub mod ToldLemmas

@@ -61,7 +61,7 @@ callee-node setup w i c fits there = by_pending (pending w i) there (fits.fits i
     by_pending (Some d) is suits = let same : d ≡ c = cc is in subst (λ (d : Pending). IsNode setup d.call.callee) same suits.to_node
 
 -- what is said is of this event, and is so
-abbrev IsSaid : Setup → World → Event → DetailedEvent → Type 0
+abbrev pub IsSaid : Setup → World → Event → DetailedEvent → Type 0
 IsSaid setup w e d = (event_of_detailed d ≡ e) × (is_so setup w d ≡ true)
 
 -- of a call that is there, where what is said of it is so
@@ -190,10 +190,10 @@ behind-said setup w mid count e a (Some d) rows after w' none step so more numbe
     rw (free, is) (mid, a, rw of step, more (number + 1))
 
 -- a reached world, with as many events as were counted
-abbrev IsReachedBy : Setup → World → ℕ → Type 0
+abbrev pub IsReachedBy : Setup → World → ℕ → Type 0
 IsReachedBy setup w count = (events : List Event) × (answers : List Answer) × IsLawful setup events answers w × (length events ≡ count)
 
-reached-more : (setup : Setup) (w mid : World) (count : ℕ) (e : Event) (a : Answer) → cause setup w count e ≡ None → Step setup w e mid a
+pub reached-more : (setup : Setup) (w mid : World) (count : ℕ) (e : Event) (a : Answer) → cause setup w count e ≡ None → Step setup w e mid a
     → IsReachedBy setup w count → IsReachedBy setup mid (count + 1)
 reached-more setup w mid count e a none step (events, answers, lawful, counted) =
     let room = room_of setup w count e none in (

@@ -2,3 +2,4 @@ pub mod Annotated
 pub mod Annotation
 pub mod Says
 pub mod Shown
+pub mod Told

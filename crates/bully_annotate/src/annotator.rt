@@ -28,7 +28,7 @@ impl Model for Annotator {
 
 impl Annotator {
     ghost use Rattle.std.specs.Prelude.{◌≡◌, ◌≤◌, ◌∷◌, ℕ, List, None, IfOk, string_bytes};
-    ghost use Rattle.bully_annotate.specs.Says.{IsLawfulFrom, Says, Shows, Steps};
+    ghost use Rattle.bully_annotate.specs.Says.{Adds, IsLawfulFrom, Says, Shows, Steps};
     ghost use Rattle.bully_rows.specs.declared.trace.Row.{Row as RowState};
     ghost use Rattle.bully_world.specs.State.{cause_in, world_of};
     ghost use Rattle.bully_world.specs.World.{World as WorldOf, first_world};
@@ -48,7 +48,7 @@ impl Annotator {
     /// Appends the row with everything said, and tells how many rows that is. Rows that aren't lawful are written up to there.
     pub fn say(&mut self, text: &mut String, row: &Row) -> Result<u32, OutOfMemory>
         ensures said { (number : ℕ) (more : List RowState) (after : ℕ) (w : WorldOf) → IsLawfulFrom self.old number (row.now ∷ more) after w
-            → IfOk result (Says self.old self.new number row.now more after w (string_bytes text.old) (string_bytes text.new)) }
+            → IfOk result (Says self.old self.new number row.now more after w (Adds (string_bytes text.old) (string_bytes text.new))) }
         ensures few { IfOk result (λ count. count ≤ 2) }
     {
         match row {

@@ -5,6 +5,7 @@
 #![tactic(auto)]
 
 ghost use Rattle.bully_annotate.specs.Shown.{ShowsEachChange, ShowsNoMore, TellsTheVector};
+ghost use Rattle.bully_annotate.specs.Told.{AnnotatedHasEvents, AnnotatedIsTold};
 
 mod annotation;
 mod annotator;
@@ -26,4 +27,11 @@ pub fn changes_shown()
 /// of that node's vector.
 pub fn vector_told()
     ensures { TellsTheVector }
+{}
+
+/// The law of what is read back. The annotated trace of a lawful one that a text can tell is one that a text can tell, too, unless it
+/// has more rows than a trace may, and has the same events.
+pub fn annotated_told()
+    ensures told { AnnotatedIsTold }
+    ensures events { AnnotatedHasEvents }
 {}

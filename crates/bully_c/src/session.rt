@@ -1,4 +1,4 @@
-//! What is kept behind a handle.
+//! What is kept of an agent behind its handle.
 ghost use Rattle.std.specs.Prelude.{◌≡◌, ◌++◌, ◌∷◌, [], OnOk, string_bytes};
 ghost use Rattle.bully_rows.specs.TraceText.{rows_text};
 ghost use Rattle.bully_rows.specs.declared.trace.Row.{Row as RowState};

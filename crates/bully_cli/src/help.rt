@@ -1,7 +1,7 @@
 //! What the program says of itself: its version, and what help tells of each command behind its usage.
 
 /// The version of the program, that the promises of its README were proved for it, and the kit that they were proved with,
-/// by its number and its logic. `bin/test` compares these with `rt version`. When the version rises: CONTRIBUTING.md.
+/// by its number, letter and logic. `bin/test` compares number and logic with `rt version`. When the version rises: CONTRIBUTING.md.
 pub const VERSION: &str = "0.5.0\n\
     Each promise of its README was proved for this version.\n\
     Proved with rattle-kit-13f logic dac8208d650f15bf";

@@ -1,1 +1,2 @@
 pub mod ConfigTold
+pub mod Shown

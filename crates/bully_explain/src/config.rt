@@ -37,13 +37,22 @@ fn toml_sheet(alloc: Global, error: &toml::de::Error) -> Result<ConfigSheet, Out
     if error.is_memory() {
         return Err(AllocError);
     }
+    let told = format!(in alloc; "{error}")?;
     let mut draft = Draft::new(alloc);
-    write!(draft, "{error}");
+    push_lines(&mut draft, told.as_str());
     let text = draft.finish()?;
     Ok(ConfigSheet {
         told: Some(ConfigFault::Toml),
         text,
     })
+}
+
+// Appends the lines of the text.
+fn push_lines(draft: &mut Draft, text: &str) {
+    for line in text.lines() {
+        draft.push_shown(line);
+        draft.push_str("\n");
+    }
 }
 
 // The sheet of a document.

@@ -10,12 +10,12 @@ use toml::{Table, Value};
 
 /// Appends what is wrong with the document, whose first fault this is. A line.
 pub fn push_fault(text: &mut Draft, document: &Table, fault: ConfigFault) {
-    write!(text, "{fault}: ");
+    text.push_between("", fault, ": ");
     match fault.key() {
         Some(key) => push_key_fault(text, document, fault, key),
         None => push_other_fault(text, document, fault),
     }
-    text.push('\n');
+    text.push_str("\n");
 }
 
 // Appends what is wrong at a key: of the document, or of the first fault in which it is wrong.
@@ -93,15 +93,26 @@ fn is_weight(item: &Value) -> bool {
     }
 }
 
-// Appends a value: a number, a text and a truth value as they are, and of the others of which kind they are.
+// Appends a value: a number and a truth value as they are, a text as it is shown, and of the others of which kind they are.
 fn push_value(text: &mut Draft, value: &Value) {
     match value {
         Value::Integer(number) => text.push_behind("is ", *number),
-        Value::String(word) => text.push_between("is \"", word.as_str(), "\""),
+        Value::String(word) => push_quoted(text, "is ", word.as_str()),
         Value::Boolean(flag) => text.push_behind("is ", *flag),
         Value::Array(items) => text.push_behind("is an array of ", items.len()),
-        _ => text.push_behind("is a ", value.type_str()),
+        _ => {
+            text.push_str("is a ");
+            text.push_str(value.type_str());
+        }
     }
+}
+
+// Appends the text of a document in quotes, behind these words.
+fn push_quoted(text: &mut Draft, before: &'static str, word: &str) {
+    text.push_str(before);
+    text.push_str("\"");
+    text.push_shown(word);
+    text.push_str("\"");
 }
 
 // Appends what may stand at the key.
@@ -112,7 +123,10 @@ fn push_expected(text: &mut Draft, document: &Table, key: Key) {
         Key::Partitions => text.push_behind("an integer from 1 to ", PARTITIONS_MAX),
         Key::Events => text.push_behind("an integer from 1 to ", EVENTS_MAX),
         Key::Turns => text.push_behind("an integer from 1 to ", TURNS_MAX),
-        Key::Period => write!(text, "an integer from {PERIOD_MIN} to {PERIOD_MAX}"),
+        Key::Period => {
+            text.push_between("an integer from ", PERIOD_MIN, " to ");
+            text.push_value(PERIOD_MAX);
+        }
         Key::Names => text.push_str(
             "an array of as many strings as there are nodes, none of them empty",
         ),
@@ -132,7 +146,7 @@ fn push_expected(text: &mut Draft, document: &Table, key: Key) {
 fn push_names(text: &mut Draft, names: &[Value]) {
     text.push_str("one of the names:");
     for name in names {
-        text.push_between(" \"", text_of(name), "\"");
+        push_quoted(text, " ", text_of(name));
     }
 }
 
@@ -150,7 +164,7 @@ fn push_double(text: &mut Draft, names: &[Value]) {
     for (place, name) in names.iter().enumerate() {
         let word = text_of(name);
         if first_place(names, word) < place {
-            return text.push_between("two of the names are \"", word, "\"");
+            return push_quoted(text, "two of the names are ", word);
         }
     }
 }
@@ -168,14 +182,14 @@ fn first_place(names: &[Value], word: &str) -> usize {
 // Appends the first key that isn't listed: at the top, or else in a fault.
 fn push_unlisted(text: &mut Draft, document: &Table) {
     if let Some(word) = unlisted_key(document, false) {
-        text.push_str(word);
+        text.push_shown(word);
         return text.push_str(
             " is no key; the keys are nodes, partitions, events, turns, period, names, weights, keep and fault",
         );
     }
     for (place, item) in items_at(document, Key::Fault).iter().enumerate() {
         if let Some(word) = unlisted_in(item) {
-            text.push_str(word);
+            text.push_shown(word);
             return text.push_between(
                 " is no key of fault ",
                 place + 1,

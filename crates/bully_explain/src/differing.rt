@@ -19,7 +19,7 @@ pub fn push_claimed(text: &mut Draft, setup: &Setup, claim: Claim, sheet: Option
         Some(sheet) => push_claim(text, claim, &sheet.shown),
         None => {
             push_no_node(text, setup, claim.node);
-            text.push('\n');
+            text.push_str("\n");
         }
     }
 }

@@ -1,13 +1,37 @@
 //! A text in the making.
 
+use crate::shown::{push_bytes, push_shown};
 use bully_base::{Node, NodeSet, OutOfMemory};
-use bully_rows::{Row, push_node, push_row, push_set, push_task};
+use bully_config::{ConfigFault, Key};
+use bully_rows::{Row, TraceCause, push_node, push_row, push_set, push_task};
 use bully_table::Table;
 use std::alloc::Global;
 use std::fmt::Display;
 
+/// What is written as it is displayed: numbers, and what the program names in words of its own.
+pub trait Plain: Display + Drop {}
+
+impl Plain for bool {}
+
+impl Plain for u16 {}
+
+impl Plain for u32 {}
+
+impl Plain for u64 {}
+
+impl Plain for usize {}
+
+impl Plain for i64 {}
+
+impl Plain for Key {}
+
+impl Plain for ConfigFault {}
+
+impl Plain for TraceCause {}
+
 /// A text to which pieces are appended. Where memory is short for one of them, nothing more is appended, and the text is refused
-/// at its end. So what appends to it has no refusals of its own.
+/// at its end. So what appends to it has no refusals of its own. The program's words are appended as they stand: they live as
+/// long as the program. What comes from outside is appended as it is shown, by [`Draft::push_shown`] and [`Draft::push_bytes`].
 #[derive(Drop)]
 pub struct Draft {
     text: String,
@@ -36,38 +60,62 @@ impl Draft {
         self.text.len()
     }
 
-    /// Appends the word.
-    pub fn push_str(&mut self, word: &str) {
+    /// Appends words of the program.
+    pub fn push_str(&mut self, words: &'static str) {
         if self.outcome.is_ok() {
-            self.outcome = self.text.push_str(word);
+            self.outcome = self.text.push_str(words);
         }
     }
 
-    /// Appends the letter.
-    pub fn push(&mut self, letter: char) {
+    /// Appends a text that comes from outside, as [`push_shown`] shows it.
+    pub fn push_shown(&mut self, raw: &str) {
         if self.outcome.is_ok() {
-            self.outcome = self.text.push(letter);
+            self.outcome = push_shown(&mut self.text, raw);
         }
     }
 
-    /// Appends what is formatted: what `write!` and `writeln!` call.
-    pub fn write_fmt<D: Display + Drop>(&mut self, value: D) {
+    /// Appends bytes that come from outside, as [`push_bytes`] shows them.
+    pub fn push_bytes(&mut self, raw: &[u8]) {
+        if self.outcome.is_ok() {
+            self.outcome = push_bytes(&mut self.text, raw);
+        }
+    }
+
+    /// Appends the value.
+    pub fn push_value<P: Plain>(&mut self, value: P) {
         if self.outcome.is_ok() {
             self.outcome = self.text.write_fmt(value);
         }
     }
 
-    /// Appends the value behind this text.
-    pub fn push_behind<D: Display + Drop>(&mut self, before: &str, value: D) {
+    /// Appends the value behind these words.
+    pub fn push_behind<P: Plain>(&mut self, before: &'static str, value: P) {
         self.push_str(before);
-        self.write_fmt(value);
+        self.push_value(value);
     }
 
-    /// Appends the value between these texts.
-    pub fn push_between<D: Display + Drop>(&mut self, before: &str, value: D, behind: &str) {
+    /// Appends the value between these words.
+    pub fn push_between<P: Plain>(&mut self, before: &'static str, value: P, behind: &'static str) {
         self.push_str(before);
-        self.write_fmt(value);
+        self.push_value(value);
         self.push_str(behind);
+    }
+
+    /// Appends how many things of a kind there are: its word with an `s` behind it, but for one of them.
+    pub fn push_count(&mut self, count: usize, kind: &'static str) {
+        self.push_value(count);
+        self.push_str(" ");
+        self.push_str(kind);
+        if count != 1 {
+            self.push_str("s");
+        }
+    }
+
+    /// Appends so many spaces.
+    pub fn push_spaces(&mut self, count: usize) {
+        for _ in 0..count {
+            self.push_str(" ");
+        }
     }
 
     /// Appends the row, as a trace has it: a line.

@@ -1,5 +1,6 @@
 use crate::draft::Draft;
 use crate::form::{Expected, FieldCounts, Misfit, field_at, misfit_of_header, misfit_of_row};
+use crate::words::push_row_place;
 use bully_account::{Account, Lines, line_of};
 use bully_base::{OutOfMemory, Setup, WEIGHT_MAX};
 use bully_rows::{ROWS_MAX, RowReader, TraceCause, TraceFault, Version};
@@ -32,7 +33,8 @@ pub fn form_text<R: Read + Drop>(
     if rows.number() == 0 {
         return no_row_text(alloc, fault.row);
     }
-    row_text(alloc, line_of(rows), rows.fields(), account, fault)
+    let line = line_of(rows.source(), rows.end(), rows.fields());
+    row_text(alloc, line, rows.fields(), account, fault)
 }
 
 // The sheet of a text without a row, at this row.
@@ -55,8 +57,7 @@ fn row_text(
     fault: TraceFault,
 ) -> Result<String, OutOfMemory> {
     let mut text = Draft::new(alloc);
-    let row = fault.row;
-    write!(text, "row {row} (line {line}): ");
+    push_row_place(&mut text, fault.row, line);
     push_cut(&mut text, fields);
     push_cause(&mut text, fields, account, fault.cause);
     text.finish()
@@ -70,7 +71,7 @@ fn push_cause(text: &mut Draft, fields: &ByteRecord, account: &Option<Account>, 
         TraceCause::BadRow => push_row_misfit(text, fields, account),
         _ => push_limit(text),
     }
-    text.push('\n');
+    text.push_str("\n");
 }
 
 // Appends where a later row has no form in a trace of the account's version.
@@ -94,12 +95,12 @@ fn push_cut(text: &mut Draft, fields: &ByteRecord) {
     let mut room = SHOWN_MAX;
     for place in 0..fields.len() {
         if place > 0 && room > 0 {
-            text.push(',');
+            text.push_str(",");
             room -= 1;
         }
         let field = field_at(fields, place);
         let count = field.len().min(room);
-        push_bytes(text, &field[..count]);
+        text.push_bytes(&field[..count]);
         room -= count;
     }
     if row_len(fields) > SHOWN_MAX {
@@ -116,22 +117,13 @@ fn row_len(fields: &ByteRecord) -> usize {
     len
 }
 
-// Appends the bytes; one that is no printed ASCII character as a question mark.
-fn push_bytes(text: &mut Draft, bytes: &[u8]) {
-    for byte in bytes {
-        let shown = match *byte {
-            b' '..=b'~' => char::from(*byte),
-            _ => '?',
-        };
-        text.push(shown);
-    }
-}
-
 // Appends the field at which a row breaks its form, and what may stand there.
 fn push_misfit(text: &mut Draft, fields: &ByteRecord, misfit: Misfit, setup: Option<&Setup>) {
     let field = misfit.field;
     if field == 0 {
-        text.push_between("it has ", fields.len(), " fields, and ");
+        text.push_str("it has ");
+        text.push_count(fields.len(), "field");
+        text.push_str(", and ");
     } else {
         text.push_between("field ", field, " has to be ");
     }
@@ -159,7 +151,9 @@ fn push_expected(text: &mut Draft, expected: Expected, setup: Option<&Setup>) {
         Expected::Nodes(most) => push_range(text, "how many nodes there are,", most),
         Expected::Partitions(most) => push_range(text, "how many partitions there are,", most),
         Expected::Weights(nodes) => {
-            text.push_between("the weights of ", nodes, " nodes,");
+            text.push_str("the weights of ");
+            text.push_count(usize::from(nodes), "node");
+            text.push_str(",");
             push_range(text, EACH, WEIGHT_MAX);
         }
         _ => text.push_str(words_expected(expected)),
@@ -192,7 +186,7 @@ fn push_counts(text: &mut Draft, counts: FieldCounts) {
 }
 
 // Appends of what a number may stand there, and up to which one.
-fn push_range(text: &mut Draft, what: &str, most: u16) {
+fn push_range(text: &mut Draft, what: &'static str, most: u16) {
     text.push_str(what);
     text.push_behind(" from 1 to ", most);
 }
@@ -202,6 +196,8 @@ fn push_owners(text: &mut Draft, setup: Option<&Setup>) {
     let Some(setup) = setup else {
         return text.push_str("the owners of the partitions");
     };
-    text.push_between("the owners of ", setup.partitions(), " partitions,");
+    text.push_str("the owners of ");
+    text.push_count(usize::from(setup.partitions()), "partition");
+    text.push_str(",");
     push_range(text, EACH, setup.nodes());
 }

@@ -3,7 +3,8 @@
 //!
 //! It stands on bully_account, which takes the rows and tells what they came to, on bully_config, whose refusals are told, and on
 //! the crates below these. The program relies on what is explained being what bully_account tells of the trace, and on the first
-//! refusal of a configuration being the one that is told. The sentences of a sheet are tested.
+//! refusal of a configuration being the one that is told. What comes from outside is shown without its controls. The sentences of a
+//! sheet are tested.
 #![tactic(auto)]
 
 mod config;
@@ -15,6 +16,7 @@ mod form;
 mod form_text;
 mod sentences;
 mod sheet_text;
+mod shown;
 mod sides;
 mod words;
 

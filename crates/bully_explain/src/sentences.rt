@@ -22,17 +22,20 @@ pub fn push_refused(
     let Verdict::Refused(_, cause) = verdict else {
         return;
     };
-    text.push_between("refused, ", cause_word(cause), ": ");
+    text.push_str("refused, ");
+    text.push_str(cause_word(cause));
+    text.push_str(": ");
     match sheet {
         Some(sheet) => push_cause(text, setup, event, cause, &sheet.shown),
         None => push_no_node(text, setup, event.node()),
     }
-    text.push('\n');
+    text.push_str("\n");
 }
 
 /// Appends that the group has no such node.
 pub fn push_no_node(text: &mut Draft, setup: &Setup, node: Node) {
-    text.push_between("the group has ", setup.nodes(), " nodes");
+    text.push_str("the group has ");
+    text.push_count(usize::from(setup.nodes()), "node");
     text.push_behind(", and no node ", node.number());
 }
 
@@ -61,8 +64,9 @@ fn push_cause(text: &mut Draft, setup: &Setup, event: &Event, cause: Refused, sh
 
 // Appends that the bound on events is reached.
 fn push_full(text: &mut Draft, setup: &Setup) {
-    let most = setup.events_max();
-    write!(text, "{most} events were applied, and no more are allowed");
+    text.push_str("the group takes at most ");
+    text.push_count(setup.events_max() as usize, "event");
+    text.push_str(", and so many were applied");
 }
 
 // Appends that the node is up.
@@ -106,13 +110,11 @@ fn push_no_call(text: &mut Draft, event: &Event, shown: &NodeSummary) {
 }
 
 // Appends whom the call goes to, and how that node is.
-fn push_callee(text: &mut Draft, number: u16, shown: &NodeSummary, state: &str) {
+fn push_callee(text: &mut Draft, number: u16, shown: &NodeSummary, state: &'static str) {
     if let Some(held) = shown.call {
-        let callee = held.call.callee.number();
-        write!(
-            text,
-            "the call of node {number} goes to node {callee}, which is {state}"
-        );
+        text.push_between("the call of node ", number, " goes to node ");
+        text.push_between("", held.call.callee.number(), ", which is ");
+        text.push_str(state);
     }
 }
 
@@ -123,18 +125,22 @@ fn push_bad_table(text: &mut Draft, setup: &Setup, event: &Event, shown: &NodeSu
     };
     let mut members = shown.up;
     members.insert(*node);
-    let owners = table.len();
-    let partitions = setup.partitions();
-    if owners != usize::from(partitions) {
-        return write!(
-            text,
-            "the table has {owners} owners, and there are {partitions} partitions"
-        );
+    let partitions = usize::from(setup.partitions());
+    if table.len() != partitions {
+        return push_wrong_len(text, table.len(), partitions);
     }
     match first_stranger(table, &members) {
         Some(place) => push_stranger(text, table, place, *node),
-        None => push_counts(text, table, &members),
+        None => push_shares(text, table, &members),
     }
+}
+
+// Appends that the table hasn't as many owners as there are partitions.
+fn push_wrong_len(text: &mut Draft, owners: usize, partitions: usize) {
+    text.push_str("the table has ");
+    text.push_count(owners, "owner");
+    text.push_str(", and the group has ");
+    text.push_count(partitions, "partition");
 }
 
 // The first partition whose owner is no member.
@@ -153,22 +159,23 @@ fn first_stranger(table: &Table, members: &NodeSet) -> Option<usize>
 fn push_stranger(text: &mut Draft, table: &Table, place: usize, node: Node)
     requires { place < length table.now }
 {
-    let owner = table.owner(place).number();
-    let number = node.number();
-    write!(
-        text,
-        "partition {place} is owned by node {owner}, which is neither node {number} nor in its up set"
+    text.push_between("partition ", place, " is owned by node ");
+    text.push_value(table.owner(place).number());
+    text.push_between(
+        ", which is neither node ",
+        node.number(),
+        " nor in its up set",
     );
 }
 
 // Appends how many partitions each member owns, which isn't its share.
-fn push_counts(text: &mut Draft, table: &Table, members: &NodeSet) {
+fn push_shares(text: &mut Draft, table: &Table, members: &NodeSet) {
     text.push_str("the partitions aren't shared out evenly by weight:");
     let mut gap = "";
     for before in 0..NODES_MAX {
         match Node::new(before + 1) {
             Some(member) if members.has(member) => {
-                push_count(text, gap, table, member);
+                push_share(text, gap, table, member);
                 gap = ",";
             }
             _ => {}
@@ -177,10 +184,10 @@ fn push_counts(text: &mut Draft, table: &Table, members: &NodeSet) {
 }
 
 // Appends how many partitions the member owns.
-fn push_count(text: &mut Draft, gap: &str, table: &Table, member: Node) {
-    let number = member.number();
-    let count = owned_by(table, member);
-    write!(text, "{gap} node {number} owns {count}");
+fn push_share(text: &mut Draft, gap: &'static str, table: &Table, member: Node) {
+    text.push_str(gap);
+    text.push_between(" node ", member.number(), " owns ");
+    text.push_value(owned_by(table, member));
 }
 
 // How many partitions the node owns.

@@ -1,7 +1,7 @@
 use crate::differing::{push_claimed, push_detailed, push_whole_claimed};
 use crate::draft::Draft;
 use crate::sentences::push_refused;
-use crate::words::{push_held, push_offer, push_point, push_vector, push_what};
+use crate::words::{push_held, push_offer, push_point, push_row_place, push_vector, push_what};
 use bully_account::{
     Account, CallSummary, EventKind, Memory, NodeSheet, NodeSummary, Note, Stop, node_sheet,
 };
@@ -11,6 +11,9 @@ use bully_steps::Point;
 use bully_trace::Verdict;
 use bully_world::World;
 use std::alloc::Global;
+
+/// How wide the title of a line is, in bytes.
+const TITLE: usize = 16;
 
 /// The sheet of the account's verdict as text, with what it shows of each node, from node 1 on.
 pub fn sheet_text(
@@ -38,7 +41,7 @@ fn push_stopped(text: &mut Draft, account: &Account, stop: &Stop, nodes: &[NodeS
     push_start(text, stop);
     push_reason(text, account.world(), account.verdict(), &stop.row, sheet);
     if let Some(sheet) = sheet {
-        text.push('\n');
+        text.push_str("\n");
         push_node(text, node, sheet, account.memory(node));
     }
     push_others(text, nodes, node);
@@ -106,9 +109,7 @@ fn reason_text(
 
 // Appends the row: its number, the line at which it starts, and its text.
 fn push_start(text: &mut Draft, stop: &Stop) {
-    let number = stop.number;
-    let line = stop.line;
-    write!(text, "row {number} (line {line}): ");
+    push_row_place(text, stop.number, stop.line);
     text.push_row(&stop.row);
 }
 
@@ -117,7 +118,7 @@ fn push_lawful(text: &mut Draft, account: &Account, nodes: &[NodeSheet]) {
     text.push_between("lawful ", account.world().events(), "\n");
     for (place, sheet) in nodes.iter().enumerate() {
         if let Some(node) = node_at(place) {
-            text.push('\n');
+            text.push_str("\n");
             push_node(text, node, sheet, account.memory(node));
         }
     }
@@ -137,7 +138,7 @@ fn node_at(place: usize) -> Option<Node> {
 fn push_rest(text: &mut Draft, nodes: &[NodeSheet]) {
     let highest = highest_up(nodes);
     let mut is_resting = true;
-    text.push('\n');
+    text.push_str("\n");
     for (place, sheet) in nodes.iter().enumerate() {
         if !rests(&sheet.shown, &highest) {
             push_restless(text, place + 1, is_resting);
@@ -188,10 +189,16 @@ fn push_node(text: &mut Draft, node: Node, sheet: &NodeSheet, memory: Option<&Me
 
 // Appends the line of the node's vector.
 fn push_vector_line(text: &mut Draft, node: Node, shown: &NodeSummary) {
-    let number = node.number();
-    write!(text, "  node {number:<9}");
+    push_title(text, usize::from(node.number()));
     push_vector(text, shown);
     text.push_between(", generation ", shown.generation, "\n");
+}
+
+// Appends the title of the line of a node, which is as wide as the titles below it.
+fn push_title(text: &mut Draft, number: usize) {
+    let start = text.len();
+    text.push_behind("  node ", number);
+    text.push_spaces(TITLE.saturating_sub(text.len().saturating_sub(start)));
 }
 
 // Appends the line of the node's point: since when it stands there, and what that offers.
@@ -203,7 +210,7 @@ fn push_point_line(text: &mut Draft, shown: &NodeSummary, memory: Option<&Memory
     }
     text.push_str("; it offers ");
     push_offer(text, shown.offer);
-    text.push('\n');
+    text.push_str("\n");
 }
 
 // Appends since which row the node stands at its point: the last one that it remembers to have moved it, or else one before
@@ -237,7 +244,7 @@ fn push_slot_line(text: &mut Draft, call: Option<CallSummary>, memory: Option<&M
         }
         None => text.push_str("empty"),
     }
-    text.push('\n');
+    text.push_str("\n");
 }
 
 // Appends in which row the call in the slot was started.
@@ -255,12 +262,13 @@ fn push_possible_line(text: &mut Draft, node: Node, event_kinds: &[EventKind]) {
     let number = node.number();
     text.push_str("  possible now");
     for event_kind in event_kinds {
-        text.push_behind("  ", event_kind.word());
+        text.push_str("  ");
+        text.push_str(event_kind.word());
         if *event_kind != EventKind::Plan {
             text.push_behind(",", number);
         }
     }
-    text.push('\n');
+    text.push_str("\n");
 }
 
 // Appends the line of the rows that the node remembers.
@@ -269,7 +277,7 @@ fn push_rows_line(text: &mut Draft, memory: Option<&Memory>) {
     if let Some(memory) = memory {
         push_notes(text, memory);
     }
-    text.push('\n');
+    text.push_str("\n");
 }
 
 // Appends the rows that the node remembers: a space before the first, and two before each other one.
@@ -298,7 +306,7 @@ fn push_others(text: &mut Draft, nodes: &[NodeSheet], node: Node) {
 
 // Appends the line of the node of this number, which isn't the one at hand.
 fn push_other(text: &mut Draft, number: usize, shown: &NodeSummary) {
-    write!(text, "  node {number:<9}");
+    push_title(text, number);
     if shown.status == Status::Down {
         return text.push_str("down\n");
     }
@@ -311,7 +319,7 @@ fn push_other(text: &mut Draft, number: usize, shown: &NodeSummary) {
         }
         None => text.push_str("; its slot is empty"),
     }
-    text.push('\n');
+    text.push_str("\n");
 }
 
 // Appends where a node stands.

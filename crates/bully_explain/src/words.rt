@@ -7,6 +7,12 @@ use bully_calls::{Answer, Call, CallKind, Phase};
 use bully_rows::status_word;
 use bully_steps::{Point, Want};
 
+/// Appends which row is told: its number, and the line at which it starts.
+pub fn push_row_place(text: &mut Draft, number: u32, line: u64) {
+    text.push_between("row ", number, " (line ");
+    text.push_between("", line, "): ");
+}
+
 /// Appends the members in rising number, each behind a space; `of nobody` where there is none.
 pub fn push_members(text: &mut Draft, set: &NodeSet) {
     if set.is_empty() {
@@ -115,7 +121,7 @@ pub fn push_vector(text: &mut Draft, shown: &NodeSummary) {
 }
 
 // Appends the node behind the part that it has, where there is one.
-fn push_named(text: &mut Draft, part: &str, node: Option<Node>) {
+fn push_named(text: &mut Draft, part: &'static str, node: Option<Node>) {
     if let Some(node) = node {
         text.push_behind(part, node.number());
     }
@@ -131,7 +137,7 @@ pub fn push_what(text: &mut Draft, memory: &Memory, what: &What) {
         What::Started(call) => {
             text.push_str("start (");
             push_call(text, *call);
-            text.push(')');
+            text.push_str(")");
         }
         What::HaltedBy(node) => text.push_behind("halted by ", node.number()),
     }
@@ -142,7 +148,7 @@ pub fn push_what(text: &mut Draft, memory: &Memory, what: &What) {
 fn push_planned(text: &mut Draft, memory: &Memory, event_kind: EventKind) {
     let planned = memory.planned();
     if event_kind == EventKind::Plan && planned.is_some() {
-        text.push(' ');
+        text.push_str(" ");
         text.push_task(planned);
     }
 }

@@ -18,7 +18,7 @@ use Rattle.bully_world.specs.World.{World, empty_node_state, first_world, node_s
 use Rattle.bully_world.proofs.Events.{own_other}
 use Rattle.bully_world.proofs.NodeInvariantLemmas.{first_fits, lawful_fits, step_fits}
 use Rattle.bully_world.proofs.RunInvariant.{ran_other}
-use Rattle.bully_world.proofs.StepOfLemmas.{computed_steps, step_is_computed}
+use Rattle.bully_world.proofs.StepOfLemmas.{computed_steps, step_is_computed, step_is_one}
 use Rattle.bully_rows.specs.declared.trace.Row.{Row}
 use Rattle.bully_rows.specs.declared.detail.Detail.{Detail}
 use Rattle.bully_rows.specs.declared.detail.DetailedEvent.{DetailedEvent}
@@ -29,6 +29,7 @@ use Rattle.bully_trace.specs.Judging.{HasJudged, JudgeState}
 use Rattle.bully_trace.specs.Verdict.{IsJudged}
 use Rattle.bully_trace.proofs.JudgeLemmas.{judged-all}
 use Rattle.bully_rows.specs.Kinds.{event_kind_of}
+use Rattle.bully_film.specs.Film.{decided, deciding}
 use Rattle.bully_film.specs.Behind.{LeadsBehind, decides, next_count, next_world, stepped, taken, world_behind}
 use Rattle.bully_film.specs.Scene.{event_kind_in, node_in, place_at, seen_of, snapshot}
 
@@ -87,6 +88,59 @@ judged-world setup rows judge judged = by_stop judge.stopped refl
         (judged-all setup rows judge (Verdict.Lawful judge.world.events) (world_of judge.world) (rw is (refl, refl)) judged)
     by_stop (Some verdict) is = leads-behind setup rows verdict (world_of judge.world)
         (judged-all setup rows judge verdict (world_of judge.world) (rw is (refl, refl)) judged)
+
+-- ---- rows come to one verdict
+
+-- behind an event that is possible
+one-behind : (setup : Setup) (w : World) (e : Event) (count number : ℕ) (rows : List Row) (verdict verdict' : Verdict) (u u' : World)
+    → ((mid : World) → IsJudged setup mid count number rows verdict u → IsJudged setup mid count number rows verdict' u' → verdict ≡ verdict')
+    → (mid : World) × (a : Answer) × Step setup w e mid a × IsJudged setup mid count number rows verdict u
+    → (mid : World) × (a : Answer) × Step setup w e mid a × IsJudged setup mid count number rows verdict' u'
+    → verdict ≡ verdict'
+one-behind setup w e count number rows verdict verdict' u u' more (mid, a, step, j) (mid', a', step', j') =
+    more mid j (subst (λ m. IsJudged setup m count number rows verdict' u') (step_is_one setup w e mid mid' a a' step step').0 j')
+
+-- at a row that may differ
+one-or-differs : {A B : Type 0} (so : Bool) (w u u' : World) (number : ℕ) (verdict verdict' : Verdict) → (A → B → verdict ≡ verdict')
+    → MatchBool so A ((verdict ≡ Verdict.Differs number) × (u ≡ w)) → MatchBool so B ((verdict' ≡ Verdict.Differs number) × (u' ≡ w))
+    → verdict ≡ verdict'
+one-or-differs true w u u' number verdict verdict' more j j' = more j j'
+one-or-differs false w u u' number verdict verdict' more j j' = j.0 ∙ sym j'.0
+
+-- at a row whose event may be refused
+one-or-refused : {A B : Type 0} (why : Option Refused) (w u u' : World) (number : ℕ) (verdict verdict' : Verdict) → (A → B → verdict ≡ verdict')
+    → MatchOption why A (λ why. (verdict ≡ Verdict.Refused number why) × (u ≡ w)) → MatchOption why B (λ why. (verdict' ≡ Verdict.Refused number why) × (u' ≡ w))
+    → verdict ≡ verdict'
+one-or-refused None w u u' number verdict verdict' more j j' = more j j'
+one-or-refused (Some why) w u u' number verdict verdict' more j j' = j.0 ∙ sym j'.0
+
+one-verdict : (setup : Setup) (w : World) (count number : ℕ) (rows : List Row) (verdict verdict' : Verdict) (u u' : World)
+    → IsJudged setup w count number rows verdict u → IsJudged setup w count number rows verdict' u' → verdict ≡ verdict'
+one-verdict setup w count number [] verdict verdict' u u' j j' = j.0 ∙ sym j'.0
+one-verdict setup w count number (Row.Event e ∷ rows) verdict verdict' u u' j j' =
+    one-or-refused (cause setup w count e) w u u' number verdict verdict'
+    (one-behind setup w e (count + 1) (number + 1) rows verdict verdict' u u' (λ mid. one-verdict setup mid (count + 1) (number + 1) rows verdict verdict' u u')) j j'
+one-verdict setup w count number (Row.Detailed d ∷ rows) verdict verdict' u u' j j' =
+    one-or-refused (cause setup w count (event_of_detailed d)) w u u' number verdict verdict'
+    (one-or-differs (is_so setup w d) w u u' number verdict verdict'
+    (one-behind setup w (event_of_detailed d) (count + 1) (number + 1) rows verdict verdict' u u' (λ mid. one-verdict setup mid (count + 1) (number + 1) rows verdict verdict' u u'))) j j'
+one-verdict setup w count number (Row.Claim claim ∷ rows) verdict verdict' u u' j j' =
+    one-or-differs (is_true setup w claim) w u u' number verdict verdict' (one-verdict setup w count (number + 1) rows verdict verdict' u u') j j'
+one-verdict setup w count number (Row.Whole whole ∷ rows) verdict verdict' u u' j j' =
+    one-or-differs (is_whole setup w whole) w u u' number verdict verdict' (one-verdict setup w count (number + 1) rows verdict verdict' u u') j j'
+
+-- the row of the verdict is that at which the judge stopped
+pub decided-told : (setup : Setup) (rows : List Row) (judge : JudgeState) (verdict : Verdict) (w : World) → HasJudged setup rows judge
+    → IsJudged setup (first_world setup) 0 2 rows verdict w → deciding verdict ≡ decided judge.stopped
+decided-told setup rows judge verdict w judged told = by_stop judge.stopped refl
+  where
+    one : (verdict' : Verdict) (w' : World) → IsJudged setup (first_world setup) 0 2 rows verdict' w' → verdict ≡ verdict'
+    one verdict' w' judged' = one-verdict setup (first_world setup) 0 2 rows verdict verdict' w w' told judged'
+
+    by_stop : (stopped : Option Verdict) → judge.stopped ≡ stopped → deciding verdict ≡ decided stopped
+    by_stop None is = ap deciding (one (Verdict.Lawful judge.world.events) (world_of judge.world)
+        (judged-all setup rows judge (Verdict.Lawful judge.world.events) (world_of judge.world) (rw is (refl, refl)) judged))
+    by_stop (Some first) is = ap deciding (one first (world_of judge.world) (judged-all setup rows judge first (world_of judge.world) (rw is (refl, refl)) judged))
 
 -- ---- which nodes stay as they were
 

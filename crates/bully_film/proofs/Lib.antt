@@ -1,4 +1,5 @@
 pub mod BehindLemmas
+pub mod DistanceLemmas
 pub mod FilmLemmas
 pub mod LaneLemmas
 pub mod ReadLemmas

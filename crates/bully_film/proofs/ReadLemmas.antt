@@ -1,9 +1,9 @@
 -- What the filmed rows of a text come to.
-use Rattle.std.proofs.Common.{◌≡◌, ◌∙◌, ◌+◌, ◌<◌, ◌≤◌, ◌⊎◌, Bool, true, false, ◌++◌, ℕ, List, [], ◌∷◌, Option, Some, None, inl, inr, length, refl, sym, subst, arith, ap}
-use Rattle.std.specs.Prelude.{MatchOption, IfSome}
+use Rattle.std.proofs.Common.{◌≡◌, ◌∙◌, ◌+◌, ◌<◌, ◌≤◌, Bool, true, false, ◌++◌, ℕ, List, [], ◌∷◌, Option, Some, None, inl, inr, length, refl, sym, subst, arith, ap}
+use Rattle.std.specs.Prelude.{MatchOption, IfSome, min}
 use Rattle.bully_base.specs.Setup.{Setup}
 use Rattle.bully_world.specs.State.{world_of}
-use Rattle.bully_world.specs.World.{World, first_world}
+use Rattle.bully_world.specs.World.{first_world}
 use Rattle.bully_rows.specs.declared.TheConstants.{ROWS_MAX}
 use Rattle.bully_rows.specs.declared.header.Header.{Header}
 use Rattle.bully_rows.specs.declared.header.Version.{Version}
@@ -13,16 +13,15 @@ use Rattle.bully_rows.specs.Headers.{Record, header_with}
 use Rattle.bully_rows.specs.RecordsLeft.{EndsReading, HasRead, IsUnread, ReadSoFar, Takes, rows_left}
 use Rattle.bully_rows.specs.Rows.{OfTrace}
 use Rattle.bully_rows.proofs.TraceLemmas.{header-bad, header-missing, header-read, memory-ends, read-bad, read-end, read-more}
-use Rattle.bully_trace.specs.declared.verdict.Verdict.{Verdict}
 use Rattle.bully_trace.specs.Judging.{HasJudged, IsNoRow, IsNoStart}
 use Rattle.bully_trace.specs.Verdict.{IsJudged}
 use Rattle.bully_film.specs.declared.film.FinishedFilm.{FinishedFilm}
 use Rattle.bully_film.specs.declared.snapshot.NodeSnapshot.{NodeSnapshot}
 use Rattle.bully_film.specs.Behind.{world_behind}
-use Rattle.bully_film.specs.Film.{AreAllFilmed, AreFilmed, Begins, FilmState, HasFilmed, IsFilmedSoFar, IsFilmedToEnd, IsFilmOf, TakesRow, closed}
+use Rattle.bully_film.specs.Film.{AreAllFilmed, AreFilmed, Begins, FilmState, HasFilmed, IsFilmedSoFar, IsFilmedToEnd, IsFilmOf, IsRowAt, TakesRow, closed, decided, deciding, last_judged}
 use Rattle.bully_film.specs.Scene.{snapshots_of}
 use Rattle.bully_film.specs.Window.{WindowState}
-use Rattle.bully_film.proofs.BehindLemmas.{judged-world}
+use Rattle.bully_film.proofs.BehindLemmas.{decided-told, judged-world}
 
 -- behind the header
 pub filmed-start : (known : Option (List ℕ)) (window : WindowState) (reader now : ReadSoFar) (state begun : Option FilmState) (found : Bool)
@@ -106,58 +105,64 @@ filmed-fault known window reader (Some film) fault first later (rows, read, film
 
 -- ---- the finished film
 
+-- what is said of a film that was closed
+record Finishes (film : FilmState) (finished : FinishedFilm) : Type 0 where
+  same : finished.setup ≡ film.judge.world.setup
+  judge : finished.judge ≡ film.judge
+  stop : finished.stop ≡ film.stop
+  scenes : finished.scenes.items ≡ film.scenes
+  at_end : IfSome film.at_end (λ at_end. finished.at_end.items ≡ at_end)
+  verdict : (setup : Setup) (rows : List Row) → HasJudged setup rows film.judge → IsJudged setup (first_world setup) 0 2 rows finished.verdict (world_of film.judge.world)
+
 -- what a film shows, once how the nodes stand is kept
 finished-rows : (setup : Setup) (version : Version) (window : WindowState) (rows : List Row) (film : FilmState) (finished : FinishedFilm) → HasFilmed setup rows film → film.window ≡ window
-    → finished.setup ≡ film.judge.world.setup → finished.scenes.items ≡ film.scenes
-    → IfSome (closed film).at_end (λ at_end. finished.at_end.items ≡ at_end)
-    → ((setup : Setup) (rows : List Row) → HasJudged setup rows film.judge → IsJudged setup (first_world setup) 0 2 rows finished.verdict (world_of film.judge.world))
+    → Finishes (closed film) finished
     → IsFilmOf window finished (record { version = version; setup = setup; rows = rows })
-finished-rows setup version window rows film finished filmed same_window same_setup scenes at_end verdict = by_at_end film.at_end refl filmed.at_end
+finished-rows setup version window rows film finished filmed same_window finishes = record {
+  same = finishes.same ∙ filmed.judged.same;
+  judged = (world_of film.judge.world, told);
+  judge = subst (HasJudged setup rows) (sym finishes.judge) filmed.judged;
+  stop = subst (λ stop. IsRowAt rows (deciding finished.verdict) stop) (sym finishes.stop) (subst (λ number. IsRowAt rows number film.stop) (sym row) filmed.stop);
+  before = filmed.before;
+  shown = filmed.shown;
+  beyond = filmed.beyond;
+  all = filmed.all;
+  scenes = finishes.scenes ∙ filmed.scenes;
+  window = rw (← same_window) filmed.window;
+  ends = filmed.ends ∙ ap (λ number. min film.window.to (last_judged rows number)) (sym row)
+      ∙ ap (λ (w : WindowState). min w.to (last_judged rows (deciding finished.verdict))) same_window;
+  at_end = by_at_end film.at_end refl filmed.at_end;
+}
   where
-    finished_with : finished.at_end.items ≡ snapshots_of (world_behind setup (filmed.before ++ filmed.shown)) 1 setup.nodes
-        → (filmed.beyond ≡ []) ⊎ (length filmed.before + length filmed.shown + 1 ≡ window.to) ⊎ ((w : World) × IsJudged setup (first_world setup) 0 2 (filmed.before ++ filmed.shown) finished.verdict w)
-        → IsFilmOf window finished (record { version = version; setup = setup; rows = rows })
-    finished_with nodes ends = record {
-      same = same_setup ∙ filmed.judged.same;
-      judged = (world_of film.judge.world, verdict setup rows filmed.judged);
-      before = filmed.before;
-      shown = filmed.shown;
-      beyond = filmed.beyond;
-      all = filmed.all;
-      scenes = scenes ∙ filmed.scenes;
-      window = rw (← same_window) filmed.window;
-      at_end = nodes;
-      ends = ends;
-    }
+    told : IsJudged setup (first_world setup) 0 2 rows finished.verdict (world_of film.judge.world)
+    told = finishes.verdict setup rows filmed.judged
 
-    by_stop : (stopped : Option Verdict) → film.judge.stopped ≡ stopped → HasJudged setup (filmed.before ++ filmed.shown) film.judge → (film.judge.stopped ≡ None → filmed.beyond ≡ [])
-        → (filmed.beyond ≡ []) ⊎ (length filmed.before + length filmed.shown + 1 ≡ window.to) ⊎ ((w : World) × IsJudged setup (first_world setup) 0 2 (filmed.before ++ filmed.shown) finished.verdict w)
-    by_stop None is judged going = inl (going is)
-    by_stop (Some told) is judged going = inr (inr (world_of film.judge.world, verdict setup (filmed.before ++ filmed.shown) judged))
+    row : deciding finished.verdict ≡ decided film.judge.stopped
+    row = decided-told setup rows film.judge finished.verdict (world_of film.judge.world) filmed.judged told
 
     by_at_end : (kept : Option (List NodeSnapshot)) → film.at_end ≡ kept
         → MatchOption kept
         (HasJudged setup (filmed.before ++ filmed.shown) film.judge × (film.judge.stopped ≡ None → filmed.beyond ≡ []) × (length filmed.before + length filmed.shown + 1 < film.window.to))
         (λ s. (length filmed.before + length filmed.shown + 1 ≡ film.window.to) × (s ≡ snapshots_of (world_behind setup (filmed.before ++ filmed.shown)) 1 setup.nodes))
-        → IsFilmOf window finished (record { version = version; setup = setup; rows = rows })
+        → finished.at_end.items ≡ snapshots_of (world_behind setup (filmed.before ++ filmed.shown)) 1 setup.nodes
     by_at_end None is (judged, going, upto) =
-        let now : finished.at_end.items ≡ snapshots_of (world_of film.judge.world) 1 film.judge.world.setup.nodes = rw is at at_end in
-        finished_with (now
+        let now : finished.at_end.items ≡ snapshots_of (world_of film.judge.world) 1 film.judge.world.setup.nodes = rw is at finishes.at_end in
+        now
         ∙ ap (λ (s : Setup). snapshots_of (world_of film.judge.world) 1 s.nodes) judged.same
-        ∙ ap (λ w. snapshots_of w 1 setup.nodes) (judged-world setup (filmed.before ++ filmed.shown) film.judge judged))
-        (by_stop film.judge.stopped refl judged going)
+        ∙ ap (λ w. snapshots_of w 1 setup.nodes) (judged-world setup (filmed.before ++ filmed.shown) film.judge judged)
     by_at_end (Some s) is (last, nodes) =
-        let now : finished.at_end.items ≡ s = rw is at at_end in
-        finished_with (now ∙ nodes) (inr (inl (rw (← same_window) last)))
+        let now : finished.at_end.items ≡ s = rw is at finishes.at_end in
+        now ∙ nodes
 
 pub finished-is : (known : Option (List ℕ)) (window : WindowState) (film after : FilmState) (finished : FinishedFilm) → AreAllFilmed known window film → after ≡ closed film
-    → finished.setup ≡ after.judge.world.setup → finished.scenes.items ≡ after.scenes
+    → finished.setup ≡ after.judge.world.setup → finished.judge ≡ after.judge → finished.stop ≡ after.stop → finished.scenes.items ≡ after.scenes
     → IfSome after.at_end (λ at_end. finished.at_end.items ≡ at_end)
     → ((setup : Setup) (rows : List Row) → HasJudged setup rows after.judge → IsJudged setup (first_world setup) 0 2 rows finished.verdict (world_of after.judge.world))
     → OfTrace known (IsFilmOf window finished)
-finished-is None window film after finished all is same_setup scenes at_end verdict = tt
-finished-is (Some bytes) window film after finished (version, rows, means, filmed, in_window) is same_setup scenes at_end verdict = (
+finished-is None window film after finished all is same_setup judge stop scenes at_end verdict = tt
+finished-is (Some bytes) window film after finished (version, rows, means, filmed, in_window) is same_setup judge stop scenes at_end verdict = (
   record { version = version; setup = film.judge.world.setup; rows = rows },
   means,
-  finished-rows film.judge.world.setup version window rows film finished filmed in_window (rw is at same_setup) (rw is at scenes) (rw is at at_end) (rw is at verdict),
+  finished-rows film.judge.world.setup version window rows film finished filmed in_window
+      (subst (λ f. Finishes f finished) is (record { same = same_setup; judge = judge; stop = stop; scenes = scenes; at_end = at_end; verdict = verdict })),
 )

@@ -14,8 +14,8 @@ use std::alloc::Global;
 use std::collections::VecDeque;
 use std::marker::Model;
 
-/// What a film shows: the judge that took the rows, the setup and the verdict of its trace, the row that decided, what each row of the window shows, and how the
-/// nodes stand behind the last of them, from node 1 on.
+/// What a film shows: the judge that took all rows of the trace, the setup and the verdict of it, the row that decided, none where the
+/// verdict is lawful, what each row of the window shows, and how the nodes stand behind the last of them, from node 1 on.
 #[derive(Drop)]
 pub struct FinishedFilm {
     pub judge: Judge,
@@ -44,13 +44,13 @@ impl Model for Film {
 
     ghost Value = { FilmState };
 
-    ghost view = { λ f. record { judge = f.judge; window = f.window; scenes = f.scenes.items; at_end = option_map (λ v. v.items) f.at_end } };
+    ghost view = { λ f. record { judge = f.judge; window = f.window; scenes = f.scenes.items; stop = f.stop; at_end = option_map (λ v. v.items) f.at_end } };
 }
 
 impl Film {
     ghost use Rattle.std.specs.Prelude.{◌≡◌, ◌+◌, ◌++◌, ◌==◌, ◌∷◌, [], List, Option, None, Some, true, false, is_none, is_some, length, IfOk, IfSome, OnOk, if◌then◌else◌};
     ghost use Rattle.bully_base.specs.Setup.{Setup as SetupState};
-    ghost use Rattle.bully_film.specs.Film.{GoesOn, HasFilmed, IsLook, closed, kept};
+    ghost use Rattle.bully_film.specs.Film.{GoesOn, HasFilmed, IsLook, IsNoted, closed, kept, noted};
     ghost use Rattle.bully_film.specs.Scene.{IsSceneStart, event_kind_in, node_in, scene_of};
     ghost use Rattle.bully_trace.specs.Judging.{HasJudged};
     ghost use Rattle.bully_trace.specs.Verdict.{IsJudged};
@@ -64,6 +64,18 @@ impl Film {
         ensures filmed { IfOk result (HasFilmed header.setup []) }
         ensures version { IfOk result (λ film. film.judge.version ≡ header.version) }
         ensures window { IfOk result (λ film. film.window ≡ window) }
+    {
+        let mut film = Film::unclosed(alloc, header, window)?;
+        film.close_at(alloc, 1)?;
+        Ok(film)
+    }
+
+    // The same, where the header isn't yet seen to be the window's last row.
+    fn unclosed(alloc: Global, header: Header, window: Window) -> Result<Film, OutOfMemory>
+        ensures judged { IfOk result (λ film. HasJudged header.setup [] film.judge) }
+        ensures stopped { IfOk result (λ film. film.judge.stopped ≡ None) }
+        ensures version { IfOk result (λ film. film.judge.version ≡ header.version) }
+        ensures empty { IfOk result (λ film. (film.window ≡ window) × (film.scenes ≡ []) × (film.stop ≡ None) × (film.at_end ≡ None)) }
     {
         // (with all the room at once: a deque that grew by itself would go around in more, and leave the processor's cache)
         Ok(Film {
@@ -151,6 +163,7 @@ impl Film {
         ensures window { self.new.window ≡ self.old.window }
         ensures at_end { self.new.at_end ≡ self.old.at_end }
         ensures scenes { self.new.scenes ≡ self.old.scenes }
+        ensures noted { self.old.judge.stopped ≡ None → IsNoted number row self.old self.new }
         ensures judged { (setup : SetupState) (rows : List RowState) → length rows + 2 ≡ number → HasJudged setup rows self.old.judge → HasJudged setup (rows ++ row ∷ []) self.new.judge }
     {
         self.judge.take_row(number, &row);
@@ -164,6 +177,7 @@ impl Film {
         ensures window { self.new.window ≡ self.old.window }
         ensures at_end { self.new.at_end ≡ self.old.at_end }
         ensures scenes { self.new.scenes ≡ self.old.scenes }
+        ensures noted { self.old.judge.stopped ≡ None → IsNoted number (Row.Event (event_at kind node)) self.old self.new }
         ensures judged { (setup : SetupState) (rows : List RowState) → length rows + 2 ≡ number → HasJudged setup rows self.old.judge
             → HasJudged setup (rows ++ Row.Event (event_at kind node) ∷ []) self.new.judge }
     {
@@ -177,7 +191,7 @@ impl Film {
     // (out of line, as it comes once)
     #[inline(never)]
     fn stop_at(&mut self, kind: NodeEventKind, node: Node)
-        ensures { self.new ≡ self.old }
+        ensures { self.new ≡ record self.old { stop = Some (Row.Event (event_at kind node)) } }
     {
         self.stop = Some(Row::Event(NodeEvent { kind, node }.event()));
     }
@@ -207,6 +221,7 @@ impl Film {
     fn keep_shot(&mut self, number: u32, scene_start: &SceneStart) -> Result<(), OutOfMemory>
         ensures judge { self.new.judge ≡ self.old.judge }
         ensures window { self.new.window ≡ self.old.window }
+        ensures stop { self.new.stop ≡ self.old.stop }
         ensures at_end { self.new.at_end ≡ self.old.at_end }
         ensures scenes { OnOk result ((w : WorldOf) (row : RowState) → IsSceneStart w (node_in row) (event_kind_in row) scene_start.now
             → self.new.scenes ≡ kept self.old.window self.old.scenes (scene_of self.old.judge.world.setup w (world_of self.old.judge.world) number row)) }
@@ -223,6 +238,7 @@ impl Film {
     fn keep_wide_shot(&mut self, number: u32, scene_start: &SceneStart) -> Result<(), OutOfMemory>
         ensures judge { self.new.judge ≡ self.old.judge }
         ensures window { self.new.window ≡ self.old.window }
+        ensures stop { self.new.stop ≡ self.old.stop }
         ensures at_end { self.new.at_end ≡ self.old.at_end }
         ensures scenes { OnOk result ((w : WorldOf) (row : RowState) → IsSceneStart w (node_in row) (event_kind_in row) scene_start.now
             → self.new.scenes ≡ kept self.old.window self.old.scenes (scene_of self.old.judge.world.setup w (world_of self.old.judge.world) number row)) }
@@ -260,6 +276,8 @@ impl Film {
     pub fn into_finished(self, alloc: Global) -> FinishedFilm
         ensures scenes { result.scenes.items ≡ self.scenes }
         ensures setup { result.setup ≡ self.judge.world.setup }
+        ensures judge { result.judge ≡ self.judge }
+        ensures stop { result.stop ≡ self.stop }
         ensures at_end { IfSome self.at_end (λ at_end. result.at_end.items ≡ at_end) }
         ensures verdict { (setup : SetupState) (rows : List RowState) → HasJudged setup rows self.judge → IsJudged setup (first_world setup) 0 2 rows result.verdict (world_of self.judge.world) }
     {
@@ -285,7 +303,7 @@ impl Film {
     // Keeps the row, where it decided.
     #[inline(always)]
     fn keep_stop(&mut self, row: Row)
-        ensures { self.new ≡ self.old }
+        ensures { self.new ≡ noted row self.old }
     {
         if self.judge.stopped().is_some() {
             self.stop = Some(row);

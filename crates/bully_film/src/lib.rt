@@ -8,6 +8,7 @@
 ghost use Rattle.std.specs.Prelude.{◌≡◌};
 ghost use Rattle.bully_film.specs.Behind.{LeadsBehind};
 
+mod distance;
 mod film;
 mod lane;
 mod reading;

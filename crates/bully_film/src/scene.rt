@@ -223,7 +223,7 @@ fn is_run(event_kind: Option<EventKind>) -> bool
     matches!(event_kind, Some(EventKind::Run))
 }
 
-// The node whose vector a kind of event of the node may change, of which this is seen.
+// The node whose vector an event of this kind may change, if it is of the node of which this is seen.
 fn place_at(shown: &NodeSnapshot, node: Node, event_kind: Option<EventKind>) -> Node
     ensures { (w : WorldOf) → shown.now ≡ snapshot w node → result ≡ place_at w node event_kind }
 {

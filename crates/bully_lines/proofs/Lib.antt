@@ -1,1 +1,3 @@
 pub mod LineLemmas
+mod ReadBackLemmas
+mod ToldLemmas

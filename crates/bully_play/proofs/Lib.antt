@@ -1,4 +1,5 @@
 pub mod LawfulLemmas
+pub mod ToldLemmas
 pub mod RecordingLemmas
 pub mod OperatorLemmas
 pub mod RoundLemmas

@@ -1,7 +1,7 @@
 -- What a play of a configuration is, and the trace that is written of it.
 use Rattle.std.specs.Prelude.{◌≡◌, ℕ, List, map, All, Any}
 use Rattle.bully_base.specs.declared.TheConstants.{EVENTS_MAX}
-use Rattle.bully_base.specs.Setup.{Setup}
+use Rattle.bully_base.specs.Setup.{IsSetup, Setup}
 use Rattle.bully_calls.specs.declared.call.Answer.{Answer}
 use Rattle.bully_config.specs.Configuration.{Configuration}
 use Rattle.bully_config.specs.declared.config.Fault.{Fault}
@@ -9,6 +9,7 @@ use Rattle.bully_config.specs.declared.config.FaultKind.{FaultKind}
 use Rattle.bully_play.specs.declared.playing.PlayFault.{PlayFault}
 use Rattle.bully_rows.specs.declared.trace.Row.{Row}
 use Rattle.bully_rows.specs.declared.trace.TraceCause.{TraceCause}
+use Rattle.bully_rows.specs.ReadBack.{IsTold}
 use Rattle.bully_rows.specs.Trace.{Trace, trace_for}
 use Rattle.bully_calls.specs.declared.event.Event.{Event}
 use Rattle.bully_world.specs.Lawful.{IsLawful}
@@ -48,6 +49,10 @@ pub record IsPlay (c : Configuration) (events : List Event) : Type 0 where
   pub lawful : IsLawful c.setup events answers world
   pub lawful_in_trace : IsLawful (trace_setup c.setup) events answers world
   pub due : All (IsDue c.faults) events
+
+-- the trace of each lawful list of events is one that a text can tell
+abbrev pub LawfulTold : Type 0
+LawfulTold = (setup : Setup) (events : List Event) (answers : List Answer) (w : World) → IsSetup setup → IsLawful setup events answers w → IsTold (trace_with setup events)
 
 -- the fault of a trace that isn't written
 abbrev pub fault_of : TraceCause → PlayFault

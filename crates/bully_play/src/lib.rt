@@ -6,6 +6,8 @@
 //! configuration, and on what a turn does on their backend.
 #![tactic(auto)]
 
+ghost use Rattle.bully_play.specs.Play.{LawfulTold};
+
 mod backend;
 mod playing;
 mod recording;
@@ -18,3 +20,9 @@ pub use playing::{PlayFault, play};
 pub use schedule::Schedule;
 pub use trace::trace_with;
 pub use turns::{take_node_turn, take_operator_turn};
+
+/// The law of what is played. The trace of each lawful list of events is one that a text can tell: what
+/// [`bully_rows::write_trace`] writes of it means that very trace.
+pub fn lawful_told()
+    ensures { LawfulTold }
+{}

@@ -1,4 +1,4 @@
-ghost use Rattle.std.specs.Prelude.{◌≡◌, ◌+◌, ◌<◌, List, Err, All, map, IfOk, OnOk};
+ghost use Rattle.std.specs.Prelude.{◌≡◌, ◌+◌, ◌<◌, List, [], Err, Some, All, map, IfOk, OnOk};
 ghost use Rattle.std.specs.Io.KnownBytes.{Appends};
 ghost use Rattle.bully_play.specs.Play.{IsPlay, trace_with, fault_of};
 ghost use Rattle.bully_play.specs.Recording.{IsRecorded, Continues};
@@ -6,6 +6,8 @@ ghost use Rattle.bully_play.specs.Schedule.{AreLeft};
 ghost use Rattle.bully_play.specs.Turns.{IsTurn, IsRound, IsScheduled, idle_first};
 ghost use Rattle.bully_steps.specs.Procedure.{state_of};
 ghost use Rattle.bully_steps.specs.ProcedureState.{HasSameNode};
+ghost use Rattle.bully_rows.specs.ReadBack.{IsTold};
+ghost use Rattle.bully_rows.specs.Rows.{IsTraceOf};
 ghost use Rattle.bully_rows.specs.TraceText.{trace_text};
 ghost use Rattle.bully_calls.specs.declared.event.Event.{Event};
 
@@ -51,10 +53,12 @@ impl From<TraceFault> for PlayFault {
 
 /// Plays the configuration on one thread, and writes the trace of what happened, in version 1 where that can tell the
 /// setup, and else in version 2. In each of the configuration's turns the operator comes first, and then the nodes in
-/// rising order. Refused as `OutOfMemory` where an allocation fails, and then nothing was written; as `Write` where the
-/// writer fails, and then a prefix of the trace may have been written. The rule: docs/ALGORITHM.md.
+/// rising order. Where nothing stood before, what is written means that very trace.
+/// Refused as `OutOfMemory` where an allocation fails, and then nothing was written; as `Write` where the writer fails, and
+/// then a prefix of the trace may have been written. The rule: docs/ALGORITHM.md.
 pub fn play<W: Write>(alloc: Global, config: &Config, writer: &mut W) -> Result<(), PlayFault>
     ensures played { OnOk result ((events : List Event) × IsPlay config.now events × IsScheduled config.now events × Appends (W.contents writer.old) (W.contents writer.new) (trace_text (trace_with config.now.setup events))) }
+    ensures read_back { OnOk result (W.contents writer.old ≡ Some [] → (events : List Event) × IsPlay config.now events × IsTraceOf (W.contents writer.new) (trace_with config.now.setup events)) }
     ensures memory { result ≡ Err PlayFault.OutOfMemory → writer.new ≡ writer.old }
 {
     let trace = trace_of(alloc, config)?;
@@ -63,7 +67,8 @@ pub fn play<W: Write>(alloc: Global, config: &Config, writer: &mut W) -> Result<
 
 // The trace of a play.
 fn trace_of(alloc: Global, config: &Config) -> Result<Trace, OutOfMemory>
-    ensures { IfOk result (λ trace. (events : List Event) × IsPlay config.now events × IsScheduled config.now events × (trace ≡ trace_with config.now.setup events)) }
+    ensures told { IfOk result IsTold }
+    ensures played { IfOk result (λ trace. (events : List Event) × IsPlay config.now events × IsScheduled config.now events × (trace ≡ trace_with config.now.setup events)) }
 {
     let setup = config.setup();
     let mut schedule = Schedule::new(alloc, config.faults())?;

@@ -16,3 +16,4 @@ pub mod RowLines
 pub mod ReadBackLemmas
 pub mod ToldRows
 pub mod ToldTraces
+pub mod SetupTold

@@ -34,7 +34,7 @@ status-read Election = refl
 status-read Reorganization = refl
 status-read Normal = refl
 
-kind-read : (kind : CallKind) → call_named (call_word kind) ≡ Some kind
+pub kind-read : (kind : CallKind) → call_named (call_word kind) ≡ Some kind
 kind-read AreYouUp = refl
 kind-read AreYouNormal = refl
 kind-read Halt = refl

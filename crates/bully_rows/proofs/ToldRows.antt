@@ -43,7 +43,7 @@ pub tested : {A : Type 0} (test : Bool) (o : Option A) (y : A) → (if test then
 tested true o y e = (refl, e)
 tested false o y e = absurd (cc e)
 
-either : {A : Type 0} (P : A → Type 0) (test : Bool) (one two : Option A) (y : A) → (one ≡ Some y → P y) → (two ≡ Some y → P y) → (if test then one else two) ≡ Some y → P y
+pub either : {A : Type 0} (P : A → Type 0) (test : Bool) (one two : Option A) (y : A) → (one ≡ Some y → P y) → (two ≡ Some y → P y) → (if test then one else two) ≡ Some y → P y
 either P true one two y first second e = first e
 either P false one two y first second e = second e
 
@@ -83,7 +83,7 @@ owners-told setup (p ∷ ps) known numbers =
     let b = or_parts (is_no_number p) (list_any is_no_number ps) numbers in
     All-cons (IsNode setup) (owner_of p) (map owner_of ps) (owner-told setup (number_of p) a.0 b.0) (owners-told setup ps a.1 b.1)
 
-table-told : (setup : Setup) (text : List ℕ) (owners : List ℕ) → table_of_text setup text ≡ Ok owners → AreOwners setup owners
+pub table-told : (setup : Setup) (text : List ℕ) (owners : List ℕ) → table_of_text setup text ≡ Ok owners → AreOwners setup owners
 table-told setup text owners e =
     by_tests (length (pieces_of text) == setup.partitions) (list_any (names_nobody setup) (pieces_of text)) (list_any is_no_number (pieces_of text)) refl refl refl e
   where

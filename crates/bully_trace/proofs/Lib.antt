@@ -6,3 +6,4 @@ pub mod StepToldLemmas
 pub mod RecordedLemmas
 pub mod CheckLemmas
 pub mod UpgradeLemmas
+pub mod OneVerdictLemmas

@@ -5,3 +5,4 @@ pub mod VerdictText
 pub mod Judging
 pub mod Recorded
 pub mod OneRow
+pub mod OneVerdict

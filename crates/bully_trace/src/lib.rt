@@ -8,6 +8,7 @@
 
 ghost use Rattle.std.specs.Prelude.{◌≡◌, ◌↔◌};
 ghost use Rattle.bully_rows.specs.Trace.{Trace as TraceState, upgraded};
+ghost use Rattle.bully_trace.specs.OneVerdict.{HasOneVerdict, JudgesLawful};
 ghost use Rattle.bully_trace.specs.StepTold.{TellsTheStep};
 ghost use Rattle.bully_trace.specs.Verdict.{IsVerdict};
 ghost use Rattle.bully_trace.specs.declared.verdict.Verdict.{Verdict as VerdictState};
@@ -48,4 +49,11 @@ pub fn same_verdict()
 /// the answer; and where the group has the node and the callee.
 pub fn step_told()
     ensures { TellsTheStep }
+{}
+
+/// The law of verdicts. No trace has two, nor are its rows taken to two worlds. The trace of a lawful list of events is lawful, with as
+/// many.
+pub fn one_verdict()
+    ensures one { HasOneVerdict }
+    ensures lawful { JudgesLawful }
 {}

@@ -19,14 +19,14 @@ use Rattle.bully_world.specs.State.{StoredNode, empty_state, node_state_of, worl
 use Rattle.bully_world.specs.World.{World, NodeState, node_state}
 use Rattle.bully_world.proofs.WorldIn.{node_state-world_in, world_in-length}
 
--- what stands at a node's place is its node_state
+-- what stands at a node's place is its state
 pub node_state-place : (ms : List StoredNode) (k i : ℕ) (s : StoredNode) → k + 1 ≡ i → k < length ms → s ≡ slice_index_or ms k s → node_state (world_in ms) i ≡ node_state_of s
 node_state-place ms k i s e l is = node_state-world_in ms i ∙ ap node_state_of (at_node-place (empty_state 0) s ms k i e l ∙ sym is)
 
 pub place-within : (setup : Setup) (ms : List StoredNode) (k i : ℕ) → WorldInvariant setup (world_in ms) → k + 1 ≡ i → i ≤ setup.nodes → k < length ms
 place-within setup ms k i all e l = omega (arith, world_in-length ms, all.count)
 
--- the node_state of an event that is this one
+-- the state of the node that this event names, of an event that is the same
 pub named_is : (w : World) (m : NodeState) (e f : Event) → e ≡ f → node_state w (node_of e) ≡ m → node_state w (node_of f) ≡ m
 named_is w m e f same is = ap (λ x. node_state w (node_of x)) (sym same) ∙ is
 

@@ -12,6 +12,7 @@ pub mod OwnEvents
 pub mod EventLaws
 pub mod Events
 pub mod NodeInvariantLemmas
+pub mod NamedLemmas
 pub mod LawfulLemmas
 pub mod StepOfLemmas
 pub mod CauseLemmas

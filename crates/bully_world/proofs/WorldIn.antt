@@ -45,7 +45,7 @@ index-map [] k = refl
 index-map (m ∷ ms) zero = refl
 index-map (m ∷ ms) (suc k) = index-map ms k
 
--- a node's node state, of every number
+-- a node's state, of every number
 pub node_state-world_in : (ms : List StoredNode) (i : ℕ) → node_state (world_in ms) i ≡ node_state_of (at_node (empty_state 0) ms i)
 node_state-world_in ms zero = refl
 node_state-world_in ms (suc k) = index-map ms k

@@ -16,11 +16,11 @@ pub record NodeState : Type 0 where
 abbrev pub empty_node_state : NodeState
 empty_node_state = record { vector = empty_vector; point = Idle; pending = None }
 
--- a node state for each node, from node 1 on
+-- a state for each node, from node 1 on
 pub record World : Type 0 where
   pub states : List NodeState
 
--- node i's node state; a number that is no node's reads as the empty node state
+-- node i's state; a number that is no node's reads as the empty state
 abbrev pub node_state : World → ℕ → NodeState
 node_state w i = at_node empty_node_state w.states i
 

@@ -45,7 +45,7 @@ pub fn cause_of(setup: &Setup, events: u32, states: &[NodeState], event: &Event)
     }
 }
 
-// The same of a node that is up, from the refusals behind IsUp on. `named` is the node state of the event's node.
+// The same of a node that is up, from the refusals behind IsUp on. `named` is the state of the event's node.
 #[inline(always)]
 fn later_cause(
     setup: &Setup,
@@ -65,8 +65,8 @@ fn later_cause(
     }
 }
 
-/// Why an event of a node that is up is refused, as far as `named`, the node state of that node, tells it: the first refusal
-/// behind IsUp that holds. Of a Run and of a Lose no node state tells it alone.
+/// Why an event of a node that is up is refused, as far as `named`, the state of that node, tells it: the first refusal
+/// behind IsUp that holds. Of a Run and of a Lose no node's state alone tells it.
 // (inlined, as `World::cause` is)
 #[inline(always)]
 pub fn own_cause(setup: &Setup, named: &NodeState, event: &Event) -> Option<Refused>
@@ -187,7 +187,7 @@ fn accepts_table(setup: &Setup, node_state: &NodeState, node: Node, table: &Tabl
     is_whole && table.is_balanced_in(setup, &planned)
 }
 
-// Whether the callee of the state's call is Down; no where there is no call.
+// Whether the callee of the state's call is Down; not so where there is no call.
 fn callee_down(states: &[NodeState], node_state: &NodeState) -> bool
     requires { IfSome node_state.now.slot.content (λ p. (0 < p.call.callee) × (p.call.callee ≤ length states.now)) }
     ensures { result ≡ callee_is_down (world_in states.now) (node_state_of node_state.now).pending }

@@ -54,7 +54,7 @@ fn keep_waiting(waiting: &mut Waiting, caller: Node, before: Option<Node>, after
     }
 }
 
-// An event that nothing refuses is applied; its node's node state stands at `here`.
+// An event that nothing refuses is applied; the state of its node stands at `here`.
 #[inline(always)]
 fn apply_to_states(setup: &Setup, states: &mut [NodeState], here: usize, event: &Event) -> Answer
     requires can { CanApply setup.now states.old event.now }
@@ -71,7 +71,7 @@ fn apply_to_states(setup: &Setup, states: &mut [NodeState], here: usize, event: 
     }
 }
 
-// The call of this caller, whose node state stands at `here`, runs at its callee.
+// The call of this caller, whose state stands at `here`, runs at its callee.
 // (inlined, as `apply_event` is)
 #[inline(always)]
 fn run_call(states: &mut [NodeState], caller: Node, here: usize) -> Answer
@@ -84,7 +84,7 @@ fn run_call(states: &mut [NodeState], caller: Node, here: usize) -> Answer
     run_between(states, caller, here, place_of(call.callee))
 }
 
-// The call in the slot of the node state at `here` runs at the node state at `there`.
+// The call in the slot of the node whose state stands at `here` runs at the node whose state stands at `there`.
 // (inlined, as `apply_event` is)
 #[inline(always)]
 fn run_between(states: &mut [NodeState], caller: Node, here: usize, there: usize) -> Answer

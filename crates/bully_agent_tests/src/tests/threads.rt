@@ -14,11 +14,11 @@ use std::thread::Threads;
 /// What the finished group has to be.
 #[derive(Clone, Copy)]
 enum Wanted {
-    /// Whatever it is.
-    Finished,
+    /// Nothing happens.
+    Nothing,
     /// One node's election: the operator recovers the node, and then that takes five steps.
     Election,
-    /// The operator recovers each of three nodes.
+    /// The operator recovers each of three nodes, whatever comes of it.
     Recoveries,
     /// One recovery, and nothing else.
     Recovery,
@@ -28,7 +28,7 @@ enum Wanted {
 
 /// What each run of node threads keeps and comes to.
 const RUNS: [(&str, Rule, Wanted); 6] = [
-    (BOTH_DOWN, Rule::Meeting, Wanted::Finished),
+    (BOTH_DOWN, Rule::Meeting, Wanted::Nothing),
     // The operator's turn comes before what is called behind it: else nothing would come of node 1's turns.
     (ONE_NODE, Rule::OperatorFirst, Wanted::Election),
     (ALL_RECOVER, Rule::Open, Wanted::Recoveries),
@@ -166,14 +166,16 @@ fn goes_by<R: Threads + Wait + Sync>(
 
 fn comes_to(alloc: Global, config: &Config, closed: &Closed, wanted: Wanted) -> bool {
     match wanted {
-        Wanted::Finished => true,
+        Wanted::Nothing => is_written(alloc, closed, b"bully,1,2,1\n"),
         Wanted::Election => {
-            has_recovery(closed, 1)
-                && are_actors(closed, &[0, 1, 1, 1, 1, 1])
+            are_actors(closed, &[0, 1, 1, 1, 1, 1])
                 && is_written(alloc, closed, ELECTION.as_bytes())
         }
         Wanted::Recoveries => {
-            has_recovery(closed, 1) && has_recovery(closed, 2) && has_recovery(closed, 3)
+            has_recovery(closed, 1)
+                && has_recovery(closed, 2)
+                && has_recovery(closed, 3)
+                && has_its_actors(alloc, config, closed)
         }
         Wanted::Recovery => has_recovery(closed, 1)
             && is_written(alloc, closed, RECOVERY.as_bytes()),
@@ -197,7 +199,7 @@ fn are_actors(closed: &Closed, actors: &[u16]) -> bool {
     true
 }
 
-// Whether each entry is that of whose event it is.
+// Whether each entry is the actor's whose event it is.
 fn has_its_actors(alloc: Global, config: &Config, closed: &Closed) -> bool {
     let Ok(mut world) = World::new(alloc, *config.setup()) else {
         return false;

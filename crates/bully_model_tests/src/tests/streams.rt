@@ -4,7 +4,7 @@ ghost use Rattle.std.specs.Prelude.{◌<◌};
 
 use super::scripts::{ALONE, ALONE_UPGRADED, OTHERS_DOWN};
 use bully_rows::{TraceCause, TraceFault, read_trace};
-use bully_trace::{check, upgrade};
+use bully_trace::{Verdict, check, upgrade};
 use std::alloc::Global;
 use std::io;
 use std::io::{ErrorKind, Read};
@@ -19,8 +19,18 @@ impl Read for Broken {
     }
 }
 
-/// How many bytes of the script are read, which are whole rows, and the row at which the read failed.
-const READS: [(usize, u32); 6] = [(0, 1), (12, 2), (22, 3), (29, 4), (104, 13), (111, 14)];
+/// How many bytes of the script are read, up to a row's end or within a row, and the row at which the read failed.
+const READS: [(usize, u32); 9] = [
+    (0, 1),
+    (5, 1),
+    (12, 2),
+    (15, 2),
+    (22, 3),
+    (28, 3),
+    (29, 4),
+    (104, 13),
+    (111, 14),
+];
 
 // Whether the text behind which the reader fails is neither judged nor upgraded nor read, for that at this row, and nothing is
 // written.
@@ -78,8 +88,23 @@ fn cuts_off_the_verdict(alloc: Global, room: usize) -> bool
     judged == Err(UNWRITTEN) && b"lawful 6\n1 normal 1 1 1,1\n".starts_with(&taken[..room])
 }
 
+// Whether a writer with just as much room takes the upgraded trace, and the verdict.
+fn takes_all(alloc: Global) -> bool {
+    let mut upgraded = [0u8; 69];
+    let mut room = &mut upgraded[..];
+    let rows = upgrade(alloc, ALONE.as_bytes(), &mut room);
+    let mut verdict = [0u8; 26];
+    let mut narrow = &mut verdict[..];
+    let judged = check(alloc, ALONE.as_bytes(), &mut narrow);
+    rows == Ok(6)
+        && judged == Ok(Verdict::Lawful(6))
+        && upgraded.as_slice() == ALONE_UPGRADED.as_bytes()
+        && verdict.as_slice() == b"lawful 6\n1 normal 1 1 1,1\n"
+}
+
 #[test]
 fn failed_write(rt: HostRuntime) {
+    assert!(rt; takes_all(rt.alloc()));
     for room in 0..69 {
         assert!(rt;
             cuts_off_the_upgraded(rt.alloc(), room),

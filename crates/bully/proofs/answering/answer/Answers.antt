@@ -6,7 +6,7 @@ use Rattle.bully.proofs.KnownBytesLemmas.{keeps-same}
 use Rattle.bully.proofs.AnnotateLemmas.{kept-alone, none-annotated}
 use Rattle.bully.proofs.AskedLemmas.{answers-same}
 use Rattle.bully.proofs.AnswerLemmas.{none-judged, none-upgraded, stop-case}
-use Rattle.bully.proofs.DrawLemmas.{none-drawn, plain-answer}
+use Rattle.bully.proofs.DrawLemmas.{short-answer}
 use Rattle.bully.proofs.ExplainLemmas.{unparsed-answer}
 use Rattle.bully_cli.proofs.WordsLemmas.{check-parses, mistake-kind, help-kind}
 use Rattle.bully.proofs.answering.answer.Goals as goal
@@ -54,9 +54,7 @@ returns-in-Err-clause-annotate g c = λ parses.
 pub returns-in-Err-clause-draw : goal.returns-in-Err-clause-draw
 returns-in-Err-clause-draw g c = λ rows text names parses.
     let stopped = c.answer_words.ensures.memory (c.in-Err.ensures.draw rows text names parses) in
-    plain-answer (g.R.Read.remaining c.args.input) rows names _ _ _ _ _
-    (none-drawn (g.R.Read.remaining c.args.input) _ _ _ _ _
-    (stop-case (g.R.Read.remaining c.args.input) Stop.OutOfMemory _ _ _ _ _ (λ _. keeps-same _ _ (ap g.W.Write.contents stopped.1)) (λ e. absurd (grind (arith, e))) (stopped.0, stopped.2)))
+    short-answer (g.R.Read.remaining c.args.input) rows text names _ _ _ _ _ (keeps-same _ _ (ap g.W.Write.contents stopped.1), stopped.2, stopped.0)
 
 pub returns-in-Err-clause-mistake : goal.returns-in-Err-clause-mistake
 returns-in-Err-clause-mistake g c = λ mistake.

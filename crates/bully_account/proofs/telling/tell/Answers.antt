@@ -6,7 +6,7 @@ use Rattle.bully_account.proofs.ToldLemmas.{no-fault, short-ends, short-untold}
 use Rattle.bully_account.proofs.telling.tell.Goals as goal
 
 pub returns-in-Some-clause-told : goal.returns-in-Some-clause-told
-returns-in-Some-clause-told g c = λ known unread. c.verdict_told.ensures.told known (rw c.in-Some.is at (c.in-Ok.ensures.judged known unread))
+returns-in-Some-clause-told g c = λ known unread. c.verdict_told.ensures.told known (rw c.in-Some.is at (c.in-Ok.ensures.taken known unread))
 
 pub returns-in-Some-clause-form : goal.returns-in-Some-clause-form
 returns-in-Some-clause-form g c = no-fault (λ (t : TraceReport). t.verdict) (λ t fault. is_of_form fault.cause ≡ true) c.verdict_told.result c.verdict_told.ensures.verdict

@@ -5,5 +5,4 @@ use Rattle.bully_annotate.proofs.annotation.write_lawful.Goals as goal
 pub returns-in-Ok-clause-annotated : goal.returns-in-Ok-clause-annotated
 returns-in-Ok-clause-annotated g c =
     let (w, verdict) = c.requires in
-    let (same, few) = rw c.in-Some.is at c.in_ok-text.ensures in
-    (w, verdict, annotated-lawful c.args.trace.now c.args.count w verdict, few, rw (← same) (search rules))
+    (w, verdict, annotated-lawful c.args.trace.now c.args.count w verdict, search rules, search rules)

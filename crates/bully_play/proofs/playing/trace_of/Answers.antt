@@ -1,6 +1,7 @@
 use Rattle.std.proofs.Common.{◌≡◌, ◌+◌, List, ◌++◌, arith, rules, subst, ℕ, map, take, drop, length}
 use Rattle.bully_play.proofs.RecordingLemmas.{recorded_trace}
 use Rattle.bully_play.proofs.RoundLemmas.{rounds_next, put_back}
+use Rattle.bully_play.proofs.ToldLemmas.{play-told}
 use Rattle.bully_play.specs.Turns.{IsRound, Rounds, first_recording, idle_first}
 use Rattle.bully_steps.specs.declared.procedure.Procedure.{Procedure}
 use Rattle.bully_steps.specs.Procedure.{state_of}
@@ -21,11 +22,16 @@ loop-before-preserved c =
       end = c.loop-before.invariant.end;
     }
 
-pub returns : goal.returns
-returns c =
+pub returns-clause-played : goal.returns-clause-played
+returns-clause-played c =
     let setup = c.args.config.now.setup in
     let last_states = map state_of c.loop-before.procedures.items in
     let all : c.loop-before.before ≡ c.args.config.now.turns = grind (arith, c.loop-before-test.false, c.loop-before.auto.before-end, c.turns-before-end.ensures.turns) in
     recorded_trace c.args.config.now c.loop-before.recording last_states c.into_trace.result c.turns-before-end.ensures.within.setup
     (subst (λ (n : ℕ). Rounds c.args.config.now.faults c.args.config.now.period n 1 (first_recording setup) (idle_first setup setup.nodes) c.loop-before.recording last_states) all c.loop-before.invariant.rounds)
     c.loop-before.invariant.recorded c.into_trace.ensures
+
+pub returns-clause-told : goal.returns-clause-told
+returns-clause-told c =
+    let (events, play, scheduled, same) = returns-clause-played c in
+    play-told c.args.config.now events c.into_trace.result c.turns-before-end.ensures.within.setup play same

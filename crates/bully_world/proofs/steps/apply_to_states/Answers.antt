@@ -1,4 +1,4 @@
--- An event other than a Run is applied by its node's own node state.
+-- An event other than a Run is applied by its node's own state.
 use Rattle.std.proofs.Common.{arith, sym, ◌∙◌, ap, subst}
 use Rattle.bully_base.proofs.PlaceLemmas.{put_node-place}
 use Rattle.bully_base.specs.Places.{put_node}

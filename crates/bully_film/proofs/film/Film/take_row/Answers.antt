@@ -1,6 +1,6 @@
 -- Behind the row that decided nothing more is filmed.
 use Rattle.std.proofs.Common.{rules}
-use Rattle.bully_film.proofs.FilmLemmas.{filmed-on, filmed-over}
+use Rattle.bully_film.proofs.FilmLemmas.{filmed-on, filmed-over, going-is}
 use Rattle.bully_film.proofs.film.Film.take_row.Goals as goal
 
 pub returns-then-is_over-clause-filmed : goal.returns-then-is_over-clause-filmed
@@ -9,4 +9,4 @@ returns-then-is_over-clause-filmed c = λ setup rows at filmed. filmed-over setu
 pub returns-clause-filmed : goal.returns-clause-filmed
 returns-clause-filmed c = λ setup rows at filmed.
     filmed-on setup rows c.args.row c.args.number c.args.self.now c.judge_row.new.self c.keep_shown.new.self c.look-scene_start.result c.keep_shown.result (search rules) (search rules)
-    c.judge_row.ensures.window c.judge_row.ensures.at_end c.judge_row.ensures.scenes c.judge_row.ensures.judged c.keep_shown.ensures.on at filmed
+    c.judge_row.ensures.window c.judge_row.ensures.at_end c.judge_row.ensures.scenes (c.judge_row.ensures.noted (going-is c.args.self.now.judge.stopped (search rules))) c.judge_row.ensures.judged c.keep_shown.ensures.on at filmed

@@ -1,0 +1,16 @@
+-- How a text that comes from outside is shown.
+use Rattle.std.specs.Prelude.{◌≡◌, ℕ, Bool, false, List, [], ◌∷◌, ◌||◌, ◌&&◌, ⊤, nat_lt, nat_le, if◌then◌else◌}
+
+-- a control character, a separator of lines (U+2028) or of paragraphs (U+2029), or a mark that turns the direction of the text
+-- behind it: an embedding or an override (U+202A to U+202E), or an isolate (U+2066 to U+2069)
+abbrev pub is_control : ℕ → Bool
+is_control c = nat_lt c 32 || (nat_le 127 c && nat_lt c 160) || (nat_le 0x2028 c && nat_le c 0x202E) || (nat_le 0x2066 c && nat_le c 0x2069)
+
+-- a letter as it is shown: a question mark in place of one of these
+abbrev pub shown_letter : ℕ → ℕ
+shown_letter c = if is_control c then 63 else c
+
+-- none of the letters is one of these
+abbrev pub AllPlain : List ℕ → Type 0
+AllPlain [] = ⊤
+AllPlain (c ∷ cs) = (is_control c ≡ false) × AllPlain cs

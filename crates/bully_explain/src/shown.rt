@@ -1,0 +1,47 @@
+//! What comes from outside, as a sheet shows it: it ends no line, and turns nothing that stands around it.
+ghost use Rattle.std.specs.Prelude.{◌≡◌, ◌++◌, OnOk, map, string_bytes};
+ghost use Rattle.std.specs.Str.{chars, encode_utf8_all};
+ghost use Rattle.bully_explain.specs.Shown.{AllPlain, is_control, shown_letter};
+
+use bully_base::OutOfMemory;
+
+/// Appends the letters of the text. In place of each control character, each separator of lines or of paragraphs, and each mark
+/// that turns the direction of the text behind it there is a question mark.
+pub fn push_shown(text: &mut String, raw: &str) -> Result<(), OutOfMemory>
+    ensures shown { OnOk result (string_bytes text.new ≡ string_bytes text.old ++ encode_utf8_all (map shown_letter (chars raw.now))) }
+    ensures plain { AllPlain (map shown_letter (chars raw.now)) }
+{
+    for letter in raw.chars() {
+        text.push(shown_letter(letter))?;
+    }
+    Ok(())
+}
+
+/// Appends the bytes; one that is no printed ASCII character as a question mark.
+pub fn push_bytes(text: &mut String, raw: &[u8]) -> Result<(), OutOfMemory> {
+    for byte in raw {
+        let letter = match *byte {
+            b' '..=b'~' => char::from(*byte),
+            _ => '?',
+        };
+        text.push(letter)?;
+    }
+    Ok(())
+}
+
+// The letter, where it is shown as it is.
+fn shown_letter(letter: char) -> char
+    ensures { result ≡ shown_letter letter }
+{
+    if is_control(letter) { '?' } else { letter }
+}
+
+// Whether it is a control character, a separator of lines or paragraphs, or a mark that turns the direction of the text behind it.
+fn is_control(letter: char) -> bool
+    ensures { result ≡ is_control letter }
+{
+    letter < ' '
+        || ('\u{7f}' <= letter && letter < '\u{a0}')
+        || ('\u{2028}' <= letter && letter <= '\u{202e}')
+        || ('\u{2066}' <= letter && letter <= '\u{2069}')
+}
