@@ -1,2 +1,6 @@
+mod DrawnLemmas
 mod EscapeLemmas
+mod HarmlessLemmas
 mod TitleLemmas
+mod ToldLemmas
+mod WrittenLemmas

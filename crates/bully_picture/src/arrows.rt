@@ -1,4 +1,7 @@
 //! Calls as arrows, and their replies.
+ghost use Rattle.bully_picture.specs.Drawn.{HasHoldings, arrow_label, held_label};
+ghost use Rattle.bully_picture.specs.Title.{Has};
+ghost use Rattle.bully_picture.specs.Written.{Gains, Writes};
 
 use crate::boxes::{Anchor, width_of};
 use crate::canvas::{Canvas, Style, push_line};
@@ -51,13 +54,21 @@ impl Line {
 }
 
 /// Draws the calls of a node: each stretch in which one was sent as an arrow, and each in which it ran as the way back of its
-/// reply. Whether the slot held an orphan behind a row is told by its place behind the first one.
-pub fn draw_calls(canvas: &mut Canvas, node: Node, holdings: &[Holding], orphans: &[bool]) {
+/// reply. The arrows go onto a paper of their own. Whether the slot held an orphan behind a row is told by its place behind the first one.
+pub fn draw_calls(
+    canvas: &mut Canvas,
+    arrows: &mut Paper,
+    node: Node,
+    holdings: &[Holding],
+    orphans: &[bool],
+)
+    ensures { Gains arrows.old arrows.new (λ text. HasHoldings text node holdings.now) }
+{
     for (place, holding) in holdings.iter().enumerate() {
         if let Some(held) = holding.held {
             let end = end_at(holdings, place, &held.call);
             let is_orphan = is_orphan(canvas, orphans, holding.last);
-            draw_held(canvas, node, holding, held, end, is_orphan);
+            draw_held(canvas, arrows, node, holding, held, end, is_orphan);
         }
     }
 }
@@ -74,15 +85,18 @@ fn is_orphan(canvas: &Canvas, orphans: &[bool], row: u32) -> bool {
 // Draws a stretch of a call.
 fn draw_held(
     canvas: &mut Canvas,
+    arrows: &mut Paper,
     node: Node,
     holding: &Holding,
     held: HeldCall,
     end: End,
     is_orphan: bool,
-) {
+)
+    ensures { Gains arrows.old arrows.new (λ text. Has text (held_label node holding.now.first holding.now.last (Some held))) }
+{
     match held.phase {
-        Phase::Sent => draw_call(canvas, node, holding, &held.call, end, is_orphan),
-        Phase::Ran(_) => draw_reply(canvas, node, holding, &held.call, end),
+        Phase::Sent => draw_call(canvas, arrows, node, holding, &held.call, end, is_orphan),
+        Phase::Ran(_) => draw_reply(canvas, arrows, node, holding, &held.call, end),
         Phase::Failed => {}
     }
 }
@@ -126,37 +140,41 @@ fn beside_bars(x1: u32, x2: u32) -> (u32, u32) {
 // Draws a call that was sent.
 fn draw_call(
     canvas: &mut Canvas,
+    arrows: &mut Paper,
     node: Node,
     holding: &Holding,
     call: &Call,
     end: End,
     is_orphan: bool,
-) {
+)
+    ensures { Gains arrows.old arrows.new (λ text. Has text (arrow_label node call.now holding.now.first holding.now.last)) }
+{
     let gets_there = matches!(end, End::Ran | End::Failed);
     let line = line_of(canvas, node, call.callee, holding, gets_there);
     let look = look_of(end, is_orphan);
-    push_arrow(&mut canvas.lines, &line, look.style, node, call, holding);
+    push_arrow(arrows, &line, look.style, node, call, holding);
     label_call(canvas, &line, kind_text(call.kind), look);
 }
 
 // Writes a line of this style between two lanes, and what is shown where the pointer rests on it.
 fn push_arrow(
-    paper: &mut Paper,
+    arrows: &mut Paper,
     line: &Line,
-    style: &str,
+    style: &'static str,
     node: Node,
     call: &Call,
     holding: &Holding,
-) {
-    push_line(paper, line.x1, line.y1, line.x2, line.y2);
-    paper.push(style);
-    push_title(paper, node, call, holding);
-    paper.push("</line>\n");
+)
+    ensures { Gains arrows.old arrows.new (λ text. Has text (arrow_label node call.now holding.now.first holding.now.last)) }
+{
+    push_line(arrows, line.x1, line.y1, line.x2, line.y2);
+    arrows.push(style);
+    push_title(arrows, node, call, holding);
 }
 
 // Writes what call it is, where the lanes have room for it: with all words between two lanes, with its kind alone there, in small
 // letters where it has to be, or with that anywhere on the line; nowhere where nothing is free.
-fn label_call(canvas: &mut Canvas, line: &Line, kind: &str, look: Look) {
+fn label_call(canvas: &mut Canvas, line: &Line, kind: &'static str, look: Look) {
     if canvas.layout.lane < WORDS_MIN {
         return;
     }
@@ -286,11 +304,20 @@ fn along(one: u32, other: u32, part: u32) -> u32 {
 }
 
 // Draws the way of a reply back to its caller.
-fn draw_reply(canvas: &mut Canvas, node: Node, holding: &Holding, call: &Call, end: End) {
+fn draw_reply(
+    canvas: &mut Canvas,
+    arrows: &mut Paper,
+    node: Node,
+    holding: &Holding,
+    call: &Call,
+    end: End,
+)
+    ensures { Gains arrows.old arrows.new (λ text. Has text (arrow_label node call.now holding.now.first holding.now.last)) }
+{
     let returns = canvas.returned_in(holding.last.saturating_add(1));
     let line = line_of(canvas, call.callee, node, holding, returns);
     let style = reply_style(end, returns);
-    push_arrow(&mut canvas.lines, &line, style, node, call, holding);
+    push_arrow(arrows, &line, style, node, call, holding);
 }
 
 fn reply_style(end: End, returns: bool) -> &'static str {
@@ -307,11 +334,13 @@ fn reply_style(end: End, returns: bool) -> &'static str {
     }
 }
 
-// What is shown where the pointer rests on an arrow.
-fn push_title(paper: &mut Paper, node: Node, call: &Call, holding: &Holding) {
-    paper.push_node("<title>node ", node, ": ");
-    paper.push(kind_text(call.kind));
-    paper.push_node(" to ", call.callee, ", in its slot behind rows ");
-    paper.push_number("", holding.first, " to ");
-    paper.push_number("", holding.last, "</title>");
+// Writes what is shown where the pointer rests on an arrow, and the end of its element.
+fn push_title(arrows: &mut Paper, node: Node, call: &Call, holding: &Holding)
+    ensures { Writes arrows.old arrows.new (arrow_label node call.now holding.now.first holding.now.last) }
+{
+    arrows.push_node("<title>node ", node, ": ");
+    arrows.push(kind_text(call.kind));
+    arrows.push_node(" to ", call.callee, ", in its slot behind rows ");
+    arrows.push_number("", holding.first, " to ");
+    arrows.push_number("", holding.last, "</title></line>\n");
 }

@@ -1,10 +1,10 @@
 //! What a picture is drawn on: the head of its document, lines below, and words above them.
+ghost use Rattle.bully_picture.specs.Written.{Extends};
 
 use crate::boxes::{Anchor, Area, is_free};
 use crate::layout::{ASIDE, Layout};
 use crate::paper::Paper;
-use bully_base::OutOfMemory;
-use std::alloc::{AllocError, Global};
+use std::alloc::Global;
 
 /// How words look: where the point lies that they are placed by, their size, their colour, and whether they have a white ground.
 #[derive(Clone, Copy)]
@@ -46,7 +46,7 @@ impl Canvas {
     /// Notes that a call returned in this row.
     pub fn note_return(&mut self, row: u32) {
         if self.returns.push(row).is_err() {
-            self.words.has_failed = true;
+            self.words.fail();
         }
     }
 
@@ -55,23 +55,15 @@ impl Canvas {
         self.returns.as_slice().contains(&row)
     }
 
-    /// Refused where memory was wanting for anything that was drawn.
-    pub fn check_memory(&self) -> Result<(), OutOfMemory> {
-        if self.head.has_failed || self.lines.has_failed || self.words.has_failed {
-            return Err(AllocError);
-        }
-        Ok(())
-    }
-
     /// What was written on another paper. Where memory was wanting there, it is wanting here.
     pub fn read<'a>(&mut self, paper: &'a Paper) -> &'a str {
-        if paper.has_failed {
-            self.words.has_failed = true;
+        if paper.has_failed() {
+            self.words.fail();
         }
         paper.as_str()
     }
 
-    /// Writes words at this point, where their box is free, and tells whether it was. They need no escaping.
+    /// Writes words at this point, where their box is free, and tells whether it was.
     pub fn put(&mut self, x: u32, y: u32, style: Style, words: &str) -> bool {
         let area = Area::of(x, y, style.anchor, style.size, words);
         if !self.take_area(area) {
@@ -82,6 +74,11 @@ impl Canvas {
         }
         push_words(&mut self.words, x, y, style, words);
         true
+    }
+
+    /// Takes the box of words that are written at this point on another paper, where it is free.
+    pub fn keep_free(&mut self, x: u32, y: u32, style: Style, words: &str) {
+        self.take_area(Area::of(x, y, style.anchor, style.size, words));
     }
 
     /// Writes words beside the lane whose middle x is: at its left, since what changes a node comes from a higher one, at its right; or
@@ -129,14 +126,16 @@ impl Canvas {
             return false;
         }
         if self.boxes.push(area).is_err() {
-            self.words.has_failed = true;
+            self.words.fail();
         }
         true
     }
 }
 
 /// Writes the start of a line, and where it goes.
-pub fn push_line(paper: &mut Paper, x1: u32, y1: u32, x2: u32, y2: u32) {
+pub fn push_line(paper: &mut Paper, x1: u32, y1: u32, x2: u32, y2: u32)
+    ensures { Extends paper.old paper.new }
+{
     paper.push("<line");
     paper.push_attribute("x1", x1);
     paper.push_attribute("y1", y1);
@@ -145,7 +144,7 @@ pub fn push_line(paper: &mut Paper, x1: u32, y1: u32, x2: u32, y2: u32) {
 }
 
 /// Writes a rectangle, and behind where it lies the rest of it.
-pub fn push_area(paper: &mut Paper, area: Area, rest: &str) {
+pub fn push_area(paper: &mut Paper, area: Area, rest: &'static str) {
     paper.push("<rect");
     paper.push_attribute("x", area.x);
     paper.push_attribute("y", area.y);
@@ -154,16 +153,23 @@ pub fn push_area(paper: &mut Paper, area: Area, rest: &str) {
     paper.push(rest);
 }
 
-fn push_words(paper: &mut Paper, x: u32, y: u32, style: Style, words: &str) {
+/// Writes the start of words, and where they stand.
+pub fn push_place(paper: &mut Paper, x: u32, y: u32, style: Style)
+    ensures { Extends paper.old paper.new }
+{
     paper.push("<text");
     paper.push_attribute("x", x);
     paper.push_attribute("y", y);
     paper.push_attribute("font-size", style.size);
     paper.push(anchor_text(style.anchor));
+}
+
+fn push_words(paper: &mut Paper, x: u32, y: u32, style: Style, words: &str) {
+    push_place(paper, x, y, style);
     paper.push(" fill=\"");
     paper.push(style.colour);
     paper.push("\">");
-    paper.push(words);
+    paper.push_escaped(words);
     paper.push("</text>\n");
 }
 

@@ -1,6 +1,8 @@
 //! The picture for a terminal: a line for each row that changes what a node is.
-ghost use Rattle.std.specs.Prelude.{IfOk, OnOk, string_bytes};
+ghost use Rattle.std.specs.Prelude.{◌≡◌, true, IfOk, OnOk, string_bytes};
 ghost use Rattle.bully_picture.specs.Title.{Has};
+ghost use Rattle.bully_picture.specs.Told.{HasTold, IsTold, line_start};
+ghost use Rattle.bully_picture.specs.Written.{Extends, Gains, IsIn};
 ghost use Rattle.bully_trace.specs.VerdictText.{verdict_head};
 
 use crate::paper::Paper;
@@ -77,6 +79,8 @@ pub fn text_picture(
     below: &str,
 ) -> Result<String, OutOfMemory>
     ensures verdict { IfOk result (λ text. Has (string_bytes text) (verdict_head finished.now.verdict)) }
+    ensures rows { IfOk result (λ text. HasTold (string_bytes text) finished.now.verdict finished.now.scenes.items) }
+    ensures below { IfOk result (λ text. Has (string_bytes text) below.now) }
 {
     let mut text = String::new(alloc);
     let mut lines = Paper::new(alloc);
@@ -92,24 +96,24 @@ fn push_picture(
     finished: &FinishedFilm,
     below: &str,
 ) -> Result<(), OutOfMemory>
-    ensures { OnOk result (Has (string_bytes text.new) (verdict_head finished.now.verdict)) }
+    ensures verdict { OnOk result (Has (string_bytes text.new) (verdict_head finished.now.verdict)) }
+    ensures rows { OnOk result (HasTold (string_bytes text.new) finished.now.verdict finished.now.scenes.items) }
+    ensures below { OnOk result (Has (string_bytes text.new) below.now) }
 {
     push_lines(alloc, lines, finished)?;
     push_verdict_head(text, finished.verdict)?;
-    text.push_str(lines.as_str())?;
+    lines.copy_to(text)?;
     text.push_str(below)
 }
 
 // Writes the lines of the rows.
-fn push_lines(
-    alloc: Global,
-    lines: &mut Paper,
-    finished: &FinishedFilm,
-) -> Result<(), OutOfMemory> {
+fn push_lines(alloc: Global, lines: &mut Paper, finished: &FinishedFilm) -> Result<(), OutOfMemory>
+    ensures { OnOk result (IsIn lines.new (λ text. HasTold text finished.now.verdict finished.now.scenes.items)) }
+{
     let mut now = Vec::with_capacity(alloc, usize::from(finished.setup.nodes()))?;
     push_starts(alloc, &mut now, finished)?;
     push_rows(lines, finished, now.as_mut_slice());
-    lines.check_memory()
+    Ok(())
 }
 
 // Appends how each node stands before the first row, from node 1 on.
@@ -129,7 +133,9 @@ fn push_starts(
 }
 
 // Writes the lines of the rows, before which the nodes stand so.
-fn push_rows(lines: &mut Paper, finished: &FinishedFilm, now: &mut [NodeSnapshot]) {
+fn push_rows(lines: &mut Paper, finished: &FinishedFilm, now: &mut [NodeSnapshot])
+    ensures { Gains lines.old lines.new (λ text. HasTold text finished.now.verdict finished.now.scenes.items) }
+{
     let form = Form::of(finished.setup.nodes());
     push_names(lines, finished.setup.nodes(), form);
     let mut quiet = 0u32;
@@ -147,7 +153,9 @@ fn push_rows(lines: &mut Paper, finished: &FinishedFilm, now: &mut [NodeSnapshot
 }
 
 // Whether the row has a line: it changes what a node is, or it decided.
-fn speaks(finished: &FinishedFilm, scene: &Scene) -> bool {
+fn speaks(finished: &FinishedFilm, scene: &Scene) -> bool
+    ensures { IsTold finished.now.verdict scene.now → result ≡ true }
+{
     decides(finished.verdict, scene.number)
         || scene.other.before.status != scene.other.after.status
         || scene.other.before.coordinator != scene.other.after.coordinator
@@ -162,7 +170,9 @@ fn put(now: &mut [NodeSnapshot], scene: &Scene) {
 }
 
 // Writes what the letters mean, and the heads of the columns.
-fn push_names(lines: &mut Paper, nodes: u16, form: Form) {
+fn push_names(lines: &mut Paper, nodes: u16, form: Form)
+    ensures { Extends lines.old lines.new }
+{
     lines.push(form.front());
     for before in 0..nodes {
         push_name(lines, before.saturating_add(1), form);
@@ -171,7 +181,9 @@ fn push_names(lines: &mut Paper, nodes: u16, form: Form) {
 }
 
 // Writes the head of a node's column: its number; of a column of one letter a mark, with the tens at each tenth.
-fn push_name(lines: &mut Paper, number: u16, form: Form) {
+fn push_name(lines: &mut Paper, number: u16, form: Form)
+    ensures { Extends lines.old lines.new }
+{
     let start = lines.len();
     match form {
         Form::Words | Form::Short => {
@@ -187,7 +199,9 @@ fn push_name(lines: &mut Paper, number: u16, form: Form) {
 }
 
 // Writes how many rows lie between; nothing where there are none.
-fn push_quiet(lines: &mut Paper, quiet: u32) {
+fn push_quiet(lines: &mut Paper, quiet: u32)
+    ensures { Extends lines.old lines.new }
+{
     match quiet {
         0 => {}
         1 => lines.push("    ... 1 row\n"),
@@ -196,7 +210,9 @@ fn push_quiet(lines: &mut Paper, quiet: u32) {
 }
 
 // Writes the line of a row, behind which the nodes stand so.
-fn push_line(lines: &mut Paper, scene: &Scene, now: &[NodeSnapshot], form: Form) {
+fn push_line(lines: &mut Paper, scene: &Scene, now: &[NodeSnapshot], form: Form)
+    ensures { Gains lines.old lines.new (λ text. Has text (line_start scene.now.number)) }
+{
     lines.push_right(scene.number);
     lines.push("  ");
     for snapshot in now {
@@ -211,7 +227,9 @@ fn push_line(lines: &mut Paper, scene: &Scene, now: &[NodeSnapshot], form: Form)
 }
 
 // Writes how a node stands: its status, and its coordinator where the column has room for it.
-fn push_cell(lines: &mut Paper, snapshot: &NodeSnapshot, form: Form) {
+fn push_cell(lines: &mut Paper, snapshot: &NodeSnapshot, form: Form)
+    ensures { Extends lines.old lines.new }
+{
     match form {
         Form::Words => push_stand(lines, word(snapshot.status), " ", snapshot, form.column()),
         Form::Short => push_stand(lines, letter(snapshot.status), "", snapshot, form.column()),
@@ -223,18 +241,22 @@ fn push_cell(lines: &mut Paper, snapshot: &NodeSnapshot, form: Form) {
 // Writes how a node stands in a column: this word of its status, and behind this its coordinator.
 fn push_stand(
     lines: &mut Paper,
-    word: &str,
-    between: &str,
+    word: &'static str,
+    between: &'static str,
     snapshot: &NodeSnapshot,
     column: usize,
-) {
+)
+    ensures { Extends lines.old lines.new }
+{
     let start = lines.len();
     push_followed(lines, word, between, snapshot.coordinator);
     fill(lines, start, column);
 }
 
 // Writes how the node stands now whose vector the row may change.
-fn push_change(lines: &mut Paper, scene: &Scene) {
+fn push_change(lines: &mut Paper, scene: &Scene)
+    ensures { Extends lines.old lines.new }
+{
     let start = lines.len();
     let after = &scene.other.after;
     lines.push_node("  ", scene.other.node, ": ");
@@ -263,7 +285,9 @@ fn letter(status: Status) -> &'static str {
 }
 
 // Fills up a column that began at this length of the text.
-fn fill(lines: &mut Paper, start: usize, width: usize) {
+fn fill(lines: &mut Paper, start: usize, width: usize)
+    ensures { Extends lines.old lines.new }
+{
     let taken = lines.len().saturating_sub(start);
     let rest = width.saturating_sub(taken).max(1);
     for _ in 0..rest {

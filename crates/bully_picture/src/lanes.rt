@@ -1,12 +1,17 @@
 //! The bars of a node, and its name over them.
+ghost use Rattle.std.specs.Prelude.{◌≡◌, nat_le, option_map, slice_get};
+ghost use Rattle.bully_picture.specs.Drawn.{HasNodes, node_label};
+ghost use Rattle.bully_picture.specs.Title.{Has};
+ghost use Rattle.bully_picture.specs.Written.{Gains, IsIn};
 
 use crate::boxes::{Area, letter_width};
 use crate::canvas::{Canvas, push_area, push_line};
 use crate::layout::{HALF, Layout, WORDS_ALL, WORDS_MIN};
 use crate::paper::Paper;
 use crate::words::{push_followed, push_stand};
-use bully_base::{Node, Status};
+use bully_base::{Node, Setup, Status};
 use bully_film::{Bar, Stand};
+use std::alloc::Global;
 
 /// Draws the bars of a node, and says beside the first one how the node stood before the rows. What a row changes was said there.
 pub fn draw_bars(canvas: &mut Canvas, node: Node, bars: &[Bar]) {
@@ -94,29 +99,53 @@ fn push_label(paper: &mut Paper, stand: Stand, lane: u32) {
     }
 }
 
-/// Writes the name of a node over its lane; its number, where there is no name.
-pub fn draw_name(canvas: &mut Canvas, node: Node, name: Option<&str>) {
-    let x = canvas.layout.x(node);
-    let size = name_size(&canvas.layout);
-    let lane = canvas.layout.lane;
-    let words = &mut canvas.words;
-    words.push_number("<text x=\"", x, "\" y=\"80\"");
-    words.push_attribute("font-size", size);
-    words.push(" font-weight=\"bold\" text-anchor=\"middle\" unicode-bidi=\"isolate\">");
-    match name {
-        Some(name) => push_name(words, node, name, lane),
-        None if lane >= WORDS_MIN => words.push_node("node ", node, ""),
-        None => words.push_node("", node, ""),
+/// The names of the nodes over their lanes, from node 1 on; the number of a node that has no name.
+pub fn draw_names(alloc: Global, layout: &Layout, setup: &Setup, names: &[&str]) -> Paper
+    ensures { IsIn result (λ text. HasNodes text setup.now.nodes (λ i. option_map (λ s. s.now) (slice_get names.now i))) }
+{
+    let mut paper = Paper::new(alloc);
+    for before in 0..setup.nodes() {
+        let node = Node::new(before + 1).unwrap();
+        draw_name(&mut paper, layout, node, name_at(names, before));
     }
-    words.push("</text>\n");
+    paper
+}
+
+// The name at this place; none behind the last.
+fn name_at<'a>(names: &[&'a str], place: u16) -> Option<&'a str>
+    ensures { option_map (λ s. s.now) result ≡ option_map (λ s. s.now) (slice_get names.now place) }
+{
+    let place = usize::from(place);
+    if place < names.len() {
+        Some(names[place])
+    } else {
+        None
+    }
+}
+
+// Writes the name of a node over its lane.
+fn draw_name(paper: &mut Paper, layout: &Layout, node: Node, name: Option<&str>)
+    ensures { Gains paper.old paper.new (λ text. Has text (node_label (nat_le WORDS_MIN layout.now.lane) node (option_map (λ s. s.now) name.entry))) }
+{
+    paper.push_number("<text x=\"", layout.x(node), "\" y=\"80\"");
+    paper.push_attribute("font-size", name_size(layout));
+    paper.push(" font-weight=\"bold\" text-anchor=\"middle\"");
+    paper.push(" unicode-bidi=\"isolate\">");
+    match name {
+        Some(name) => push_name(paper, node, name, layout.lane),
+        None if layout.lane >= WORDS_MIN => paper.push_node("node ", node, "</text>\n"),
+        None => paper.push_node("", node, "</text>\n"),
+    }
 }
 
 // Writes as much of a name as the lane has room for, and all of it where the pointer rests.
-fn push_name(paper: &mut Paper, node: Node, name: &str, lane: u32) {
+fn push_name(paper: &mut Paper, node: Node, name: &str, lane: u32)
+    ensures { Gains paper.old paper.new (λ text. Has text (node_label (nat_le WORDS_MIN lane) node (Some name.now))) }
+{
     paper.push_start(name, letters_in(name, lane));
     paper.push_node("<title>node ", node, ": ");
     paper.push_escaped(name);
-    paper.push("</title>");
+    paper.push("</title></text>\n");
 }
 
 // How large names are: four digits have room in the narrowest lane.

@@ -1,15 +1,21 @@
 //! What stands at a row: its number and its text, marks on the lanes, and tables.
+ghost use Rattle.std.specs.Prelude.{◌≡◌, ◌++◌, codes, if◌then◌else◌};
+ghost use Rattle.std.specs.Fmt.{decimal};
+ghost use Rattle.bully_picture.specs.Drawn.{HasRows, row_label};
+ghost use Rattle.bully_picture.specs.Title.{Has};
+ghost use Rattle.bully_picture.specs.Written.{Gains, IsIn, Writes};
 
 use crate::boxes::{Anchor, width_of};
-use crate::canvas::{Canvas, Style};
+use crate::canvas::{Canvas, Style, push_place};
 use crate::lanes::draw_stand;
 use crate::layout::{ASIDE, HALF, Layout, WORDS_MIN};
 use crate::paper::Paper;
-use crate::words::{push_meaning, push_row_text};
+use crate::words::{decides, push_meaning, push_row_text};
 use bully_base::Node;
 use bully_film::{NodeSnapshot, Scene, Stand};
 use bully_rows::EventKind;
 use bully_table::Table;
+use bully_trace::Verdict;
 
 // What is said of a table that is too long to be shown.
 const LONG_TABLE: &str = "gets a table";
@@ -17,11 +23,46 @@ const LONG_TABLE: &str = "gets a table";
 // The colour of what the row that decided says.
 const DECIDED: &str = "#D55E00";
 
+/// The numbers of these rows, each at the left of its row. Their boxes are taken, so that no words lie on them.
+pub fn draw_numbers(canvas: &mut Canvas, scenes: &[Scene], verdict: Verdict) -> Paper
+    ensures { IsIn result (λ text. HasRows text verdict scenes.now) }
+{
+    let mut numbers = Paper::new(canvas.alloc);
+    for scene in scenes {
+        let number = scene.number;
+        draw_number(canvas, &mut numbers, number, decides(verdict, number));
+    }
+    numbers
+}
+
+// Writes the number of a row at the left.
+fn draw_number(canvas: &mut Canvas, numbers: &mut Paper, number: u32, decides: bool)
+    ensures { Gains numbers.old numbers.new (λ text. Has text (row_label decides number)) }
+{
+    let y = canvas.layout.y(number).saturating_add(4);
+    let colour = colour_of(decides, "#777");
+    let style = plain_style(Anchor::End, colour);
+    let mut digits = Paper::new(canvas.alloc);
+    digits.push_number("", number, "");
+    let words = canvas.read(&digits);
+    canvas.keep_free(48, y, style, words);
+    push_place(numbers, 48, y, style);
+    push_label(numbers, colour, number);
+}
+
+// Writes the number of a row in this colour, and the end of its element.
+fn push_label(numbers: &mut Paper, colour: &'static str, number: u32)
+    ensures { Writes numbers.old numbers.new (codes " fill=\"" ++ colour.now ++ (codes "\">" ++ decimal number ++ codes "</text>\n")) }
+{
+    numbers.push(" fill=\"");
+    numbers.push(colour);
+    numbers.push_number("\">", number, "</text>\n");
+}
+
 /// Draws what stands at a row; whether it decided is told.
 pub fn draw_row(canvas: &mut Canvas, scene: &Scene, decides: bool) {
     let y = canvas.layout.y(scene.number);
     draw_ground(canvas, scene.number, y, decides);
-    draw_number(canvas, scene.number, y, decides);
     let end = draw_text(canvas, scene, y, decides);
     if !decides {
         draw_change(canvas, scene);
@@ -48,7 +89,9 @@ fn draw_ground(canvas: &mut Canvas, number: u32, y: u32, decides: bool) {
     }
 }
 
-fn colour_of(decides: bool, plain: &'static str) -> &'static str {
+fn colour_of(decides: bool, plain: &'static str) -> &'static str
+    ensures { result.now ≡ (if decides then DECIDED.now else plain.now) }
+{
     if decides { DECIDED } else { plain }
 }
 
@@ -60,15 +103,6 @@ fn plain_style(anchor: Anchor, colour: &'static str) -> Style {
         colour,
         has_ground: false,
     }
-}
-
-// Writes the number of the row at the left.
-fn draw_number(canvas: &mut Canvas, number: u32, y: u32, decides: bool) {
-    let mut paper = Paper::new(canvas.alloc);
-    paper.push_number("", number, "");
-    let words = canvas.read(&paper);
-    let style = plain_style(Anchor::End, colour_of(decides, "#777"));
-    canvas.put(48, y.saturating_add(4), style, words);
 }
 
 // Writes the text of the row at the right, and what it does, where that doesn't say it. Tells where it ends.
@@ -186,7 +220,7 @@ fn draw_cut(canvas: &mut Canvas, node: Node, y: u32) {
 }
 
 // A ring on the lane.
-fn draw_ring(canvas: &mut Canvas, x: u32, y: u32, radius: u32, shade: &str) {
+fn draw_ring(canvas: &mut Canvas, x: u32, y: u32, radius: u32, shade: &'static str) {
     let words = &mut canvas.words;
     words.push("<circle");
     words.push_attribute("cx", x);

@@ -1,14 +1,20 @@
 //! The picture as a whole.
-ghost use Rattle.std.specs.Prelude.{◌≡◌, ◌+◌, ◌==◌, ◌++◌, [], codes, if◌then◌else◌, length, IfOk, OnOk, string_bytes};
+ghost use Rattle.std.specs.Prelude.{◌≡◌, ◌+◌, ◌==◌, ◌++◌, [], codes, if◌then◌else◌, length, option_map, slice_get, IfOk, OnOk, string_bytes};
+ghost use Rattle.bully_film.specs.Film.{IsFilmOf};
 ghost use Rattle.bully_film.specs.Lane.{row_before};
+ghost use Rattle.bully_film.specs.Scene.{lane_of as lane_seen};
+ghost use Rattle.bully_film.specs.Window.{WindowState};
+ghost use Rattle.bully_picture.specs.Drawn.{HasCalls, HasLanes, HasNodes, HasRows};
 ghost use Rattle.bully_picture.specs.Title.{Has, shown_text, size_text, title_text};
+ghost use Rattle.bully_picture.specs.Written.{IsCopied, IsIn};
+ghost use Rattle.bully_rows.specs.Trace.{Trace};
 ghost use Rattle.bully_trace.specs.VerdictText.{verdict_head};
 
 use crate::arrows::draw_calls;
 use crate::canvas::Canvas;
-use crate::lanes::{draw_bars, draw_name};
+use crate::lanes::{draw_bars, draw_names};
 use crate::layout::{Layout, ROW};
-use crate::marks::draw_row;
+use crate::marks::{draw_numbers, draw_row};
 use crate::paper::Paper;
 use crate::words::decides;
 use bully_base::{OutOfMemory, Setup};
@@ -49,6 +55,12 @@ pub fn svg_picture(
     ensures verdict { IfOk result (λ text. Has (string_bytes text) (verdict_head finished.now.verdict)) }
     ensures title { IfOk result (λ text. Has (string_bytes text)
         (title_text finished.now.verdict finished.now.setup.nodes finished.now.setup.partitions (row_before finished.now.scenes.items) (length finished.now.scenes.items))) }
+    ensures rows { IfOk result (λ text. HasRows (string_bytes text) finished.now.verdict finished.now.scenes.items) }
+    ensures nodes { IfOk result (λ text. HasNodes (string_bytes text) finished.now.setup.nodes (λ i. option_map (λ s. s.now) (slice_get names.now i))) }
+
+    // Of each node it has an arrow for each call in its slot.
+    ensures calls { (window : WindowState) (trace : Trace) (is : IsFilmOf window finished.now trace)
+        → IfOk result (λ text. HasCalls (string_bytes text) finished.now.setup.nodes (row_before finished.now.scenes.items) (λ i. lane_seen trace.setup is.before i is.shown)) }
 {
     let mut text = String::new(alloc);
     let mut canvas = Canvas::new(alloc, Layout::of(finished));
@@ -64,30 +76,84 @@ fn push_picture(
     names: &[&str],
     below: &str,
 ) -> Result<(), OutOfMemory>
-    ensures { OnOk result (Has (string_bytes text.new)
+    ensures title { OnOk result (Has (string_bytes text.new)
         (title_text finished.now.verdict finished.now.setup.nodes finished.now.setup.partitions (row_before finished.now.scenes.items) (length finished.now.scenes.items))) }
+    ensures rows { OnOk result (HasRows (string_bytes text.new) finished.now.verdict finished.now.scenes.items) }
+    ensures nodes { OnOk result (HasNodes (string_bytes text.new) finished.now.setup.nodes (λ i. option_map (λ s. s.now) (slice_get names.now i))) }
+    ensures calls { (window : WindowState) (trace : Trace) (is : IsFilmOf window finished.now trace)
+        → OnOk result (HasCalls (string_bytes text.new) finished.now.setup.nodes (row_before finished.now.scenes.items) (λ i. lane_seen trace.setup is.before i is.shown)) }
 {
-    draw(canvas, finished, names, below)?;
-    text.push_str(canvas.head.as_str())?;
-    push_title(text, finished)?;
-    text.push_str(canvas.lines.as_str())?;
-    text.push_str(canvas.words.as_str())
+    let lanes = lanes(canvas.alloc, finished)?;
+    push_lanes(text, canvas, finished, lanes.as_slice(), names, below)
 }
 
-// Draws all but the words of the title.
-fn draw(
+// The same with these lanes.
+fn push_lanes(
+    text: &mut String,
     canvas: &mut Canvas,
     finished: &FinishedFilm,
+    lanes: &[Lane],
     names: &[&str],
     below: &str,
-) -> Result<(), OutOfMemory> {
-    let lanes = lanes(canvas.alloc, finished)?;
+) -> Result<(), OutOfMemory>
+    ensures title { OnOk result (Has (string_bytes text.new)
+        (title_text finished.now.verdict finished.now.setup.nodes finished.now.setup.partitions (row_before finished.now.scenes.items) (length finished.now.scenes.items))) }
+    ensures rows { OnOk result (HasRows (string_bytes text.new) finished.now.verdict finished.now.scenes.items) }
+    ensures nodes { OnOk result (HasNodes (string_bytes text.new) finished.now.setup.nodes (λ i. option_map (λ s. s.now) (slice_get names.now i))) }
+    ensures lanes { OnOk result (HasLanes (string_bytes text.new) lanes.now) }
+{
     push_head(&mut canvas.head, finished.verdict, &canvas.layout, below);
-    canvas.lines.push(LEGEND);
-    draw_rows(canvas, finished);
-    draw_lanes(canvas, lanes.as_slice(), names);
+    let parts = draw(canvas, finished, lanes, names);
     push_below(&mut canvas.words, &canvas.layout, below);
-    canvas.check_memory()
+    push_parts(text, canvas, finished, &parts)
+}
+
+// What a picture has of each row, of each node and of each call.
+#[derive(Drop)]
+struct Parts {
+    numbers: Paper,
+    names: Paper,
+    arrows: Paper,
+}
+
+// Draws all but the words of the title, and what stands below.
+fn draw(canvas: &mut Canvas, finished: &FinishedFilm, lanes: &[Lane], names: &[&str]) -> Parts
+    ensures rows { IsIn result.numbers (λ text. HasRows text finished.now.verdict finished.now.scenes.items) }
+    ensures nodes { IsIn result.names (λ text. HasNodes text finished.now.setup.nodes (λ i. option_map (λ s. s.now) (slice_get names.now i))) }
+    ensures lanes { IsIn result.arrows (λ text. HasLanes text lanes.now) }
+{
+    canvas.lines.push(LEGEND);
+    let numbers = draw_numbers(canvas, finished.scenes.as_slice(), finished.verdict);
+    draw_rows(canvas, finished);
+    let arrows = draw_lanes(canvas, lanes);
+    let names = draw_names(canvas.alloc, &canvas.layout, &finished.setup, names);
+    Parts {
+        numbers,
+        names,
+        arrows,
+    }
+}
+
+// Appends the document: its head and title, lines and bars, and above them arrows and words.
+fn push_parts(
+    text: &mut String,
+    canvas: &Canvas,
+    finished: &FinishedFilm,
+    parts: &Parts,
+) -> Result<(), OutOfMemory>
+    ensures title { OnOk result (Has (string_bytes text.new)
+        (title_text finished.now.verdict finished.now.setup.nodes finished.now.setup.partitions (row_before finished.now.scenes.items) (length finished.now.scenes.items))) }
+    ensures numbers { OnOk result (IsCopied parts.now.numbers (string_bytes text.new)) }
+    ensures names { OnOk result (IsCopied parts.now.names (string_bytes text.new)) }
+    ensures arrows { OnOk result (IsCopied parts.now.arrows (string_bytes text.new)) }
+{
+    canvas.head.copy_to(text)?;
+    push_title(text, finished)?;
+    canvas.lines.copy_to(text)?;
+    parts.arrows.copy_to(text)?;
+    parts.numbers.copy_to(text)?;
+    parts.names.copy_to(text)?;
+    canvas.words.copy_to(text)
 }
 
 // Draws what stands at each row.
@@ -97,18 +163,22 @@ fn draw_rows(canvas: &mut Canvas, finished: &FinishedFilm) {
     }
 }
 
-// Draws these lanes, with these names over them.
-fn draw_lanes(canvas: &mut Canvas, lanes: &[Lane], names: &[&str]) {
-    for (place, lane) in lanes.iter().enumerate() {
+// Draws the bars of these lanes, and on a paper of their own the arrows of their calls.
+fn draw_lanes(canvas: &mut Canvas, lanes: &[Lane]) -> Paper
+    ensures { IsIn result (λ text. HasLanes text lanes.now) }
+{
+    let mut arrows = Paper::new(canvas.alloc);
+    for lane in lanes {
         draw_bars(canvas, lane.node, lane.bars.as_slice());
         draw_calls(
             canvas,
+            &mut arrows,
             lane.node,
             lane.holdings.as_slice(),
             lane.orphans.as_slice(),
         );
-        draw_name(canvas, lane.node, names.get(place).copied());
     }
+    arrows
 }
 
 // How wide the picture is.

@@ -1,19 +1,38 @@
 //! What pictures are written on.
+ghost use Rattle.std.specs.Prelude.{◌≡◌, ℕ, List, ◌++◌, codes, false, length, string_bytes, true, OnOk};
+ghost use Rattle.std.specs.Fmt.{decimal};
+ghost use Rattle.std.specs.Str.{chars};
+ghost use Rattle.bully_picture.specs.Escaping.{escaped, shortened};
+ghost use Rattle.bully_picture.specs.Written.{Writes, Written, attribute_text, blank, right_text};
 
 use crate::escaping::{push_escaped, push_start};
 use bully_base::{Node, OutOfMemory};
 use std::alloc::{AllocError, Global};
+use std::marker::Model;
 
 /// A text that is written. Where memory is wanting, that is noted, and told at the end: so what writes never fails.
+///
+/// What the program itself says goes in as it is, and so is `&'static str`; all else goes in escaped.
 #[derive(Drop)]
 pub struct Paper {
     text: String,
-    pub has_failed: bool,
+    has_failed: bool,
+}
+
+impl Model for Paper {
+    ghost use Rattle.std.specs.Prelude.{string_bytes};
+    ghost use Rattle.bully_picture.specs.Written.{Written};
+
+    ghost Value = { Written };
+
+    ghost view = { λ p. record { text = string_bytes p.text; has_failed = p.has_failed } };
 }
 
 impl Paper {
     /// An empty one.
-    pub fn new(alloc: Global) -> Paper {
+    pub fn new(alloc: Global) -> Paper
+        ensures { result ≡ blank }
+    {
         Paper {
             text: String::new(alloc),
             has_failed: false,
@@ -21,74 +40,111 @@ impl Paper {
     }
 
     /// What was written, as far as there was memory for it.
-    pub fn as_str(&self) -> &str {
+    pub fn as_str(&self) -> &str
+        ensures { result.now ≡ self.now.text }
+    {
         self.text.as_str()
     }
 
     /// How many bytes were written.
-    pub fn len(&self) -> usize {
+    pub fn len(&self) -> usize
+        ensures { result ≡ length self.now.text }
+    {
         self.text.len()
     }
 
-    /// Refused where memory was wanting.
-    pub fn check_memory(&self) -> Result<(), OutOfMemory> {
+    /// Whether memory was wanting.
+    pub fn has_failed(&self) -> bool
+        ensures { result ≡ self.now.has_failed }
+    {
+        self.has_failed
+    }
+
+    /// Appends what was written to a text. Refused where memory was wanting, or is now.
+    pub fn copy_to(&self, text: &mut String) -> Result<(), OutOfMemory>
+        ensures whole { OnOk result (self.now.has_failed ≡ false) }
+        ensures copied { OnOk result (string_bytes text.new ≡ string_bytes text.old ++ self.now.text) }
+    {
         if self.has_failed {
             return Err(AllocError);
         }
-        Ok(())
+        text.push_str(self.text.as_str())
     }
 
-    /// Writes words.
-    pub fn push(&mut self, words: &str) {
+    /// Notes that memory was wanting.
+    pub fn fail(&mut self)
+        ensures { self.new ≡ record self.old { has_failed = true } }
+    {
+        self.has_failed = true;
+    }
+
+    /// Writes words of the program.
+    pub fn push(&mut self, words: &'static str)
+        ensures { Writes self.old self.new words.now }
+    {
         let written = self.text.push_str(words);
         self.note(written);
     }
 
     /// Writes words as XML takes them.
-    pub fn push_escaped(&mut self, words: &str) {
+    pub fn push_escaped(&mut self, words: &str)
+        ensures escaped { Writes self.old self.new (escaped (chars words.now)) }
+    {
         let written = push_escaped(&mut self.text, words);
         self.note(written);
     }
 
     /// The same of their first letters, so many, with three dots behind them where there are more.
-    pub fn push_start(&mut self, words: &str, most: usize) {
+    pub fn push_start(&mut self, words: &str, most: usize)
+        ensures { Writes self.old self.new (escaped (shortened most (chars words.now))) }
+    {
         let written = push_start(&mut self.text, words, most);
         self.note(written);
     }
 
     /// Writes a number between these words.
-    pub fn push_number(&mut self, before: &str, number: u32, behind: &str) {
+    pub fn push_number(&mut self, before: &'static str, number: u32, behind: &'static str)
+        ensures { Writes self.old self.new (before.now ++ decimal number ++ behind.now) }
+    {
         let written = write!(self.text, "{before}{number}{behind}");
         self.note(written);
     }
 
     /// Writes the number of a node between these words.
-    pub fn push_node(&mut self, before: &str, node: Node, behind: &str) {
+    pub fn push_node(&mut self, before: &'static str, node: Node, behind: &'static str)
+        ensures { Writes self.old self.new (before.now ++ decimal node ++ behind.now) }
+    {
         self.push_number(before, u32::from(node.number()), behind);
     }
 
     /// Writes a number with spaces before it, so that it ends seven columns further.
-    pub fn push_right(&mut self, number: u32) {
+    pub fn push_right(&mut self, number: u32)
+        ensures { Writes self.old self.new (right_text number) }
+    {
         let written = write!(self.text, "{number:>7}");
         self.note(written);
     }
 
     /// Writes a point behind these words, as `12 34`.
-    pub fn push_point(&mut self, before: &str, x: u32, y: u32) {
+    pub fn push_point(&mut self, before: &'static str, x: u32, y: u32)
+        ensures { Writes self.old self.new (before.now ++ decimal x ++ codes " " ++ decimal y) }
+    {
         let written = write!(self.text, "{before}{x} {y}");
         self.note(written);
     }
 
     /// Writes an attribute that is a number, as ` x="12"`.
-    pub fn push_attribute(&mut self, name: &str, number: u32) {
+    pub fn push_attribute(&mut self, name: &'static str, number: u32)
+        ensures { Writes self.old self.new (attribute_text name.now number) }
+    {
         let written = write!(self.text, " {name}=\"{number}\"");
         self.note(written);
     }
 
-    // Notes it, where memory was wanting.
-    fn note(&mut self, written: Result<(), OutOfMemory>) {
-        if written.is_err() {
-            self.has_failed = true;
-        }
+    // Notes how a write went: behind what stood before it, this part.
+    fn note(&mut self, written: Result<(), OutOfMemory>)
+        ensures { (before : Written) (part : List ℕ) → before.has_failed ≡ self.old.has_failed → OnOk written (self.old.text ≡ before.text ++ part) → Writes before self.new part }
+    {
+        self.has_failed |= written.is_err();
     }
 }

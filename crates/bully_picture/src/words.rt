@@ -1,4 +1,7 @@
 //! The words of a picture.
+ghost use Rattle.std.specs.Prelude.{◌≡◌};
+ghost use Rattle.bully_picture.specs.Drawn.{decides, kind_text};
+ghost use Rattle.bully_picture.specs.Written.{Extends};
 
 use crate::paper::Paper;
 use bully_base::{Node, Status};
@@ -8,7 +11,9 @@ use bully_rows::{EventKind, SAW, status_word};
 use bully_trace::Verdict;
 
 /// The call as the profile names it.
-pub fn kind_text(kind: CallKind) -> &'static str {
+pub fn kind_text(kind: CallKind) -> &'static str
+    ensures { result.now ≡ kind_text kind }
+{
     match kind {
         CallKind::AreYouUp => "AreYouUp",
         CallKind::AreYouNormal => "AreYouNormal",
@@ -19,7 +24,9 @@ pub fn kind_text(kind: CallKind) -> &'static str {
 }
 
 /// Whether the row of this number decided.
-pub fn decides(verdict: Verdict, row: u32) -> bool {
+pub fn decides(verdict: Verdict, row: u32) -> bool
+    ensures { result ≡ decides verdict row }
+{
     match verdict {
         Verdict::Lawful(_) => false,
         Verdict::Refused(decided, _) | Verdict::Differs(decided) => row == decided,
@@ -37,7 +44,14 @@ pub fn push_stand(paper: &mut Paper, stand: Stand) {
 }
 
 /// Writes a word of how a node stands, and behind these words whom the node follows; the word alone, where that is nobody.
-pub fn push_followed(paper: &mut Paper, word: &str, between: &str, coordinator: Option<Node>) {
+pub fn push_followed(
+    paper: &mut Paper,
+    word: &'static str,
+    between: &'static str,
+    coordinator: Option<Node>,
+)
+    ensures { Extends paper.old paper.new }
+{
     paper.push(word);
     if let Some(node) = coordinator {
         paper.push_node(between, node, "");
@@ -45,7 +59,9 @@ pub fn push_followed(paper: &mut Paper, word: &str, between: &str, coordinator: 
 }
 
 /// Writes the row as it stands in a trace of version 1, but for a claim's status and a plan's table.
-pub fn push_row_text(paper: &mut Paper, scene: &Scene) {
+pub fn push_row_text(paper: &mut Paper, scene: &Scene)
+    ensures { Extends paper.old paper.new }
+{
     let word = match scene.event_kind {
         Some(event_kind) => event_kind.word(),
         None => SAW,
@@ -55,7 +71,9 @@ pub fn push_row_text(paper: &mut Paper, scene: &Scene) {
 }
 
 /// Writes what the row does behind its text, where that alone doesn't say it.
-pub fn push_meaning(paper: &mut Paper, scene: &Scene) {
+pub fn push_meaning(paper: &mut Paper, scene: &Scene)
+    ensures { Extends paper.old paper.new }
+{
     let meaning = meaning(scene);
     if !meaning.is_empty() {
         paper.push(": ");

@@ -2,9 +2,11 @@ use Rattle.std.proofs.Common.{◌∙◌, ◌++◌, length, take, string_bytes, a
 use Rattle.std.proofs.lemmas.Iterator.{YieldsList-from_chars}
 use Rattle.std.proofs.lemmas.Iterator.Consumers.{YieldsList-turn, YieldsList-end}
 use Rattle.std.proofs.lemmas.List.{length_push}
+use Rattle.std.proofs.lemmas.Str.{scalars-chars}
 use Rattle.std.specs.Str.{chars}
 use Rattle.bully_picture.specs.Escaping.{escaped}
 use Rattle.bully_picture.proofs.EscapeLemmas.{letter-more, letters-all}
+use Rattle.bully_picture.proofs.HarmlessLemmas.{escaped-harmless}
 use Rattle.bully_picture.proofs.escaping.push_escaped.Goals as goal
 
 pub loop-letter-preserved : goal.loop-letter-preserved
@@ -13,7 +15,13 @@ loop-letter-preserved c =
     letter-more _ _ _ (chars c.args.raw.now) (length c.loop-letter.yielded) c.in-Some.letter c.loop-letter.invariant t.0 t.1 (search rules)
     ∙ ap (λ n. string_bytes c.args.text.now ++ escaped (take n (chars c.args.raw.now))) (sym (length_push c.loop-letter.yielded c.in-Some.letter))
 
-pub returns : goal.returns
-returns c =
+pub returns-clause-escaped : goal.returns-clause-escaped
+returns-clause-escaped c =
     let t = YieldsList-end (YieldsList-from_chars c.args.raw.now c.utf8.raw cc) c.loop-letter.yielded _ c.loop-letter.yielded_by _ _ c.in-None.is c.next.ensures.steps in
     letters-all _ _ (chars c.args.raw.now) (length c.loop-letter.yielded) c.loop-letter.invariant t.1
+
+pub returns-clause-harmless : goal.returns-clause-harmless
+returns-clause-harmless c = escaped-harmless (chars c.args.raw.now) (scalars-chars c.args.raw.now c.utf8.raw)
+
+pub returns-in_err-push_letter-clause-harmless : goal.returns-in_err-push_letter-clause-harmless
+returns-in_err-push_letter-clause-harmless c = escaped-harmless (chars c.args.raw.now) (scalars-chars c.args.raw.now c.utf8.raw)

@@ -5,10 +5,11 @@ use Rattle.std.proofs.lemmas.List.{length_push}
 use Rattle.std.proofs.lemmas.Result.{on_ok_weaker}
 use Rattle.std.specs.Str.{chars}
 use Rattle.bully_picture.proofs.EscapeLemmas.{letter-more, start-cut, start-whole}
+use Rattle.bully_picture.proofs.HarmlessLemmas.{start-harmless}
 use Rattle.bully_picture.proofs.escaping.push_start.Goals as goal
 
-pub returns-then-count-most : goal.returns-then-count-most
-returns-then-count-most c =
+pub returns-then-count-most-clause-escaped : goal.returns-then-count-most-clause-escaped
+returns-then-count-most-clause-escaped c =
     let t = YieldsList-turn (YieldsList-from_chars c.args.raw.now c.utf8.raw cc) c.loop-letter.yielded _ c.loop-letter.yielded_by _ _ c.in-Some.letter c.in-Some.is c.next.ensures.steps in
     let more : c.loop-letter.count < length (chars c.args.raw.now) = omega (arith, t.0, c.loop-letter.invariant.count) in
     on_ok_weaker c.push_letter.result
@@ -30,8 +31,17 @@ loop-letter-preserved c =
       few = omega (arith, c.if-count-most.false);
     }
 
-pub returns : goal.returns
-returns c =
+pub returns-clause-escaped : goal.returns-clause-escaped
+returns-clause-escaped c =
     let t = YieldsList-end (YieldsList-from_chars c.args.raw.now c.utf8.raw cc) c.loop-letter.yielded _ c.loop-letter.yielded_by _ _ c.in-None.is c.next.ensures.steps in
     start-whole (string_bytes c.args.text.now) (string_bytes c.loop-letter.text) (chars c.args.raw.now) c.loop-letter.count c.args.most
     c.loop-letter.invariant.text (omega (arith, t.1, c.loop-letter.invariant.count)) c.loop-letter.invariant.few
+
+pub returns-clause-harmless : goal.returns-clause-harmless
+returns-clause-harmless c = start-harmless c.args.most c.args.raw.now c.utf8.raw
+
+pub returns-in_err-push_letter-clause-harmless : goal.returns-in_err-push_letter-clause-harmless
+returns-in_err-push_letter-clause-harmless c = start-harmless c.args.most c.args.raw.now c.utf8.raw
+
+pub returns-then-count-most-clause-harmless : goal.returns-then-count-most-clause-harmless
+returns-then-count-most-clause-harmless c = start-harmless c.args.most c.args.raw.now c.utf8.raw

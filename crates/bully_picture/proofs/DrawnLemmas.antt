@@ -1,0 +1,152 @@
+-- From the stretches of slots that have their arrows to the rows of which these tell.
+use Rattle.std.proofs.Common.{◌≡◌, ◌⊎◌, ap, below_more, get_or, take, inl, inr, ℕ, zero, suc, ◌+◌, ◌-◌, ◌<◌, ◌≤◌, Bool, true, false, not, ◌==◌, ◌++◌, List, [], ◌∷◌, Option, Some, None, length, map, replicate, refl, sym, subst, arith, if◌then◌else◌}
+use Rattle.std.proofs.lemmas.List.{take_all}
+use Rattle.std.proofs.lemmas.List.Elements.{All-head, All-tail, All-weaker}
+use Rattle.bully_calls.specs.declared.call.Phase.{Phase}
+use Rattle.bully_trace.specs.declared.verdict.Verdict.{Verdict}
+use Rattle.bully_film.specs.declared.scene.Scene.{Scene}
+use Rattle.bully_film.specs.declared.slots.HeldCall.{HeldCall}
+use Rattle.bully_film.specs.declared.slots.Holding.{Holding}
+use Rattle.bully_film.specs.declared.snapshot.NodeSnapshot.{NodeSnapshot}
+use Rattle.bully_film.specs.declared.whole.Lane.{Lane}
+use Rattle.bully_film.specs.Lane.{AreJoinedHeld, AreLanes, IsLane, held_in, spread_held}
+use Rattle.bully_picture.specs.Drawn.{HasArrow, HasArrows, HasHoldings, HasLanes, HasNodes, HasRows, arrow_label, decides, has_failed, held_label, node_label, row_label}
+use Rattle.bully_picture.specs.Title.{Has}
+use Rattle.bully_picture.specs.Written.{Gains, IsCopied, IsIn, Written}
+use Rattle.bully_picture.proofs.WrittenLemmas.{has-more, has-within, nothing-gained, one-gained, one-more}
+
+-- what a text has, a longer one has, too
+pub holdings-more : (text more : List ℕ) (i : ℕ) (holdings : List Holding) → HasHoldings text i holdings → HasHoldings (text ++ more) i holdings
+holdings-more text more i holdings has =
+    All-weaker (λ h. Has text (held_label i h.first h.last h.held)) (λ h. Has (text ++ more) (held_label i h.first h.last h.held))
+    (λ h. has-more (held_label i h.first h.last h.held) text more) holdings has
+
+pub holdings-within : (text middle : List ℕ) (i : ℕ) (holdings : List Holding) → Has text middle → HasHoldings middle i holdings → HasHoldings text i holdings
+holdings-within text middle i holdings within has =
+    All-weaker (λ h. Has middle (held_label i h.first h.last h.held)) (λ h. Has text (held_label i h.first h.last h.held))
+    (λ h. has-within text middle (held_label i h.first h.last h.held) within) holdings has
+
+pub lanes-within : (text middle : List ℕ) (lanes : List Lane) → Has text middle → HasLanes middle lanes → HasLanes text lanes
+lanes-within text middle lanes within has =
+    All-weaker (λ lane. HasHoldings middle lane.node lane.holdings.items) (λ lane. HasHoldings text lane.node lane.holdings.items)
+    (λ lane. holdings-within text middle lane.node lane.holdings.items within) lanes has
+
+-- a row of a stretch
+arrow-at : (text : List ℕ) (i first last row : ℕ) (held : Option HeldCall) → first ≤ row → row ≤ last → Has text (held_label i first last held) → HasArrow text i row held
+arrow-at text i first last row None low high has = tt
+arrow-at text i first last row (Some held) low high has =
+    λ runs. (first, last, low, high, subst (λ b. Has text (if b then [] else arrow_label i held.call first last)) runs has)
+
+-- the rows of a stretch, and of those behind it
+stretch-arrows : (text : List ℕ) (i first last : ℕ) (held : Option HeldCall) (rest : List (Option HeldCall)) → Has text (held_label i first last held)
+    → HasArrows text i (last + 1) rest → (n row : ℕ) → first ≤ row → row + n ≡ last + 1 → HasArrows text i row (replicate n held ++ rest)
+stretch-arrows text i first last held rest has behind zero row low end =
+    let here : last + 1 ≡ row = omega (arith, end) in
+    subst (λ k. HasArrows text i k rest) here behind
+stretch-arrows text i first last held rest has behind (suc n) row low end = (
+  arrow-at text i first last row held low (omega (arith, end)) has,
+  stretch-arrows text i first last held rest has behind n (row + 1) (omega (arith, low)) (omega (arith, end)),
+)
+
+holdings-arrows : (text : List ℕ) (i row end : ℕ) (holdings : List Holding) → AreJoinedHeld row holdings end → HasHoldings text i holdings → HasArrows text i row (spread_held holdings)
+holdings-arrows text i row end [] joined has = tt
+holdings-arrows text i row end (h ∷ holdings) (begins, order, joined) has =
+    let here : Has text (held_label i h.first h.last h.held) = All-head (λ (one : Holding). Has text (held_label i one.first one.last one.held)) h holdings has in
+    let rest : HasHoldings text i holdings = All-tail (λ (one : Holding). Has text (held_label i one.first one.last one.held)) h holdings has in
+    stretch-arrows text i h.first h.last h.held (spread_held holdings) here (holdings-arrows text i (h.last + 1) end holdings joined rest)
+    (h.last + 1 - h.first) row (omega (arith, begins)) (omega (arith, begins, order))
+
+lane-arrows : (text : List ℕ) (i first : ℕ) (snapshots : List NodeSnapshot) (lane : Lane) → IsLane i first snapshots lane → HasHoldings text lane.node lane.holdings.items
+    → HasArrows text i first (map held_in snapshots)
+lane-arrows text i first snapshots lane is has =
+    subst (HasArrows text i first) is.holdings
+    (holdings-arrows text i first (first + length snapshots) lane.holdings.items is.holdings_joined (subst (λ k. HasHoldings text k lane.holdings.items) is.node has))
+
+first-or-later : (j i : ℕ) → j ≤ i → (j ≡ i) ⊎ (j + 1 ≤ i)
+first-or-later j i low = by (j == i) refl
+  where
+    by : (b : Bool) → (j == i) ≡ b → (j ≡ i) ⊎ (j + 1 ≤ i)
+    by true is = inl (grind (arith, is))
+    by false is = inr (grind (arith, is, low))
+
+-- the lane of each node from node j on
+pub lanes-arrows : (text : List ℕ) (first j : ℕ) (snapshots : ℕ → List NodeSnapshot) (lanes : List Lane) → AreLanes snapshots first j lanes → HasLanes text lanes
+    → (i : ℕ) → j ≤ i → i < j + length lanes → HasArrows text i first (map held_in (snapshots i))
+lanes-arrows text first j snapshots [] are has i low high = absurd (omega (arith, low, high))
+lanes-arrows text first j snapshots (lane ∷ lanes) (is, are) has i low high =
+    let here : HasHoldings text lane.node lane.holdings.items = All-head (λ (one : Lane). HasHoldings text one.node one.holdings.items) lane lanes has in
+    let rest : HasLanes text lanes = All-tail (λ (one : Lane). HasHoldings text one.node one.holdings.items) lane lanes has in
+    elim (first-or-later j i low) [
+      | inl same ↦ subst (λ k. HasArrows text k first (map held_in (snapshots k))) same (lane-arrows text j first (snapshots j) lane is here)
+      | inr later ↦ lanes-arrows text first (j + 1) snapshots lanes are rest i later (omega (arith, high))
+    ]
+
+-- one more row has its number
+pub rows-more : (verdict : Verdict) (scenes : List Scene) (i : ℕ) (s : Scene) (d : Bool) (a b : Written) → i < length scenes → s ≡ get_or scenes i s → d ≡ decides verdict s.number
+    → IsIn a (λ text. HasRows text verdict (take i scenes)) → Gains a b (λ text. Has text (row_label d s.number)) → IsIn b (λ text. HasRows text verdict (take (i + 1) scenes))
+rows-more verdict scenes i s d a b within is decided so_far gained =
+    let label : Scene → List ℕ = λ one. row_label (decides verdict one.number) one.number in
+    one-more (λ text one. Has text (label one)) (λ text more one. has-more (label one) text more) scenes i s a b within is so_far
+    (subst (λ t. Gains a b (λ text. Has text (row_label t s.number))) decided gained)
+
+pub rows-all : (verdict : Verdict) (scenes : List Scene) (i : ℕ) (a : Written) → length scenes ≤ i → IsIn a (λ text. HasRows text verdict (take i scenes)) → IsIn a (λ text. HasRows text verdict scenes)
+rows-all verdict scenes i a all so_far = subst (λ l. IsIn a (λ text. HasRows text verdict l)) (take_all i scenes all) so_far
+
+-- one more node has its name
+pub names-more : (is_wide : Bool) (name_at : ℕ → Option (List ℕ)) (k i : ℕ) (name : Option (List ℕ)) (a b : Written) → i ≡ k + 1 → name ≡ name_at k
+    → IsIn a (λ text. (j : ℕ) → j < k → Has text (node_label is_wide (j + 1) (name_at j))) → Gains a b (λ text. Has text (node_label is_wide i name))
+    → IsIn b (λ text. (j : ℕ) → j < k + 1 → Has text (node_label is_wide (j + 1) (name_at j)))
+names-more is_wide name_at k i name a b number named so_far gained good =
+    let grown = gained.extends.text good in
+    let here : Has b.text (node_label is_wide (k + 1) (name_at k)) =
+    subst (λ n. Has b.text (node_label is_wide n (name_at k))) number (subst (λ n. Has b.text (node_label is_wide i n)) named (gained.holds good)) in
+    below_more (λ j. Has b.text (node_label is_wide (j + 1) (name_at j))) k
+    (λ j low. subst (λ t. Has t (node_label is_wide (j + 1) (name_at j))) (sym grown.1)
+    (has-more (node_label is_wide (j + 1) (name_at j)) a.text grown.0 (so_far (gained.extends.memory good) j low)))
+    here
+
+-- of a call that failed nothing is drawn
+pub failed-gains : (i first last : ℕ) (held : HeldCall) (a : Written) → held.phase ≡ Phase.Failed → Gains a a (λ text. Has text (held_label i first last (Some held)))
+failed-gains i first last held a is =
+    let none : held_label i first last (Some held) ≡ [] = ap (λ p. if has_failed p then [] else arrow_label i held.call first last) is in
+    subst (λ l. Gains a a (λ text. Has text l)) (sym none) (nothing-gained a)
+
+-- nor of no call
+pub empty-gains : (i first last : ℕ) (held : Option HeldCall) (a : Written) → held ≡ None → Gains a a (λ text. Has text (held_label i first last held))
+empty-gains i first last held a is = subst (λ h. Gains a a (λ text. Has text (held_label i first last h))) (sym is) (nothing-gained a)
+
+-- one more stretch has its arrow
+pub holdings-one : (i : ℕ) (holdings : List Holding) (k : ℕ) (h : Holding) (start a b : Written) → k < length holdings → h ≡ get_or holdings k h
+    → Gains start a (λ text. HasHoldings text i (take k holdings)) → Gains a b (λ text. Has text (held_label i h.first h.last h.held))
+    → Gains start b (λ text. HasHoldings text i (take (k + 1) holdings))
+holdings-one i holdings k h start a b =
+    let label : Holding → List ℕ = λ one. held_label i one.first one.last one.held in
+    one-gained (λ text one. Has text (label one)) (λ text more one. has-more (label one) text more) holdings k h start a b
+
+pub holdings-all : (i : ℕ) (holdings : List Holding) (k : ℕ) (start a : Written) → length holdings ≤ k → Gains start a (λ text. HasHoldings text i (take k holdings))
+    → Gains start a (λ text. HasHoldings text i holdings)
+holdings-all i holdings k start a all so_far = subst (λ l. Gains start a (λ text. HasHoldings text i l)) (take_all k holdings all) so_far
+
+-- one more lane has its arrows
+pub lanes-more : (lanes : List Lane) (k : ℕ) (lane : Lane) (holdings : List Holding) (a b : Written) → k < length lanes → lane ≡ get_or lanes k lane → holdings ≡ lane.holdings.items
+    → IsIn a (λ text. HasLanes text (take k lanes)) → Gains a b (λ text. HasHoldings text lane.node holdings) → IsIn b (λ text. HasLanes text (take (k + 1) lanes))
+lanes-more lanes k lane holdings a b within is all so_far gained =
+    one-more (λ text one. HasHoldings text one.node one.holdings.items) (λ text more one. holdings-more text more one.node one.holdings.items) lanes k lane a b within is so_far
+    (subst (λ l. Gains a b (λ text. HasHoldings text lane.node l)) all gained)
+
+pub lanes-all : (lanes : List Lane) (k : ℕ) (a : Written) → length lanes ≤ k → IsIn a (λ text. HasLanes text (take k lanes)) → IsIn a (λ text. HasLanes text lanes)
+lanes-all lanes k a all so_far = subst (λ l. IsIn a (λ text. HasLanes text l)) (take_all k lanes all) so_far
+
+-- what stands on a paper that was copied
+pub rows-copied : (text : List ℕ) (paper : Written) (verdict : Verdict) (scenes : List Scene) → IsCopied paper text → IsIn paper (λ t. HasRows t verdict scenes) → HasRows text verdict scenes
+rows-copied text paper verdict scenes (good, within) has =
+    let label : Scene → List ℕ = λ one. row_label (decides verdict one.number) one.number in
+    All-weaker (λ s. Has paper.text (label s)) (λ s. Has text (label s)) (λ s. has-within text paper.text (label s) within) scenes (has good)
+
+pub nodes-copied : (text : List ℕ) (paper : Written) (nodes : ℕ) (name_at : ℕ → Option (List ℕ)) → IsCopied paper text → IsIn paper (λ t. HasNodes t nodes name_at) → HasNodes text nodes name_at
+nodes-copied text paper nodes name_at (good, within) has =
+    let all = has good in
+    (all.0, λ i low. has-within text paper.text (node_label all.0 (i + 1) (name_at i)) within (all.1 i low))
+
+pub lanes-copied : (text : List ℕ) (paper : Written) (lanes : List Lane) → IsCopied paper text → IsIn paper (λ t. HasLanes t lanes) → HasLanes text lanes
+lanes-copied text paper lanes (good, within) has = lanes-within text paper.text lanes within (has good)

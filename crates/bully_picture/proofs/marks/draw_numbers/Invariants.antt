@@ -1,0 +1,7 @@
+use Rattle.std.proofs.Common.{take}
+use Rattle.bully_picture.specs.Drawn.{HasRows}
+use Rattle.bully_picture.specs.Written.{IsIn}
+use Rattle.bully_picture.proofs.marks.draw_numbers.Given as goal
+
+abbrev pub invariant-loop-scene : goal.invariant-loop-scene
+invariant-loop-scene l = IsIn l.numbers (λ text. HasRows text l.verdict (take l.scene-index l.scenes))

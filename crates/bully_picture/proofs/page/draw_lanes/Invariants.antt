@@ -1,0 +1,7 @@
+use Rattle.std.proofs.Common.{take}
+use Rattle.bully_picture.specs.Drawn.{HasLanes}
+use Rattle.bully_picture.specs.Written.{IsIn}
+use Rattle.bully_picture.proofs.page.draw_lanes.Given as goal
+
+abbrev pub invariant-loop-lane : goal.invariant-loop-lane
+invariant-loop-lane l = IsIn l.arrows (λ text. HasLanes text (take l.lane-index l.lanes))
