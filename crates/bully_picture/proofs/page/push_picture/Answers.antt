@@ -11,7 +11,7 @@ returns-clause-calls c = λ window trace is.
     let lanes = c.in_ok-lanes.lanes.items in
     on_ok_weaker c.push_lanes.result
     (λ has. λ i low high.
-        lanes-arrows (string_bytes c.push_lanes.new.text) (row_before c.args.finished.now.scenes.items) 1 (λ j. lane_of trace.setup is.before j is.shown) lanes
-        (c.in_ok-lanes.ensures.lanes window trace is) (subst (HasLanes (string_bytes c.push_lanes.new.text)) c.as_slice.ensures.value has)
-        i (omega (arith, low)) (omega (arith, high, c.in_ok-lanes.ensures.count)))
+    lanes-arrows (string_bytes c.push_lanes.new.text) (row_before c.args.finished.now.scenes.items) 1 (λ j. lane_of trace.setup is.before j is.shown) lanes
+    (c.in_ok-lanes.ensures.lanes window trace is) (subst (HasLanes (string_bytes c.push_lanes.new.text)) c.as_slice.ensures.value has)
+    i (omega (arith, low)) (omega (arith, high, c.in_ok-lanes.ensures.count)))
     c.push_lanes.ensures.lanes
