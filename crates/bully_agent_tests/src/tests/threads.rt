@@ -166,7 +166,7 @@ fn goes_by<R: Threads + Wait + Sync>(
 
 fn comes_to(alloc: Global, config: &Config, closed: &Closed, wanted: Wanted) -> bool {
     match wanted {
-        Wanted::Nothing => is_written(alloc, closed, b"bully,1,2,1\n"),
+        Wanted::Nothing => is_written(alloc, closed, "bully,1,2,1\n".as_bytes()),
         Wanted::Election => {
             are_actors(closed, &[0, 1, 1, 1, 1, 1])
                 && is_written(alloc, closed, ELECTION.as_bytes())

@@ -67,6 +67,9 @@ const UNWRITTEN: TraceFault = TraceFault {
     cause: TraceCause::Write,
 };
 
+/// What is written of the script of one node.
+const VERDICT: &str = "lawful 6\n1 normal 1 1 1,1\n";
+
 // Whether an upgraded trace of 69 bytes isn't written if the writer takes only so many, and those are its first.
 fn cuts_off_the_upgraded(alloc: Global, room: usize) -> bool
     requires { room < 69 }
@@ -85,7 +88,7 @@ fn cuts_off_the_verdict(alloc: Global, room: usize) -> bool
     let mut taken = [0u8; 26];
     let mut narrow = &mut taken[..room];
     let judged = check(alloc, ALONE.as_bytes(), &mut narrow);
-    judged == Err(UNWRITTEN) && b"lawful 6\n1 normal 1 1 1,1\n".starts_with(&taken[..room])
+    judged == Err(UNWRITTEN) && VERDICT.as_bytes().starts_with(&taken[..room])
 }
 
 // Whether a writer with just as much room takes the upgraded trace, and the verdict.
@@ -99,7 +102,7 @@ fn takes_all(alloc: Global) -> bool {
     rows == Ok(6)
         && judged == Ok(Verdict::Lawful(6))
         && upgraded.as_slice() == ALONE_UPGRADED.as_bytes()
-        && verdict.as_slice() == b"lawful 6\n1 normal 1 1 1,1\n"
+        && verdict.as_slice() == VERDICT.as_bytes()
 }
 
 #[test]
