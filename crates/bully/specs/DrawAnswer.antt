@@ -9,7 +9,9 @@ use Rattle.bully_film.specs.declared.film.FinishedFilm.{FinishedFilm}
 use Rattle.bully_film.specs.Film.{IsFilmOf}
 use Rattle.bully_film.specs.Lane.{row_before}
 use Rattle.bully_film.specs.Window.{WindowState, at_the_end, window_in}
+use Rattle.bully_picture.specs.Drawn.{HasRows}
 use Rattle.bully_picture.specs.Title.{Has, title_text}
+use Rattle.bully_picture.specs.Told.{HasTold}
 use Rattle.bully.specs.Answer.{IsUntaken, KnownBytes, Tells, stop_line, verdict_status}
 use Rattle.bully.specs.ConfigAnswer.{IsNotDone}
 use Rattle.bully.specs.declared.telling.Stop.{Stop}
@@ -24,11 +26,13 @@ abbrev pub is_given : Option (List ℕ) → Bool
 is_given None = false
 is_given (Some flag) = bytes_eq flag (codes "true")
 
--- a picture of what a film shows: as text, or as SVG
+-- a picture of what a film shows: as text, with the verdict's line and those of rows that change something; or as SVG, with its title and
+-- the numbers of all rows
 abbrev pub IsPictureOf : Bool → FinishedFilm → List ℕ → Type 0
-IsPictureOf true finished picture = Has picture (verdict_head finished.verdict)
+IsPictureOf true finished picture = Has picture (verdict_head finished.verdict) × HasTold picture finished.verdict finished.scenes.items
 IsPictureOf false finished picture =
     Has picture (title_text finished.verdict finished.setup.nodes finished.setup.partitions (row_before finished.scenes.items) (length finished.scenes.items))
+    × HasRows picture finished.verdict finished.scenes.items
 
 -- the input means a trace: what its film shows in the window stands on the output, as text or as SVG, and the verdict gives the status
 -- of `check`

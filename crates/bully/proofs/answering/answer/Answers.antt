@@ -54,7 +54,9 @@ returns-in-Err-clause-annotate g c = λ parses.
 pub returns-in-Err-clause-draw : goal.returns-in-Err-clause-draw
 returns-in-Err-clause-draw g c = λ rows text names parses.
     let stopped = c.answer_words.ensures.memory (c.in-Err.ensures.draw rows text names parses) in
-    short-answer (g.R.Read.remaining c.args.input) rows text names _ _ _ _ _ (keeps-same _ _ (ap g.W.Write.contents stopped.1), stopped.2, stopped.0)
+    short-answer (g.R.Read.remaining c.args.input) rows text names
+    (g.W.Write.contents c.args.output.now) (g.W.Write.contents c.answer_words.new.output) (g.E.Write.contents c.args.errors.now) (g.E.Write.contents c.answer_words.new.errors)
+    c.answer_words.result (keeps-same _ _ (ap g.W.Write.contents stopped.1), stopped.2, stopped.0)
 
 pub returns-in-Err-clause-mistake : goal.returns-in-Err-clause-mistake
 returns-in-Err-clause-mistake g c = λ mistake.
