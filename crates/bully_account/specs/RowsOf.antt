@@ -28,7 +28,7 @@ event_in (Row.Whole whole) = None
 abbrev pub IsEventAt : List Row → ℕ → Event → Type 0
 IsEventAt rows number e = (row : Row) × IsRowAt rows number row × (event_in row ≡ Some e)
 
--- the event did this to node i: it is one of that node, or the run of this caller's call (which call that is, and whose, isn't said)
+-- the event did this to node i: it is one of that node, or the run of a call to it
 abbrev pub IsDoneBy : ℕ → Event → What → Type 0
 IsDoneBy i e (What.Did kind) = (node_of e ≡ i) × (event_kind_of e ≡ kind)
 IsDoneBy i e (What.Started call) = e ≡ Event.Start i
@@ -42,8 +42,7 @@ abbrev pub AreNotesOf : List Row → ℕ → List Note → Type 0
 AreNotesOf rows i [] = ⊤
 AreNotesOf rows i (note ∷ notes) = IsNoteOf rows i note × AreNotesOf rows i notes
 
--- what is remembered of node i is of these rows: its notes, as many as are kept at most; a start of its; and a plan of its. That none is
--- left out, and that they are the last ones, isn't said
+-- what is remembered of node i is of these rows: its notes, as many as are kept at most; the start of its last call; and its last plan
 pub record IsRemembered (rows : List Row) (i : ℕ) (memory : Remembered) : Type 0 where
   pub notes : AreNotesOf rows i memory.notes
   pub few : length memory.notes ≤ ROWS_KEPT
