@@ -8,6 +8,12 @@ bully,1,1,2\nrecover,1\nmove,1\nmove,1\nmove,1\nplan,1,1 1\nmove,1\n";
 pub const ALONE_UPGRADED: &str = "\
 bully,2,1,2,1,clear\nrecover,1\nmove,1\nmove,1\nmove,1\nplan,1,1 1\nmove,1\n";
 
+/// The same in version 3, with everything said.
+pub const ALONE_ANNOTATED: &str = "\
+bully,3,1,2,1,clear\nrecover,1\nsaw,1,election,-,-,-,-\nmove,1\nsaw,1,election,-,1,-,-\nmove,1\n\
+saw,1,reorganization,1,1,-,-\nmove,1\nplan,1,1 1\nsaw,1,reorganization,1,1,-,1 1\nmove,1\n\
+saw,1,normal,1,1,-,1 1\n";
+
 /// The same in a group that keeps tasks, and then the node crashes.
 pub const KEPT: &str = "\
 bully,2,1,2,1,keep\nrecover,1\nmove,1\nmove,1\nmove,1\nplan,1,1 1\nmove,1\ncrash,1\n";

@@ -2,12 +2,13 @@
 
 ghost use Rattle.std.specs.Prelude.{◌<◌};
 
-use super::scripts::{ALONE, ALONE_UPGRADED, OTHERS_DOWN};
+use super::scripts::{ALONE, ALONE_ANNOTATED, ALONE_UPGRADED, OTHERS_DOWN};
+use bully_annotate::annotate;
 use bully_rows::{TraceCause, TraceFault, read_trace};
 use bully_trace::{Verdict, check, upgrade};
 use std::alloc::Global;
 use std::io;
-use std::io::{ErrorKind, Read};
+use std::io::{ErrorKind, Read, Write};
 
 // A reader that fails at each call.
 #[derive(Clone, Copy)]
@@ -69,6 +70,99 @@ const UNWRITTEN: TraceFault = TraceFault {
 
 /// What is written of the script of one node.
 const VERDICT: &str = "lawful 6\n1 normal 1 1 1,1\n";
+
+// A writer that takes a byte a call, and fails once: when it has taken so many. It keeps what it took.
+#[derive(Drop)]
+struct Failing {
+    taken: Vec<u8>,
+    fails_at: Option<usize>,
+}
+
+impl Write for Failing {
+    fn write(&mut self, buf: &[u8]) -> io::Result<usize> {
+        if self.fails_at == Some(self.taken.len()) {
+            self.fails_at = None;
+            return Err(io::Error::from(ErrorKind::Other));
+        }
+        match buf.first() {
+            Some(byte) => {
+                self.taken.push(*byte)?;
+                Ok(1)
+            }
+            None => Ok(0),
+        }
+    }
+
+    fn flush(&mut self) -> io::Result<()> {
+        Ok(())
+    }
+}
+
+/// What reads the script of one node and writes.
+#[derive(Clone, Copy, Debug)]
+enum Writing {
+    Check,
+    Upgrade,
+    Annotate,
+}
+
+/// Each of these, and what it writes.
+const WRITINGS: [(Writing, &str); 3] = [
+    (Writing::Check, VERDICT),
+    (Writing::Upgrade, ALONE_UPGRADED),
+    (Writing::Annotate, ALONE_ANNOTATED),
+];
+
+// The fault that is told of the writer, if any.
+fn fault_of(alloc: Global, writing: Writing, writer: &mut Failing) -> Option<TraceFault> {
+    let script = ALONE.as_bytes();
+    match writing {
+        Writing::Check => check(alloc, script, writer).err(),
+        Writing::Upgrade => upgrade(alloc, script, writer).err(),
+        Writing::Annotate => annotate(alloc, script, writer).err(),
+    }
+}
+
+// Whether this is told of a writer that fails behind so many bytes, and it has taken just the first of the text.
+fn takes_a_prefix(
+    alloc: Global,
+    writing: Writing,
+    text: &str,
+    bytes: usize,
+    fault: Option<TraceFault>,
+) -> bool {
+    let mut writer = Failing {
+        taken: Vec::new(alloc),
+        fails_at: Some(bytes),
+    };
+    let told = fault_of(alloc, writing, &mut writer);
+    told == fault && text.as_bytes().get(..bytes) == Some(writer.taken.as_slice())
+}
+
+// Behind how many bytes a failed write isn't told, or more or others were taken than these; none is wanted.
+fn first_wrong(alloc: Global, writing: Writing, text: &str) -> Option<usize> {
+    for bytes in 0..text.len() {
+        if !takes_a_prefix(alloc, writing, text, bytes, Some(UNWRITTEN)) {
+            return Some(bytes);
+        }
+    }
+    None
+}
+
+#[test]
+fn failed_once(rt: HostRuntime) {
+    for (writing, text) in WRITINGS.iter() {
+        assert_eq!(rt;
+            first_wrong(rt.alloc(), *writing, text),
+            None,
+            "{writing:?}"
+        );
+        assert!(rt;
+            takes_a_prefix(rt.alloc(), *writing, text, text.len(), None),
+            "{writing:?}"
+        );
+    }
+}
 
 // Whether an upgraded trace of 69 bytes isn't written if the writer takes only so many, and those are its first.
 fn cuts_off_the_upgraded(alloc: Global, room: usize) -> bool
