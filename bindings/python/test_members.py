@@ -888,6 +888,16 @@ class Commands(InFolder):
         self.config.write_bytes(b'nodes = 1')
         self.assertEqual(self.call(*run, '--node', 'a', '--', 'true'), (3, '', 'bully-member: config: Missing partitions\n'))
 
+    def test_odd_names(self) -> None:
+        self.config.write_bytes(toml({**TOP, 'names': ['a\x1b[2J\nb', 'c\u202ed', '\u00e4 z']}))
+        self.of_log('init', '--config', str(self.config))
+        status, said, _ = self.of_log('status', '--config', str(self.config))
+        self.assertEqual(status, 0)
+        self.assertEqual([line.split('  ')[0] for line in said.splitlines()[2:]], ['a?[2J?b', 'c?d', '\u00e4 z'])
+        self.config.write_bytes(toml({**TOP, 'names': ['a\0', 'b', 'c']}))
+        status, _, told = self.call('run', '--log', f'sqlite:{self.path}', '--config', str(self.config), '--node', 'b', '--', 'true')
+        self.assertEqual((status, told), (3, 'bully-member: config: a name has a zero character, which no environment holds\n'))
+
 
 @unittest.skipIf(sys.version_info < (3, 11), 'the standard library reads TOML from Python 3.11 on')
 class Processes(InFolder):

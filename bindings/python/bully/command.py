@@ -110,15 +110,20 @@ def status(options: argparse.Namespace) -> int:
 
 def text_of(group: GroupView) -> str:
     """The group, for people."""
-    lines = [f'events {group.events}, token {group.token or "-"}, coordinator {group.coordinator or "-"}']
+    lines = [f'events {group.events}, token {group.token or "-"}, coordinator {shown_name(group.coordinator)}']
     rows = [('node', 'status', 'present', 'coordinator', 'partitions')]
     for node in group.nodes:
-        partitions = ' '.join(map(str, node.partitions)) or '-'
-        rows.append((node.name, node.status.name.lower(), 'yes' if node.is_present else 'no', node.coordinator or '-', partitions))
+        present, partitions = 'yes' if node.is_present else 'no', ' '.join(map(str, node.partitions)) or '-'
+        rows.append((shown_name(node.name), node.status.name.lower(), present, shown_name(node.coordinator), partitions))
     widths = [max(map(len, column)) for column in zip(*rows)]
     for row in rows:
         lines.append('  '.join(word.ljust(width) for word, width in zip(row, widths)).rstrip())
     return '\n'.join(lines)
+
+
+def shown_name(name: Optional[str]) -> str:
+    """A name for a terminal: what can't be printed, and marks of direction, are shown as `?`."""
+    return ''.join(each if each.isprintable() else '?' for each in name or '-')
 
 
 class Run:
@@ -153,7 +158,7 @@ def number_of(settings: Settings, name: str) -> int:
     try:
         return settings.number(name)
     except KeyError:
-        raise BadWords(f'--node is {name}, and the configuration has {", ".join(settings.names)}') from None
+        raise BadWords(f'--node is {shown_name(name)}, and the configuration has {", ".join(map(shown_name, settings.names))}') from None
 
 
 def address_of(words: str) -> Tuple[str, int]:
@@ -169,6 +174,8 @@ def run(options: argparse.Namespace) -> int:
     if not options.quiet:
         logging.basicConfig(level=logging.INFO, format='%(asctime)s bully-member: %(message)s')
     settings, path = settings_of(options.config), file_of(options.log)
+    if any('\0' in name for name in settings.names):
+        raise ConfigFault('a name has a zero character, which no environment holds')
     address = address_of(options.listen) if options.listen else None
     with contextlib.ExitStack() as closing:
         log = SqliteLog(path, patience=min(1.0, options.ttl / 5))
