@@ -9,6 +9,7 @@ import random
 import signal
 import socket
 import sqlite3
+import struct
 import subprocess
 import sys
 import tempfile
@@ -808,6 +809,18 @@ class Pages(unittest.TestCase):
         self.log.append(1, ['recover,1'])
         thread.join()
         self.assertEqual(answers, [1])
+
+    def test_gone(self) -> None:
+        """Who asked is gone before the answer."""
+        threads = threading.active_count()
+        with contextlib.redirect_stderr(io.StringIO()) as told:
+            with socket.create_connection(('127.0.0.1', self.page.port)) as client:
+                client.sendall(b'GET /group?after=0 HTTP/1.1\r\nHost: localhost:1\r\n\r\n')
+                wait_until(lambda: threading.active_count() > threads)
+                client.setsockopt(socket.SOL_SOCKET, socket.SO_LINGER, struct.pack('ii', 1, 0))  # it is reset
+            self.log.append(1, ['recover,1'])
+            wait_until(lambda: threading.active_count() == threads)
+        self.assertEqual(told.getvalue(), '')
 
     def test_page(self) -> None:
         self.begin()
