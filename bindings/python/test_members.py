@@ -916,11 +916,13 @@ class Commands(InFolder):
 class Processes(InFolder):
     """`bully-member run`."""
 
-    def begin(self, worker: str) -> 'subprocess.Popen[bytes]':
-        """A member for the only node of a group, with a worker in shell."""
+    def begin(self, worker: str, writer: Optional[Callable[[], None]] = None) -> 'subprocess.Popen[bytes]':
+        """A member for the only node of a group, with a worker in shell; once the writer, if any, has the file's lock."""
         config = self.folder / 'group.toml'
         config.write_bytes(toml({**TOP, 'nodes': 1, 'names': ['the only'], 'weights': [3]}))
         self.assertEqual(command.main(['init', '--config', str(config), '--log', f'sqlite:{self.path}']), 0)
+        if writer is not None:
+            writer()
         words = ['run', '--config', str(config), '--log', f'sqlite:{self.path}', '--node', 'the only', '--ttl', '2', '--', 'sh', '-c', worker]
         environment = {**os.environ, 'PYTHONPATH': str(ROOT / 'bindings' / 'python'), 'PLACE': str(self.folder)}
         with open(self.folder / 'said', 'wb') as said:
@@ -947,6 +949,21 @@ class Processes(InFolder):
         self.assertEqual(member.wait(PATIENCE), 0)
         self.assertFalse(is_running(worker))
         self.assertEqual((log.read(0)[-1], log.present()), ('crash,1', set()))
+
+    def test_a_busy_log(self) -> None:
+        """It waits for the lock, also before it takes part."""
+        others = contextlib.ExitStack()
+
+        def lock() -> None:
+            file = others.enter_context(contextlib.closing(sqlite3.connect(self.path, isolation_level=None)))
+            file.execute('begin immediate')
+
+        member = self.begin(self.BEGINS, lock)
+        wait_until(lambda: 'database is locked' in (self.folder / 'said').read_text())
+        others.close()
+        self.worker()
+        member.terminate()
+        self.assertEqual(member.wait(PATIENCE), 0)
 
     def test_the_worker_ends(self) -> None:
         member = self.begin('exit 5')

@@ -17,10 +17,11 @@ import json
 import logging
 import signal
 import sys
-from typing import List, Optional, Tuple, Type
+import time
+from typing import Callable, List, Optional, Tuple, Type, TypeVar
 
 from .faults import BullyError
-from .logs import Log, LogError, SqliteLog
+from .logs import Log, LogError, SqliteLog, Unanswered
 from .member import Assignment
 from .page import Page
 from .running import Member, OtherGroup
@@ -29,6 +30,10 @@ from .view import GroupView, LogView
 from .worker import GuardLost, WorkerEnded, Workers
 
 OK, FAILED, BAD_WORDS, BAD_INPUT, NO_STORE = range(5)
+AGAIN = 0.1  # seconds before a log that didn't answer is asked again
+
+_Answer = TypeVar('_Answer')
+_told = logging.getLogger('bully')
 
 
 class BadWords(Exception):
@@ -169,6 +174,16 @@ def address_of(words: str) -> Tuple[str, int]:
     return host.strip('[]') or '127.0.0.1', int(port)
 
 
+def answered(ask: Callable[[], _Answer]) -> _Answer:
+    """What a log answers that may be busy: it is asked again until it does."""
+    while True:
+        try:
+            return ask()
+        except Unanswered as unanswered:
+            _told.warning('%s', unanswered)
+            time.sleep(AGAIN)
+
+
 def run(options: argparse.Namespace) -> int:
     """Takes part with a worker, until a signal tells it to leave."""
     if not options.quiet:
@@ -178,11 +193,11 @@ def run(options: argparse.Namespace) -> int:
         raise ConfigFault('a name has a zero character, which no environment holds')
     address = address_of(options.listen) if options.listen else None
     with contextlib.ExitStack() as closing:
-        log = SqliteLog(path, patience=min(1.0, options.ttl / 5))
+        log = answered(lambda: SqliteLog(path, patience=min(1.0, options.ttl / 5)))
         closing.callback(log.close)
-        member = Run(options, settings, log)
+        member = answered(lambda: Run(options, settings, log))
         if address is not None:
-            view = LogView(SqliteLog(path, reads=True), settings)
+            view = answered(lambda: LogView(SqliteLog(path, reads=True), settings))
             closing.callback(view.close)
             page = Page(address, view, member.member, options.node, settings)
             closing.callback(page.close)
