@@ -25,7 +25,7 @@ from .watchdog import is_stopped, writer_of
 
 APPLICATION = 0x62756C79  # of a file with a log: `buly`
 FORM = 1  # of its tables
-SHORTEST_SLEEP, LONGEST_SLEEP = 0.001, 0.05  # seconds between two looks at a file
+SHORTEST_SLEEP, LONGEST_SLEEP = 0.001, 0.1  # seconds between two looks at a file
 
 
 class LogError(Exception):
