@@ -13,12 +13,15 @@ import textwrap
 import threading
 import unittest
 from pathlib import Path
+from types import ModuleType
 from typing import Any, Callable, Dict, Iterable, List, Optional, Sequence, Tuple, Type, Union
 
 import bully
 import shared_log
 from bully import Agent, Answer, Call, CallKind, NotLearned, Refused, Replica, Setup, State, Status, Verdict, VerdictKind, Want
 from bully import check, plan_table
+from bully.faults import FAULTS
+from bully.values import Event
 
 ROOT = Path(__file__).resolve().parents[2]
 EXAMPLES = sorted((ROOT / 'examples').glob('*.csv'))
@@ -98,11 +101,11 @@ class Head(unittest.TestCase):
 
     def test_docstrings(self) -> None:
         """Everything public says what it is."""
-        classes = [each for each in vars(bully).values() if isinstance(each, type) and each.__module__ == 'bully']
+        classes = [each for each in vars(bully).values() if isinstance(each, type) and each.__module__.startswith('bully.')]
         owners: List[Any] = [bully, *classes]
         for owner in owners:
             for name, each in vars(owner).items():
-                if name[0] != '_' and getattr(each, '__module__', 'bully') == 'bully' and (callable(each) or isinstance(each, property)):
+                if name[0] != '_' and getattr(each, '__module__', 'bully').startswith('bully') and (callable(each) or isinstance(each, property)):
                     with self.subTest(owner=owner.__name__, name=name):
                         self.assertTrue((each.__doc__ or '').strip())
 
@@ -118,12 +121,12 @@ class Headers(unittest.TestCase):
 
     def test_statuses(self) -> None:
         named = self.numbers()
-        for number, fault in bully._FAULTS.items():
+        for number, fault in FAULTS.items():
             with self.subTest(fault=fault.__name__):
                 name = re.sub(r'(?<!^)(?=[A-Z])', '_', fault.__name__).upper()
                 self.assertEqual(named[name], number)
                 self.assertEqual(bully.status_name(number), name)
-        self.assertEqual(len(bully._FAULTS), 37)
+        self.assertEqual(len(FAULTS), 37)
 
     def test_other_names(self) -> None:
         self.assertEqual(bully.status_name(0), 'OK')
@@ -137,7 +140,7 @@ class Headers(unittest.TestCase):
 
     def test_enumerations(self) -> None:
         named = self.numbers()
-        prefixes = {Status: '', Want: 'WANTS_', CallKind: '', Answer: '', VerdictKind: '', bully._Event: 'EVENT_'}
+        prefixes = {Status: '', Want: 'WANTS_', CallKind: '', Answer: '', VerdictKind: '', Event: 'EVENT_'}
         for kind, prefix in prefixes.items():
             for member in kind:
                 with self.subTest(member=member):
@@ -1496,9 +1499,9 @@ class CountingResult(unittest.TextTestResult):
         return len(self.failures) + len(self.errors)
 
 
-def run() -> Tuple[int, int]:
-    """Runs all tests: how many passed, and how many failed."""
-    tests = unittest.defaultTestLoader.loadTestsFromModule(sys.modules[__name__])
+def run(module: ModuleType = sys.modules[__name__]) -> Tuple[int, int]:
+    """Runs all tests of the module: how many passed, and how many failed."""
+    tests = unittest.defaultTestLoader.loadTestsFromModule(module)
     result = unittest.TextTestRunner(stream=sys.stdout, resultclass=CountingResult).run(tests)
     assert isinstance(result, CountingResult)
     return result.passed, result.failed

@@ -1,0 +1,75 @@
+"""A group that elects a coordinator by the Bully algorithm, in Python: one node of it, or what its log tells.
+
+This is the binding of `include/bully.h` by ctypes. It needs Python 3.9 or later and its standard library alone. There are two
+ways to build on it. An `Agent` is one node on its own, which sends calls to the others: `docs/NODE.md` says which calls it wants
+when, and what the program has to keep. A `Replica` is what a process knows of a group whose history is a log in a store outside; and a
+`Member` is such a process, over a log of `bully.logs`: `docs/MEMBERS.md`. The command `bully-member` runs one.
+
+`bin/library FOLDER` of the repository builds the library. This module finds it by
+
+    load('FOLDER')                  # the folder, or the path of libbully.so itself
+    BULLY_LIBRARY=FOLDER python3 .. # the same, where `load` wasn't called
+
+or else in the folder of this package, where `pip install` puts it if it was built.
+
+One call of a node, which a program sends from process to process:
+
+    setup = Setup(nodes=2, partitions=3)
+    with Agent(setup, 1) as caller, Agent(setup, 2) as callee:
+        caller.recover()                    # log caller.rows()
+        callee.recover()
+        caller.start()                      # log it, and then send the request, once
+        reply = callee.serve(caller.request())
+        assert caller.replied(reply) is Answer.YES
+
+One row of a log, which a process appends behind all that it read, and then learns:
+
+    header, log = Setup(nodes=2, partitions=3).header(), []
+    with Replica(header) as replica:
+        log.append(replica.recover(1))      # this alone changes nothing
+        replica.learn(log[replica.rows:])   # the rows of other processes, too
+        assert replica.next(1) == 'start,1'
+
+Each status of the library that isn't OK is an exception, a class of its own below `BullyError`, and nothing has changed then.
+`Replica.learn` alone takes what comes before a row that it refuses, and raises NotLearned, whose `cause` is such a class.
+What isn't even a number of the kind that the library takes, as 70000 partitions, is a ValueError.
+"""
+from typing import TYPE_CHECKING, Any
+
+from .agent import Agent
+from .faults import (
+    BullyError, Refused, BadArgument, LineFault, TraceFault, NotLearned, Full, BadNode, IsDown, IsUp, Busy, NoStep, SlotBusy,
+    NoCall, CalleeDown, CalleeUp, BadTable, NotOrphan, Null, Closed, Open, OutOfMemory, Short, BadNodes, BadPartitions, BadLimit,
+    BadWeights, TableLength, TableOwner, NoMember, BadEvent, LineWord, LineCaller, LineNumber, LineCallee, LineKind, LineTable,
+    LineAnswer, BadHeader, BadRow, TooManyRows, RowDiffers, RowEnd,
+)  # fmt: skip
+from .group import Setup, check, plan_table, status_name, version
+from .library import load
+from .replica import Replica
+from .values import (
+    EVENTS_MAX, NODES_MAX, PARTITIONS_MAX, WEIGHT_MAX, Answer, Call, CallKind, Line, Rows, State, Status, TablePlan,
+    Verdict, VerdictKind, Want,
+)  # fmt: skip
+
+if TYPE_CHECKING:
+    from .running import Member
+
+
+def __getattr__(name: str) -> Any:
+    """Members need more of the standard library than the rest, and are loaded once they are asked for."""
+    if name == 'Member':
+        from .running import Member
+
+        return Member
+    raise AttributeError(f'module {__name__!r} has no attribute {name!r}')
+
+
+__all__ = [
+    'Agent', 'Answer', 'BadArgument', 'BadEvent', 'BadHeader', 'BadLimit', 'BadNode', 'BadNodes', 'BadPartitions', 'BadRow',
+    'BadTable', 'BadWeights', 'BullyError', 'Busy', 'Call', 'CallKind', 'CalleeDown', 'CalleeUp', 'Closed', 'EVENTS_MAX', 'Full',
+    'IsDown', 'IsUp', 'Line', 'LineAnswer', 'LineCallee', 'LineCaller', 'LineFault', 'LineKind', 'LineNumber', 'LineTable',
+    'LineWord', 'Member', 'NODES_MAX', 'NoCall', 'NoMember', 'NoStep', 'NotLearned', 'NotOrphan', 'Null', 'Open', 'OutOfMemory',
+    'PARTITIONS_MAX', 'Refused', 'Replica', 'RowDiffers', 'RowEnd', 'Rows', 'Setup', 'Short', 'SlotBusy', 'State', 'Status',
+    'TableLength', 'TableOwner', 'TablePlan', 'TooManyRows', 'TraceFault', 'Verdict', 'VerdictKind', 'WEIGHT_MAX', 'Want',
+    'check', 'load', 'plan_table', 'status_name', 'version',
+]  # fmt: skip

@@ -1,0 +1,210 @@
+"""One node on its own."""
+from __future__ import annotations
+
+import ctypes
+from typing import List, Optional, Sequence, Tuple
+
+from .faults import expect_ok
+from .group import Setup, setup_parts
+from .library import (
+    REPLY_MAX, UINT32_MAX, Opened, RawState, call_of, line_bytes, list_of, node_of, number_of, numbers_of, owners_of, state_of,
+)  # fmt: skip
+from .values import Answer, Call, Line, State, Status, Want
+
+
+class Agent(Opened):
+    """One node on its own: what a process keeps of it. It has no socket, clock, thread or file: `docs/NODE.md` has the loop of a
+    process, and what the program has to keep.
+
+    Each call that changes it is refused, by an exception, and changes nothing; or it is an event of the group, two where a call
+    failed, and `rows` has them for the log. An agent holds memory of the library until it is closed: `with` closes it."""
+
+    _closing = 'bully_agent_close'
+    _single = 'an agent is not copied: two of them would be two agents of one node'
+
+    def __init__(self, setup: Setup, node: int, events: int = 0, task: Optional[Sequence[int]] = None) -> None:
+        """The agent of a node that is Down, whose log has so many events, and that has kept this task, if any.
+
+        Raises BadNodes, BadPartitions, BadLimit, BadWeights, BadNode, TableLength, TableOwner, OutOfMemory."""
+        super().__init__()
+        self._setup = setup
+        kept = owners_of(task)
+        parts = setup_parts(setup)
+        number, told = node_of(node), number_of('events', events, UINT32_MAX)
+        expect_ok(self._library.bully_agent_open(self._held, *parts, number, told, kept, len(kept)))
+
+    def _words(self) -> str:
+        state = self._show()
+        return f'of node {state.node}, {Status(state.status).name.lower()}, {state.events} events'
+
+    # What the node does by itself. Each is one event.
+
+    def recover(self) -> None:
+        """The node recovers, and stands for election. Raises Closed, Full, IsUp."""
+        expect_ok(self._library.bully_agent_recover(self._held))
+
+    def crash(self) -> None:
+        """The node crashes, or has to stop. Raises Closed, Full, IsDown."""
+        expect_ok(self._library.bully_agent_crash(self._held))
+
+    def check(self) -> None:
+        """The idle node begins to check the others, where it is their coordinator. Raises Closed, Full, IsDown, Busy."""
+        expect_ok(self._library.bully_agent_check(self._held))
+
+    def timeout(self) -> None:
+        """The idle node heard nothing for too long. Raises Closed, Full, IsDown, Busy."""
+        expect_ok(self._library.bully_agent_timeout(self._held))
+
+    def start(self) -> None:
+        """The node starts the call that it wants to start; `request` then has what is to be sent.
+
+        Raises Closed, Full, IsDown, NoStep, SlotBusy."""
+        expect_ok(self._library.bully_agent_start(self._held))
+
+    def advance(self) -> None:
+        """The node moves on without a call. Raises Closed, Full, IsDown, NoStep, SlotBusy."""
+        expect_ok(self._library.bully_agent_advance(self._held))
+
+    def plan(self, owners: Sequence[int]) -> None:
+        """The node has planned this table, as `prepare` makes one.
+
+        Raises Closed, TableLength, TableOwner, OutOfMemory, Full, IsDown, NoStep, SlotBusy, BadTable."""
+        told = numbers_of('an owner', owners)
+        expect_ok(self._library.bully_agent_plan(self._held, told, len(told)))
+
+    def drop_orphan(self) -> None:
+        """The node's call, an orphan, is given up. Raises Closed, Full, IsDown, NoCall, NotOrphan.
+
+        Premise: its request won't run any more."""
+        expect_ok(self._library.bully_agent_drop_orphan(self._held))
+
+    def prepare(self, old: Optional[Sequence[int]] = None) -> Tuple[int, ...]:
+        """The table that the node should plan, from this old one, mostly its `task`. No event.
+
+        Raises Closed, TableLength, TableOwner, OutOfMemory."""
+        before = owners_of(old)
+        count = self._setup.partitions
+        owners = (ctypes.c_uint16 * count)()
+        expect_ok(self._library.bully_agent_prepare(self._held, before, len(before), owners, count))
+        return tuple(owners)
+
+    # What comes from other nodes, or goes to them. Lines have no line end.
+
+    def request(self) -> Optional[str]:
+        """The line of the request of the node's call, while that is under way; to be sent to its callee, once. No event.
+
+        Raises Closed, OutOfMemory."""
+        return self._room.text(self._library.bully_agent_request, self._held) or None
+
+    def serve(self, line: Line) -> str:
+        """The request of this line runs at the node. One event. The line of the reply, for its caller.
+
+        Raises Closed, the LineFaults, OutOfMemory, Full, BadNode, NoCall, CalleeDown. Premise: the request is the caller's call,
+        and runs once, while that is under way."""
+        request = line_bytes(line)
+        reply, length = ctypes.create_string_buffer(REPLY_MAX), ctypes.c_size_t()
+        status = self._library.bully_agent_serve(
+            self._held, request, len(request), reply, REPLY_MAX, ctypes.byref(length)
+        )
+        expect_ok(status)
+        return ctypes.string_at(reply, length.value).decode('ascii')
+
+    def replied(self, line: Line) -> Answer:
+        """The node's call returns with the reply of this line. One event. What the node is told.
+
+        Raises Closed, the LineFaults, Full; NoCall, where it is no reply to the call under way. Premise: the call ran at its
+        callee, and was answered so."""
+        reply, answer = line_bytes(line), ctypes.c_uint32()
+        expect_ok(self._library.bully_agent_replied(self._held, reply, len(reply), ctypes.byref(answer)))
+        return Answer(answer.value)
+
+    def failed(self, number: int) -> Answer:
+        """The node's call of this number failed, and returns. Two events. What the node is told.
+
+        Raises Closed, Full, NoCall. Premise: the callee is Down."""
+        answer = ctypes.c_uint32()
+        told = number_of('number', number, UINT32_MAX)
+        expect_ok(self._library.bully_agent_failed(self._held, told, ctypes.byref(answer)))
+        return Answer(answer.value)
+
+    # What the node shows. No event.
+
+    @property
+    def setup(self) -> Setup:
+        """What the group is set up with."""
+        return self._setup
+
+    @property
+    def state(self) -> State:
+        """How the node stands."""
+        return state_of(self._show())
+
+    @property
+    def node(self) -> int:
+        """The node's own number."""
+        return int(self._show().node)
+
+    @property
+    def status(self) -> Status:
+        """The node's status."""
+        return Status(self._show().status)
+
+    @property
+    def coordinator(self) -> Optional[int]:
+        """The node's coordinator, if it has one."""
+        return self._show().coordinator or None
+
+    @property
+    def halter(self) -> Optional[int]:
+        """The node that halted it last, if any."""
+        return self._show().halter or None
+
+    @property
+    def up(self) -> Tuple[int, ...]:
+        """The lower nodes that answered its halts, rising."""
+        return list_of(self._setup.nodes, self._library.bully_agent_up, self._held)
+
+    @property
+    def task(self) -> Optional[Tuple[int, ...]]:
+        """The owner of each partition in the node's task, if it has one."""
+        return list_of(self._setup.partitions, self._library.bully_agent_task, self._held) or None
+
+    @property
+    def wants(self) -> Want:
+        """What the node wants to do next."""
+        return Want(self._show().wants)
+
+    @property
+    def call(self) -> Optional[Call]:
+        """The call that the node has under way, if any."""
+        return call_of(self._show())
+
+    @property
+    def number(self) -> int:
+        """The number of the node's last call: a later one has a higher number."""
+        return int(self._show().number)
+
+    @property
+    def events(self) -> int:
+        """How many events the node told, with those before it was opened."""
+        return int(self._show().events)
+
+    @property
+    def generation(self) -> int:
+        """How often the node was stopped or crashed since it was opened."""
+        return int(self._show().generation)
+
+    def rows(self) -> List[str]:
+        """The rows of the node's last step, for the log, without their line ends, as `docs/FORMATS.md` has them of version 3.
+
+        Raises Closed, OutOfMemory."""
+        return self._room.text(self._library.bully_agent_rows, self._held).splitlines()
+
+    def claim(self) -> str:
+        """The row that says all of the node's vector, without its line end. Raises Closed, OutOfMemory."""
+        return self._room.row(self._library.bully_agent_claim, self._held)
+
+    def _show(self) -> RawState:
+        state = RawState()
+        expect_ok(self._library.bully_agent_show(self._held, ctypes.byref(state)))
+        return state

@@ -1,0 +1,83 @@
+"""What a group is set up with, the verdict on its trace, and its tables."""
+from __future__ import annotations
+
+import ctypes
+from dataclasses import dataclass
+from typing import Any, Iterable, Optional, Sequence, Tuple
+
+from .faults import FAULTS, expect_ok, fault_at
+from .library import RawSetup, RawVerdict, Room, UINT16_MAX, UINT32_MAX, loaded, loaded_for_long, number_of, numbers_of, owners_of
+from .values import EVENTS_MAX, PARTITIONS_MAX, TablePlan, Verdict, VerdictKind
+
+
+@dataclass(frozen=True)
+class Setup:
+    """What the group is set up with. `weights` are those of nodes 1, 2 and so on; where there are none each node weighs 1. With
+    `keeps` a node keeps its task over a crash. The calls that take a setup judge it."""
+
+    nodes: int
+    partitions: int
+    events_max: int = EVENTS_MAX
+    weights: Tuple[int, ...] = ()
+    keeps: bool = False
+
+    def header(self) -> str:
+        """The header of a log of this setup, without its line end: of version 1 if that can tell it, and else of version 2, as
+        `docs/FORMATS.md` says. It doesn't tell `events_max`: the bound of a log is always EVENTS_MAX.
+
+        Raises BadNodes, BadPartitions, BadLimit, BadWeights, OutOfMemory."""
+        return Room().row(loaded().bully_header, *setup_parts(self))
+
+
+def setup_parts(setup: Setup) -> Tuple[Any, 'ctypes.Array[ctypes.c_uint16]', int]:
+    """A setup, as the three arguments that it is to the library."""
+    weights = numbers_of('a weight', setup.weights)
+    told = RawSetup(
+        number_of('nodes', setup.nodes, UINT16_MAX),
+        number_of('partitions', setup.partitions, UINT16_MAX),
+        number_of('events_max', setup.events_max, UINT32_MAX),
+        1 if setup.keeps else 0,
+    )
+    return ctypes.byref(told), weights, len(weights)
+
+
+def version() -> str:
+    """The version of the library, as `bully --version` tells it."""
+    told: bytes = loaded().bully_version()
+    return told.decode('ascii')
+
+
+def status_name(status: int) -> str:
+    """The name of a status of the library, as `OK`; `?` of a number that is none."""
+    name: bytes = loaded().bully_status_name(number_of('status', status, UINT32_MAX))
+    return name.decode('ascii')
+
+
+def check(trace: bytes) -> Verdict:
+    """Judges a trace, as `bully check` does. Other threads may run meanwhile.
+
+    Raises BadHeader, BadRow or TooManyRows, with the row of the first fault; OutOfMemory."""
+    if not isinstance(trace, (bytes, bytearray, memoryview)):
+        raise TypeError(f'a trace is bytes, and not {type(trace).__name__}')
+    text = bytes(trace)
+    told = RawVerdict()
+    status = loaded_for_long().bully_check(text, len(text), ctypes.byref(told))
+    if status:
+        raise fault_at(told.number, status)
+    return Verdict(VerdictKind(told.kind), told.number, FAULTS[told.cause] if told.cause else None)
+
+
+def plan_table(setup: Setup, members: Iterable[int], old: Optional[Sequence[int]] = None) -> TablePlan:
+    """Plans the table over these members, balanced by weight, with the fewest moves from the old table; without one all move.
+
+    Raises BadNodes, BadPartitions, BadLimit, BadWeights; BadNode of a member; TableLength or TableOwner of the old table;
+    NoMember; OutOfMemory."""
+    among, before = numbers_of('a member', members), owners_of(old)
+    parts = setup_parts(setup)
+    count = setup.partitions if setup.partitions <= PARTITIONS_MAX else 0
+    owners, moves = (ctypes.c_uint16 * count)(), ctypes.c_uint16()
+    status = loaded().bully_table(
+        *parts, among, len(among), before, len(before), owners, count, ctypes.byref(moves)
+    )
+    expect_ok(status)
+    return TablePlan(tuple(owners), moves.value)

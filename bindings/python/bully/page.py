@@ -1,0 +1,269 @@
+"""What a member tells over HTTP: a page for people, and its group for programs. It only tells: nothing can be changed through it."""
+from __future__ import annotations
+
+import base64
+import hashlib
+import html
+import json
+import logging
+import socket
+import sys
+import threading
+import time
+from http.server import BaseHTTPRequestHandler, ThreadingHTTPServer
+from typing import Any, Dict, List, Optional, Tuple, Type
+from urllib.parse import parse_qs, urlsplit
+
+from .faults import BullyError
+from .logs import LogError, seconds_of_boot
+from .running import Member
+from .settings import Settings
+from .values import Status
+from .view import GroupView, LogView, NodeView
+
+_told = logging.getLogger('bully')
+
+POLL_SECONDS = 25.0  # how long a request waits for news at most
+POLL_PART = 0.1  # so often each of them looks
+REQUESTS_MAX = 64  # at one time
+LOOPBACK = ('127.0.0.1', '::1', 'localhost')  # names of another machine that lead here are refused
+
+STYLE = """
+body { font: 15px/1.45 system-ui, sans-serif; margin: 1.5rem auto; max-width: 72rem; padding: 0 1rem; color: #1c2430; background: #fff; }
+h1 { font-size: 1.25rem; margin: 0 0 .2rem; } h2 { font-size: 1rem; margin: 1.4rem 0 .4rem; }
+table { border-collapse: collapse; width: 100%; }
+th, td { text-align: left; padding: .25rem .7rem .25rem 0; border-bottom: 1px solid #e3e7ec; vertical-align: top; }
+th { font-weight: 600; color: #566173; } code { font: 13px ui-monospace, monospace; }
+.dot { display: inline-block; width: .65rem; height: .65rem; border-radius: 50%; margin-right: .45rem; }
+.normal { background: #2e9e5b; } .reorganization { background: #d99a1c; } .election { background: #c2571a; } .down { background: #b9c0ca; }
+.cells { display: flex; flex-wrap: wrap; gap: 3px; } .cell { border: 1px solid #cfd6df; border-radius: 3px; padding: .05rem .4rem; font-size: 13px; }
+.free { background: #fdf0e4; } .small { color: #566173; }
+"""
+SCRIPT = """
+async function follow() {
+  for (;;) {
+    try {
+      const events = document.body.dataset.events;
+      await fetch('/group?after=' + events);
+      const text = await (await fetch('/')).text();
+      const body = new DOMParser().parseFromString(text, 'text/html').body;
+      document.body.innerHTML = body.innerHTML;
+      document.body.dataset.events = body.dataset.events;
+      document.body.style.opacity = 1;
+    } catch (error) {
+      document.body.style.opacity = 0.4;
+      await new Promise(done => setTimeout(done, 2000));
+    }
+  }
+}
+follow();
+"""
+SCRIPT_SUM = base64.b64encode(hashlib.sha256(SCRIPT.encode()).digest()).decode()
+POLICY = f"default-src 'none'; style-src 'unsafe-inline'; script-src 'sha256-{SCRIPT_SUM}'; connect-src 'self'; frame-ancestors 'none'"
+
+Answer = Tuple[int, str, str]  # the status, the kind and the text
+
+
+def page_of(name: str, group: GroupView) -> str:
+    """The page of the member of this name."""
+    title = f'{html.escape(name)}: token {group.token or "-"}, coordinator {html.escape(group.coordinator or "-")}'
+    return (
+        f'<!doctype html><html lang="en"><meta charset="utf-8"><meta name="viewport" content="width=device-width"><title>{title}</title>'
+        f'<noscript><meta http-equiv="refresh" content="3"></noscript><style>{STYLE}</style>'
+        f'<body data-events="{group.events}"><h1>Group, as {html.escape(name)} sees it</h1>'
+        f'<p class="small">coordinator <b>{html.escape(group.coordinator or "none")}</b>, token <b>{group.token or "none"}</b>, '
+        f'{group.events} events, {sum(node.is_present for node in group.nodes)} of {len(group.nodes)} nodes present</p>'
+        f'<h2>Nodes</h2>{nodes_of(group)}<h2>Partitions</h2>{partitions_of(group)}<h2>Last events</h2>{last_of(group)}</body>'
+        f'<script>{SCRIPT}</script></html>'
+    )
+
+
+def nodes_of(group: GroupView) -> str:
+    """The table of the nodes."""
+    rows = ''.join(map(row_of, group.nodes))
+    return f'<table><tr><th>node<th>status<th>present<th>coordinator<th>owns</tr>{rows}</table>'
+
+
+def row_of(node: NodeView) -> str:
+    """The row of a node."""
+    status = node.status.name.lower()
+    owns = ' '.join(map(str, node.partitions)) or '-'
+    return (
+        f'<tr><td>{html.escape(node.name)}<td><span class="dot {status}"></span>{status}<td>{"yes" if node.is_present else "no"}'
+        f'<td>{html.escape(node.coordinator or "-")}<td>{owns}</tr>'
+    )
+
+
+def partitions_of(group: GroupView) -> str:
+    """The partitions, each with its owner."""
+    cells = ''.join(
+        f'<span class="cell{"" if owner else " free"}">{partition} <b>{html.escape(owner or "-")}</b></span>'
+        for partition, owner in enumerate(group.owners)
+    )
+    return f'<div class="cells">{cells}</div>'
+
+
+def last_of(group: GroupView) -> str:
+    """The last rows, the newest first."""
+    rows = ''.join(f'<tr><td class="small">{number}<td><code>{html.escape(row)}</code></tr>' for number, row in reversed(group.last))
+    return f'<table><tr><th>row<th>event</tr>{rows}</table>'
+
+
+def label(text: str) -> str:
+    """The text as a label of Prometheus."""
+    escaped = text.replace('\\', r'\\').replace('"', r'\"').replace('\n', r'\n')
+    return f'"{escaped}"'
+
+
+def metrics_of(group: GroupView, name: str, sure_seconds: float) -> str:
+    """The group and the member, for Prometheus."""
+    lines: List[str] = []
+
+    def tell(metric: str, kind: str, told: str, values: List[Tuple[str, float]]) -> None:
+        lines.extend([f'# HELP {metric} {told}', f'# TYPE {metric} {kind}'])
+        lines.extend(f'{metric}{labels} {value:g}' for labels, value in values)
+
+    nodes = [(f'{{node={label(node.name)}}}', node) for node in group.nodes]
+    tell('bully_events_total', 'counter', 'Events of the group.', [('', group.events)])
+    tell('bully_token', 'gauge', 'The token of the last plan; 0: there is none.', [('', group.token or 0)])
+    tell('bully_sure_seconds', 'gauge', 'For how long what this member owns is sure.', [(f'{{node={label(name)}}}', sure_seconds)])
+    tell('bully_node_present', 'gauge', 'Whether the node holds a presence.', [(labels, node.is_present) for labels, node in nodes])
+    tell('bully_node_normal', 'gauge', 'Whether the node is Normal.', [(labels, node.status is Status.NORMAL) for labels, node in nodes])
+    tell('bully_node_leads', 'gauge', 'Whether the node is the coordinator.', [(labels, group.coordinator == node.name) for labels, node in nodes])
+    tell('bully_node_partitions', 'gauge', 'Partitions that the node owns.', [(labels, len(node.partitions)) for labels, node in nodes])
+    tell('bully_partitions_free', 'gauge', 'Partitions that nobody may work on now.', [('', group.owners.count(None))])
+    return '\n'.join(lines) + '\n'
+
+
+class Server(ThreadingHTTPServer):
+    """A server whose requests end with it."""
+
+    daemon_threads = True
+    block_on_close = False
+
+    def __init__(self, address: Tuple[str, int], handler: Type[BaseHTTPRequestHandler]) -> None:
+        self.address_family = socket.AF_INET6 if ':' in address[0] else socket.AF_INET
+        super().__init__(address, handler)
+
+    def handle_error(self, request: object, client_address: object) -> None:
+        """Who asked may be gone before the answer. All else is told."""
+        if not isinstance(sys.exc_info()[1], OSError):
+            _told.exception('a request from %s failed', client_address)
+
+
+class Page:
+    """The server of a member."""
+
+    def __init__(self, address: Tuple[str, int], view: LogView, member: Member, name: str, settings: Settings) -> None:
+        """It listens at this address from now on. An OSError tells that it can't."""
+        self._view = view
+        self._member = member
+        self._name = name
+        self._settings = settings
+        self._is_closed = False
+        self._requests = threading.BoundedSemaphore(REQUESTS_MAX)
+        page = self
+
+        class Handler(PageHandler):
+            pass
+
+        Handler.page = page
+        self._server = Server(address, Handler)
+        self._hosts = LOOPBACK if address[0] in LOOPBACK else None
+
+    @property
+    def port(self) -> int:
+        return int(self._server.server_address[1])
+
+    def start(self) -> None:
+        threading.Thread(target=self._server.serve_forever, name='bully page', daemon=True).start()
+
+    def close(self) -> None:
+        """Ends the server. The view isn't closed."""
+        self._is_closed = True
+        self._server.shutdown()
+        self._server.server_close()
+
+    def answer(self, target: str, host: str) -> Answer:
+        """The answer to a GET of this target at this host."""
+        if self._hosts is not None and host.rpartition(':')[0].strip('[]') not in self._hosts:
+            return 403, 'text/plain', 'this page is for this machine alone\n'
+        if not self._requests.acquire(blocking=False):
+            return 503, 'text/plain', 'too many requests at one time\n'
+        try:
+            return self._answer(target)
+        except (LogError, BullyError) as error:
+            return 503, 'text/plain', f'{error}\n'
+        finally:
+            self._requests.release()
+
+    def _answer(self, target: str) -> Answer:
+        parts = urlsplit(target)
+        after = parse_qs(parts.query).get('after', [''])[0]
+        if after.isdecimal() and len(after) < 10:
+            self._wait(int(after))
+        group = self._view.show()
+        if parts.path == '/':
+            return 200, 'text/html', page_of(self._name, group)
+        if parts.path == '/group':
+            return 200, 'application/json', json.dumps(group.told()) + '\n'
+        if parts.path == '/assignment':
+            return 200, 'application/json', json.dumps(self._assignment(group)) + '\n'
+        if parts.path == '/metrics':
+            return 200, 'text/plain; version=0.0.4', metrics_of(group, self._name, self._sure_seconds())
+        if parts.path == '/healthz':
+            return (200, 'text/plain', 'present\n') if self._sure_seconds() > 0 else (503, 'text/plain', 'not present\n')
+        return 404, 'text/plain', 'there is no such page\n'
+
+    def _wait(self, events: int) -> None:
+        """Waits for more events than these."""
+        end = seconds_of_boot() + POLL_SECONDS
+        while not self._is_closed and seconds_of_boot() < end and self._view.read_on() <= events:
+            time.sleep(POLL_PART)
+
+    def _sure_seconds(self) -> float:
+        return max(0.0, self._member.sure_until - seconds_of_boot())
+
+    def _assignment(self, group: GroupView) -> Dict[str, Any]:
+        """What the member owns now."""
+        owned = self._member.assignment()
+        told: Dict[str, Any] = {'node': self._name, 'events': group.events, 'token': None, 'coordinator': None, 'partitions': []}
+        if owned is not None:
+            coordinator = self._settings.name(owned.coordinator)
+            told.update(token=owned.token, coordinator=coordinator, partitions=list(owned.partitions))
+        return {**told, 'sure_seconds': round(self._sure_seconds(), 3) if owned else 0.0}
+
+
+class PageHandler(BaseHTTPRequestHandler):
+    """One request."""
+
+    page: Optional[Page] = None
+    protocol_version = 'HTTP/1.1'
+    server_version = 'bully-member'
+    sys_version = ''
+    timeout = 60
+
+    def do_GET(self) -> None:
+        assert self.page is not None
+        self.send(*self.page.answer(self.path, self.headers.get('Host', '')))
+
+    def refuse(self) -> None:
+        self.close_connection = True
+        self.send(405, 'text/plain', 'only GET is answered\n', ('Allow', 'GET'))
+
+    do_POST = do_PUT = do_DELETE = do_PATCH = do_OPTIONS = do_HEAD = do_TRACE = do_CONNECT = refuse
+
+    def send(self, status: int, kind: str, text: str, *headers: Tuple[str, str]) -> None:
+        content = text.encode('utf-8', 'replace')
+        told = [
+            ('Content-Type', kind if 'version' in kind else f'{kind}; charset=utf-8'), ('Content-Length', str(len(content))),
+            ('Cache-Control', 'no-store'), ('X-Content-Type-Options', 'nosniff'), ('Content-Security-Policy', POLICY), *headers,
+        ]  # fmt: skip
+        self.send_response(status)
+        for header, value in told:
+            self.send_header(header, value)
+        self.end_headers()
+        self.wfile.write(content)
+
+    def log_message(self, format: str, *args: object) -> None:
+        """Nothing is said of requests."""

@@ -1,0 +1,252 @@
+"""A member that runs: its core over a log, a clock and callbacks."""
+from __future__ import annotations
+
+import dataclasses
+import logging
+import os
+import queue
+import secrets
+import socket
+import threading
+from functools import partial
+from types import TracebackType
+from typing import Callable, List, Optional, Tuple, Type, TypeVar, Union
+
+from .logs import Log, Unanswered, cut_header, seconds_of_boot
+from .member import (
+    Append, Assignment, Begin, Core, End, Look, Pace, Read, Release, Renew, Rest, Step, Stop, Take, Wait,
+)  # fmt: skip
+
+SLICE = 0.2  # seconds after which a wait looks whether it has to end
+
+Callback = Callable[[Assignment], None]
+Call = Union[Begin, Stop]
+_Told = TypeVar('_Told')
+_told = logging.getLogger('bully')
+
+
+class OtherGroup(Exception):
+    """The log is that of a group with another setup."""
+
+
+def name_of_process() -> str:
+    """A name that no other process ever has."""
+    return f'{socket.gethostname()}-{os.getpid()}-{secrets.token_hex(6)}'
+
+
+class Member:
+    """A process that acts for a node of a group over a log. It takes part from `run` on, until `leave` is called.
+
+    `start(assignment)` has to begin the work on what the node owns, and to return; `stop(assignment)` returns once nothing of it is
+    worked on any more. Each is called in a thread of the member's own, one at a time. Work has to be cut into units shorter than
+    the margin, a fifth of the ttl, and before each of them `assignment` has to tell that it may be done. An exception of `start`
+    ends the member in order, and `run` raises it; behind one of `stop` it gives nothing back, since the work may go on.
+
+        with Member(SqliteLog('group.db'), 2, start, stop) as member:
+            member.run()
+    """
+
+    def __init__(
+        self, log: Log, node: int, start: Callback, stop: Callback, ttl: float = 5.0, header: Optional[str] = None,
+        sure: Optional[Callable[[float], None]] = None,
+    ) -> None:  # fmt: skip
+        """A member of the log's group. With a `header` the log has to begin with that one; `sure` is told, behind each renewal, until
+        when what is owned is sure, by `logs.seconds_of_boot`.
+
+        Raises OtherGroup, BadHeader, BadNode, OutOfMemory, and what the log raises."""
+        found, rows = cut_header(log.read(0))
+        if header is not None and header != found:
+            raise OtherGroup(f'the log begins with {found}, and not with {header}')
+        self.log = log
+        self.node = node
+        self.core = Core(found, node, name_of_process(), Pace(ttl))
+        self.core.read(seconds_of_boot(), rows)
+        self.failure: Optional[BaseException] = None
+        self._start_work, self._stop_work = start, stop
+        self._sure = sure
+        self._is_leaving = False
+        self._is_stuck = False  # whether work may go on for good
+        self._to_call: 'queue.SimpleQueue[Optional[Call]]' = queue.SimpleQueue()
+        self._stopped: List[Assignment] = []
+        self._wake = threading.Event()
+        self._ended = threading.Event()
+        self._ended.set()
+        self._shown: Tuple[Optional[Assignment], float] = (None, 0.0)
+
+    # What others may call, from any thread.
+
+    def assignment(self) -> Optional[Assignment]:
+        """What the node owns, and until when that is sure; nothing, if that isn't sure now, or has to be stopped."""
+        work, until = self._shown
+        return dataclasses.replace(work, until=until) if work is not None and seconds_of_boot() < until else None
+
+    @property
+    def sure_until(self) -> float:
+        """Until when the node is surely present, by `logs.seconds_of_boot`."""
+        return self._shown[1]
+
+    def leave(self) -> None:
+        """The member ends in order: its work stops, its crash is appended, and its presence is released. A signal may call it, too."""
+        self._is_leaving = True
+
+    def fail(self, failure: BaseException) -> None:
+        """The same, and `run` raises this."""
+        self.failure = self.failure or failure
+        self._is_leaving = True
+
+    def end_with(self, failure: BaseException) -> None:
+        """The same, if it isn't leaving already."""
+        if not self._is_leaving:
+            self.fail(failure)
+
+    # Its life.
+
+    def run(self) -> None:
+        """Takes part until it has left. Raises what a callback raised; NotLearned, if a row of the log is refused; Full, once the log
+        is; and what the log raises, but Unanswered: then it tries again."""
+        self._ended.clear()
+        caller = threading.Thread(target=self._call_all, name='bully work', daemon=True)
+        caller.start()
+        try:
+            self._go_on()
+        finally:
+            self._shown = (None, 0.0)
+            self._end_calls(caller)
+            self._ended.set()
+        if self.failure is not None:
+            raise self.failure
+
+    def __enter__(self) -> 'Member':
+        return self
+
+    def __exit__(
+        self, kind: Optional[Type[BaseException]], error: Optional[BaseException], trace: Optional[TracebackType]
+    ) -> None:
+        """It leaves, if it runs in another thread, and its log is closed."""
+        self.leave()
+        self._ended.wait()
+        if not self.core.replica.is_closed:
+            self.core.replica.close()
+        self.log.close()
+
+    def _go_on(self) -> None:
+        """Takes step after step until the end, or until its work can't be stopped."""
+        while not self._is_stuck:
+            if self._is_leaving:
+                self.core.leave()
+            while self._stopped:
+                self._stopped.pop()
+                self.core.stopped(seconds_of_boot())
+            step = self.core.next(seconds_of_boot())
+            if isinstance(step, End):
+                _told.info('node %d: %s', self.node, step.cause.value)
+                self.failure = self.failure or self.core.fault
+                return
+            self._do(step)
+            self._show()
+
+    def _show(self) -> None:
+        core = self.core
+        self._shown = (None if core.is_stopping else core.work, core.sure_until)
+
+    # Its steps.
+
+    def _do(self, step: Step) -> None:
+        if isinstance(step, (Begin, Stop)):
+            self._show()
+            self._to_call.put(step)
+        elif isinstance(step, Rest):
+            self._rest(step.seconds)
+        elif isinstance(step, Wait):
+            self._wait(step)
+        else:
+            self._ask(step)
+
+    def _ask(self, step: Step) -> None:
+        """Asks the log, and tells the core what came of it."""
+        core, log = self.core, self.log
+        begun = seconds_of_boot()
+        if isinstance(step, (Take, Renew)):
+            self._hold(step, begun)
+        elif isinstance(step, Release):
+            is_answered = self._answer(partial(self._release, step.life))
+            core.released(seconds_of_boot(), is_answered is not None)
+        elif isinstance(step, Read):
+            rows = self._answer(partial(log.read, step.place))
+            core.read(seconds_of_boot(), rows)
+        elif isinstance(step, Look):
+            present = self._answer(log.present)
+            core.looked(begun, seconds_of_boot(), present)
+        elif isinstance(step, Append):
+            is_done = self._answer(partial(log.append, step.place, step.rows, step.absent))
+            core.appended(seconds_of_boot(), is_done)
+
+    def _release(self, life: str) -> bool:
+        self.log.release(self.node, life)
+        return True
+
+    def _hold(self, step: 'Take | Renew', begun: float) -> None:
+        is_held = self._answer(lambda: self.log.hold(self.node, step.life, self.core.pace.ttl, isinstance(step, Renew)))
+        self.core.held(begun, seconds_of_boot(), is_held)
+        if isinstance(step, Take) and is_held:
+            _told.info('node %d: present as %s', self.node, step.life)
+        if is_held and self._sure is not None:
+            self._sure(self.core.sure_until)
+
+    def _answer(self, call: Callable[[], _Told]) -> Optional[_Told]:
+        """What the log answers; None, if it doesn't."""
+        try:
+            return call()
+        except Unanswered as unanswered:
+            _told.warning('node %d: %s', self.node, unanswered)
+            return None
+
+    def _wait(self, step: Wait) -> None:
+        """Waits for what is new in the log, part by part, so that it sees soon that it has to leave."""
+        end = seconds_of_boot() + step.seconds
+        while not self._is_leaving:
+            part_end = min(end, seconds_of_boot() + SLICE)
+            self._answer(lambda: self.log.wait(step.place, max(0.0, part_end - seconds_of_boot())))
+            if seconds_of_boot() < part_end or part_end == end:
+                break
+        self.core.woke()
+
+    def _rest(self, seconds: float) -> None:
+        """Waits for the end of the work, part by part in the same way."""
+        end = seconds_of_boot() + seconds
+        is_leaving = self._is_leaving
+        while not self._wake.is_set() and self._is_leaving == is_leaving and seconds_of_boot() < end:
+            self._wake.wait(max(0.0, min(SLICE, end - seconds_of_boot())))
+        self._wake.clear()
+
+    # The callbacks, in a thread of their own.
+
+    def _call_all(self) -> None:
+        """Calls what it is told to, one after the other."""
+        while True:
+            step = self._to_call.get()
+            if step is None:
+                return
+            is_stop = isinstance(step, Stop)
+            try:
+                self._call(step)
+            except BaseException as failure:
+                self.fail(failure)
+                self._is_stuck |= is_stop
+            else:
+                if is_stop:
+                    self._stopped.append(step.assignment)
+            self._wake.set()
+
+    def _call(self, step: Call) -> None:
+        is_stop = isinstance(step, Stop)
+        words = 'stops' if is_stop else 'begins'
+        _told.info('node %d: %s partitions %s by token %d', self.node, words, list(step.assignment.partitions), step.assignment.token)
+        (self._stop_work if is_stop else self._start_work)(step.assignment)
+
+    def _end_calls(self, caller: threading.Thread) -> None:
+        """Whatever it ended by: the work stops, if that isn't under way already."""
+        if self.core.work is not None and not self.core.is_stopping:
+            self._to_call.put(Stop(self.core.work))
+        self._to_call.put(None)
+        caller.join()

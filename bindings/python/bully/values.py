@@ -1,0 +1,150 @@
+"""What the library is told, and what it tells."""
+from __future__ import annotations
+
+import enum
+from dataclasses import dataclass
+from typing import List, NamedTuple, Optional, Sequence, Tuple, Type, Union, overload
+
+from .faults import BullyError
+
+NODES_MAX = 1024
+PARTITIONS_MAX = 4096
+WEIGHT_MAX = 1000
+EVENTS_MAX = 1_000_000
+
+Line = Union[str, bytes]
+
+
+class Rows(Sequence[str]):
+    """Rows of a log that came as one text, and are cut only where they are looked at. A log of a million rows is learned sooner so."""
+
+    def __init__(self, text: str) -> None:
+        """The rows of this text, each with its line end."""
+        self.text = text
+        self._cut: Optional[List[str]] = None
+
+    def __len__(self) -> int:
+        return self.text.count('\n')
+
+    @overload
+    def __getitem__(self, index: int) -> str: ...
+
+    @overload
+    def __getitem__(self, index: slice) -> List[str]: ...
+
+    def __getitem__(self, index: Union[int, slice]) -> Union[str, List[str]]:
+        if self._cut is None:
+            self._cut = self.text.split('\n')[:-1]
+        return self._cut[index]
+
+    def behind(self, count: int) -> 'Rows':
+        """The rows behind the first ones, so many."""
+        return Rows(self.text.split('\n', count)[-1] if count else self.text)
+
+    def __repr__(self) -> str:
+        return f'<{len(self)} rows>'
+
+
+class Status(enum.IntEnum):
+    """The status of a node."""
+
+    DOWN = 0
+    ELECTION = 1
+    REORGANIZATION = 2
+    NORMAL = 3
+
+
+class Want(enum.IntEnum):
+    """What a node wants to do next."""
+
+    NOTHING = 0
+    START = 1
+    MOVE = 2
+    PLAN = 3
+    AWAIT = 4
+
+
+class CallKind(enum.IntEnum):
+    """The five calls."""
+
+    ARE_YOU_UP = 1
+    ARE_YOU_NORMAL = 2
+    HALT = 3
+    NEW_COORDINATOR = 4
+    READY = 5
+
+
+class Answer(enum.IntEnum):
+    """What a call that returned brought."""
+
+    DONE = 0
+    YES = 1
+    NO = 2
+    FAILED = 3
+    DISCARDED = 4
+
+
+class VerdictKind(enum.IntEnum):
+    """What a verdict on a trace says."""
+
+    LAWFUL = 0
+    REFUSED = 1
+    DIFFERS = 2
+
+
+@dataclass(frozen=True)
+class Verdict:
+    """The verdict on a trace. Of a lawful one `number` is how many events were counted, and else the row that is refused or
+    differs, from 1; `cause` is the exception that names why an event is refused. As text it is the first line of `bully check`."""
+
+    kind: VerdictKind
+    number: int
+    cause: Optional[Type[BullyError]] = None
+
+    @property
+    def is_lawful(self) -> bool:
+        """Whether the trace is lawful."""
+        return self.kind is VerdictKind.LAWFUL
+
+    def __str__(self) -> str:
+        words = f'{self.kind.name.lower()} {self.number}'
+        return f'{words} {self.cause.__name__}' if self.cause else words
+
+
+class TablePlan(NamedTuple):
+    """A planned table: the owner of each partition, and how many partitions change theirs."""
+
+    owners: Tuple[int, ...]
+    moves: int
+
+
+class Call(NamedTuple):
+    """The call that a node has under way. What an orphan brings is discarded."""
+
+    kind: CallKind
+    callee: int
+    is_orphan: bool
+
+
+class State(NamedTuple):
+    """How a node stands: its number and status; its coordinator, if it has one; the node that halted it last, if any; what it
+    wants to do next; the call that it has under way, if any; and how often it was stopped or crashed, of an agent since it was
+    opened, and of a replica in its log."""
+
+    node: int
+    status: Status
+    coordinator: Optional[int]
+    halter: Optional[int]
+    wants: Want
+    call: Optional[Call]
+    generation: int
+
+
+class Event(enum.IntEnum):
+    """Events that a process appends for reasons of its own."""
+
+    CRASH = 1
+    RECOVER = 2
+    CHECK = 3
+    TIMEOUT = 4
+    DROP = 5

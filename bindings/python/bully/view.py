@@ -1,0 +1,110 @@
+"""What a log shows of its group, for people and for programs."""
+from __future__ import annotations
+
+import collections
+import threading
+from dataclasses import dataclass
+from typing import Any, Deque, Dict, FrozenSet, List, Optional, Sequence, Tuple
+
+from .logs import Log, cut_header
+from .replica import Replica
+from .settings import Settings
+from .values import Status
+
+LAST_ROWS = 20
+
+
+@dataclass(frozen=True)
+class NodeView:
+    """How a node stands, and which partitions it owns."""
+
+    node: int
+    name: str
+    status: Status
+    coordinator: Optional[str]
+    is_present: bool
+    partitions: Tuple[int, ...]
+
+    def told(self) -> Dict[str, Any]:
+        """The same for JSON."""
+        return {
+            'node': self.node, 'name': self.name, 'status': self.status.name.lower(), 'coordinator': self.coordinator,
+            'present': self.is_present, 'partitions': list(self.partitions),
+        }  # fmt: skip
+
+
+@dataclass(frozen=True)
+class GroupView:
+    """How a group stands behind so many rows."""
+
+    rows: int
+    events: int
+    token: Optional[int]
+    coordinator: Optional[str]  # of the nodes that are Normal
+    owners: Tuple[Optional[str], ...]  # of the partitions; none, while nobody may work on one
+    nodes: Tuple[NodeView, ...]
+    last: Tuple[Tuple[int, str], ...]  # the last rows, with their numbers in the trace
+
+    def told(self) -> Dict[str, Any]:
+        """The same for JSON."""
+        return {
+            'rows': self.rows, 'events': self.events, 'token': self.token, 'coordinator': self.coordinator, 'owners': list(self.owners),
+            'nodes': [node.told() for node in self.nodes], 'last': [{'row': number, 'text': row} for number, row in self.last],
+        }  # fmt: skip
+
+
+class LogView:
+    """Reads a log, and shows what it comes to. Threads may share it."""
+
+    def __init__(self, log: Log, settings: Optional[Settings] = None) -> None:
+        """Of a log, with the names of these settings, or with numbers. Raises NotLearned, BadHeader, and what the log raises."""
+        self._log = log
+        self._settings = settings
+        self._last: Deque[Tuple[int, str]] = collections.deque(maxlen=LAST_ROWS)
+        self._lock = threading.Lock()
+        self.header, rows = cut_header(log.read(0))
+        self._replica = Replica(self.header)
+        self._learn(rows)
+
+    def read_on(self) -> int:
+        """Reads on. How many events there are."""
+        with self._lock:
+            self._learn(self._log.read(self._replica.rows + 1))
+            return self._replica.events
+
+    def show(self) -> GroupView:
+        """Reads on, and shows the group."""
+        with self._lock:
+            self._learn(self._log.read(self._replica.rows + 1))
+            return self._shown(self._log.present())
+
+    def close(self) -> None:
+        with self._lock:
+            self._replica.close()
+            self._log.close()
+
+    def _learn(self, rows: Sequence[str]) -> None:
+        self._replica.learn(rows)
+        last = rows[-LAST_ROWS:]
+        self._last.extend(enumerate(last, self._replica.rows + 2 - len(last)))
+
+    def _shown(self, present: FrozenSet[int]) -> GroupView:
+        replica = self._replica
+        nodes = tuple(self._node(node, node in present) for node in range(1, replica.nodes + 1))
+        owners: List[Optional[str]] = [None] * replica.partitions
+        for node in nodes:
+            for partition in node.partitions:
+                owners[partition] = node.name
+        coordinator = next((node.coordinator for node in nodes if node.status is Status.NORMAL), None)
+        return GroupView(replica.rows, replica.events, replica.token, coordinator, tuple(owners), nodes, tuple(self._last))
+
+    def _node(self, node: int, is_present: bool) -> NodeView:
+        state = self._replica.state(node)
+        is_normal = state.status is Status.NORMAL
+        task = self._replica.task(node) or () if is_normal else ()
+        partitions = tuple(partition for partition, owner in enumerate(task) if owner == node)
+        coordinator = None if state.coordinator is None else self._name(state.coordinator)
+        return NodeView(node, self._name(node), state.status, coordinator, is_present, partitions)
+
+    def _name(self, node: int) -> str:
+        return str(node) if self._settings is None else self._settings.name(node)

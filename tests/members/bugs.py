@@ -1,0 +1,161 @@
+"""Members that break one rule, each as a core of its own."""
+from __future__ import annotations
+
+from typing import Dict, List, NamedTuple, Optional, Sequence, Type
+
+from bully import Status
+from bully.member import Append, Assignment, Core, Step
+
+
+class NoAbsent(Core):
+    """The crash of another node is appended whether it is back or not."""
+
+    def _crash_of(self, other: int) -> Append:
+        return self._of_rows(self.replica.crash(other))
+
+
+class Remembers(Core):
+    """It looks who is present once in a ttl alone, and goes by what it saw then, whatever it has read since. This is no bug."""
+
+    def woke(self) -> None:
+        looked = self._looked
+        super().woke()
+        self._looked = looked
+
+    def appended(self, now: float, answer: Optional[bool]) -> None:
+        looked = self._looked
+        super().appended(now, answer)
+        self._looked = looked
+
+    def _next_of_life(self, now: float) -> Step:
+        looked = self._looked
+        if now < looked + self.pace.ttl:
+            self._looked = now
+        step = super()._next_of_life(now)
+        self._looked = looked
+        return step
+
+
+class NoAbsentRemembers(Remembers, NoAbsent):
+    """The same, and the crash of another node is appended whether it is back or not."""
+
+
+class SureFromEnd(Core):
+    """It takes its presence as sure from when the renewal ended."""
+
+    def held(self, begun: float, now: float, answer: Optional[bool]) -> None:
+        super().held(now, now, answer)
+
+
+class RunsHaltFirst(Core):
+    """It appends the run of a Halt, and stops its work then."""
+
+    def _ends_work(self, rows: Sequence[str]) -> bool:
+        return not rows[0].startswith('run') and super()._ends_work(rows)
+
+
+class MovesFirst(Core):
+    """It appends its move out of Normal, and stops its work then."""
+
+    def _ends_work(self, rows: Sequence[str]) -> bool:
+        return not rows[0].startswith('move') and super()._ends_work(rows)
+
+
+class StandsFirst(Core):
+    """It appends its crash and its recovery, and stops its work then."""
+
+    def _ends_work(self, rows: Sequence[str]) -> bool:
+        return not rows[0].startswith('crash') and super()._ends_work(rows)
+
+
+class LeavesFirst(StandsFirst):
+    """It appends the crash by which it leaves, and stops its work then."""
+
+    def next(self, now: float) -> Step:
+        if self._is_leaving and self._work is not None and not self._is_stopping and now < self.sure_until and not self._ending:
+            return self._next_to_leave(now)
+        return super().next(now)
+
+
+class OverlooksCrash(Core):
+    """It goes on behind its own crash in the log, as if it hadn't been declared crashed."""
+
+    def _learn(self, rows: Sequence[str]) -> None:
+        self._place += self.replica.learn(rows)
+
+    def _owns(self, work: Assignment) -> bool:
+        return self._is_down(self.node) or super()._owns(work)
+
+    def _wish(self) -> Append:
+        if self._has_begun and self._is_down(self.node):
+            return self._of_rows(self._recovery())
+        return super()._wish()
+
+
+class OverlooksOtherLife(Core):
+    """It goes on behind a crash and a recovery of its node, which another life appended."""
+
+    def _learn(self, rows: Sequence[str]) -> None:
+        self._place += self.replica.learn(rows)
+        self._is_over |= self._has_begun and self._is_down(self.node)
+
+
+class SkipsReading(Core):
+    """An append that was refused is tried again one place further, without reading."""
+
+    _further = 0
+
+    def appended(self, now: float, answer: Optional[bool]) -> None:
+        super().appended(now, answer)
+        self._further = self._further + 1 if answer is False else 0
+        if answer is False:
+            self._must_read = False
+
+    def _of_rows(self, *rows: str, absent: Optional[int] = None) -> Append:
+        append = super()._of_rows(*rows, absent=absent)
+        return Append(append.place + self._further, append.rows, append.absent)
+
+
+class KeepsDeadOwner(Core):
+    """It doesn't stand for election again where an owner is Down."""
+
+    def _is_owner_down(self) -> bool:
+        return False
+
+
+class BeginsEarly(Core):
+    """It works again while an append that wasn't answered may still end what it owns."""
+
+    def _may_begin(self) -> bool:
+        return True
+
+
+class Bug(NamedTuple):
+    """Rules, whether the guard's clock stops in a pause, and whether the store renews a presence behind a gap; and the first seed that
+    shows it, if one does."""
+
+    rules: Type[Core] = Core
+    clock_sleeps: bool = False
+    closes_gaps: bool = False
+    seed: Optional[int] = None
+
+
+BUGS: Dict[str, Bug] = {
+    'sure-from-end': Bug(SureFromEnd, seed=67),
+    'skips-reading': Bug(SkipsReading, seed=1),
+    'keeps-dead-owner': Bug(KeepsDeadOwner, seed=30),
+    'clock-sleeps': Bug(clock_sleeps=True, seed=6),
+    'closes-gaps': Bug(closes_gaps=True, seed=25),
+    'leaves-first': Bug(LeavesFirst, seed=104),
+    'no-absent-remembers': Bug(NoAbsentRemembers, seed=219),
+    # Harmless, as README.md says:
+    'no-absent': Bug(NoAbsent),
+    'overlooks-crash': Bug(OverlooksCrash),
+    'overlooks-other-life': Bug(OverlooksOtherLife),
+    'runs-halt-first': Bug(RunsHaltFirst),
+    'moves-first': Bug(MovesFirst),
+    'stands-first': Bug(StandsFirst),
+    'begins-early': Bug(BeginsEarly),
+    # No bug:
+    'remembers': Bug(Remembers),
+}
