@@ -45,7 +45,8 @@ const LEGEND: &str = "\
 <text x=\"64\" y=\"64\" font-size=\"10\" fill=\"#555\">solid: a call; dotted: its reply; a red cross: it fails; grey: an orphan; rings: recover and move; a black bar: a Halt cuts a procedure off</text>\n";
 
 /// The picture of what a film shows, with these names over the lanes, from node 1 on, and below it this text, a line each. It is an SVG
-/// document. Refused where an allocation fails.
+/// document. Each row has its number, each node its name, or its number where it has none, and each call that a slot holds behind a
+/// row, sent or run, its arrow. Refused where an allocation fails.
 pub fn svg_picture(
     alloc: Global,
     finished: &FinishedFilm,
@@ -123,7 +124,7 @@ fn draw(canvas: &mut Canvas, finished: &FinishedFilm, lanes: &[Lane], names: &[&
     ensures lanes { IsIn result.arrows (λ text. HasLanes text lanes.now) }
 {
     canvas.lines.push(LEGEND);
-    let numbers = draw_numbers(canvas, finished.scenes.as_slice(), finished.verdict);
+    let numbers = draw_numbers(canvas, finished);
     draw_rows(canvas, finished);
     let arrows = draw_lanes(canvas, lanes);
     let names = draw_names(canvas.alloc, &canvas.layout, &finished.setup, names);
