@@ -1,7 +1,10 @@
 -- From the stretches of slots that have their arrows to the rows of which these tell.
-use Rattle.std.proofs.Common.{◌≡◌, ◌⊎◌, ap, below_more, get_or, take, inl, inr, ℕ, zero, suc, ◌+◌, ◌-◌, ◌<◌, ◌≤◌, Bool, true, false, not, ◌==◌, ◌++◌, List, [], ◌∷◌, Option, Some, None, length, map, replicate, refl, sym, subst, arith, if◌then◌else◌}
-use Rattle.std.proofs.lemmas.List.{take_all}
+use Rattle.std.proofs.Common.{◌≡◌, ◌∙◌, ◌⊎◌, All, ap, below_more, get_or, take, inl, inr, ℕ, ◌+◌, ◌-◌, ◌<◌, ◌≤◌, Bool, true, false, ◌==◌, ◌++◌, List, [], ◌∷◌, Option, Some, None, length, map, replicate, refl, sym, subst, arith, if◌then◌else◌}
+use Rattle.std.proofs.lemmas.List.{get_or-append_right, get_or-replicate, get_or_append_left, get_or_past, length-replicate, take_all}
 use Rattle.std.proofs.lemmas.List.Elements.{All-head, All-tail, All-weaker}
+use Rattle.std.proofs.lemmas.Bool.Decides.{nat_tests}
+use Rattle.std.specs.Prelude.{nat_le}
+use Rattle.std.specs.Str.Lines.{lines}
 use Rattle.bully_calls.specs.declared.call.Phase.{Phase}
 use Rattle.bully_trace.specs.declared.verdict.Verdict.{Verdict}
 use Rattle.bully_film.specs.declared.scene.Scene.{Scene}
@@ -10,7 +13,7 @@ use Rattle.bully_film.specs.declared.slots.Holding.{Holding}
 use Rattle.bully_film.specs.declared.snapshot.NodeSnapshot.{NodeSnapshot}
 use Rattle.bully_film.specs.declared.whole.Lane.{Lane}
 use Rattle.bully_film.specs.Lane.{AreJoinedHeld, AreLanes, IsLane, held_in, spread_held}
-use Rattle.bully_picture.specs.Drawn.{HasArrow, HasArrows, HasHoldings, HasLanes, HasNodes, HasRows, arrow_label, decides, has_failed, held_label, node_label, row_label}
+use Rattle.bully_picture.specs.Drawn.{HasArrow, HasArrows, HasBelow, HasHoldings, HasLanes, HasNodes, HasRows, arrow_label, below_label, decides, has_failed, held_label, node_label, row_label}
 use Rattle.bully_picture.specs.Title.{Has}
 use Rattle.bully_picture.specs.Written.{Gains, IsCopied, IsIn, Written}
 use Rattle.bully_picture.proofs.WrittenLemmas.{has-more, has-within, nothing-gained, one-gained, one-more}
@@ -31,30 +34,73 @@ lanes-within text middle lanes within has =
     All-weaker (λ lane. HasHoldings middle lane.node lane.holdings.items) (λ lane. HasHoldings text lane.node lane.holdings.items)
     (λ lane. holdings-within text middle lane.node lane.holdings.items within) lanes has
 
--- a row of a stretch
-arrow-at : (text : List ℕ) (i first last row : ℕ) (held : Option HeldCall) → first ≤ row → row ≤ last → Has text (held_label i first last held) → HasArrow text i row held
-arrow-at text i first last row None low high has = tt
-arrow-at text i first last row (Some held) low high has =
-    λ runs. (first, last, low, high, subst (λ b. Has text (if b then [] else arrow_label i held.call first last)) runs has)
+-- over a stretch the slot holds the same
+held-within : (first last other : ℕ) (one : Option HeldCall) (rest : List (Option HeldCall)) → first ≤ other → other ≤ last
+    → get_or (replicate (last + 1 - first) one ++ rest) (other - first) None ≡ one
+held-within first last other one rest low high =
+    let within : other - first < last + 1 - first = omega (arith, low, high) in
+    let long : other - first < length (replicate (last + 1 - first) one) = omega (arith, within, length-replicate (last + 1 - first) one) in
+    get_or_append_left (replicate (last + 1 - first) one) rest None (other - first) long ∙ get_or-replicate (last + 1 - first) (other - first) one None within
 
--- the rows of a stretch, and of those behind it
-stretch-arrows : (text : List ℕ) (i first last : ℕ) (held : Option HeldCall) (rest : List (Option HeldCall)) → Has text (held_label i first last held)
-    → HasArrows text i (last + 1) rest → (n row : ℕ) → first ≤ row → row + n ≡ last + 1 → HasArrows text i row (replicate n held ++ rest)
-stretch-arrows text i first last held rest has behind zero row low end =
-    let here : last + 1 ≡ row = omega (arith, end) in
-    subst (λ k. HasArrows text i k rest) here behind
-stretch-arrows text i first last held rest has behind (suc n) row low end = (
-  arrow-at text i first last row held low (omega (arith, end)) has,
-  stretch-arrows text i first last held rest has behind n (row + 1) (omega (arith, low)) (omega (arith, end)),
-)
+-- behind other rows the slot holds what it holds behind these ones
+held-later : (first next other : ℕ) (before rest : List (Option HeldCall)) → next ≡ first + length before → next ≤ other
+    → get_or (before ++ rest) (other - first) None ≡ get_or rest (other - next) None
+held-later first next other before rest at low =
+    let same : other - first - length before ≡ other - next = omega (arith, at, low) in
+    get_or-append_right before rest (length before) (other - first) None refl (omega (arith, at, low)) ∙ ap (λ k. get_or rest k None) same
 
-holdings-arrows : (text : List ℕ) (i row end : ℕ) (holdings : List Holding) → AreJoinedHeld row holdings end → HasHoldings text i holdings → HasArrows text i row (spread_held holdings)
-holdings-arrows text i row end [] joined has = tt
-holdings-arrows text i row end (h ∷ holdings) (begins, order, joined) has =
+-- a row of the first stretch
+arrow-here : (text : List ℕ) (i first last row : ℕ) (one : Option HeldCall) (held : HeldCall) (rest : List (Option HeldCall)) → first ≤ row → row ≤ last → one ≡ Some held
+    → has_failed held.phase ≡ false → Has text (held_label i first last one) → HasArrow text i first (replicate (last + 1 - first) one ++ rest) held row
+arrow-here text i first last row one held rest low high is runs has = record {
+  from = first;
+  to = last;
+  around = (low, high);
+  holds = λ other above below. (above, held-within first last other one rest above below ∙ is);
+  arrow = subst (λ b. Has text (if b then [] else arrow_label i held.call first last)) runs (subst (λ o. Has text (held_label i first last o)) is has);
+}
+
+-- a row of those behind it
+arrow-later : (text : List ℕ) (i first next row : ℕ) (before rest : List (Option HeldCall)) (held : HeldCall) → next ≡ first + length before
+    → HasArrow text i next rest held row → HasArrow text i first (before ++ rest) held row
+arrow-later text i first next row before rest held at arrow = record {
+  from = arrow.from;
+  to = arrow.to;
+  around = arrow.around;
+  holds = λ other above below.
+      let holds = arrow.holds other above below in
+      (omega (arith, at, holds.0), held-later first next other before rest at holds.0 ∙ holds.1);
+  arrow = arrow.arrow;
+}
+
+up-to-or-behind : (row last : ℕ) → (row ≤ last) ⊎ (last + 1 ≤ row)
+up-to-or-behind row last = by (nat_le row last) refl
+  where
+    by : (b : Bool) → nat_le row last ≡ b → (row ≤ last) ⊎ (last + 1 ≤ row)
+    by true is = inl (grind (arith, nat_tests, is))
+    by false is = inr (grind (arith, nat_tests, is))
+
+holdings-arrows : (text : List ℕ) (i first end : ℕ) (holdings : List Holding) → AreJoinedHeld first holdings end → HasHoldings text i holdings
+    → HasArrows text i first (spread_held holdings)
+holdings-arrows text i first end [] joined has held row (low, is) runs =
+    let none : None ≡ Some held = sym (get_or_past [] (row - first) None (omega arith)) ∙ is in
+    absurd (cc)
+holdings-arrows text i first end (h ∷ holdings) (begins, order, joined) has held row (low, is) runs =
     let here : Has text (held_label i h.first h.last h.held) = All-head (λ (one : Holding). Has text (held_label i one.first one.last one.held)) h holdings has in
     let rest : HasHoldings text i holdings = All-tail (λ (one : Holding). Has text (held_label i one.first one.last one.held)) h holdings has in
-    stretch-arrows text i h.first h.last h.held (spread_held holdings) here (holdings-arrows text i (h.last + 1) end holdings joined rest)
-    (h.last + 1 - h.first) row (omega (arith, begins)) (omega (arith, begins, order))
+    let stretch = replicate (h.last + 1 - h.first) h.held in
+    let at : h.last + 1 ≡ first + length stretch = omega (arith, begins, order, length-replicate (h.last + 1 - h.first) h.held) in
+    elim (up-to-or-behind row h.last) [
+      | inl high ↦
+          let low' : h.first ≤ row = omega (arith, begins, low) in
+          let same : h.held ≡ Some held = sym (held-within h.first h.last row h.held (spread_held holdings) low' high)
+          ∙ ap (λ k. get_or (stretch ++ spread_held holdings) (row - k) None) begins ∙ is in
+          subst (λ k. HasArrow text i k (stretch ++ spread_held holdings) held row) begins
+          (arrow-here text i h.first h.last row h.held held (spread_held holdings) low' high same runs here)
+      | inr behind ↦ arrow-later text i first (h.last + 1) row stretch (spread_held holdings) held at
+          (holdings-arrows text i (h.last + 1) end holdings joined rest held row
+          (behind, sym (held-later first (h.last + 1) row stretch (spread_held holdings) at behind) ∙ is) runs)
+    ]
 
 lane-arrows : (text : List ℕ) (i first : ℕ) (snapshots : List NodeSnapshot) (lane : Lane) → IsLane i first snapshots lane → HasHoldings text lane.node lane.holdings.items
     → HasArrows text i first (map held_in snapshots)
@@ -150,3 +196,22 @@ nodes-copied text paper nodes name_at (good, within) has =
 
 pub lanes-copied : (text : List ℕ) (paper : Written) (lanes : List Lane) → IsCopied paper text → IsIn paper (λ t. HasLanes t lanes) → HasLanes text lanes
 lanes-copied text paper lanes (good, within) has = lanes-within text paper.text lanes within (has good)
+
+pub below-copied : (text : List ℕ) (paper : Written) (below : List ℕ) → IsCopied paper text → IsIn paper (λ t. HasBelow t below) → HasBelow text below
+below-copied text paper below (good, within) has =
+    let all = has good in (
+      all.0,
+      All-weaker (λ line. Has paper.text (below_label all.0 line)) (λ line. Has text (below_label all.0 line))
+          (λ line. has-within text paper.text (below_label all.0 line) within) (lines below) all.1,
+    )
+
+-- one more line stands below
+pub below-line : (letters : ℕ) (below line : List ℕ) (k : ℕ) (a b : Written) → k < length (lines below) → line ≡ get_or (lines below) k line
+    → IsIn a (λ text. All (λ one. Has text (below_label letters one)) (take k (lines below))) → Gains a b (λ text. Has text (below_label letters line))
+    → IsIn b (λ text. All (λ one. Has text (below_label letters one)) (take (k + 1) (lines below)))
+below-line letters below line k a b =
+    one-more (λ text one. Has text (below_label letters one)) (λ text more one. has-more (below_label letters one) text more) (lines below) k line a b
+
+pub below-all : (letters : ℕ) (below : List ℕ) (k : ℕ) (a : Written) → length (lines below) ≤ k
+    → IsIn a (λ text. All (λ one. Has text (below_label letters one)) (take k (lines below))) → IsIn a (λ text. HasBelow text below)
+below-all letters below k a all so_far good = (letters, subst (All (λ one. Has a.text (below_label letters one))) (take_all k (lines below) all) (so_far good))

@@ -1,13 +1,12 @@
 -- What is written of a text is harmless, letter by letter.
-use Rattle.std.proofs.Common.{◌≡◌, ◌∙◌, ℕ, zero, suc, length, take, Bool, true, false, not, ◌||◌, ◌&&◌, ◌==◌, ◌++◌, List, [], ◌∷◌, refl, sym, ap, subst, codes, if◌then◌else◌, arith}
-use Rattle.std.specs.Prelude.{Contains, nat_le}
+use Rattle.std.proofs.Common.{◌≡◌, ◌∙◌, ℕ, zero, suc, length, take, Bool, true, false, ◌||◌, ◌&&◌, ◌==◌, ◌++◌, List, [], ◌∷◌, refl, sym, ap, subst, codes, if◌then◌else◌, arith}
+use Rattle.std.specs.Prelude.{nat_le}
 use Rattle.std.specs.Str.{IsUtf8, chars}
-use Rattle.std.proofs.lemmas.List.{append_assoc, append-nil}
-use Rattle.std.proofs.lemmas.List.Elements.{All-contains_itself}
+use Rattle.std.proofs.lemmas.List.{append-nil}
 use Rattle.std.proofs.lemmas.Str.{chars-encodes, encodes-append, scalars-chars}
 use lib.Utf8.{encode, encodes, scalar, scalars}
 use Rattle.bully_picture.specs.Escaping.{escaped, escaped_letter, is_forbidden, shortened}
-use Rattle.bully_picture.specs.Harmless.{BeginsEntity, IsHarmless, IsHarmlessLetter, entities}
+use Rattle.bully_picture.specs.Harmless.{BeginsEntity, IsHarmless, IsHarmlessLetter}
 
 -- the letters that are written of one
 abbrev marks : ℕ → List ℕ

@@ -3,7 +3,7 @@ use Rattle.std.proofs.Common.{◌≡◌, ◌∙◌, ℕ, ◌++◌, List, sym, ap
 use Rattle.std.proofs.lemmas.List.{append_assoc}
 use Rattle.bully_trace.specs.declared.verdict.Verdict.{Verdict}
 use Rattle.bully_trace.specs.VerdictText.{verdict_head}
-use Rattle.bully_picture.specs.Title.{Has, shown_text, size_text, title_text}
+use Rattle.bully_picture.specs.Title.{Has, counted_text, shown_text, size_text, title_text}
 
 -- a text that has another one has what that begins with
 has-front : (text part more : List ℕ) → Has text (part ++ more) → Has text part
@@ -21,3 +21,12 @@ pub has-verdict : (text : List ℕ) (verdict : Verdict) (nodes partitions before
 has-verdict text verdict nodes partitions before count has =
     has-front text (verdict_head verdict) (size_text nodes partitions ++ (shown_text before count ++ codes ")"))
     (subst (Has text) (title-begins verdict nodes partitions before count) has)
+
+-- a count behind other words, as it is written piece by piece
+pub counted-written : (before number space word plural : List ℕ) → before ++ number ++ space ++ word ++ plural ≡ before ++ (number ++ space ++ word ++ plural)
+counted-written before number space word plural = simp append_assoc
+
+pub size-written : (nodes partitions : ℕ)
+    → codes " (" ++ counted_text nodes (codes "node") ++ (codes ", " ++ counted_text partitions (codes "partition")) ++ codes ", " ≡ size_text nodes partitions
+size-written nodes partitions =
+    ap (λ l. l ++ codes ", ") (sym (append_assoc (codes " (" ++ counted_text nodes (codes "node")) (codes ", ") (counted_text partitions (codes "partition"))))

@@ -1,14 +1,12 @@
 -- One more row of a picture for a terminal.
-use Rattle.std.proofs.Common.{◌≡◌, [], Result, Ok, Err, ap, if◌then◌else◌, ℕ, ◌+◌, ◌<◌, ◌≤◌, ◌++◌, Bool, true, false, List, get_or, length, take, sym, subst, ◌∙◌}
-use Rattle.std.specs.Prelude.{OnOk, is_ok}
-use Rattle.std.proofs.lemmas.List.{append-nil, take_all}
-use Rattle.std.proofs.lemmas.Result.{on_ok_weaker}
+use Rattle.std.proofs.Common.{◌≡◌, ◌∙◌, ℕ, ◌+◌, ◌<◌, ◌≤◌, ◌++◌, Bool, true, false, List, get_or, length, take, sym, subst}
+use Rattle.std.proofs.lemmas.List.{take_all}
 use Rattle.bully_trace.specs.declared.verdict.Verdict.{Verdict}
 use Rattle.bully_film.specs.declared.scene.Scene.{Scene}
 use Rattle.bully_picture.specs.Title.{Has}
 use Rattle.bully_picture.specs.Told.{HasTold, IsTold, line_start}
-use Rattle.bully_picture.specs.Written.{Extends, Gains, IsIn, Written}
-use Rattle.bully_picture.proofs.WrittenLemmas.{extends-same, extends-then, gains-later, gains-still, has-more, has-within, one-gained}
+use Rattle.bully_picture.specs.Written.{Extends, Gains, Written}
+use Rattle.bully_picture.proofs.WrittenLemmas.{extends-same, extends-then, gains-later, gains-still, has-more, one-gained}
 
 -- a row that has its line
 pub told-line : (verdict : Verdict) (scenes : List Scene) (i : ℕ) (s : Scene) (start a q b : Written) → i < length scenes → s ≡ get_or scenes i s
@@ -35,21 +33,3 @@ told-all verdict xs scenes i first start a b all same before so_far behind =
   where
     told-more : (verdict : Verdict) (scenes : List Scene) (text more : List ℕ) → HasTold text verdict scenes → HasTold (text ++ more) verdict scenes
     told-more verdict scenes text more has k d below told = has-more (line_start (get_or scenes k d).number) text more (has k d below told)
-
--- what stands on a paper that was copied
-pub told-copied : (text middle : List ℕ) (verdict : Verdict) (scenes : List Scene) → Has text middle → HasTold middle verdict scenes → HasTold text verdict scenes
-told-copied text middle verdict scenes within has k d below told = has-within text middle (line_start (get_or scenes k d).number) within (has k d below told)
-
--- one more text was appended, if there was memory for it
-text-pushed : {E : Type 0} (r : Result (Unit {0}) E) (new old more : List ℕ) → new ≡ (if is_ok r then old ++ more else old) → OnOk r (new ≡ old ++ more)
-text-pushed (Ok x) new old more pushed = pushed
-text-pushed (Err e) new old more pushed = tt
-
--- behind the lines stands one more text
-pub told-pushed : {E : Type 0} (r : Result (Unit {0}) E) (new old more before : List ℕ) (lines : Written) (verdict : Verdict) (scenes : List Scene)
-    → new ≡ (if is_ok r then old ++ more else old) → old ≡ before ++ lines.text → lines.has_failed ≡ false → IsIn lines (λ text. HasTold text verdict scenes) → OnOk r (HasTold new verdict scenes)
-told-pushed r new old more before lines verdict scenes pushed copied good has =
-    on_ok_weaker r (λ is. told-copied new lines.text verdict scenes (before, more, is ∙ ap (λ t. t ++ more) copied) (has good)) (text-pushed r new old more pushed)
-
-pub below-pushed : {E : Type 0} (r : Result (Unit {0}) E) (new old more : List ℕ) → new ≡ (if is_ok r then old ++ more else old) → OnOk r (Has new more)
-below-pushed r new old more pushed = on_ok_weaker r (λ is. (old, [], is ∙ sym (append-nil (old ++ more)))) (text-pushed r new old more pushed)

@@ -1,10 +1,10 @@
 -- What stands on a paper behind several writes.
-use Rattle.std.proofs.Common.{◌≡◌, ◌∙◌, ℕ, ◌+◌, ◌<◌, ◌++◌, List, [], Bool, true, false, ◌||◌, Result, Ok, Err, get_or, length, take, refl, sym, ap, subst}
-use Rattle.std.specs.Prelude.{All, OnOk, is_err}
+use Rattle.std.proofs.Common.{◌≡◌, ◌∙◌, ℕ, ◌+◌, ◌<◌, ◌++◌, List, [], false, Result, Ok, Err, codes, get_or, length, take, refl, sym, ap, subst}
+use Rattle.std.specs.Prelude.{All, IfOk, OnOk, is_err}
 use Rattle.std.proofs.lemmas.List.{append_assoc, append-nil}
 use Rattle.std.proofs.lemmas.List.Elements.{All-more, All-weaker}
-use Rattle.bully_picture.specs.Title.{Has}
-use Rattle.bully_picture.specs.Written.{Extends, Gains, IsIn, Written, Writes}
+use Rattle.bully_picture.specs.Title.{Begins, Has, IsDocument}
+use Rattle.bully_picture.specs.Written.{Extends, Gains, IsCopied, IsIn, Writes, Written, blank}
 
 -- a text that grows has what it had
 pub has-more : (part text more : List ℕ) → Has text part → Has (text ++ more) part
@@ -15,26 +15,10 @@ pub has-within : (text middle part : List ℕ) → Has text middle → Has middl
 has-within text middle part (before, behind, is) (front, back, within) =
     (before ++ front, back ++ behind, is ∙ ap (λ m. before ++ m ++ behind) within ∙ simp append_assoc)
 
-or-first : (a b : Bool) → (a || b) ≡ false → a ≡ false
-or-first true b none = none
-or-first false b none = refl
-
-or-second : (a b : Bool) → (a || b) ≡ false → b ≡ false
-or-second true true none = none
-or-second true false none = refl
-or-second false b none = none
-
--- a write of which was noted how it went
-pub noted : {E : Type 0} (before old new : Written) (part : List ℕ) (r : Result (Unit {0}) E) → before.has_failed ≡ old.has_failed → OnOk r (old.text ≡ before.text ++ part)
-    → new.text ≡ old.text → new.has_failed ≡ (old.has_failed || is_err r) → Writes before new part
-noted before old new part (Ok x) same wrote kept is = record {
-  memory = λ good. same ∙ or-first old.has_failed false (sym is ∙ good);
-  text = λ good. kept ∙ wrote;
-}
-noted before old new part (Err e) same wrote kept is = record {
-  memory = λ good. same ∙ or-first old.has_failed true (sym is ∙ good);
-  text = λ good. let failed : true ≡ false = or-second old.has_failed true (sym is ∙ good) in absurd (cc);
-}
+-- what holds if a write went well, holds if none went wrong
+pub went-well : {E P : Type 0} (r : Result (Unit {0}) E) → is_err r ≡ false → OnOk r P → P
+went-well (Ok x) well holds = holds
+went-well (Err e) well holds = absurd (cc)
 
 -- two writes are one
 pub writes-then : {a b c : Written} {p q : List ℕ} → Writes a b p → Writes b c q → Writes a c (p ++ q)
@@ -98,3 +82,46 @@ one-gained P kept xs i x start a b within is so_far gained = record {
   extends = extends-then so_far.extends gained.extends;
   holds = one-more P kept xs i x a b within is so_far.holds gained;
 }
+
+-- nothing was written
+pub writes-nothing : (a : Written) → Writes a a []
+writes-nothing a = record { memory = λ good. good; text = λ good. sym (append-nil a.text) }
+
+-- a write, as another text that is the same
+pub writes-as : {a b : Written} {p q : List ℕ} → p ≡ q → Writes a b p → Writes a b q
+writes-as {a} {b} same written = subst (Writes a b) same written
+
+-- what was written still stands there behind a second step
+pub written-in : {a b c : Written} {p : List ℕ} → Writes a b p → Extends b c → IsIn c (λ text. Has text p)
+written-in {a} {b} {c} {p} written behind = (gains-still (λ text. Has text p) (has-more p) (has-written written) behind).holds
+
+-- so does what was copied from another paper
+pub copied-in : {a b c : Written} (p : Written) → Writes a b p.text → (b.has_failed ≡ false → p.has_failed ≡ false) → Extends b c → IsIn c (IsCopied p)
+copied-in {a} {b} {c} p written whole behind good = (whole (behind.memory good), written-in written behind good)
+
+pub copied-still : {b c : Written} (p : Written) → IsIn b (IsCopied p) → Extends b c → IsIn c (IsCopied p)
+copied-still {b} {c} p copied behind good =
+    let grown = behind.text good in
+    let was = copied (behind.memory good) in
+    (was.0, subst (λ t. Has t p.text) (sym grown.1) (has-more p.text b.text grown.0 was.1))
+
+-- what is written first begins the whole
+pub begins-written : {a b c : Written} {p : List ℕ} → a ≡ blank → Writes a b p → Extends b c → IsIn c (λ text. Begins text p)
+begins-written {a} {b} {c} {p} empty written behind good =
+    let grown = behind.text good in
+    (grown.0, grown.1 ∙ ap (λ t. t ++ grown.0) (written.text (behind.memory good) ∙ ap (λ w. w.text ++ p) empty))
+
+pub begins-more : (text more part : List ℕ) → Begins text part → Begins (text ++ more) part
+begins-more text more part (behind, is) = (behind ++ more, ap (λ t. t ++ more) is ∙ append_assoc part behind more)
+
+-- a document has its ends
+pub document : {a b c d : Written} → a ≡ blank → Writes a b (codes "<svg xmlns=\"http://www.w3.org/2000/svg\"") → Extends b c → Writes c d (codes "</svg>\n") → IsIn d IsDocument
+document {a} {b} {c} {d} empty first middle last good =
+    let begun = begins-written empty first middle (last.memory good) in
+    (begun.0, last.text good ∙ ap (λ t. t ++ codes "</svg>\n") begun.1)
+
+-- what stands on a paper stands in the text that it becomes
+pub in-text : {T E : Type 0} (bytes : T → List ℕ) (paper : Written) (P : List ℕ → Type 0) (r : Result T E) → IfOk r (λ text. paper.has_failed ≡ false)
+    → IfOk r (λ text. bytes text ≡ paper.text) → IsIn paper P → IfOk r (λ text. P (bytes text))
+in-text bytes paper P (Ok text) whole same holds = subst P (sym same) (holds whole)
+in-text bytes paper P (Err e) whole same holds = tt

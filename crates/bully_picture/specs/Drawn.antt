@@ -1,7 +1,8 @@
--- What stands in a picture of what a film shows: the number of each row, the name of each node, and an arrow of each call.
-use Rattle.std.specs.Prelude.{◌≡◌, ℕ, ◌+◌, ◌<◌, ◌≤◌, Bool, true, false, List, [], ◌∷◌, ◌++◌, ◌==◌, Option, Some, None, All, codes, map, if◌then◌else◌}
+-- What stands in a picture of what a film shows: the number of each row, the name of each node, an arrow of each call, and the text below.
+use Rattle.std.specs.Prelude.{◌≡◌, ℕ, ◌+◌, ◌-◌, ◌<◌, ◌≤◌, Bool, true, false, List, [], ◌++◌, ◌==◌, Option, Some, None, All, codes, get_or, length, map, nat_lt, if◌then◌else◌}
 use Rattle.std.specs.Fmt.{decimal}
 use Rattle.std.specs.Str.{chars}
+use Rattle.std.specs.Str.Lines.{lines}
 use Rattle.bully_calls.specs.declared.call.Call.{Call}
 use Rattle.bully_calls.specs.declared.call.CallKind.{CallKind}
 use Rattle.bully_calls.specs.declared.call.CallKind.TheVariants.{AreYouUp, AreYouNormal, Halt, NewCoordinator, Ready}
@@ -13,7 +14,7 @@ use Rattle.bully_film.specs.declared.slots.Holding.{Holding}
 use Rattle.bully_film.specs.declared.snapshot.NodeSnapshot.{NodeSnapshot}
 use Rattle.bully_film.specs.declared.whole.Lane.{Lane}
 use Rattle.bully_film.specs.Lane.{held_in}
-use Rattle.bully_picture.specs.Escaping.{escaped}
+use Rattle.bully_picture.specs.Escaping.{escaped, shortened}
 use Rattle.bully_picture.specs.Title.{Has}
 
 -- the call as the profile names it
@@ -71,17 +72,33 @@ HasHoldings text i holdings = All (λ h. Has text (held_label i h.first h.last h
 abbrev pub HasLanes : List ℕ → List Lane → Type 0
 HasLanes text lanes = All (λ lane. HasHoldings text lane.node lane.holdings.items) lanes
 
--- if the slot of node i holds a call behind this row that was sent, or ran, the text has an arrow of it, whose rows are around this one
-abbrev pub HasArrow : List ℕ → ℕ → ℕ → Option HeldCall → Type 0
-HasArrow text i row None = Unit {0}
-HasArrow text i row (Some held) =
-    has_failed held.phase ≡ false → (first : ℕ) × (last : ℕ) × (first ≤ row) × (row ≤ last) × Has text (arrow_label i held.call first last)
+-- behind this row a slot holds this, where that is what it holds behind each row from the first on
+abbrev pub Holds : ℕ → List (Option HeldCall) → HeldCall → ℕ → Type 0
+Holds first helds held row = (first ≤ row) × (get_or helds (row - first) None ≡ Some held)
 
--- so it is behind each row from this one on, where the slot of node i holds this
+-- the text has an arrow of what the slot of node i holds behind this row. It goes from one row to another around this one, and behind each
+-- of those the slot holds the same
+pub record HasArrow (text : List ℕ) (i first : ℕ) (helds : List (Option HeldCall)) (held : HeldCall) (row : ℕ) : Type 0 where
+  pub from : ℕ
+  pub to : ℕ
+  pub around : (from ≤ row) × (row ≤ to)
+  pub holds : (other : ℕ) → from ≤ other → other ≤ to → Holds first helds held other
+  pub arrow : Has text (arrow_label i held.call from to)
+
+-- each call has its that the slot of node i holds behind a row from the first on, and that was sent, or ran
 abbrev pub HasArrows : List ℕ → ℕ → ℕ → List (Option HeldCall) → Type 0
-HasArrows text i row [] = Unit {0}
-HasArrows text i row (held ∷ helds) = HasArrow text i row held × HasArrows text i (row + 1) helds
+HasArrows text i first helds = (held : HeldCall) (row : ℕ) → Holds first helds held row → has_failed held.phase ≡ false → HasArrow text i first helds held row
 
 -- each of so many nodes, from node 1 on, stood so behind each row from the first on: its calls have their arrows
 abbrev pub HasCalls : List ℕ → ℕ → ℕ → (ℕ → List NodeSnapshot) → Type 0
 HasCalls text nodes first snapshots = (i : ℕ) → 0 < i → i ≤ nodes → HasArrows text i first (map held_in (snapshots i))
+
+-- a line of the text below: so many of its letters, and, where it has more bytes, all of it for where the pointer rests
+abbrev pub below_label : ℕ → List ℕ → List ℕ
+below_label letters line =
+    codes " xml:space=\"preserve\">" ++ escaped (shortened letters (chars line))
+    ++ (if nat_lt letters (length line) then codes "<title>" ++ escaped (chars line) ++ codes "</title>" else []) ++ codes "</text>\n"
+
+-- all lines of a text stand so in this one, each with as many letters at most
+abbrev pub HasBelow : List ℕ → List ℕ → Type 0
+HasBelow text below = (letters : ℕ) × All (λ line. Has text (below_label letters line)) (lines below)

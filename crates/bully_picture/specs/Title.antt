@@ -1,4 +1,4 @@
--- The title of a picture.
+-- The title of a picture, and its ends.
 use Rattle.std.specs.Prelude.{◌≡◌, ℕ, ◌+◌, List, [], ◌++◌, ◌==◌, codes, if◌then◌else◌}
 use Rattle.std.specs.Fmt.{decimal}
 use Rattle.bully_trace.specs.declared.verdict.Verdict.{Verdict}
@@ -7,6 +7,18 @@ use Rattle.bully_trace.specs.VerdictText.{verdict_head}
 -- the text has this one in it
 abbrev pub Has : List ℕ → List ℕ → Type 0
 Has text part = (before : List ℕ) × (behind : List ℕ) × (text ≡ before ++ part ++ behind)
+
+-- it begins with this one
+abbrev pub Begins : List ℕ → List ℕ → Type 0
+Begins text part = (behind : List ℕ) × (text ≡ part ++ behind)
+
+-- it ends with this one
+abbrev pub Ends : List ℕ → List ℕ → Type 0
+Ends text part = (before : List ℕ) × (text ≡ before ++ part)
+
+-- the text is one SVG element, with no text before or behind it
+abbrev pub IsDocument : List ℕ → Type 0
+IsDocument text = (inside : List ℕ) × (text ≡ codes "<svg xmlns=\"http://www.w3.org/2000/svg\"" ++ inside ++ codes "</svg>\n")
 
 -- which rows are shown: so many behind this one
 abbrev pub shown_text : ℕ → ℕ → List ℕ

@@ -11,10 +11,14 @@ use Rattle.bully_picture.specs.Written.{right_text}
 abbrev pub IsTold : Verdict → Scene → Type 0
 IsTold verdict s = (decides verdict s.number ≡ true) ⊎ (stand_of s.other.before ≢ stand_of s.other.after)
 
--- how the line of a row begins
+-- how the line of a row begins, behind the line feed of the one before it. The heads of the columns have "row" there
 abbrev pub line_start : ℕ → List ℕ
-line_start row = right_text row ++ codes "  "
+line_start row = codes "\n" ++ right_text row ++ codes "  "
 
 -- those of these rows have their lines
 abbrev pub HasTold : List ℕ → Verdict → List Scene → Type 0
 HasTold text verdict scenes = All (λ s. IsTold verdict s → Has text (line_start s.number)) scenes
+
+-- they have them above this text, with which the whole ends
+abbrev pub HasToldAbove : List ℕ → List ℕ → Verdict → List Scene → Type 0
+HasToldAbove text below verdict scenes = (above : List ℕ) × (text ≡ above ++ below) × HasTold above verdict scenes

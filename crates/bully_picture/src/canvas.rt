@@ -1,4 +1,4 @@
-//! What a picture is drawn on: the head of its document, lines below, and words above them.
+//! What a picture is drawn on: lines below, and words above them.
 ghost use Rattle.bully_picture.specs.Written.{Extends};
 
 use crate::boxes::{Anchor, Area, is_free};
@@ -19,7 +19,6 @@ pub struct Style {
 #[derive(Drop)]
 pub struct Canvas {
     pub layout: Layout,
-    pub head: Paper,
     pub lines: Paper,
     pub words: Paper,
     pub alloc: Global,
@@ -34,7 +33,6 @@ impl Canvas {
     pub fn new(alloc: Global, layout: Layout) -> Canvas {
         Canvas {
             layout,
-            head: Paper::new(alloc),
             lines: Paper::new(alloc),
             words: Paper::new(alloc),
             alloc,

@@ -1,15 +1,14 @@
 //! The picture for a terminal: a line for each row that changes what a node is.
 ghost use Rattle.std.specs.Prelude.{◌≡◌, true, IfOk, OnOk, string_bytes};
-ghost use Rattle.bully_picture.specs.Title.{Has};
-ghost use Rattle.bully_picture.specs.Told.{HasTold, IsTold, line_start};
-ghost use Rattle.bully_picture.specs.Written.{Extends, Gains, IsIn};
+ghost use Rattle.bully_picture.specs.Title.{Begins, Ends, Has};
+ghost use Rattle.bully_picture.specs.Told.{HasTold, HasToldAbove, IsTold, line_start};
+ghost use Rattle.bully_picture.specs.Written.{Extends, Gains};
 ghost use Rattle.bully_trace.specs.VerdictText.{verdict_head};
 
 use crate::paper::Paper;
 use crate::words::{decides, push_followed, push_meaning, push_row_text};
 use bully_base::{Node, OutOfMemory, Status};
 use bully_film::{FinishedFilm, NodeSnapshot, Scene, lane_of};
-use bully_trace::push_verdict_head;
 use std::alloc::Global;
 
 /// How the columns of the nodes look: a word of the status with the coordinator, where there are few; a letter with the coordinator; a
@@ -56,8 +55,8 @@ impl Form {
     // What stands behind the heads of the columns: the head of what the row changes, where that stands behind them, and of its text.
     fn back(self) -> &'static str {
         match self {
-            Form::Words | Form::Short => "what it says\n",
-            Form::Letters | Form::Changes => "  changes       what it says\n",
+            Form::Words | Form::Short => "what it says",
+            Form::Letters | Form::Changes => "  changes       what it says",
         }
     }
 
@@ -78,37 +77,29 @@ pub fn text_picture(
     finished: &FinishedFilm,
     below: &str,
 ) -> Result<String, OutOfMemory>
-    ensures verdict { IfOk result (λ text. Has (string_bytes text) (verdict_head finished.now.verdict)) }
-    ensures rows { IfOk result (λ text. HasTold (string_bytes text) finished.now.verdict finished.now.scenes.items) }
-    ensures below { IfOk result (λ text. Has (string_bytes text) below.now) }
+    ensures verdict { IfOk result (λ text. Begins (string_bytes text) (verdict_head finished.now.verdict)) }
+    ensures rows { IfOk result (λ text. HasToldAbove (string_bytes text) below.now finished.now.verdict finished.now.scenes.items) }
+    ensures below { IfOk result (λ text. Ends (string_bytes text) below.now) }
 {
-    let mut text = String::new(alloc);
-    let mut lines = Paper::new(alloc);
-    push_picture(alloc, &mut text, &mut lines, finished, below)?;
+    let mut text = lines_of(alloc, finished)?;
+    text.push_str(below)?;
     Ok(text)
 }
 
-// Writes the lines of the rows, and appends the picture that has them.
-fn push_picture(
-    alloc: Global,
-    text: &mut String,
-    lines: &mut Paper,
-    finished: &FinishedFilm,
-    below: &str,
-) -> Result<(), OutOfMemory>
-    ensures verdict { OnOk result (Has (string_bytes text.new) (verdict_head finished.now.verdict)) }
-    ensures rows { OnOk result (HasTold (string_bytes text.new) finished.now.verdict finished.now.scenes.items) }
-    ensures below { OnOk result (Has (string_bytes text.new) below.now) }
+// The verdict and the lines of the rows.
+fn lines_of(alloc: Global, finished: &FinishedFilm) -> Result<String, OutOfMemory>
+    ensures verdict { IfOk result (λ text. Begins (string_bytes text) (verdict_head finished.now.verdict)) }
+    ensures rows { IfOk result (λ text. HasTold (string_bytes text) finished.now.verdict finished.now.scenes.items) }
 {
-    push_lines(alloc, lines, finished)?;
-    push_verdict_head(text, finished.verdict)?;
-    lines.copy_to(text)?;
-    text.push_str(below)
+    let mut lines = Paper::new(alloc);
+    lines.push_verdict(finished.verdict);
+    push_lines(alloc, &mut lines, finished)?;
+    lines.into_text()
 }
 
 // Writes the lines of the rows.
 fn push_lines(alloc: Global, lines: &mut Paper, finished: &FinishedFilm) -> Result<(), OutOfMemory>
-    ensures { OnOk result (IsIn lines.new (λ text. HasTold text finished.now.verdict finished.now.scenes.items)) }
+    ensures { OnOk result (Gains lines.old lines.new (λ text. HasTold text finished.now.verdict finished.now.scenes.items)) }
 {
     let mut now = Vec::with_capacity(alloc, usize::from(finished.setup.nodes()))?;
     push_starts(alloc, &mut now, finished)?;
@@ -132,7 +123,7 @@ fn push_starts(
     Ok(())
 }
 
-// Writes the lines of the rows, before which the nodes stand so.
+// Writes the lines of the rows, before which the nodes stand so. Each line begins with the line feed of the one before it.
 fn push_rows(lines: &mut Paper, finished: &FinishedFilm, now: &mut [NodeSnapshot])
     ensures { Gains lines.old lines.new (λ text. HasTold text finished.now.verdict finished.now.scenes.items) }
 {
@@ -150,6 +141,7 @@ fn push_rows(lines: &mut Paper, finished: &FinishedFilm, now: &mut [NodeSnapshot
         }
     }
     push_quiet(lines, quiet);
+    lines.push("\n");
 }
 
 // Whether the row has a line: it changes what a node is, or it decided.
@@ -204,8 +196,8 @@ fn push_quiet(lines: &mut Paper, quiet: u32)
 {
     match quiet {
         0 => {}
-        1 => lines.push("    ... 1 row\n"),
-        _ => lines.push_number("    ... ", quiet, " rows\n"),
+        1 => lines.push("\n    ... 1 row"),
+        _ => lines.push_number("\n    ... ", quiet, " rows"),
     }
 }
 
@@ -213,6 +205,7 @@ fn push_quiet(lines: &mut Paper, quiet: u32)
 fn push_line(lines: &mut Paper, scene: &Scene, now: &[NodeSnapshot], form: Form)
     ensures { Gains lines.old lines.new (λ text. Has text (line_start scene.now.number)) }
 {
+    lines.push("\n");
     lines.push_right(scene.number);
     lines.push("  ");
     for snapshot in now {
@@ -223,7 +216,6 @@ fn push_line(lines: &mut Paper, scene: &Scene, now: &[NodeSnapshot], form: Form)
     }
     push_row_text(lines, scene);
     push_meaning(lines, scene);
-    lines.push("\n");
 }
 
 // Writes how a node stands: its status, and its coordinator where the column has room for it.

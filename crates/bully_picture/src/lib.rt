@@ -2,7 +2,8 @@
 //!
 //! It stands on bully_film, which keeps what the rows of the window show, and on the crates below it. The sentence below a row that
 //! decided is the caller's. The program relies on the verdict in the title being the one of the film, which is the
-//! trace's. How a picture looks is looked at.
+//! trace's, and on what was filmed being drawn: each row's number, each node's name, and each call. Names go in escaped. How a picture
+//! looks is looked at.
 #![tactic(auto)]
 
 mod arrows;

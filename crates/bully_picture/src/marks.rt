@@ -12,10 +12,9 @@ use crate::layout::{ASIDE, HALF, Layout, WORDS_MIN};
 use crate::paper::Paper;
 use crate::words::{decides, push_meaning, push_row_text};
 use bully_base::Node;
-use bully_film::{NodeSnapshot, Scene, Stand};
+use bully_film::{FinishedFilm, NodeSnapshot, Scene, Stand};
 use bully_rows::EventKind;
 use bully_table::Table;
-use bully_trace::Verdict;
 
 // What is said of a table that is too long to be shown.
 const LONG_TABLE: &str = "gets a table";
@@ -23,14 +22,19 @@ const LONG_TABLE: &str = "gets a table";
 // The colour of what the row that decided says.
 const DECIDED: &str = "#D55E00";
 
-/// The numbers of these rows, each at the left of its row. Their boxes are taken, so that no words lie on them.
-pub fn draw_numbers(canvas: &mut Canvas, scenes: &[Scene], verdict: Verdict) -> Paper
-    ensures { IsIn result (λ text. HasRows text verdict scenes.now) }
+/// The numbers of a film's rows, each at the left of its row. Their boxes are taken, so that no words lie on them.
+pub fn draw_numbers(canvas: &mut Canvas, finished: &FinishedFilm) -> Paper
+    ensures { IsIn result (λ text. HasRows text finished.now.verdict finished.now.scenes.items) }
 {
     let mut numbers = Paper::new(canvas.alloc);
-    for scene in scenes {
+    for scene in finished.scenes.as_slice() {
         let number = scene.number;
-        draw_number(canvas, &mut numbers, number, decides(verdict, number));
+        draw_number(
+            canvas,
+            &mut numbers,
+            number,
+            decides(finished.verdict, number),
+        );
     }
     numbers
 }

@@ -1,12 +1,12 @@
 //! The picture as a whole.
-ghost use Rattle.std.specs.Prelude.{◌≡◌, ◌+◌, ◌==◌, ◌++◌, [], codes, if◌then◌else◌, length, option_map, slice_get, IfOk, OnOk, string_bytes};
+ghost use Rattle.std.specs.Prelude.{◌≡◌, ◌==◌, ◌++◌, [], codes, if◌then◌else◌, length, option_map, slice_get, IfOk, string_bytes};
 ghost use Rattle.bully_film.specs.Film.{IsFilmOf};
 ghost use Rattle.bully_film.specs.Lane.{row_before};
 ghost use Rattle.bully_film.specs.Scene.{lane_of as lane_seen};
 ghost use Rattle.bully_film.specs.Window.{WindowState};
-ghost use Rattle.bully_picture.specs.Drawn.{HasCalls, HasLanes, HasNodes, HasRows};
-ghost use Rattle.bully_picture.specs.Title.{Has, shown_text, size_text, title_text};
-ghost use Rattle.bully_picture.specs.Written.{IsCopied, IsIn};
+ghost use Rattle.bully_picture.specs.Drawn.{HasBelow, HasCalls, HasLanes, HasNodes, HasRows, below_label};
+ghost use Rattle.bully_picture.specs.Title.{Has, IsDocument, counted_text, shown_text, size_text, title_text};
+ghost use Rattle.bully_picture.specs.Written.{Extends, Gains, IsCopied, IsIn, Writes};
 ghost use Rattle.bully_rows.specs.Trace.{Trace};
 ghost use Rattle.bully_trace.specs.VerdictText.{verdict_head};
 
@@ -19,7 +19,7 @@ use crate::paper::Paper;
 use crate::words::decides;
 use bully_base::{OutOfMemory, Setup};
 use bully_film::{FinishedFilm, Lane, lanes, row_before};
-use bully_trace::{Verdict, push_verdict_head};
+use bully_trace::Verdict;
 use std::alloc::Global;
 
 // How wide the texts of the rows are.
@@ -45,13 +45,15 @@ const LEGEND: &str = "\
 <text x=\"64\" y=\"64\" font-size=\"10\" fill=\"#555\">solid: a call; dotted: its reply; a red cross: it fails; grey: an orphan; rings: recover and move; a black bar: a Halt cuts a procedure off</text>\n";
 
 /// The picture of what a film shows, with these names over the lanes, from node 1 on, and below it this text, a line each. It is an SVG
-/// document. Refused where an allocation fails.
+/// document. Each row has its number, each node its name, or its number where it has none, and each call that a slot holds behind a
+/// row, sent or run, its arrow. Refused where an allocation fails.
 pub fn svg_picture(
     alloc: Global,
     finished: &FinishedFilm,
     names: &[&str],
     below: &str,
 ) -> Result<String, OutOfMemory>
+    ensures document { IfOk result (λ text. IsDocument (string_bytes text)) }
     ensures verdict { IfOk result (λ text. Has (string_bytes text) (verdict_head finished.now.verdict)) }
     ensures title { IfOk result (λ text. Has (string_bytes text)
         (title_text finished.now.verdict finished.now.setup.nodes finished.now.setup.partitions (row_before finished.now.scenes.items) (length finished.now.scenes.items))) }
@@ -61,99 +63,106 @@ pub fn svg_picture(
     // Of each node it has an arrow for each call in its slot.
     ensures calls { (window : WindowState) (trace : Trace) (is : IsFilmOf window finished.now trace)
         → IfOk result (λ text. HasCalls (string_bytes text) finished.now.setup.nodes (row_before finished.now.scenes.items) (λ i. lane_seen trace.setup is.before i is.shown)) }
+    ensures below { IfOk result (λ text. HasBelow (string_bytes text) below.now) }
 {
-    let mut text = String::new(alloc);
     let mut canvas = Canvas::new(alloc, Layout::of(finished));
-    push_picture(&mut text, &mut canvas, finished, names, below)?;
-    Ok(text)
+    let picture = picture_on(&mut canvas, finished, names, below);
+    picture.into_text()
 }
 
-// Draws on this canvas, and appends the document that it makes.
-fn push_picture(
-    text: &mut String,
-    canvas: &mut Canvas,
-    finished: &FinishedFilm,
-    names: &[&str],
-    below: &str,
-) -> Result<(), OutOfMemory>
-    ensures title { OnOk result (Has (string_bytes text.new)
+// The picture, drawn on this canvas.
+fn picture_on(canvas: &mut Canvas, finished: &FinishedFilm, names: &[&str], below: &str) -> Paper
+    ensures document { IsIn result IsDocument }
+    ensures title { IsIn result (λ text. Has text
         (title_text finished.now.verdict finished.now.setup.nodes finished.now.setup.partitions (row_before finished.now.scenes.items) (length finished.now.scenes.items))) }
-    ensures rows { OnOk result (HasRows (string_bytes text.new) finished.now.verdict finished.now.scenes.items) }
-    ensures nodes { OnOk result (HasNodes (string_bytes text.new) finished.now.setup.nodes (λ i. option_map (λ s. s.now) (slice_get names.now i))) }
+    ensures rows { IsIn result (λ text. HasRows text finished.now.verdict finished.now.scenes.items) }
+    ensures nodes { IsIn result (λ text. HasNodes text finished.now.setup.nodes (λ i. option_map (λ s. s.now) (slice_get names.now i))) }
     ensures calls { (window : WindowState) (trace : Trace) (is : IsFilmOf window finished.now trace)
-        → OnOk result (HasCalls (string_bytes text.new) finished.now.setup.nodes (row_before finished.now.scenes.items) (λ i. lane_seen trace.setup is.before i is.shown)) }
+        → IsIn result (λ text. HasCalls text finished.now.setup.nodes (row_before finished.now.scenes.items) (λ i. lane_seen trace.setup is.before i is.shown)) }
+    ensures below { IsIn result (λ text. HasBelow text below.now) }
 {
-    let lanes = lanes(canvas.alloc, finished)?;
-    push_lanes(text, canvas, finished, lanes.as_slice(), names, below)
+    match lanes(canvas.alloc, finished) {
+        Ok(lanes) => picture_with(canvas, finished, lanes.as_slice(), names, below),
+        Err(_) => Paper::failed(canvas.alloc),
+    }
 }
 
 // The same with these lanes.
-fn push_lanes(
-    text: &mut String,
+fn picture_with(
     canvas: &mut Canvas,
     finished: &FinishedFilm,
     lanes: &[Lane],
     names: &[&str],
     below: &str,
-) -> Result<(), OutOfMemory>
-    ensures title { OnOk result (Has (string_bytes text.new)
+) -> Paper
+    ensures document { IsIn result IsDocument }
+    ensures title { IsIn result (λ text. Has text
         (title_text finished.now.verdict finished.now.setup.nodes finished.now.setup.partitions (row_before finished.now.scenes.items) (length finished.now.scenes.items))) }
-    ensures rows { OnOk result (HasRows (string_bytes text.new) finished.now.verdict finished.now.scenes.items) }
-    ensures nodes { OnOk result (HasNodes (string_bytes text.new) finished.now.setup.nodes (λ i. option_map (λ s. s.now) (slice_get names.now i))) }
-    ensures lanes { OnOk result (HasLanes (string_bytes text.new) lanes.now) }
+    ensures rows { IsIn result (λ text. HasRows text finished.now.verdict finished.now.scenes.items) }
+    ensures nodes { IsIn result (λ text. HasNodes text finished.now.setup.nodes (λ i. option_map (λ s. s.now) (slice_get names.now i))) }
+    ensures lanes { IsIn result (λ text. HasLanes text lanes.now) }
+    ensures below { IsIn result (λ text. HasBelow text below.now) }
 {
-    push_head(&mut canvas.head, finished.verdict, &canvas.layout, below);
-    let parts = draw(canvas, finished, lanes, names);
-    push_below(&mut canvas.words, &canvas.layout, below);
-    push_parts(text, canvas, finished, &parts)
+    let parts = draw(canvas, finished, lanes, names, below);
+    let mut picture = Paper::new(canvas.alloc);
+    picture.push("<svg xmlns=\"http://www.w3.org/2000/svg\"");
+    push_head(&mut picture, &canvas.layout, finished.verdict, below);
+    push_title(&mut picture, finished);
+    push_parts(&mut picture, canvas, &parts);
+    picture.push("</svg>\n");
+    picture
 }
 
-// What a picture has of each row, of each node and of each call.
+// What a picture has of each row, of each node and of each call, and the text below it.
 #[derive(Drop)]
 struct Parts {
     numbers: Paper,
     names: Paper,
     arrows: Paper,
+    below: Paper,
 }
 
-// Draws all but the words of the title, and what stands below.
-fn draw(canvas: &mut Canvas, finished: &FinishedFilm, lanes: &[Lane], names: &[&str]) -> Parts
+// Draws all but the head of the document and its title.
+fn draw(
+    canvas: &mut Canvas,
+    finished: &FinishedFilm,
+    lanes: &[Lane],
+    names: &[&str],
+    below: &str,
+) -> Parts
     ensures rows { IsIn result.numbers (λ text. HasRows text finished.now.verdict finished.now.scenes.items) }
     ensures nodes { IsIn result.names (λ text. HasNodes text finished.now.setup.nodes (λ i. option_map (λ s. s.now) (slice_get names.now i))) }
     ensures lanes { IsIn result.arrows (λ text. HasLanes text lanes.now) }
+    ensures below { IsIn result.below (λ text. HasBelow text below.now) }
 {
     canvas.lines.push(LEGEND);
-    let numbers = draw_numbers(canvas, finished.scenes.as_slice(), finished.verdict);
+    let numbers = draw_numbers(canvas, finished);
     draw_rows(canvas, finished);
     let arrows = draw_lanes(canvas, lanes);
     let names = draw_names(canvas.alloc, &canvas.layout, &finished.setup, names);
+    let below = draw_below(canvas.alloc, &canvas.layout, below);
     Parts {
         numbers,
         names,
         arrows,
+        below,
     }
 }
 
-// Appends the document: its head and title, lines and bars, and above them arrows and words.
-fn push_parts(
-    text: &mut String,
-    canvas: &Canvas,
-    finished: &FinishedFilm,
-    parts: &Parts,
-) -> Result<(), OutOfMemory>
-    ensures title { OnOk result (Has (string_bytes text.new)
-        (title_text finished.now.verdict finished.now.setup.nodes finished.now.setup.partitions (row_before finished.now.scenes.items) (length finished.now.scenes.items))) }
-    ensures numbers { OnOk result (IsCopied parts.now.numbers (string_bytes text.new)) }
-    ensures names { OnOk result (IsCopied parts.now.names (string_bytes text.new)) }
-    ensures arrows { OnOk result (IsCopied parts.now.arrows (string_bytes text.new)) }
+// Writes what was drawn: lines and bars, above them arrows and words, and the text below.
+fn push_parts(picture: &mut Paper, canvas: &Canvas, parts: &Parts)
+    ensures extends { Extends picture.old picture.new }
+    ensures numbers { IsIn picture.new (IsCopied parts.now.numbers) }
+    ensures names { IsIn picture.new (IsCopied parts.now.names) }
+    ensures arrows { IsIn picture.new (IsCopied parts.now.arrows) }
+    ensures below { IsIn picture.new (IsCopied parts.now.below) }
 {
-    canvas.head.copy_to(text)?;
-    push_title(text, finished)?;
-    canvas.lines.copy_to(text)?;
-    parts.arrows.copy_to(text)?;
-    parts.numbers.copy_to(text)?;
-    parts.names.copy_to(text)?;
-    canvas.words.copy_to(text)
+    picture.push_paper(&canvas.lines);
+    picture.push_paper(&parts.arrows);
+    picture.push_paper(&parts.numbers);
+    picture.push_paper(&parts.names);
+    picture.push_paper(&canvas.words);
+    picture.push_paper(&parts.below);
 }
 
 // Draws what stands at each row.
@@ -195,17 +204,18 @@ fn height_of(layout: &Layout, below: &str) -> u32 {
         .saturating_add(40)
 }
 
-// Writes the head of the document, up to the words of the title.
-fn push_head(head: &mut Paper, verdict: Verdict, layout: &Layout, below: &str) {
+// Writes the head of the document behind its first word, up to the words of the title.
+fn push_head(picture: &mut Paper, layout: &Layout, verdict: Verdict, below: &str)
+    ensures { Extends picture.old picture.new }
+{
     let width = width_of(layout);
     let height = height_of(layout, below);
-    head.push("<svg xmlns=\"http://www.w3.org/2000/svg\"");
-    head.push_attribute("width", width);
-    head.push_attribute("height", height);
-    head.push_point(" viewBox=\"0 0 ", width, height);
-    head.push("\" font-family=\"DejaVu Sans, sans-serif\">\n");
-    head.push(MARKERS);
-    head.push(title_start(verdict));
+    picture.push_attribute("width", width);
+    picture.push_attribute("height", height);
+    picture.push_point(" viewBox=\"0 0 ", width, height);
+    picture.push("\" font-family=\"DejaVu Sans, sans-serif\">\n");
+    picture.push(MARKERS);
+    picture.push(title_start(verdict));
 }
 
 // What stands before the words of the title.
@@ -218,33 +228,37 @@ fn title_start(verdict: Verdict) -> &'static str {
     }
 }
 
-// Appends the words of the title: the verdict, how large the group is, and which rows are shown.
-fn push_title(text: &mut String, finished: &FinishedFilm) -> Result<(), OutOfMemory>
-    ensures { OnOk result (string_bytes text.new ≡ string_bytes text.old
-        ++ title_text finished.now.verdict finished.now.setup.nodes finished.now.setup.partitions (row_before finished.now.scenes.items) (length finished.now.scenes.items)) }
+// Writes the words of the title: the verdict, how large the group is, and which rows are shown.
+fn push_title(picture: &mut Paper, finished: &FinishedFilm)
+    ensures { Writes picture.old picture.new
+        (title_text finished.now.verdict finished.now.setup.nodes finished.now.setup.partitions (row_before finished.now.scenes.items) (length finished.now.scenes.items)) }
 {
-    push_verdict_head(text, finished.verdict)?;
-    push_size(text, &finished.setup)?;
+    picture.push_verdict(finished.verdict);
+    push_size(picture, &finished.setup);
     push_shown(
-        text,
+        picture,
         row_before(finished.scenes.as_slice()),
         finished.scenes.len(),
-    )?;
-    text.push(')')
+    );
+    picture.push(")");
 }
 
-// Appends how large the group is.
-fn push_size(text: &mut String, setup: &Setup) -> Result<(), OutOfMemory>
-    ensures { OnOk result (string_bytes text.new ≡ string_bytes text.old ++ size_text setup.now.nodes setup.now.partitions) }
+// Writes how large the group is.
+fn push_size(picture: &mut Paper, setup: &Setup)
+    ensures { Writes picture.old picture.new (size_text setup.now.nodes setup.now.partitions) }
 {
-    let nodes = setup.nodes();
-    let partitions = setup.partitions();
-    let more_nodes = plural(nodes);
-    let more_partitions = plural(partitions);
-    write!(
-        text,
-        " ({nodes} node{more_nodes}, {partitions} partition{more_partitions}, "
-    )
+    push_counted(picture, " (", setup.nodes(), "node");
+    push_counted(picture, ", ", setup.partitions(), "partition");
+    picture.push(", ");
+}
+
+// Writes how many there are behind these words, and the word for what is counted.
+fn push_counted(picture: &mut Paper, before: &'static str, count: u16, word: &'static str)
+    ensures { Writes picture.old picture.new (before.now ++ counted_text count word.now) }
+{
+    picture.push_number(before, u32::from(count), " ");
+    picture.push(word);
+    picture.push(plural(count));
 }
 
 // What stands behind the word for what is counted.
@@ -254,28 +268,31 @@ fn plural(count: u16) -> &'static str
     if count == 1 { "" } else { "s" }
 }
 
-// Appends which rows are shown: so many behind this one.
-fn push_shown(text: &mut String, before: u32, count: usize) -> Result<(), OutOfMemory>
-    ensures { OnOk result (string_bytes text.new ≡ string_bytes text.old ++ shown_text before count) }
+// Writes which rows are shown: so many behind this one.
+fn push_shown(picture: &mut Paper, before: u32, count: usize)
+    ensures { Writes picture.old picture.new (shown_text before count) }
 {
     if count == 0 {
-        return text.push_str("no rows");
+        picture.push("no rows");
+        return;
     }
     let before = u128::from(before);
-    let first = before + 1;
-    let last = before + count as u128;
-    write!(text, "rows {first} to {last}")
+    picture.push_count("rows ", before + 1, " to ");
+    picture.push_count("", before + count as u128, "");
 }
 
-// Writes the lines below the picture, and the end of the document.
-fn push_below(words: &mut Paper, layout: &Layout, below: &str) {
+// The lines below the picture.
+fn draw_below(alloc: Global, layout: &Layout, below: &str) -> Paper
+    ensures { IsIn result (λ text. HasBelow text below.now) }
+{
     let letters = letters_below(layout);
+    let mut paper = Paper::new(alloc);
     let mut y = layout.bottom().saturating_add(ROW + 8);
     for line in below.lines() {
-        push_line_below(words, line, y, letters);
+        draw_line_below(&mut paper, line, y, letters);
         y = y.saturating_add(ROW);
     }
-    words.push("</svg>\n");
+    paper
 }
 
 // How many letters a line below the picture has room for.
@@ -283,18 +300,21 @@ fn letters_below(layout: &Layout) -> usize {
     (width_of(layout).saturating_sub(80) / 8) as usize
 }
 
-// Writes a line below the picture; where it is longer than this, its start, and all of it where the pointer rests.
-fn push_line_below(words: &mut Paper, line: &str, y: u32, letters: usize) {
-    words.push_number(
+// Draws a line below the picture; where it is longer than this, its start, and all of it where the pointer rests.
+fn draw_line_below(paper: &mut Paper, line: &str, y: u32, letters: usize)
+    ensures { Gains paper.old paper.new (λ text. Has text (below_label letters line.now)) }
+{
+    paper.push_number(
         "<text x=\"64\" y=\"",
         y,
-        "\" font-size=\"12\" font-family=\"DejaVu Sans Mono, monospace\" fill=\"#D55E00\" xml:space=\"preserve\">",
+        "\" font-size=\"12\" font-family=\"DejaVu Sans Mono, monospace\" fill=\"#D55E00\"",
     );
-    words.push_start(line, letters);
+    paper.push(" xml:space=\"preserve\">");
+    paper.push_start(line, letters);
     if line.len() > letters {
-        words.push("<title>");
-        words.push_escaped(line);
-        words.push("</title>");
+        paper.push("<title>");
+        paper.push_escaped(line);
+        paper.push("</title>");
     }
-    words.push("</text>\n");
+    paper.push("</text>\n");
 }

@@ -1,12 +1,14 @@
 //! What pictures are written on.
-ghost use Rattle.std.specs.Prelude.{◌≡◌, ℕ, List, ◌++◌, codes, false, length, string_bytes, true, OnOk};
+ghost use Rattle.std.specs.Prelude.{◌≡◌, ℕ, List, ◌++◌, codes, false, is_err, length, string_bytes, true, IfOk, OnOk};
 ghost use Rattle.std.specs.Fmt.{decimal};
 ghost use Rattle.std.specs.Str.{chars};
 ghost use Rattle.bully_picture.specs.Escaping.{escaped, shortened};
 ghost use Rattle.bully_picture.specs.Written.{Writes, Written, attribute_text, blank, right_text};
+ghost use Rattle.bully_trace.specs.VerdictText.{verdict_head};
 
 use crate::escaping::{push_escaped, push_start};
 use bully_base::{Node, OutOfMemory};
+use bully_trace::{Verdict, push_verdict_head};
 use std::alloc::{AllocError, Global};
 use std::marker::Model;
 
@@ -39,6 +41,16 @@ impl Paper {
         }
     }
 
+    /// One for which memory was wanting.
+    pub fn failed(alloc: Global) -> Paper
+        ensures { result.has_failed ≡ true }
+    {
+        Paper {
+            text: String::new(alloc),
+            has_failed: true,
+        }
+    }
+
     /// What was written, as far as there was memory for it.
     pub fn as_str(&self) -> &str
         ensures { result.now ≡ self.now.text }
@@ -60,15 +72,15 @@ impl Paper {
         self.has_failed
     }
 
-    /// Appends what was written to a text. Refused where memory was wanting, or is now.
-    pub fn copy_to(&self, text: &mut String) -> Result<(), OutOfMemory>
-        ensures whole { OnOk result (self.now.has_failed ≡ false) }
-        ensures copied { OnOk result (string_bytes text.new ≡ string_bytes text.old ++ self.now.text) }
+    /// The text. Refused where memory was wanting.
+    pub fn into_text(self) -> Result<String, OutOfMemory>
+        ensures whole { IfOk result (λ text. self.has_failed ≡ false) }
+        ensures text { IfOk result (λ text. string_bytes text ≡ self.text) }
     {
         if self.has_failed {
             return Err(AllocError);
         }
-        text.push_str(self.text.as_str())
+        Ok(self.text)
     }
 
     /// Notes that memory was wanting.
@@ -83,6 +95,23 @@ impl Paper {
         ensures { Writes self.old self.new words.now }
     {
         let written = self.text.push_str(words);
+        self.note(written);
+    }
+
+    /// Writes the line of a verdict.
+    pub fn push_verdict(&mut self, verdict: Verdict)
+        ensures { Writes self.old self.new (verdict_head verdict) }
+    {
+        let written = push_verdict_head(&mut self.text, verdict);
+        self.note(written);
+    }
+
+    /// Writes what stands on another paper. Where memory was wanting there, it is wanting here.
+    pub fn push_paper(&mut self, paper: &Paper)
+        ensures copied { Writes self.old self.new paper.now.text }
+        ensures whole { self.new.has_failed ≡ false → paper.now.has_failed ≡ false }
+    {
+        let written = paper.copy_to(&mut self.text);
         self.note(written);
     }
 
@@ -104,6 +133,14 @@ impl Paper {
 
     /// Writes a number between these words.
     pub fn push_number(&mut self, before: &'static str, number: u32, behind: &'static str)
+        ensures { Writes self.old self.new (before.now ++ decimal number ++ behind.now) }
+    {
+        let written = write!(self.text, "{before}{number}{behind}");
+        self.note(written);
+    }
+
+    /// The same of a number of any size.
+    pub fn push_count(&mut self, before: &'static str, number: u128, behind: &'static str)
         ensures { Writes self.old self.new (before.now ++ decimal number ++ behind.now) }
     {
         let written = write!(self.text, "{before}{number}{behind}");
@@ -141,9 +178,21 @@ impl Paper {
         self.note(written);
     }
 
+    // Appends what was written to a text. Refused where memory was wanting, or is now.
+    fn copy_to(&self, text: &mut String) -> Result<(), OutOfMemory>
+        ensures whole { OnOk result (self.now.has_failed ≡ false) }
+        ensures copied { OnOk result (string_bytes text.new ≡ string_bytes text.old ++ self.now.text) }
+    {
+        if self.has_failed {
+            return Err(AllocError);
+        }
+        text.push_str(self.text.as_str())
+    }
+
     // Notes how a write went: behind what stood before it, this part.
     fn note(&mut self, written: Result<(), OutOfMemory>)
-        ensures { (before : Written) (part : List ℕ) → before.has_failed ≡ self.old.has_failed → OnOk written (self.old.text ≡ before.text ++ part) → Writes before self.new part }
+        ensures went { self.new.has_failed ≡ false → is_err written ≡ false }
+        ensures writes { (before : Written) (part : List ℕ) → before.has_failed ≡ self.old.has_failed → OnOk written (self.old.text ≡ before.text ++ part) → Writes before self.new part }
     {
         self.has_failed |= written.is_err();
     }

@@ -2,6 +2,7 @@ use Rattle.std.proofs.Common.{take, subst, sym, ◌+◌}
 use Rattle.bully_picture.specs.Told.{HasTold}
 use Rattle.bully_picture.specs.Written.{Gains}
 use Rattle.bully_picture.proofs.ToldLemmas.{told-all, told-line, told-none}
+use Rattle.bully_picture.proofs.WrittenLemmas.{extends-then, extends-written}
 use Rattle.bully_picture.proofs.columns.push_rows.Goals as goal
 use Rattle.bully_picture.proofs.columns.push_rows.Goals.{then-speaks, else-speaks}
 
@@ -21,5 +22,5 @@ loop-scene-preserved c =
 
 pub returns : goal.returns
 returns c =
-    told-all c.args.finished.now.verdict c.as_slice-scene-items.result.now c.args.finished.now.scenes.items c.loop-scene.scene-index c.args.lines.now c.push_names.new.lines c.loop-scene.lines c.push_quiet-2.new.lines
-    c.loop-scene-test.false c.as_slice-scene-items.ensures.value c.push_names.ensures c.loop-scene.invariant c.push_quiet-2.ensures
+    told-all c.args.finished.now.verdict c.as_slice-scene-items.result.now c.args.finished.now.scenes.items c.loop-scene.scene-index c.args.lines.now c.push_names.new.lines c.loop-scene.lines c.push.new.self
+    c.loop-scene-test.false c.as_slice-scene-items.ensures.value c.push_names.ensures c.loop-scene.invariant (extends-then c.push_quiet-2.ensures (extends-written c.push.ensures))

@@ -4,4 +4,4 @@ use Rattle.bully_picture.specs.Written.{IsIn}
 use Rattle.bully_picture.proofs.marks.draw_numbers.Given as goal
 
 abbrev pub invariant-loop-scene : goal.invariant-loop-scene
-invariant-loop-scene l = IsIn l.numbers (λ text. HasRows text l.verdict (take l.scene-index l.scenes))
+invariant-loop-scene l = IsIn l.numbers (λ text. HasRows text l.finished.verdict (take l.scene-index l.scene-items))

@@ -1,12 +1,49 @@
--- The title begins with the verdict's line.
-use Rattle.std.proofs.Common.{length, string_bytes, rules}
+-- What stands on the picture stands in its text. The title begins with the verdict's line.
+use Rattle.std.proofs.Common.{length, string_bytes}
+use Rattle.std.specs.Prelude.{option_map, slice_get}
 use Rattle.bully_film.specs.Lane.{row_before}
-use Rattle.bully_picture.specs.Title.{Has, title_text}
+use Rattle.bully_film.specs.Scene.{lane_of}
+use Rattle.bully_picture.specs.Drawn.{HasBelow, HasCalls, HasNodes, HasRows}
+use Rattle.bully_picture.specs.Title.{Has, IsDocument, title_text}
+use Rattle.bully_trace.specs.VerdictText.{verdict_head}
 use Rattle.bully_picture.proofs.TitleLemmas.{has-verdict}
+use Rattle.bully_picture.proofs.WrittenLemmas.{in-text}
 use Rattle.bully_picture.proofs.page.svg_picture.Goals as goal
+
+pub returns-clause-document : goal.returns-clause-document
+returns-clause-document c =
+    in-text string_bytes c.picture_on-picture.result IsDocument c.into_text.result c.into_text.ensures.whole c.into_text.ensures.text c.picture_on-picture.ensures.document
 
 pub returns-clause-verdict : goal.returns-clause-verdict
 returns-clause-verdict c =
     let finished = c.args.finished.now in
-    let titled : Has (string_bytes c.push_picture.new.text) (title_text finished.verdict finished.setup.nodes finished.setup.partitions (row_before finished.scenes.items) (length finished.scenes.items)) = search rules in
-    has-verdict (string_bytes c.push_picture.new.text) finished.verdict finished.setup.nodes finished.setup.partitions (row_before finished.scenes.items) (length finished.scenes.items) titled
+    in-text string_bytes c.picture_on-picture.result (λ text. Has text (verdict_head finished.verdict)) c.into_text.result c.into_text.ensures.whole c.into_text.ensures.text
+    (λ good. has-verdict c.picture_on-picture.result.text finished.verdict finished.setup.nodes finished.setup.partitions (row_before finished.scenes.items) (length finished.scenes.items)
+    (c.picture_on-picture.ensures.title good))
+
+pub returns-clause-title : goal.returns-clause-title
+returns-clause-title c =
+    let finished = c.args.finished.now in
+    in-text string_bytes c.picture_on-picture.result
+    (λ text. Has text (title_text finished.verdict finished.setup.nodes finished.setup.partitions (row_before finished.scenes.items) (length finished.scenes.items)))
+    c.into_text.result c.into_text.ensures.whole c.into_text.ensures.text c.picture_on-picture.ensures.title
+
+pub returns-clause-rows : goal.returns-clause-rows
+returns-clause-rows c =
+    in-text string_bytes c.picture_on-picture.result (λ text. HasRows text c.args.finished.now.verdict c.args.finished.now.scenes.items)
+    c.into_text.result c.into_text.ensures.whole c.into_text.ensures.text c.picture_on-picture.ensures.rows
+
+pub returns-clause-nodes : goal.returns-clause-nodes
+returns-clause-nodes c =
+    in-text string_bytes c.picture_on-picture.result (λ text. HasNodes text c.args.finished.now.setup.nodes (λ i. option_map (λ s. s.now) (slice_get c.args.names.now i)))
+    c.into_text.result c.into_text.ensures.whole c.into_text.ensures.text c.picture_on-picture.ensures.nodes
+
+pub returns-clause-calls : goal.returns-clause-calls
+returns-clause-calls c = λ window trace is.
+    in-text string_bytes c.picture_on-picture.result
+    (λ text. HasCalls text c.args.finished.now.setup.nodes (row_before c.args.finished.now.scenes.items) (λ i. lane_of trace.setup is.before i is.shown))
+    c.into_text.result c.into_text.ensures.whole c.into_text.ensures.text (c.picture_on-picture.ensures.calls window trace is)
+
+pub returns-clause-below : goal.returns-clause-below
+returns-clause-below c =
+    in-text string_bytes c.picture_on-picture.result (λ text. HasBelow text c.args.below.now) c.into_text.result c.into_text.ensures.whole c.into_text.ensures.text c.picture_on-picture.ensures.below
