@@ -35,10 +35,10 @@ pub taken-more : (rows : List Row) (row : Row) (setup : Setup) (judge after : Ju
     → HasTaken setup rows (record { judge = judge; stop = stop; memories = memories })
     → HasJudged setup (rows ++ row ∷ []) after
     → IfSome stop' (λ s. IsRowAt (rows ++ row ∷ []) s.number s.row)
-    → (AreRemembered (rows ++ row ∷ []) 1 memories → AreRemembered (rows ++ row ∷ []) 1 memories')
+    → (AreRemembered setup (rows ++ row ∷ []) 1 memories → AreRemembered setup (rows ++ row ∷ []) 1 memories')
     → HasTaken setup (rows ++ row ∷ []) (record { judge = after; stop = stop'; memories = memories' })
 taken-more rows row setup judge after stop stop' memories memories' taken judged decided turns =
-    record { judged = judged; decided = decided; remembered = turns (remembered-more rows row 1 memories taken.remembered) }
+    record { judged = judged; decided = decided; remembered = turns (remembered-more setup rows row 1 memories taken.remembered) }
 
 -- the judge's part of what was taken
 pub judged-so-far : (known : Option (List ℕ)) (reader : ReadSoFar) (account : Option AccountState) → AreTakenSoFar known reader account

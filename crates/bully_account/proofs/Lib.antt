@@ -4,4 +4,5 @@ pub mod MemoryLemmas
 pub mod PossibleLemmas
 pub mod RowsLemmas
 pub mod ShownLemmas
+pub mod StepLemmas
 pub mod ToldLemmas

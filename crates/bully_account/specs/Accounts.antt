@@ -40,7 +40,7 @@ pub record IsAccount (judge : JudgeState) (stop : Option Stop) (memories : List 
 pub record HasTaken (setup : Setup) (rows : List Row) (account : AccountState) : Type 0 where
   pub judged : HasJudged setup rows account.judge
   pub decided : IfSome account.stop (λ s. IsRowAt rows s.number s.row)
-  pub remembered : AreRemembered rows 1 account.memories
+  pub remembered : AreRemembered setup rows 1 account.memories
 
 -- the account begins behind a header of these fields
 abbrev pub Begins : Record → AccountState → Type 0

@@ -1,4 +1,5 @@
-ghost use Rattle.std.specs.Prelude.{◌≡◌, None, IfSome, IsSomeAnd};
+ghost use Rattle.std.specs.Prelude.{◌≡◌, ◌-◌, None, IfSome, IsSomeAnd};
+ghost use Rattle.bully_account.specs.Lines.{ends_line, start_line};
 
 use crate::lines::{Lines, line_of};
 use crate::memory::Memories;
@@ -9,6 +10,7 @@ use bully_base::{Node, OutOfMemory};
 use bully_rows::{Header, Row, RowReader, Version};
 use bully_trace::{Judge, Verdict};
 use bully_world::World;
+use csv::Position;
 use std::alloc::Global;
 use std::io::Read;
 use std::marker::Model;
@@ -76,7 +78,7 @@ impl Account {
         let moves = moves_point_by(self.judge.world(), &row);
         self.judge.take_row(number, &row);
         if self.judge.stopped().is_some() {
-            keep(&mut self.stop, rows, row);
+            keep(&mut self.stop, rows, rows.source(), rows.end(), row);
         } else {
             self.memories
                 .take_row(self.judge.world(), number, &row, moves);
@@ -126,22 +128,29 @@ impl Account {
     pub fn memory(&self, node: Node) -> Option<&Memory>
         ensures memory { option_copied result ≡ slice_get self.now.memories (node - 1) }
         ensures none { IsNone result ↔ (self.now.judge.world.setup.nodes < node) }
-        ensures rows { (setup : SetupState) (rows : List RowState) → HasTaken setup rows self.now → IfSome result (λ memory. IsRemembered rows node memory.now) }
+        ensures rows { (setup : SetupState) (rows : List RowState) → HasTaken setup rows self.now → IfSome result (λ memory. IsRemembered setup rows node memory.now) }
     {
         self.memories.of(node)
     }
 }
 
-// Keeps the row that was read last as the one that decided, where none was kept yet.
-fn keep<R: Read + Drop>(stop: &mut Option<Stop>, rows: &RowReader<Lines<R>>, row: Row)
+// Keeps the row that was read last as the one that decided, where none was kept yet. It ends at this place of what the source gave.
+fn keep<R: Read + Drop>(
+    stop: &mut Option<Stop>,
+    rows: &RowReader<Lines<R>>,
+    source: &Lines<R>,
+    end: Position,
+    row: Row,
+)
     ensures kept { stop.old ≡ None → IsSomeAnd stop.new (λ s. (s.number ≡ rows.now.number) × (s.row ≡ row)) }
+    ensures line { stop.old ≡ None → IsSomeAnd stop.new (λ s. s.line ≡ start_line end.line (ends_line source.now (end.byte - 1)) rows.now.fields) }
     ensures other { IfSome stop.old (λ s. stop.new ≡ stop.old) }
 {
     if stop.is_some() {
         return;
     }
     let number = rows.number();
-    let line = line_of(rows.source(), rows.end(), rows.fields());
+    let line = line_of(source, end, rows.fields());
     *stop = Some(Stop { number, line, row });
 }
 

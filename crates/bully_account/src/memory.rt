@@ -1,8 +1,11 @@
 ghost use Rattle.std.specs.Prelude.{◌≡◌, ◌+◌, ◌<◌, ◌≤◌, List, OnOk, remove, vec_capacity, vec_len};
+ghost use Rattle.bully_base.specs.Setup.{Setup as SetupState};
 ghost use Rattle.bully_calls.specs.Events.{node_of};
-ghost use Rattle.bully_account.specs.Remembered.{noted};
-ghost use Rattle.bully_account.specs.RowsOf.{AreRemembered, IsDoneBy};
+ghost use Rattle.bully_world.specs.World.{World as WorldView};
 ghost use Rattle.bully_rows.specs.declared.trace.Row.{Row as RowState};
+ghost use Rattle.bully_trace.specs.Details.{call_at};
+ghost use Rattle.bully_account.specs.Remembered.{noted};
+ghost use Rattle.bully_account.specs.RowsOf.{AreRemembered, HasStarted, IsDoneBy};
 
 use crate::moving::is_idle;
 use crate::{EventKind, ROWS_KEPT};
@@ -10,6 +13,7 @@ use bully_base::{Node, OutOfMemory, Setup};
 use bully_calls::{Call, CallKind};
 use bully_rows::Row;
 use bully_table::{Table, TableRoom};
+use bully_trace::call_at;
 use bully_world::{Event, World};
 use std::alloc::Global;
 use std::marker::Model;
@@ -154,7 +158,7 @@ fn forget_first(notes: &mut Vec<Note>)
 
 // What the event did to its node, in whose slot this call is afterwards.
 fn what_of(event: &Event, call: Option<Call>) -> What
-    ensures { IsDoneBy (node_of event.now) event.now result }
+    ensures { (w : WorldView) → HasStarted w event.now → call ≡ call_at w (node_of event.now) → IsDoneBy w (node_of event.now) event.now result }
 {
     match event {
         Event::Start(_) => match call {
@@ -175,12 +179,13 @@ impl Memories {
     ghost use Rattle.std.specs.Prelude.{◌-◌, ◌↔◌, ℕ, IfOk, IsNone, slice_get};
     ghost use Rattle.std.specs.Option.{option_copied};
     ghost use Rattle.bully_calls.specs.declared.event.Event.{Event as EventState};
-    ghost use Rattle.bully_account.specs.RowsOf.{IsEventAt, IsNoteOf, IsRowAt};
+    ghost use Rattle.bully_world.specs.State.{world_of};
+    ghost use Rattle.bully_account.specs.RowsOf.{IsEventAt, IsNoteOf, IsStepAt, IsTakenAt};
 
     /// Before any row. Refused where an allocation fails.
     pub fn new(alloc: Global, setup: &Setup) -> Result<Memories, OutOfMemory>
         ensures count { IfOk result (λ m. vec_len m.nodes ≡ setup.now.nodes) }
-        ensures remembered { IfOk result (λ m. (rows : List RowState) → AreRemembered rows 1 m.nodes.items) }
+        ensures remembered { IfOk result (λ m. (s : SetupState) (rows : List RowState) → AreRemembered s rows 1 m.nodes.items) }
     {
         let mut nodes = Vec::with_capacity(alloc, usize::from(setup.nodes()))?;
         for _ in 0..setup.nodes() {
@@ -202,7 +207,7 @@ impl Memories {
     /// told, it did if the node isn't idle now. A Halt that ran is remembered of the callee, too, and a claim of nobody.
     pub fn take_row(&mut self, world: &World, number: u32, row: &Row, moves: Option<bool>)
         ensures count { vec_len self.new.nodes ≡ vec_len self.old.nodes }
-        ensures remembered { (rows : List RowState) → IsRowAt rows number row.now → AreRemembered rows 1 self.old.nodes.items → AreRemembered rows 1 self.new.nodes.items }
+        ensures remembered { (setup : SetupState) (rows : List RowState) → IsTakenAt setup rows number row.now (world_of world.now) → AreRemembered setup rows 1 self.old.nodes.items → AreRemembered setup rows 1 self.new.nodes.items }
     {
         match row {
             Row::Event(event) => self.take_event(world, number, event, moves),
@@ -214,7 +219,7 @@ impl Memories {
     // Remembers the event of this row.
     fn take_event(&mut self, world: &World, row: u32, event: &Event, moves: Option<bool>)
         ensures count { vec_len self.new.nodes ≡ vec_len self.old.nodes }
-        ensures remembered { (rows : List RowState) → IsEventAt rows row event.now → AreRemembered rows 1 self.old.nodes.items → AreRemembered rows 1 self.new.nodes.items }
+        ensures remembered { (setup : SetupState) (rows : List RowState) → IsStepAt setup rows row event.now (world_of world.now) → AreRemembered setup rows 1 self.old.nodes.items → AreRemembered setup rows 1 self.new.nodes.items }
     {
         let node = event.node();
         if node.number() > world.setup().nodes() {
@@ -224,13 +229,13 @@ impl Memories {
             Some(moves) => moves,
             None => !is_idle(world, node),
         };
-        let call = world.slot(node).call();
+        let call = call_at(world, node);
         let what = what_of(event, call);
         self.note(node, &Note { row, what, moved });
         match event {
             Event::Start(_) => self.start(node, row),
             Event::Run(_) => {
-                let ran = world.slot(node).call();
+                let ran = call_at(world, node);
                 self.halt(node, ran, row);
             }
             Event::Plan(_, table) => self.plan(node, table),
@@ -238,15 +243,16 @@ impl Memories {
         }
     }
 
-    // The call of the caller ran in this row: a Halt stopped its callee.
+    // The call of the caller, which is in its slot, ran in this row: a Halt stopped its callee.
     fn halt(&mut self, caller: Node, call: Option<Call>, row: u32)
         ensures count { vec_len self.new.nodes ≡ vec_len self.old.nodes }
-        ensures remembered { (rows : List RowState) → IsEventAt rows row (EventState.Run caller) → AreRemembered rows 1 self.old.nodes.items → AreRemembered rows 1 self.new.nodes.items }
+        ensures remembered { (setup : SetupState) (rows : List RowState) (w : WorldView) → IsStepAt setup rows row (EventState.Run caller) w → call ≡ call_at w caller
+            → AreRemembered setup rows 1 self.old.nodes.items → AreRemembered setup rows 1 self.new.nodes.items }
     {
         let Some(call) = call else {
             return;
         };
-        if call.kind == CallKind::Halt {
+        if let CallKind::Halt = call.kind {
             let what = What::HaltedBy(caller);
             let moved = true;
             self.note(call.callee, &Note { row, what, moved });
@@ -256,7 +262,7 @@ impl Memories {
     // One more row of the node.
     fn note(&mut self, node: Node, note: &Note)
         ensures count { vec_len self.new.nodes ≡ vec_len self.old.nodes }
-        ensures remembered { (rows : List RowState) → IsNoteOf rows node note.now → AreRemembered rows 1 self.old.nodes.items → AreRemembered rows 1 self.new.nodes.items }
+        ensures remembered { (setup : SetupState) (rows : List RowState) → IsNoteOf setup rows node note.now → AreRemembered setup rows 1 self.old.nodes.items → AreRemembered setup rows 1 self.new.nodes.items }
     {
         let place = usize::from(node.number() - 1);
         if place < self.nodes.len() {
@@ -267,7 +273,7 @@ impl Memories {
     // The node started a call in this row.
     fn start(&mut self, node: Node, row: u32)
         ensures count { vec_len self.new.nodes ≡ vec_len self.old.nodes }
-        ensures remembered { (rows : List RowState) → IsEventAt rows row (EventState.Start node) → AreRemembered rows 1 self.old.nodes.items → AreRemembered rows 1 self.new.nodes.items }
+        ensures remembered { (setup : SetupState) (rows : List RowState) → IsEventAt rows row (EventState.Start node) → AreRemembered setup rows 1 self.old.nodes.items → AreRemembered setup rows 1 self.new.nodes.items }
     {
         let place = usize::from(node.number() - 1);
         if place < self.nodes.len() {
@@ -278,7 +284,7 @@ impl Memories {
     // The node planned this table in some row.
     fn plan(&mut self, node: Node, table: &Table)
         ensures count { vec_len self.new.nodes ≡ vec_len self.old.nodes }
-        ensures remembered { (rows : List RowState) (row : ℕ) → IsEventAt rows row (EventState.Plan node table.now) → AreRemembered rows 1 self.old.nodes.items → AreRemembered rows 1 self.new.nodes.items }
+        ensures remembered { (setup : SetupState) (rows : List RowState) (row : ℕ) → IsEventAt rows row (EventState.Plan node table.now) → AreRemembered setup rows 1 self.old.nodes.items → AreRemembered setup rows 1 self.new.nodes.items }
     {
         let place = usize::from(node.number() - 1);
         if place < self.nodes.len() {
@@ -290,7 +296,7 @@ impl Memories {
 // Appends what is remembered of one more node before any row.
 fn push_memory(alloc: Global, nodes: &mut Vec<Memory>, setup: &Setup) -> Result<(), OutOfMemory>
     ensures count { OnOk result (vec_len nodes.new ≡ vec_len nodes.old + 1) }
-    ensures remembered { OnOk result ((rows : List RowState) → AreRemembered rows 1 nodes.old.items → AreRemembered rows 1 nodes.new.items) }
+    ensures remembered { OnOk result ((s : SetupState) (rows : List RowState) → AreRemembered s rows 1 nodes.old.items → AreRemembered s rows 1 nodes.new.items) }
 {
     nodes.push(Memory::new(alloc, setup)?)?;
     Ok(())

@@ -1,2 +1,3 @@
 pub mod ConfigLemmas
+pub mod DraftLemmas
 pub mod ShownLemmas

@@ -1,10 +1,13 @@
 -- Letters are shown one by one.
-use Rattle.std.proofs.Common.{◌≡◌, ◌∙◌, ℕ, ◌+◌, ◌<◌, ◌++◌, Bool, true, false, List, [], ◌∷◌, length, take, get_or, refl, sym, ap, arith}
+use Rattle.std.proofs.Common.{◌≡◌, ◌∙◌, ℕ, ◌+◌, ◌<◌, ◌≤◌, ◌++◌, Bool, true, false, List, [], ◌∷◌, length, take, get_or, refl, sym, ap, subst, arith}
 use Rattle.std.specs.Prelude.{map, encode_utf8}
-use Rattle.std.specs.Str.{encode_utf8_all}
+use Rattle.std.specs.Str.{IsUtf8, chars, encode_utf8_all}
 use Rattle.std.proofs.lemmas.List.{append_assoc, append-nil, map-append, take_all, take_more}
-use Rattle.std.proofs.lemmas.Str.{encodes-append}
-use Rattle.bully_explain.specs.Shown.{AllPlain, is_control, shown_letter}
+use Rattle.std.proofs.lemmas.Bool.{and_from, and_parts}
+use Rattle.std.proofs.lemmas.Bool.Decides.{nat_tests}
+use Rattle.std.proofs.lemmas.Str.{chars-encodes, encode_ascii, encodes-append, scalars-chars}
+use lib.Utf8.{scalar, scalars}
+use Rattle.bully_explain.specs.Shown.{AllPlain, AllPrinted, is_control, is_printed, shown, shown_byte, shown_letter}
 
 shown-one : (cs : List ℕ) (c : ℕ) → encode_utf8_all (map shown_letter (cs ++ c ∷ [])) ≡ encode_utf8_all (map shown_letter cs) ++ encode_utf8 (shown_letter c)
 shown-one cs c =
@@ -30,6 +33,49 @@ letter-plain c true is = rw is refl
 letter-plain c false is = rw is is
 
 -- and so are all
-pub shown-plain : (cs : List ℕ) → AllPlain (map shown_letter cs)
-shown-plain [] = tt
-shown-plain (c ∷ cs) = (letter-plain c (is_control c) refl, shown-plain cs)
+all-plain : (cs : List ℕ) → AllPlain (map shown_letter cs)
+all-plain [] = tt
+all-plain (c ∷ cs) = (letter-plain c (is_control c) refl, all-plain cs)
+
+-- a letter stays one
+letter-scalar : (c : ℕ) (b : Bool) → is_control c ≡ b → scalar c ≡ true → scalar (shown_letter c) ≡ true
+letter-scalar c true is one = rw is refl
+letter-scalar c false is one = rw is one
+
+all-scalars : (cs : List ℕ) → scalars cs ≡ true → scalars (map shown_letter cs) ≡ true
+all-scalars [] are = refl
+all-scalars (c ∷ cs) are =
+    let each = and_parts (scalar c) (scalars cs) are in
+    and_from (scalar (shown_letter c)) (scalars (map shown_letter cs)) (letter-scalar c (is_control c) refl each.0) (all-scalars cs each.1)
+
+-- what is written of a text has no control
+pub shown-plain : (text : List ℕ) → IsUtf8 text → AllPlain (chars (shown text))
+shown-plain text is =
+    let letters : chars (shown text) ≡ map shown_letter (chars text) = chars-encodes (map shown_letter (chars text)) (all-scalars (chars text) (scalars-chars text is)) in
+    subst AllPlain (sym letters) (all-plain (chars text))
+
+-- a byte that is shown is printed
+byte-printed : (b : ℕ) (is : Bool) → is_printed b ≡ is → is_printed (shown_byte b) ≡ true
+byte-printed b true is = rw is is
+byte-printed b false is = rw is refl
+
+pub bytes-printed : (bs : List ℕ) → AllPrinted (map shown_byte bs)
+bytes-printed [] = tt
+bytes-printed (b ∷ bs) = (byte-printed b (is_printed b) refl, bytes-printed bs)
+
+-- so it is a letter of one byte
+printed-ascii : (b : ℕ) → is_printed b ≡ true → encode_utf8 b ≡ b ∷ []
+printed-ascii b is = encode_ascii b (grind (arith, nat_tests))
+
+-- one more byte was appended
+pub byte-more : (start text new bs : List ℕ) (n b : ℕ) → text ≡ start ++ map shown_byte (take n bs) → n < length bs → b ≡ get_or bs n b
+    → new ≡ text ++ encode_utf8 (shown_byte b) → new ≡ start ++ map shown_byte (take (n + 1) bs)
+byte-more start text new bs n b so_far within is more =
+    let all : take (n + 1) bs ≡ take n bs ++ b ∷ [] = take_more bs n b within ∙ ap (λ x. take n bs ++ x ∷ []) (sym is) in
+    let one : new ≡ text ++ shown_byte b ∷ [] = more ∙ ap (λ l. text ++ l) (printed-ascii (shown_byte b) (byte-printed b (is_printed b) refl)) in
+    one ∙ ap (λ l. l ++ shown_byte b ∷ []) so_far ∙ append_assoc start (map shown_byte (take n bs)) (shown_byte b ∷ [])
+    ∙ ap (λ l. start ++ l) (sym (map-append shown_byte (take n bs) (b ∷ []))) ∙ ap (λ l. start ++ map shown_byte l) (sym all)
+
+-- all bytes were appended
+pub bytes-all : (start text bs : List ℕ) (n : ℕ) → text ≡ start ++ map shown_byte (take n bs) → length bs ≤ n → text ≡ start ++ map shown_byte bs
+bytes-all start text bs n so_far all = so_far ∙ ap (λ l. start ++ map shown_byte l) (take_all n bs all)

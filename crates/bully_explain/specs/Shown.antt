@@ -1,5 +1,6 @@
 -- How a text that comes from outside is shown.
-use Rattle.std.specs.Prelude.{◌≡◌, ℕ, Bool, false, List, [], ◌∷◌, ◌||◌, ◌&&◌, ⊤, nat_lt, nat_le, if◌then◌else◌}
+use Rattle.std.specs.Prelude.{◌≡◌, ℕ, Bool, true, false, List, [], ◌∷◌, ◌||◌, ◌&&◌, ⊤, map, nat_lt, nat_le, if◌then◌else◌}
+use Rattle.std.specs.Str.{chars, encode_utf8_all}
 
 -- a control character, a separator of lines (U+2028) or of paragraphs (U+2029), or a mark that turns the direction of the text
 -- behind it: an embedding or an override (U+202A to U+202E), or an isolate (U+2066 to U+2069)
@@ -10,7 +11,24 @@ is_control c = nat_lt c 32 || (nat_le 127 c && nat_lt c 160) || (nat_le 0x2028 c
 abbrev pub shown_letter : ℕ → ℕ
 shown_letter c = if is_control c then 63 else c
 
+-- what is written of a text
+abbrev pub shown : List ℕ → List ℕ
+shown text = encode_utf8_all (map shown_letter (chars text))
+
 -- none of the letters is one of these
 abbrev pub AllPlain : List ℕ → Type 0
 AllPlain [] = ⊤
 AllPlain (c ∷ cs) = (is_control c ≡ false) × AllPlain cs
+
+-- a printed ASCII character
+abbrev pub is_printed : ℕ → Bool
+is_printed byte = nat_le 32 byte && nat_le byte 126
+
+-- a byte as it is shown: a question mark in place of any other one
+abbrev pub shown_byte : ℕ → ℕ
+shown_byte byte = if is_printed byte then byte else 63
+
+-- all of them are printed ASCII characters
+abbrev pub AllPrinted : List ℕ → Type 0
+AllPrinted [] = ⊤
+AllPrinted (byte ∷ bytes) = (is_printed byte ≡ true) × AllPrinted bytes

@@ -1,6 +1,7 @@
-ghost use Rattle.std.specs.Prelude.{◌≡◌, Some, None, IfOk};
+ghost use Rattle.std.specs.Prelude.{◌≡◌, Some, None, IfOk, string_bytes};
 ghost use Rattle.bully_config.specs.Answers.{refusal_of};
-ghost use Rattle.bully_explain.specs.ConfigTold.{IsConfigTold};
+ghost use Rattle.bully_explain.specs.ConfigTold.{IsConfigText, IsConfigTold};
+ghost use Rattle.bully_explain.specs.Drafted.{AppendsLines};
 ghost use Rattle.toml.specs.Errors.{IsMemory};
 ghost use Rattle.toml.specs.View.{table_view};
 
@@ -19,9 +20,10 @@ pub struct ConfigSheet {
 }
 
 /// Explains the first fault of a configuration's text, the one that [`bully_config::Config::read`] answers: the place, the key,
-/// its value, and what may stand there. Refused where an allocation fails. The rule: docs/FORMATS.md.
+/// its value, and what may stand there. What stands in the text ends no line of the sheet. Refused where an allocation fails. The rule: docs/FORMATS.md.
 pub fn explain_config(alloc: Global, text: &str) -> Result<ConfigSheet, OutOfMemory>
-    ensures { IfOk result (λ sheet. IsConfigTold text.now sheet.told) }
+    ensures told { IfOk result (λ sheet. IsConfigTold text.now sheet.told) }
+    ensures lines { IfOk result (λ sheet. IsConfigText sheet.told (string_bytes sheet.text)) }
 {
     match toml::table_from_str(alloc, text) {
         Ok(document) => document_sheet(alloc, &document),
@@ -32,6 +34,7 @@ pub fn explain_config(alloc: Global, text: &str) -> Result<ConfigSheet, OutOfMem
 // The sheet of a text that is no TOML document, which has the line, the column and what the reader found there.
 fn toml_sheet(alloc: Global, error: &toml::de::Error) -> Result<ConfigSheet, OutOfMemory>
     ensures told { IfOk result (λ sheet. sheet.told ≡ Some ConfigFault.Toml) }
+    ensures lines { IfOk result (λ sheet. IsConfigText sheet.told (string_bytes sheet.text)) }
     ensures form { IfOk result (λ sheet. ¬ (IsMemory error.now)) }
 {
     if error.is_memory() {
@@ -48,7 +51,9 @@ fn toml_sheet(alloc: Global, error: &toml::de::Error) -> Result<ConfigSheet, Out
 }
 
 // Appends the lines of the text.
-fn push_lines(draft: &mut Draft, text: &str) {
+fn push_lines(draft: &mut Draft, text: &str)
+    ensures { AppendsLines draft.old draft.new }
+{
     for line in text.lines() {
         draft.push_shown(line);
         draft.push_str("\n");
@@ -57,14 +62,15 @@ fn push_lines(draft: &mut Draft, text: &str) {
 
 // The sheet of a document.
 fn document_sheet(alloc: Global, document: &Table) -> Result<ConfigSheet, OutOfMemory>
-    ensures { IfOk result (λ sheet. sheet.told ≡ refusal_of (table_view document.now)) }
+    ensures told { IfOk result (λ sheet. sheet.told ≡ refusal_of (table_view document.now)) }
+    ensures lines { IfOk result (λ sheet. IsConfigText sheet.told (string_bytes sheet.text)) }
 {
     let told = first_refusal(document);
     let mut draft = Draft::new(alloc);
     match told {
         Some(fault) => push_fault(&mut draft, document, fault),
-        None => draft.push_str("the configuration has no fault\n"),
+        None => draft.push_str("the configuration has no fault"),
     }
-    let text = draft.finish()?;
+    let text = draft.finish_line(alloc)?;
     Ok(ConfigSheet { told, text })
 }

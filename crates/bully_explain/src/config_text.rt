@@ -8,14 +8,13 @@ use bully_config::{
 };
 use toml::{Table, Value};
 
-/// Appends what is wrong with the document, whose first fault this is. A line.
+/// Appends what is wrong with the document, whose first fault this is: a line, without its end.
 pub fn push_fault(text: &mut Draft, document: &Table, fault: ConfigFault) {
     text.push_between("", fault, ": ");
     match fault.key() {
         Some(key) => push_key_fault(text, document, fault, key),
         None => push_other_fault(text, document, fault),
     }
-    text.push_str("\n");
 }
 
 // Appends what is wrong at a key: of the document, or of the first fault in which it is wrong.

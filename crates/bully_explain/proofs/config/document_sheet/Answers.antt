@@ -1,6 +1,10 @@
 -- An answer by name: an edit that breaks it is refused at once.
 use Rattle.std.proofs.Common.{rules}
+use Rattle.bully_explain.proofs.DraftLemmas.{line-text}
 use Rattle.bully_explain.proofs.config.document_sheet.Goals as goal
 
-pub returns : goal.returns
-returns c = search rules
+pub returns-clause-told : goal.returns-clause-told
+returns-clause-told c = search rules
+
+pub returns-clause-lines : goal.returns-clause-lines
+returns-clause-lines c = line-text _ _ _ c.in_ok-text.ensures.line c.in_ok-text.ensures.plain

@@ -20,7 +20,7 @@ returns-clause-shown c =
     letters-all _ _ (chars c.args.raw.now) (length c.loop-letter.yielded) c.loop-letter.invariant t.1
 
 pub returns-clause-plain : goal.returns-clause-plain
-returns-clause-plain c = shown-plain (chars c.args.raw.now)
+returns-clause-plain c = shown-plain c.args.raw.now c.utf8.raw
 
 pub returns-in_err-push-clause-plain : goal.returns-in_err-push-clause-plain
-returns-in_err-push-clause-plain c = shown-plain (chars c.args.raw.now)
+returns-in_err-push-clause-plain c = shown-plain c.args.raw.now c.utf8.raw

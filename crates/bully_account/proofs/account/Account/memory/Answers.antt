@@ -6,4 +6,4 @@ use Rattle.bully_account.proofs.account.Account.memory.Goals as goal
 pub returns-clause-rows : goal.returns-clause-rows
 returns-clause-rows c = λ setup rows taken.
     let here = subst (λ (a : AccountState). HasTaken setup rows a) (sym c.self.view_is) taken in
-    remembered-told rows c.args.node _ _ c.of.result _ c.of.ensures.memory here.remembered (omega (arith, c.of.ensures.node))
+    remembered-told setup rows c.args.node _ _ c.of.result _ c.of.ensures.memory here.remembered (omega (arith, c.of.ensures.node))

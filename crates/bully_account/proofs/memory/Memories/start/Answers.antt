@@ -3,7 +3,7 @@ use Rattle.bully_account.proofs.RowsLemmas.{remembered-started, remembered-turn}
 use Rattle.bully_account.proofs.memory.Memories.start.Goals as goal
 
 pub returns-then-place-len-clause-remembered : goal.returns-then-place-len-clause-remembered
-returns-then-place-len-clause-remembered c = λ rows at all.
-    remembered-turn rows 1 c.from-place.result c.args.node c.args.self.now.nodes.items c.index_mut.result.now c.start.new.self all
+returns-then-place-len-clause-remembered c = λ setup rows at all.
+    remembered-turn setup rows 1 c.from-place.result c.args.node c.args.self.now.nodes.items c.index_mut.result.now c.start.new.self all
     (grind (arith, c.from-place.ensures, c.number.ensures.number, c.number.ensures.within)) c.index_mut.ensures.value
-    (λ is. rw c.start.ensures (remembered-started rows c.args.node c.index_mut.result.now c.args.row at is))
+    (λ is. rw c.start.ensures (remembered-started setup rows c.args.node c.index_mut.result.now c.args.row at is))
