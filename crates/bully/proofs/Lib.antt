@@ -6,3 +6,4 @@ mod MemberLemmas
 mod ConfigLemmas
 mod DrawLemmas
 mod AskedLemmas
+mod PipeLemmas

@@ -7,3 +7,4 @@ pub mod Wanted
 pub mod ConfigAnswer
 pub mod DrawAnswer
 pub mod AskedAnswer
+pub mod Pipes

@@ -13,6 +13,7 @@ mod checking;
 mod configs;
 mod drawing;
 mod explaining;
+mod pipes;
 mod playing;
 mod refusals;
 mod running;
