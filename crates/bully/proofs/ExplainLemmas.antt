@@ -1,6 +1,7 @@
 -- From what `explain` of bully_explain ensures to what the program answers.
-use Rattle.std.proofs.Common.{◌≡◌, ◌⊎◌, ◌++◌, inl, inr, ℕ, true, List, Some, None, Ok, Err, refl, ap, arith}
+use Rattle.std.proofs.Common.{◌≡◌, ◌⊎◌, ◌++◌, inl, inr, ℕ, true, List, [], ◌∷◌, codes, subst, Some, None, Ok, Err, refl, ap, arith}
 use Rattle.std.specs.Prelude.{IfSome}
+use Rattle.std.specs.Str.{chars}
 use Rattle.std.specs.Io.KnownBytes.{Appends, Keeps}
 use Rattle.bully_world.specs.State.{world_of}
 use Rattle.bully_rows.specs.declared.trace.TraceCause.{TraceCause}
@@ -12,6 +13,9 @@ use Rattle.bully_config.specs.Configuration.{Configuration}
 use Rattle.bully_config.specs.declared.fault.ConfigFault.{ConfigFault}
 use Rattle.bully_account.specs.declared.showing.NodeSheet.{NodeSheet}
 use Rattle.bully_account.specs.TraceReport.{Explains, IsUntold}
+use Rattle.bully_explain.specs.ConfigTold.{IsConfigText}
+use Rattle.bully_explain.specs.Shown.{AllPlain, shown}
+use Rattle.bully_explain.proofs.ShownLemmas.{shown-plain}
 use Rattle.bully.specs.Answer.{KnownBytes, Tells, row_line, stop_line, stop_of, verdict_status}
 use Rattle.bully.specs.ExplainAnswer.{IsConfigExplainAnswer, IsExplainAnswer}
 use Rattle.bully.specs.RefusalText.{refusal_line}
@@ -73,12 +77,12 @@ unparsed-answer (Some bytes) output output' errors errors' status kept (done, to
 
 -- that the configuration has no fault was written
 pub free-answer : {E : Type 0} (contents : E → KnownBytes) (bytes : List ℕ) (config : Configuration) (text : List ℕ) (output output' : KnownBytes) (errors errors' : E) (status : ℕ)
-    → ReadsAs bytes (Ok config)
+    → ReadsAs bytes (Ok config) → IsConfigText None text
     → (((status ≡ 0) × Appends output output' text × (errors' ≡ errors)) ⊎ ((status ≡ 4) × Tells (contents errors) (contents errors') (stop_line Stop.Write)))
     → IsConfigExplainAnswer bytes output output' (contents errors) (contents errors') status
-free-answer contents bytes config text output output' errors errors' status reads (inl (done, appended, same)) =
-    inl (config, text, reads, appended, keeps-same _ _ (ap contents same), done)
-free-answer contents bytes config text output output' errors errors' status reads (inr (stopped, told)) =
+free-answer contents bytes config text output output' errors errors' status reads lines (inl (done, appended, same)) =
+    inl (config, text, reads, lines, appended, keeps-same _ _ (ap contents same), done)
+free-answer contents bytes config text output output' errors errors' status reads lines (inr (stopped, told)) =
     inr (inr (Stop.Write, (λ other. absurd (other refl)), told, stopped))
 
 -- memory was short
@@ -87,8 +91,24 @@ pub short-answer : (bytes : List ℕ) (output errors errors' : KnownBytes) (stat
 short-answer bytes output errors errors' status (done, told) = inr (inr (Stop.OutOfMemory, (λ _. keeps-refl output), told, done))
 
 -- the fault was told with its sheet, or there was no memory for that
-pub config-answer : (bytes : List ℕ) (fault : ConfigFault) (text : List ℕ) (output errors errors' : KnownBytes) (status : ℕ) → ReadsAs bytes (Err fault)
+pub config-answer : (bytes : List ℕ) (fault : ConfigFault) (text : List ℕ) (output errors errors' : KnownBytes) (status : ℕ) → ReadsAs bytes (Err fault) → IsConfigText (Some fault) text
     → (((status ≡ 3) × Tells errors errors' (refusal_line (Refusal.Config fault) ++ text)) ⊎ ((status ≡ 4) × Tells errors errors' (stop_line Stop.OutOfMemory)))
     → IsConfigExplainAnswer bytes output output errors errors' status
-config-answer bytes fault text output errors errors' status reads (inl (done, told)) = inr (inl (fault, text, reads, keeps-refl output, told, done))
-config-answer bytes fault text output errors errors' status reads (inr short) = short-answer bytes output errors errors' status short
+config-answer bytes fault text output errors errors' status reads lines (inl (done, told)) = inr (inl (fault, text, reads, lines, keeps-refl output, told, done))
+config-answer bytes fault text output errors errors' status reads lines (inr short) = short-answer bytes output errors errors' status short
+
+-- the sheet of a file that has no text is one line
+abbrev no_text : List ℕ
+no_text = codes "Toml: the file isn't UTF-8 text"
+
+no-text-shown : shown no_text ≡ no_text
+unfolding chars
+no-text-shown = refl
+
+pub no-text-line : IsConfigText (Some ConfigFault.Toml) (no_text ++ codes "\n")
+no-text-line = record {
+  lines = no_text ∷ [];
+  plain = (subst (λ t. AllPlain (chars t)) no-text-shown (shown-plain no_text (no_text, refl, refl)), tt);
+  whole = refl;
+  one = λ other. absurd (other refl);
+}

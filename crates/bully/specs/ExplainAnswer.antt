@@ -1,5 +1,5 @@
 -- What the program answers to `explain`: the status, and what then stands on the output and on the errors.
-use Rattle.std.specs.Prelude.{◌≡◌, ◌⊎◌, ℕ, List, ◌++◌, Ok, Err}
+use Rattle.std.specs.Prelude.{◌≡◌, ◌⊎◌, ℕ, List, ◌++◌, None, Some, Ok, Err}
 use Rattle.std.specs.Io.KnownBytes.{Appends, Keeps}
 use Rattle.bully_world.specs.World.{World}
 use Rattle.bully_rows.specs.declared.trace.TraceFault.{TraceFault}
@@ -9,6 +9,7 @@ use Rattle.bully_rows.specs.Trace.{Trace}
 use Rattle.bully_trace.specs.Verdict.{IsVerdict}
 use Rattle.bully_config.specs.Configuration.{Configuration}
 use Rattle.bully_config.specs.declared.fault.ConfigFault.{ConfigFault}
+use Rattle.bully_explain.specs.ConfigTold.{IsConfigText}
 use Rattle.bully.specs.Answer.{IsStopAnswer, KnownBytes, Tells, row_line, verdict_status}
 use Rattle.bully.specs.ConfigAnswer.{IsStopped}
 use Rattle.bully.specs.RefusalText.{refusal_line}
@@ -36,10 +37,11 @@ IsExplainAnswer bytes output output' errors errors' status =
     ⊎ IsStopAnswer bytes output output' errors errors' status
 
 -- the answer to `explain --config` where the file holds these bytes: that they are a configuration stands on the output; or
--- their first refusal is told on the errors, with its sheet behind the line, and nothing stands on the output
+-- their first refusal is told on the errors, with its sheet behind the line, and nothing stands on the output. A sheet is lines without
+-- controls, and one line unless the text is no TOML document
 abbrev pub IsConfigExplainAnswer : List ℕ → KnownBytes → KnownBytes → KnownBytes → KnownBytes → ℕ → Type 0
 IsConfigExplainAnswer bytes output output' errors errors' status =
-    ((config : Configuration) × (sheet : List ℕ) × ReadsAs bytes (Ok config) × Appends output output' sheet × Keeps errors errors' × (status ≡ 0))
-    ⊎ ((fault : ConfigFault) × (sheet : List ℕ) × ReadsAs bytes (Err fault) × Keeps output output'
+    ((config : Configuration) × (sheet : List ℕ) × ReadsAs bytes (Ok config) × IsConfigText None sheet × Appends output output' sheet × Keeps errors errors' × (status ≡ 0))
+    ⊎ ((fault : ConfigFault) × (sheet : List ℕ) × ReadsAs bytes (Err fault) × IsConfigText (Some fault) sheet × Keeps output output'
     × Tells errors errors' (refusal_line (Refusal.Config fault) ++ sheet) × (status ≡ 3))
     ⊎ IsStopped output output' errors errors' status

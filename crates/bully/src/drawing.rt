@@ -1,8 +1,9 @@
-ghost use Rattle.std.specs.Prelude.{◌≡◌, ◌≤◌, ◌⊎◌, ℕ, List, IfOk, IfSome, IsSome, option_map, string_bytes};
+ghost use Rattle.std.specs.Prelude.{◌≡◌, ◌≤◌, ◌⊎◌, ℕ, List, IfOk, IfSome, OnOk, map, option_map, string_bytes};
 ghost use Rattle.std.specs.Io.KnownBytes.{Appends};
 ghost use Rattle.bully.specs.Answer.{Tells, stop_line, verdict_status};
-ghost use Rattle.bully.specs.DrawAnswer.{IsDrawAnswer, IsPictureAnswer, IsPictureOf, is_given, window_asked};
-ghost use Rattle.bully.specs.ConfigAnswer.{IsNotDone};
+ghost use Rattle.bully.specs.DrawAnswer.{IsBelow, IsDrawAnswer, IsNamedPicture, IsPictureAnswer, IsPictureBy, IsPictureOf, is_given, names_in, window_asked};
+ghost use Rattle.bully_picture.specs.Title.{Begins};
+ghost use Rattle.bully_rows.specs.TraceText.{line_of, row_fields};
 
 use crate::checking::verdict_status;
 use crate::configs::{bytes_at, config_of};
@@ -15,6 +16,7 @@ use bully_config::Config;
 use bully_explain::reason;
 use bully_film::{FinishedFilm, Window, film_of};
 use bully_picture::{svg_picture, text_picture};
+use bully_rows::{Row, push_row};
 use std::alloc::Global;
 use std::io::{Read, Write};
 use std::rt::Files;
@@ -59,8 +61,7 @@ fn draw_words<H: Files + AllocGlobal, R: Read + Drop, W: Write, E: Write>(
     errors: &mut E,
 ) -> u8
     ensures answer { IfSome (R.remaining input) (λ bytes.
-        IsPictureAnswer bytes window (is_given (option_map (λ s. s.now) words.now.text)) (W.contents output.old) (W.contents output.new) (E.contents errors.old) (E.contents errors.new) result)
-        ⊎ (IsSome (option_map (λ s. s.now) words.now.names) × ((file : List ℕ) × IsNotDone file (W.contents output.old) (W.contents output.new) (E.contents errors.old) (E.contents errors.new) result)) }
+        IsNamedPicture bytes (option_map (λ s. s.now) words.now.names) window (is_given (option_map (λ s. s.now) words.now.text)) (W.contents output.old) (W.contents output.new) (E.contents errors.old) (E.contents errors.new) result) }
     ensures silent { (result ≡ 2) ⊎ (result ≡ 3) → output.new ≡ output.old }
     ensures status { result ≤ 4 }
 {
@@ -103,8 +104,7 @@ fn draw_named<H: Files + AllocGlobal, R: Read + Drop, W: Write, E: Write>(
     output: &mut W,
     errors: &mut E,
 ) -> u8
-    ensures answer { IfSome (R.remaining input) (λ bytes. IsPictureAnswer bytes drawing.window drawing.is_text (W.contents output.old) (W.contents output.new) (E.contents errors.old) (E.contents errors.new) result)
-        ⊎ ((file : List ℕ) × IsNotDone file (W.contents output.old) (W.contents output.new) (E.contents errors.old) (E.contents errors.new) result) }
+    ensures answer { (file : List ℕ) × IfSome (R.remaining input) (λ bytes. IsPictureBy bytes file drawing.window drawing.is_text (W.contents output.old) (W.contents output.new) (E.contents errors.old) (E.contents errors.new) result) }
     ensures silent { (result ≡ 2) ⊎ (result ≡ 3) → output.new ≡ output.old }
     ensures status { result ≤ 4 }
 {
@@ -123,8 +123,7 @@ fn draw_with<R: Read + Drop, W: Write, E: Write>(
     output: &mut W,
     errors: &mut E,
 ) -> u8
-    ensures answer { IfSome (R.remaining input) (λ bytes. IsPictureAnswer bytes drawing.window drawing.is_text (W.contents output.old) (W.contents output.new) (E.contents errors.old) (E.contents errors.new) result)
-        ⊎ IsNotDone file.now (W.contents output.old) (W.contents output.new) (E.contents errors.old) (E.contents errors.new) result }
+    ensures answer { IfSome (R.remaining input) (λ bytes. IsPictureBy bytes file.now drawing.window drawing.is_text (W.contents output.old) (W.contents output.new) (E.contents errors.old) (E.contents errors.new) result) }
     ensures silent { (result ≡ 2) ⊎ (result ≡ 3) → output.new ≡ output.old }
     ensures status { result ≤ 4 }
 {
@@ -143,7 +142,7 @@ fn draw_input<R: Read + Drop, W: Write, E: Write>(
     output: &mut W,
     errors: &mut E,
 ) -> u8
-    ensures answer { IfSome (R.remaining input) (λ bytes. IsPictureAnswer bytes drawing.window drawing.is_text (W.contents output.old) (W.contents output.new) (E.contents errors.old) (E.contents errors.new) result) }
+    ensures answer { IfSome (R.remaining input) (λ bytes. IsPictureAnswer bytes drawing.window drawing.is_text (names_in (option_map (λ c. c.now) names.entry)) (W.contents output.old) (W.contents output.new) (E.contents errors.old) (E.contents errors.new) result) }
     ensures silent { (result ≡ 2) ⊎ (result ≡ 3) → output.new ≡ output.old }
     ensures status { result ≤ 4 }
 {
@@ -162,7 +161,7 @@ fn draw_finished<W: Write, E: Write>(
     output: &mut W,
     errors: &mut E,
 ) -> u8
-    ensures answer { ((picture : List ℕ) × IsPictureOf is_text finished.now picture × (((result ≡ verdict_status finished.now.verdict) × Appends (W.contents output.old) (W.contents output.new) picture × (errors.new ≡ errors.old))
+    ensures answer { ((picture : List ℕ) × IsPictureOf is_text finished.now (names_in (option_map (λ c. c.now) names.entry)) picture × (((result ≡ verdict_status finished.now.verdict) × Appends (W.contents output.old) (W.contents output.new) picture × (errors.new ≡ errors.old))
         ⊎ ((result ≡ 4) × Tells (E.contents errors.old) (E.contents errors.new) (stop_line Stop.Write))))
         ⊎ ((result ≡ 4) × (output.new ≡ output.old) × Tells (E.contents errors.old) (E.contents errors.new) (stop_line Stop.OutOfMemory)) }
     ensures status { (result ≤ 1) ⊎ (result ≡ 4) }
@@ -185,7 +184,7 @@ fn picture_of(
     is_text: bool,
     names: Option<&Config>,
 ) -> Result<String, OutOfMemory>
-    ensures { IfOk result (λ picture. IsPictureOf is_text finished.now (string_bytes picture)) }
+    ensures { IfOk result (λ picture. IsPictureOf is_text finished.now (names_in (option_map (λ c. c.now) names.entry)) (string_bytes picture)) }
 {
     let below = below(alloc, finished)?;
     if is_text {
@@ -195,20 +194,51 @@ fn picture_of(
     svg_picture(alloc, finished, names.as_slice(), below.as_str())
 }
 
-// Why the row that decided did so; nothing of a lawful trace.
-fn below(alloc: Global, finished: &FinishedFilm) -> Result<String, OutOfMemory> {
+// The line of the row that decided, and why it did; nothing of a lawful trace.
+fn below(alloc: Global, finished: &FinishedFilm) -> Result<String, OutOfMemory>
+    ensures { IfOk result (λ below. IsBelow finished.now.stop (string_bytes below)) }
+{
     match &finished.stop {
-        Some(row) => reason(alloc, finished.judge.world(), finished.verdict, row),
+        Some(row) => reason_of(alloc, finished, row),
         None => Ok(String::new(alloc)),
     }
 }
 
-// The names of the configuration's nodes, from node 1 on.
-fn names_of<'a>(alloc: Global, config: Option<&'a Config>) -> Result<Vec<&'a str>, OutOfMemory> {
+// The line of the row that decided, and why it did.
+fn reason_of(alloc: Global, finished: &FinishedFilm, row: &Row) -> Result<String, OutOfMemory>
+    ensures { IfOk result (λ text. Begins (string_bytes text) (line_of (row_fields row.now))) }
+{
+    let mut text = String::new(alloc);
+    push_row(&mut text, row)?;
+    push_why(alloc, &mut text, finished, row)?;
+    Ok(text)
+}
+
+// Appends what the sheet of the row that decided says behind its line.
+fn push_why(alloc: Global, text: &mut String, finished: &FinishedFilm, row: &Row) -> Result<(), OutOfMemory>
+    ensures { OnOk result (Begins (string_bytes text.new) (string_bytes text.old)) }
+{
+    let reason = reason(alloc, finished.judge.world(), finished.verdict, row)?;
+    match reason.split_once('\n') {
+        Some((_, why)) => text.push_str(why),
+        None => Ok(()),
+    }
+}
+
+// The names of the configuration's nodes, from node 1 on; none without one.
+fn names_of<'a>(alloc: Global, config: Option<&'a Config>) -> Result<Vec<&'a str>, OutOfMemory>
+    ensures { IfOk result (λ names. map (λ s. s.now) names.items ≡ names_in (option_map (λ c. c.now) config.entry)) }
+{
+    match config {
+        Some(config) => all_names(alloc, config),
+        None => Ok(Vec::new(alloc)),
+    }
+}
+
+fn all_names<'a>(alloc: Global, config: &'a Config) -> Result<Vec<&'a str>, OutOfMemory>
+    ensures { IfOk result (λ names. map (λ s. s.now) names.items ≡ config.now.names) }
+{
     let mut names = Vec::new(alloc);
-    let Some(config) = config else {
-        return Ok(names);
-    };
     for before in 0..config.setup().nodes() {
         let node = Node::new(before + 1).unwrap();
         names.push(config.name(node))?;

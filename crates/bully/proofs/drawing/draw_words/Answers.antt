@@ -1,11 +1,21 @@
-use Rattle.std.proofs.Common.{inl, inr, option_map, rules}
-use Rattle.std.specs.Prelude.{IsSome}
+use Rattle.std.proofs.Common.{◌≡◌, Some, None, option_map, subst, rules}
+use Rattle.std.specs.Prelude.{IfSome}
+use Rattle.bully.specs.DrawAnswer.{IsNamedPicture}
+use Rattle.bully.proofs.DrawLemmas.{drawn-named, drawn-unnamed}
 use Rattle.bully.proofs.drawing.draw_words.Goals as goal
 
 pub returns-in-Some-clause-answer : goal.returns-in-Some-clause-answer
 returns-in-Some-clause-answer g c =
-    let some : IsSome (option_map (λ s. s.now) c.args.words.now.names) = search rules in
-    elim c.draw_named.ensures.answer [ inl drawn ↦ inl (rw (← c.is_given.ensures) drawn) | inr refused ↦ inr (some, refused) ]
+    let words = c.args.words.now in
+    let some : option_map (λ s. s.now) words.names ≡ Some c.in-Some.path.now = search rules in
+    rw (← c.is_given.ensures) (drawn-named (g.R.Read.remaining c.args.input) c.draw_named.ensures.answer.0 (option_map (λ s. s.now) words.names) c.in-Some.path.now c.args.window
+    c.is_given.result (g.W.Write.contents c.args.output.now) (g.W.Write.contents c.draw_named.new.output) (g.E.Write.contents c.args.errors.now) (g.E.Write.contents c.draw_named.new.errors)
+    c.draw_named.result some c.draw_named.ensures.answer.1)
 
 pub returns-in-None-clause-answer : goal.returns-in-None-clause-answer
-returns-in-None-clause-answer g c = inl (rw (← c.is_given.ensures) c.draw_input.ensures.answer)
+returns-in-None-clause-answer g c =
+    let words = c.args.words.now in
+    let none : option_map (λ s. s.now) words.names ≡ None = search rules in
+    rw (← c.is_given.ensures) (drawn-unnamed (g.R.Read.remaining c.args.input) (option_map (λ s. s.now) words.names) c.args.window
+    c.is_given.result (g.W.Write.contents c.args.output.now) (g.W.Write.contents c.draw_input.new.output) (g.E.Write.contents c.args.errors.now) (g.E.Write.contents c.draw_input.new.errors)
+    c.draw_input.result none c.draw_input.ensures.answer)

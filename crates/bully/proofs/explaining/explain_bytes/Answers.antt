@@ -2,7 +2,7 @@ use Rattle.std.proofs.Common.{ℕ, List, inr, refl, sym, subst, codes}
 use Rattle.std.specs.Str.{IsUtf8}
 use Rattle.bully_config.specs.declared.fault.ConfigFault.{ConfigFault}
 use Rattle.bully.specs.ExplainAnswer.{IsConfigExplainAnswer}
-use Rattle.bully.proofs.ExplainLemmas.{config-answer}
+use Rattle.bully.proofs.ExplainLemmas.{config-answer, no-text-line}
 use Rattle.bully.proofs.explaining.explain_bytes.Goals as goal
 
 pub returns-in-Ok-clause-answer : goal.returns-in-Ok-clause-answer
@@ -15,4 +15,4 @@ returns-in-Ok-clause-answer g c =
 pub returns-in-Err-clause-answer : goal.returns-in-Err-clause-answer
 returns-in-Err-clause-answer g c =
     config-answer c.args.bytes.now ConfigFault.Toml (codes "Toml: the file isn't UTF-8 text\n") _ _ _ c.answer_fault_of.result
-    (inr (c.in-Err.ensures.cases.0, refl)) c.answer_fault_of.ensures
+    (inr (c.in-Err.ensures.cases.0, refl)) no-text-line c.answer_fault_of.ensures
