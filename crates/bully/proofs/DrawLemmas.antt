@@ -27,7 +27,7 @@ pub text-picture : {S E : Type 0} (bytes : S → List ℕ) (made : Result S E) (
     → is_text ≡ true → IsBelow finished.stop below → IfOk made (λ p. Begins (bytes p) (verdict_head finished.verdict))
     → IfOk made (λ p. HasToldAbove (bytes p) below finished.verdict finished.scenes.items) → IfOk made (λ p. Ends (bytes p) below)
     → IfOk made (λ p. IsPictureOf is_text finished names (bytes p))
-text-picture bytes (Ok p) is_text finished names below is known verdict rows ends = rw is (below, known, record { verdict = verdict; rows = rows; below = ends })
+text-picture bytes (Ok p) is_text finished names below is known verdict rows ends = rw is (below, known, record { verdict = verdict; rows = rows; end = ends })
 text-picture bytes (Err e) is_text finished names below is known verdict rows ends = tt
 
 -- the names of the nodes, as the picture has them
@@ -47,14 +47,18 @@ pub svg-picture : {A S E : Type 0} (of : A → List ℕ) (bytes : S → List ℕ
     → IfOk made (λ p. HasCalls (bytes p) finished.setup.nodes (row_before finished.scenes.items) (λ i. lane_of trace.setup is.before i is.shown)))
     → IfOk made (λ p. HasBelow (bytes p) below) → IfOk made (λ p. IsPictureOf is_text finished names (bytes p))
 svg-picture of bytes (Ok p) is_text finished given names below is known are document title rows nodes calls has_below =
-    rw is (below, known, record {
-      document = document;
-      title = title;
-      rows = rows;
-      nodes = nodes-named of given names (bytes p) finished.setup.nodes are nodes;
-      calls = calls;
-      below = has_below;
-    })
+    rw is (
+      below,
+      known,
+      record {
+        document = document;
+        title = title;
+        rows = rows;
+        nodes = nodes-named of given names (bytes p) finished.setup.nodes are nodes;
+        calls = calls;
+        lines = has_below;
+      },
+    )
 svg-picture of bytes (Err e) is_text finished given names below is known are document title rows nodes calls has_below = tt
 
 -- a picture was written, or there was no memory for it
@@ -129,6 +133,7 @@ short-answer (Some bytes) rows text names output output' errors errors' status (
     by_names : (window : WindowState) (names : Option (List ℕ)) → IsNamedPicture bytes names window (is_given text) output output' errors errors' status
     by_names window None = inr (inr (Stop.OutOfMemory, (λ _. keeps), (λ e. absurd (grind (arith, e))), told, stopped))
     by_names window (Some path) = ([], inr (inr (Stop.OutOfMemory, (λ _. keeps), told, stopped)))
+
     by_window : (window : Option WindowState) → MatchOption window
         (IsNoWindow output output' errors errors' status ⊎ IsShort output output' errors errors' status)
         (λ window. IsNamedPicture bytes names window (is_given text) output output' errors errors' status)

@@ -1,7 +1,7 @@
 -- From what `explain` of bully_explain ensures to what the program answers.
 use Rattle.std.proofs.Common.{◌≡◌, ◌⊎◌, ◌++◌, inl, inr, ℕ, true, List, [], ◌∷◌, codes, subst, Some, None, Ok, Err, refl, ap, arith}
 use Rattle.std.specs.Prelude.{IfSome}
-use Rattle.std.specs.Str.{chars}
+use Rattle.std.specs.Str.{IsUtf8, chars}
 use Rattle.std.specs.Io.KnownBytes.{Appends, Keeps}
 use Rattle.bully_world.specs.State.{world_of}
 use Rattle.bully_rows.specs.declared.trace.TraceCause.{TraceCause}
@@ -102,13 +102,17 @@ abbrev no_text : List ℕ
 no_text = codes "Toml: the file isn't UTF-8 text"
 
 no-text-shown : shown no_text ≡ no_text
-unfolding chars
+unfolding chars lib.Utf8.encode
 no-text-shown = refl
+
+no-text-letters : IsUtf8 no_text
+unfolding lib.Utf8.encode
+no-text-letters = (no_text, (refl, refl))
 
 pub no-text-line : IsConfigText (Some ConfigFault.Toml) (no_text ++ codes "\n")
 no-text-line = record {
   lines = no_text ∷ [];
-  plain = (subst (λ t. AllPlain (chars t)) no-text-shown (shown-plain no_text (no_text, refl, refl)), tt);
+  plain = (subst (λ t. AllPlain (chars t)) no-text-shown (shown-plain no_text no-text-letters), tt);
   whole = refl;
   one = λ other. absurd (other refl);
 }

@@ -54,11 +54,11 @@ written-checked trace written count w told lawful is = checked written trace cou
 -- ---- plays
 
 within-of : (ms : Members) (refusal : Option ConfigFault) (config : Configuration) → refusal_of ms ≡ refusal
-    → (elim refusal [ None ↦ Ok (values_of ms) | Some fault ↦ Err fault ]) ≡ Ok config → IsConfiguration config
+    → ◌≡◌ {A = Result Configuration ConfigFault} (elim refusal [ None ↦ Ok (values_of ms) | Some fault ↦ Err fault ]) (Ok config) → IsConfiguration config
 within-of ms None config none is = subst IsConfiguration (cc is) (configured ms none)
 within-of ms (Some fault) config some is = absurd (cc is)
 
-document-within : (document : Option Members) (config : Configuration) → (elim document [ None ↦ Err ConfigFault.Toml | Some ms ↦ configuration_of ms ]) ≡ Ok config → IsConfiguration config
+document-within : (document : Option Members) (config : Configuration) → ◌≡◌ {A = Result Configuration ConfigFault} (elim document [ None ↦ Err ConfigFault.Toml | Some ms ↦ configuration_of ms ]) (Ok config) → IsConfiguration config
 document-within None config is = absurd (cc is)
 document-within (Some ms) config is = within-of ms (refusal_of ms) config refl is
 

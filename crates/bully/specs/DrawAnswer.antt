@@ -45,7 +45,7 @@ IsBelow (Some row) below = Begins below (line_of (row_fields row))
 pub record IsTextOf (finished : FinishedFilm) (below picture : List ℕ) : Type 0 where
   pub verdict : Begins picture (verdict_head finished.verdict)
   pub rows : HasToldAbove picture below finished.verdict finished.scenes.items
-  pub below : Ends picture below
+  pub end : Ends picture below
 
 -- a picture as SVG: a document with its title, the numbers of all rows, a name or a number of each node, an arrow of each call in a slot,
 -- and this text below
@@ -56,7 +56,7 @@ pub record IsSvgOf (finished : FinishedFilm) (names : List (List ℕ)) (below pi
   pub nodes : HasNodes picture finished.setup.nodes (slice_get names)
   pub calls : (window : WindowState) (trace : Trace) (is : IsFilmOf window finished trace)
       → HasCalls picture finished.setup.nodes (row_before finished.scenes.items) (λ i. lane_of trace.setup is.before i is.shown)
-  pub below : HasBelow picture below
+  pub lines : HasBelow picture below
 
 -- a picture of what a film shows, as text or as SVG. Text has no names
 abbrev pub IsPictureOf : Bool → FinishedFilm → List (List ℕ) → List ℕ → Type 0

@@ -215,7 +215,12 @@ fn reason_of(alloc: Global, finished: &FinishedFilm, row: &Row) -> Result<String
 }
 
 // Appends what the sheet of the row that decided says behind its line.
-fn push_why(alloc: Global, text: &mut String, finished: &FinishedFilm, row: &Row) -> Result<(), OutOfMemory>
+fn push_why(
+    alloc: Global,
+    text: &mut String,
+    finished: &FinishedFilm,
+    row: &Row,
+) -> Result<(), OutOfMemory>
     ensures { OnOk result (Begins (string_bytes text.new) (string_bytes text.old)) }
 {
     let reason = reason(alloc, finished.judge.world(), finished.verdict, row)?;

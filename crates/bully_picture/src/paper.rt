@@ -14,7 +14,7 @@ use std::marker::Model;
 
 /// A text that is written. Where memory is wanting, that is noted, and told at the end: so what writes never fails.
 ///
-/// What the program itself says goes in as it is, and so is `&'static str`; all else goes in escaped.
+/// What the program itself says goes in as it is, and so is `&'static str`, and what stands on another paper; all else goes in escaped.
 #[derive(Drop)]
 pub struct Paper {
     text: String,
