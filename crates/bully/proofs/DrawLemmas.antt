@@ -1,8 +1,10 @@
 -- From what a film and a picture of it ensure to what the program answers to `draw`.
-use Rattle.std.proofs.Common.{◌≡◌, ◌⊎◌, ◌∙◌, inl, inr, ℕ, ◌<◌, ◌+◌, Bool, true, false, List, [], Option, Some, None, Result, Ok, Err, map, refl, sym, ap, subst, arith}
+use Rattle.std.proofs.Common.{◌≡◌, ◌⊎◌, ◌∙◌, inl, inr, ℕ, zero, suc, ◌<◌, ◌+◌, Bool, true, false, List, [], ◌∷◌, ◌++◌, Option, Some, None, Result, Ok, Err, get_or, map, take, refl, sym, ap, subst, arith}
 use Rattle.std.specs.Prelude.{IfOk, IfSome, MatchOption, length, option_map, slice_get}
-use Rattle.std.specs.Io.KnownBytes.{Appends, Keeps}
+use Rattle.std.specs.Io.KnownBytes.{Appends}
+use Rattle.std.proofs.lemmas.List.{map-append, take_more}
 use Rattle.std.proofs.lemmas.Option.{slice_get-map}
+use Rattle.bully_base.specs.Places.{at_node}
 use Rattle.bully_rows.specs.Rows.{OfTrace}
 use Rattle.bully_rows.specs.Trace.{Trace}
 use Rattle.bully_trace.specs.VerdictText.{verdict_head}
@@ -27,7 +29,7 @@ pub text-picture : {S E : Type 0} (bytes : S → List ℕ) (made : Result S E) (
     → is_text ≡ true → IsBelow finished.stop below → IfOk made (λ p. Begins (bytes p) (verdict_head finished.verdict))
     → IfOk made (λ p. HasToldAbove (bytes p) below finished.verdict finished.scenes.items) → IfOk made (λ p. Ends (bytes p) below)
     → IfOk made (λ p. IsPictureOf is_text finished names (bytes p))
-text-picture bytes (Ok p) is_text finished names below is known verdict rows ends = rw is (below, known, record { verdict = verdict; rows = rows; end = ends })
+text-picture bytes (Ok p) is_text finished names below is known verdict rows ends = rw is (below, known, record { verdict = verdict; rows = rows; below = ends })
 text-picture bytes (Err e) is_text finished names below is known verdict rows ends = tt
 
 -- the names of the nodes, as the picture has them
@@ -56,7 +58,7 @@ svg-picture of bytes (Ok p) is_text finished given names below is known are docu
         rows = rows;
         nodes = nodes-named of given names (bytes p) finished.setup.nodes are nodes;
         calls = calls;
-        lines = has_below;
+        below = has_below;
       },
     )
 svg-picture of bytes (Err e) is_text finished given names below is known are document title rows nodes calls has_below = tt
@@ -139,3 +141,14 @@ short-answer (Some bytes) rows text names output output' errors errors' status (
         (λ window. IsNamedPicture bytes names window (is_given text) output output' errors errors' status)
     by_window None = inr (keeps, told, stopped)
     by_window (Some window) = by_names window names
+
+-- one more name of a configuration
+named-at : (names : List (List ℕ)) (k i : ℕ) → i ≡ k + 1 → at_node [] names i ≡ get_or names k []
+named-at names k zero at = absurd (omega (arith, at))
+named-at names k (suc j) at = let same : j ≡ k = omega (arith, at) in ap (λ n. get_or names n []) same
+
+pub one-named : {A : Type 0} (of : A → List ℕ) (names : List (List ℕ)) (items new : List A) (x : A) (k i : ℕ) → k < length names → i ≡ k + 1 → of x ≡ at_node [] names i
+    → new ≡ items ++ x ∷ [] → map of items ≡ take k names → map of new ≡ take (k + 1) names
+one-named of names items new x k i within at named pushed so_far =
+    ap (map of) pushed ∙ map-append of items (x ∷ []) ∙ ap (λ l. l ++ of x ∷ []) so_far ∙ ap (λ y. take k names ++ y ∷ []) (named ∙ named-at names k i at)
+    ∙ sym (take_more names k [] within)

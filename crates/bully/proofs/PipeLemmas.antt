@@ -1,13 +1,12 @@
 -- What is written of a lawful trace is found lawful by `check`.
-use Rattle.std.proofs.Common.{◌≡◌, ◌⊎◌, ◌∙◌, inl, inr, ℕ, List, [], length, map, Option, Some, None, Result, Ok, Err, refl, sym, ap, subst, arith}
+use Rattle.std.proofs.Common.{◌≡◌, ◌∙◌, inl, inr, ℕ, List, length, Option, Some, None, Result, Ok, Err, refl, sym, ap, subst}
 use Rattle.std.specs.Io.KnownBytes.{Appends}
-use Rattle.bully_base.specs.Setup.{IsSetup, Setup}
+use Rattle.bully_base.specs.Setup.{Setup}
 use Rattle.bully_calls.specs.declared.event.Event.{Event}
 use Rattle.bully_world.specs.World.{World}
-use Rattle.bully_rows.specs.declared.trace.Row.{Row}
 use Rattle.bully_rows.specs.ReadBack.{IsTold}
 use Rattle.bully_rows.specs.Rows.{records_of, trace_of}
-use Rattle.bully_rows.specs.Trace.{Trace, version_with}
+use Rattle.bully_rows.specs.Trace.{Trace}
 use Rattle.bully_rows.specs.TraceText.{trace_text}
 use Rattle.bully_rows.proofs.ReadBackLemmas.{reads-back}
 use Rattle.bully_rows.proofs.ToldTraces.{read-told}
@@ -17,7 +16,7 @@ use Rattle.bully_trace.specs.VerdictText.{verdict_text}
 use Rattle.bully_trace.proofs.OneVerdictLemmas.{judges-lawful, one-verdict}
 use Rattle.bully_annotate.specs.Annotated.{annotated}
 use Rattle.bully_annotate.proofs.ToldLemmas.{annotated-told}
-use Rattle.bully_config.specs.Answers.{answer_of, configuration_of, refusal_of}
+use Rattle.bully_config.specs.Answers.{configuration_of, refusal_of}
 use Rattle.bully_config.specs.Configuration.{Configuration, IsConfiguration}
 use Rattle.bully_config.specs.Values.{values_of}
 use Rattle.bully_config.specs.declared.fault.ConfigFault.{ConfigFault}
@@ -26,7 +25,7 @@ use Rattle.bully_play.specs.Play.{IsPlay, trace_setup, trace_with}
 use Rattle.bully_play.proofs.ToldLemmas.{lawful-told}
 use Rattle.toml.specs.Data.{Members}
 use Rattle.toml.specs.Parse.{parse_document}
-use Rattle.bully.specs.Answer.{KnownBytes, verdict_status}
+use Rattle.bully.specs.Answer.{verdict_status}
 use Rattle.bully.specs.Pipes.{AnnotatedIsLawful, IsCheckedAsLawful, IsCheckedAsPlay, PlayedIsLawful, RunIsLawful}
 use Rattle.bully.specs.Wanted.{ReadsAs}
 
@@ -77,13 +76,13 @@ play-checked bytes written config events reads play is =
 
 pub played-lawful : PlayedIsLawful
 played-lawful bytes written errors errors' (inl (config, events, reads, play, scheduled, text, kept, done)) = play-checked bytes written config events reads play text
-played-lawful bytes written errors errors' (inr (inl (fault, reads, kept, told, done))) = absurd (cc done)
+played-lawful bytes written errors errors' (inr (inl (fault, reads, (kept, told, done)))) = absurd (cc done)
 played-lawful bytes written errors errors' (inr (inr (stop, kept, told, done))) = absurd (cc done)
 
 pub run-lawful : RunIsLawful
 run-lawful bytes written errors errors' (inl (config, events, reads, play, text, kept, done)) = play-checked bytes written config events reads play text
 run-lawful bytes written errors errors' (inr (inl (config, fault, reads, is, kept, told, done))) = absurd (cc done)
-run-lawful bytes written errors errors' (inr (inr (inl (fault, reads, kept, told, done)))) = absurd (cc done)
+run-lawful bytes written errors errors' (inr (inr (inl (fault, reads, (kept, told, done))))) = absurd (cc done)
 run-lawful bytes written errors errors' (inr (inr (inr (stop, kept, told, done)))) = absurd (cc done)
 
 -- ---- annotated traces

@@ -42,21 +42,21 @@ IsBelow None below = below ≡ []
 IsBelow (Some row) below = Begins below (line_of (row_fields row))
 
 -- a picture as text: the verdict's line, lines of the rows that change something, and this text below them
-pub record IsTextOf (finished : FinishedFilm) (below picture : List ℕ) : Type 0 where
+pub record IsTextOf (finished : FinishedFilm) (text picture : List ℕ) : Type 0 where
   pub verdict : Begins picture (verdict_head finished.verdict)
-  pub rows : HasToldAbove picture below finished.verdict finished.scenes.items
-  pub end : Ends picture below
+  pub rows : HasToldAbove picture text finished.verdict finished.scenes.items
+  pub below : Ends picture text
 
 -- a picture as SVG: a document with its title, the numbers of all rows, a name or a number of each node, an arrow of each call in a slot,
 -- and this text below
-pub record IsSvgOf (finished : FinishedFilm) (names : List (List ℕ)) (below picture : List ℕ) : Type 0 where
+pub record IsSvgOf (finished : FinishedFilm) (names : List (List ℕ)) (text picture : List ℕ) : Type 0 where
   pub document : IsDocument picture
   pub title : Has picture (title_text finished.verdict finished.setup.nodes finished.setup.partitions (row_before finished.scenes.items) (length finished.scenes.items))
   pub rows : HasRows picture finished.verdict finished.scenes.items
   pub nodes : HasNodes picture finished.setup.nodes (slice_get names)
   pub calls : (window : WindowState) (trace : Trace) (is : IsFilmOf window finished trace)
       → HasCalls picture finished.setup.nodes (row_before finished.scenes.items) (λ i. lane_of trace.setup is.before i is.shown)
-  pub lines : HasBelow picture below
+  pub below : HasBelow picture text
 
 -- a picture of what a film shows, as text or as SVG. Text has no names
 abbrev pub IsPictureOf : Bool → FinishedFilm → List (List ℕ) → List ℕ → Type 0

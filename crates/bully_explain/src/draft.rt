@@ -1,5 +1,5 @@
 //! A text in the making.
-ghost use Rattle.std.specs.Prelude.{◌≡◌, ℕ, List, ◌++◌, codes, false, length, map, replicate, string_bytes, true, IfOk, IfSome, OnOk};
+ghost use Rattle.std.specs.Prelude.{◌≡◌, ℕ, List, ◌++◌, codes, false, length, map, replicate, string_bytes, IfOk, IfSome, OnOk};
 ghost use Rattle.std.specs.Option.{option_copied};
 ghost use Rattle.std.specs.Str.{chars};
 ghost use Rattle.bully_rows.specs.TraceText.{line_of, node_text, row_fields, set_text, task_text};

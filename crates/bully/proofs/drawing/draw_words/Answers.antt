@@ -1,6 +1,4 @@
-use Rattle.std.proofs.Common.{◌≡◌, Some, None, option_map, subst, rules}
-use Rattle.std.specs.Prelude.{IfSome}
-use Rattle.bully.specs.DrawAnswer.{IsNamedPicture}
+use Rattle.std.proofs.Common.{◌≡◌, Some, None, option_map, rules}
 use Rattle.bully.proofs.DrawLemmas.{drawn-named, drawn-unnamed}
 use Rattle.bully.proofs.drawing.draw_words.Goals as goal
 
