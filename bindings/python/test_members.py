@@ -19,16 +19,21 @@ from pathlib import Path
 from typing import Any, Callable, Dict, List, Optional, Tuple, Type
 from unittest import mock
 
-from bully import Full, Setup, check, command, logs, page, settings, view
-from bully.logs import DamagedLog, DiskFull, ForeignLog, Log, LogBusy, LogError, LogExists, MemoryLog, NoLog, ReadOnlyLog, SqliteLog
-from bully.member import (
-    Append, Assignment, Begin, Core, End, Ending, Look, Pace, Read, Release, Renew, Rest, Step, Stop, Take, Wait,
+from bully import Full, Replica, Setup, check, command, logs, page, plan_table, resizing, settings, view
+from bully.epochs import Opening, Token, cut_end, setup_of
+from bully.logs import (
+    DamagedLog, DiskFull, ForeignLog, Log, LogBusy, LogError, LogExists, MemoryLog, NoEpoch, NoLog, ReadOnlyLog, SqliteLog, current,
 )  # fmt: skip
-from bully.running import Member, OtherGroup
+from bully.member import (
+    Append, Assignment, Begin, Core, End, Ending, Finish, Follow, Look, Pace, Read, Release, Renew, Rest, Step, Stop, Take, Wait,
+)  # fmt: skip
+from bully.running import Member, NotInGroup, OtherGroup
+from bully.values import Rows
 from bully.worker import Guarded, GuardLost, WorkerEnded, Workers
 
 ROOT = Path(__file__).resolve().parents[2]
 HEADER = Setup(3, 6).header()
+OPENING = Opening.first(HEADER)
 PATIENCE = 60.0
 
 
@@ -61,7 +66,7 @@ class InFolder(unittest.TestCase):
         self.path = self.folder / 'group.db'
 
     def created(self) -> SqliteLog:
-        return self.closing(SqliteLog.create(self.path, HEADER))
+        return self.closing(SqliteLog.create(self.path, OPENING))
 
     def opened(self, patience: float = 1.0) -> SqliteLog:
         return self.closing(SqliteLog(self.path, patience))
@@ -135,6 +140,67 @@ class Logs(InFolder):
                 other.release(2, 'y')
                 self.assertEqual(log.present(), set())
 
+    def test_epochs(self) -> None:
+        """One epoch follows the other, and each is seen by itself."""
+        after = Opening(2, 'bully,1,2,4', ('b', 'd'), 500, (1, 0, 2, 2), (1,))
+        for log, other, _ in self.each():
+            with self.subTest(log=log):
+                self.assertEqual((log.epoch, log.epochs(), log.opening()), (1, range(1, 2), OPENING))
+                self.assertTrue(log.append(1, ['recover,1', 'crash,1']))
+                self.assertTrue(log.hold(1, 'x', 5, False))
+                self.assertFalse(other.end(2, None, after))
+                self.assertTrue(other.end(3, None, after))
+                self.assertFalse(log.end(4, None, after), 'the epoch has ended')
+                self.assertEqual(list(log.read(3)), ['end,bully,1,2,4'])
+                self.assertEqual((log.epoch, log.epochs(), log.present()), (1, range(1, 3), {1}))
+                there = current(log)
+                self.assertEqual((there.epoch, there.opening(), list(there.read(0))), (2, after, ['bully,1,2,4']))
+                self.assertEqual(there.present(), set())
+                self.assertTrue(there.append(1, ['recover,2']))
+                self.assertTrue(there.hold(1, 'y', 5, False))
+                self.assertFalse(there.append(2, ['crash,1'], absent=1))
+                self.assertEqual(list(current(other).read(1)), ['recover,2'])
+                self.assertEqual(len(log.read(0)), 4)
+                with self.assertRaises(NoEpoch):
+                    log.at(3).opening()
+
+    def test_wishes(self) -> None:
+        """An epoch ends by what is wished for, or not at all."""
+        one, two = (OPENING.wish(settings.Settings(Setup(nodes, 4), tuple('abcd'[:nodes]))) for nodes in (2, 4))
+        for log, other, _ in self.each():
+            with self.subTest(log=log):
+                self.assertIsNone(log.wish())
+                self.assertTrue(log.ask(one.text()))
+                self.assertTrue(other.ask(two.text()))
+                self.assertEqual(log.wish(), two.text())
+                self.assertFalse(log.end(1, None, one))
+                self.assertFalse(log.end(1, one.text(), one))
+                self.assertTrue(log.end(1, two.text(), two))
+                self.assertFalse(other.ask(one.text()), 'the epoch has ended')
+                self.assertEqual((current(log).opening(), current(log).wish()), (two, None))
+
+    def test_prune(self) -> None:
+        for log, other, _ in self.each():
+            with self.subTest(log=log):
+                opening = OPENING
+                for epoch in (1, 2, 3):
+                    seen, opening = log.at(epoch), opening.next(None, (), frozenset())
+                    self.assertTrue(seen.append(1, [f'start,{epoch}'] * 60_000))
+                    self.assertTrue(seen.hold(1, 'x', 5, False))
+                    self.assertTrue(seen.end(60_001, None, opening))
+                other.prune(3)
+                self.assertEqual((log.epochs(), log.at(1).opening()), (range(3, 5), OPENING))
+                gone = log.at(2)
+                calls: List[Callable[[], object]] = [lambda: gone.read(0), lambda: gone.append(60_001, ['start,1'])]
+                for call in calls:
+                    with self.assertRaises(NoEpoch) as caught:
+                        call()
+                    self.assertIn('epoch 2 is not there, but 3 to 4', str(caught.exception))
+                gone.release(1, 'x')
+                self.assertEqual(len(log.at(3).read(0)), 60_002)
+                other.prune(99)
+                self.assertEqual((log.epochs(), list(log.at(4).read(0))), (range(4, 5), [HEADER]))
+
     def test_wait(self) -> None:
         memory = MemoryLog([HEADER])
         self.created()
@@ -142,16 +208,18 @@ class Logs(InFolder):
         for log, other in pairs:
             acts: List[Callable[[], object]] = [
                 lambda: other.append(1, ['recover,1']), lambda: other.hold(1, 'x', 0.2, False), lambda: None,
-                lambda: other.hold(1, 'x', 50, False), lambda: other.release(1, 'x'),
+                lambda: other.hold(1, 'x', 50, False), lambda: other.release(1, 'x'), lambda: other.ask('x'),
             ]  # fmt: skip
             for number, act in enumerate(acts):
                 with self.subTest(log=log, act=number):
                     log.present()
+                    log.wish()
                     later = threading.Timer(0.05, act)
                     later.start()
                     log.wait(1 if number == 0 else 2, PATIENCE)
                     later.join()
             log.present()
+            log.wish()
             begun = time.monotonic()
             log.wait(2, 0.1)
             self.assertGreaterEqual(time.monotonic(), begun + 0.1)
@@ -182,11 +250,22 @@ class Files(InFolder):
         self.path.mkdir()
         self.refused(ForeignLog)
 
+    def test_another_form(self) -> None:
+        """A log of another version is told as one."""
+        for form, word in ((1, 'an older'), (3, 'another')):
+            self.created().close()
+            with sqlite3.connect(self.path) as other:
+                other.execute(f'pragma user_version = {form}')
+            other.close()
+            with self.subTest(form=form), self.assertRaisesRegex(ForeignLog, f'a log of form {form}, by {word} version, and not of form 2'):
+                SqliteLog(self.path)
+            self.path.unlink()
+
     def test_exists(self) -> None:
         self.created()
         before = self.path.read_bytes()
         with self.assertRaises(LogExists):
-            SqliteLog.create(self.path, 'bully,1,1,1')
+            SqliteLog.create(self.path, Opening.first('bully,1,1,1'))
         self.assertEqual(self.path.read_bytes(), before)
         self.assertEqual([each.name for each in self.folder.iterdir() if '.new' in each.name], [])
 
@@ -305,7 +384,7 @@ class Driven:
         self.clock = Clock()
         self.log = log or MemoryLog([HEADER, *rows], self.clock)
         self.log.clock = self.clock
-        self.core = Core(HEADER, node, 'it', Pace(5.0))
+        self.core = Core(self.log.opening(), node, 'it', Pace(5.0))
 
     def step(self) -> Step:
         """It takes one step, which is answered at once."""
@@ -319,14 +398,24 @@ class Driven:
         elif isinstance(step, Read):
             core.read(now, log.read(step.place))
         elif isinstance(step, Look):
-            core.looked(now, now, log.present())
+            core.looked(now, now, log.present(), log.wish())
         elif isinstance(step, Append):
             core.appended(now, log.append(step.place, step.rows, step.absent))
+        elif isinstance(step, Finish):
+            core.finished(now, log.end(step.place, step.wish, step.opening))
+        elif isinstance(step, Follow):
+            self.follow()
         elif isinstance(step, Stop):
             core.stopped(now)
         elif isinstance(step, Wait):
             core.woke()
         return step
+
+    def follow(self) -> None:
+        """It goes on in the current epoch."""
+        log = self.log.at(self.log.epochs()[-1])
+        self.core.followed(self.clock.now, log.opening())
+        self.log = log if log.opening() == self.core.opening else self.log
 
     def steps(self, last: type) -> List[Step]:
         """Its steps up to one of this kind."""
@@ -392,7 +481,7 @@ class Rules(unittest.TestCase):
             with self.subTest(rows=rows):
                 it = Driven()
                 it.steps(Begin)
-                it.log.rows += rows
+                it.log.rows.extend(rows)
                 steps = it.steps(Take)
                 self.assertEqual([type(step) for step in steps[-3:]], [Stop, Release, Take])
                 self.assertEqual(self.appended(steps), [])
@@ -507,7 +596,7 @@ class Running(unittest.TestCase):
         told: List[str] = []
         start = more.pop('start', lambda assignment: told.append(f'start {assignment.token}'))
         stop = more.pop('stop', lambda assignment: told.append(f'stop {assignment.token}'))
-        member = Member(log, node, start, stop, ttl=2.0, header=HEADER)
+        member = Member(log, node, start, stop, ttl=2.0, settings=OPENING.settings)
         thread = threading.Thread(target=self.run_member, args=[member])
         thread.start()
         self.addCleanup(thread.join)
@@ -548,7 +637,7 @@ class Running(unittest.TestCase):
         _, told, thread = self.begin(log, 1, start=start)
         thread.join()
         self.assertIsInstance(self.raised, KeyError)
-        self.assertEqual(told, [f'stop {log.rows.index(next(row for row in log.rows if row.startswith("plan")))}'])
+        self.assertEqual(told, [f'stop {Token.of(1, log.rows.index(next(row for row in log.rows if row.startswith("plan"))))}'])
         self.assertEqual((log.rows[-1], log.present()), ('crash,1', set()))
 
     def test_a_stop_that_raises(self) -> None:
@@ -568,7 +657,7 @@ class Running(unittest.TestCase):
 
     def test_other_group(self) -> None:
         with self.assertRaises(OtherGroup):
-            Member(self.log(), 1, print, print, header='bully,1,3,7')
+            Member(self.log(), 1, print, print, settings=settings.Settings(Setup(3, 7), ('1', '2', '3')))
 
     def test_with(self) -> None:
         log = self.log()
@@ -603,14 +692,14 @@ def is_running(process: int) -> bool:
 class Guards(InFolder):
     """Workers below their guards."""
 
-    assignment = Assignment(42, 3, (0, 5))
+    assignment = Assignment(Token.of(4, 2), 3, (0, 5), OPENING.settings)
 
     def begin(self, way: str, patience: float = PATIENCE, seconds: float = 1000.0) -> Workers:
         self.failures: List[BaseException] = []
         words = [sys.executable, '-c', WORKER, str(self.folder), way]
         workers = Workers(words, {'BULLY_NODE': 'x'}, patience, self.failures.append)
         workers.hear_until(logs.seconds_of_boot() + seconds)
-        workers.start(self.assignment, 'c')
+        workers.start(self.assignment, '{}')
         wait_until((self.folder / 'begun').exists)
         self.worker, self.child = map(int, (self.folder / 'begun').read_text().split()[:2])
         return workers
@@ -622,7 +711,7 @@ class Guards(InFolder):
         for way, patience in (('mild', PATIENCE), ('stubborn', 0.1)):
             with self.subTest(way=way):
                 workers = self.begin(way, patience)
-                self.assertEqual((self.folder / 'begun').read_text().split()[2:], ['42', '0', '5'])
+                self.assertEqual((self.folder / 'begun').read_text().split()[2:], ['40000002', '0', '5'])
                 workers.stop()
                 self.assertTrue(self.are_gone())
                 self.assertEqual(self.failures, [])
@@ -633,7 +722,7 @@ class Guards(InFolder):
         workers = Workers(['sleep', '1000'], {}, 3600.0, self.fail)
         workers.hear_until(logs.seconds_of_boot() + 3600)
         for _ in range(10):
-            workers.start(self.assignment, 'c')
+            workers.start(self.assignment, '{}')
             thread = threading.Thread(target=workers.stop, daemon=True)
             thread.start()
             wait_until(lambda: not thread.is_alive())
@@ -682,7 +771,7 @@ class Guards(InFolder):
         failures: List[BaseException] = []
         workers = Workers(['/nowhere/worker'], {}, 1.0, failures.append)
         workers.hear_until(logs.seconds_of_boot() + 100)
-        workers.start(self.assignment, 'c')
+        workers.start(self.assignment, '{}')
         wait_until(lambda: failures)
         self.assertEqual(getattr(failures[0], 'status'), 127)
 
@@ -755,12 +844,11 @@ class Pages(unittest.TestCase):
     NAMES = ('a"\\b', '<script>alert(1)</script>', 'c')
 
     def setUp(self) -> None:
-        self.log = MemoryLog([HEADER], logs.seconds_of_boot)
-        self.read = settings.Settings(Setup(3, 6), self.NAMES)
+        self.log = MemoryLog([HEADER], logs.seconds_of_boot, Opening.first(HEADER, self.NAMES))
         self.member = Member(self.log, 2, lambda assignment: None, lambda assignment: None, ttl=2.0)
-        shown = view.LogView(self.log, self.read)
+        shown = view.LogView(self.log)
         self.addCleanup(shown.close)
-        self.page = page.Page(('127.0.0.1', 0), shown, self.member, self.NAMES[1], self.read)
+        self.page = page.Page(('127.0.0.1', 0), shown, self.member)
         self.page.start()
         self.addCleanup(self.page.close)
 
@@ -786,7 +874,8 @@ class Pages(unittest.TestCase):
         status, kind, text = self.get('/group')
         self.assertEqual((status, kind), (200, 'application/json; charset=utf-8'))
         told = json.loads(text)
-        self.assertEqual((told['events'], told['token'], told['coordinator'], told['owners']), (0, None, None, [None] * 6))
+        self.assertEqual((told['epoch'], told['events'], told['token'], told['coordinator']), (1, 0, None, None))
+        self.assertEqual(told['owners'], [None] * 6)
         self.assertEqual(json.loads(self.get('/assignment')[2])['partitions'], [])
 
     def test_group(self) -> None:
@@ -809,6 +898,23 @@ class Pages(unittest.TestCase):
         thread.join()
         self.assertEqual(answers, [1])
 
+    def test_long_poll_over_epochs(self) -> None:
+        """Events of another epoch are more, also if they are fewer."""
+        answers: List[Tuple[int, int]] = []
+
+        def poll() -> None:
+            told = json.loads(self.get('/group?after=2')[2])
+            answers.append((told['epoch'], told['events']))
+
+        self.log.append(1, ['recover,1', 'crash,1'])
+        thread = threading.Thread(target=poll)
+        thread.start()
+        time.sleep(0.2)
+        self.assertTrue(self.log.end(3, None, self.log.opening().next(None, (), frozenset())))
+        thread.join()
+        self.assertEqual(answers, [(2, 0)])
+        self.assertEqual(json.loads(self.get('/group?after=2&epoch=1')[2])['epoch'], 2)
+
     def test_page(self) -> None:
         self.begin()
         status, kind, text = self.get('/')
@@ -827,6 +933,8 @@ class Pages(unittest.TestCase):
             self.assertRegex(line, rf'^(# (HELP [a-z_]+ .+|TYPE [a-z_]+ (counter|gauge))|{sample})$')
         self.assertIn('bully_node_partitions{node="<script>alert(1)</script>"} 6', text)
         self.assertIn('bully_node_present{node="a\\"\\\\b"} 0', text)
+        token = Token.of(1, self.log.rows.index(next(row for row in self.log.rows if row.startswith('plan'))))
+        self.assertTrue({'bully_epoch 1', f'bully_token {token}'} <= set(text.splitlines()))
 
     def test_refused(self) -> None:
         for method in ('POST', 'PUT', 'DELETE', 'HEAD', 'OPTIONS'):
@@ -863,8 +971,9 @@ class Commands(InFolder):
         self.assertEqual(self.of_log('init', '--config', str(self.config)), (0, '', ''))
         self.opened().append(1, ['recover,2'])
         self.assertEqual(self.of_log('history'), (0, f'{HEADER}\nrecover,2\n', ''))
-        status, said, _ = self.of_log('status', '--config', str(self.config))
+        status, said, _ = self.of_log('status')
         self.assertEqual(status, 0)
+        self.assertIn('epoch 1, events 1, token -', said)
         self.assertIn('b     election  no', said)
         self.assertEqual(json.loads(self.of_log('status', '--json')[1])['nodes'][1]['status'], 'election')
 
@@ -891,7 +1000,7 @@ class Commands(InFolder):
     def test_odd_names(self) -> None:
         self.config.write_bytes(toml({**TOP, 'names': ['a\x1b[2J\nb', 'c\u202ed', '\u00e4 z']}))
         self.of_log('init', '--config', str(self.config))
-        status, said, _ = self.of_log('status', '--config', str(self.config))
+        status, said, _ = self.of_log('status')
         self.assertEqual(status, 0)
         self.assertEqual([line.split('  ')[0] for line in said.splitlines()[2:]], ['a?[2J?b', 'c?d', '\u00e4 z'])
         self.config.write_bytes(toml({**TOP, 'names': ['a\0', 'b', 'c']}))
@@ -926,8 +1035,9 @@ class Processes(InFolder):
         told = dict(line.split('=', 1) for line in (self.folder / 'env').read_text().splitlines() if line.startswith('BULLY_'))
         self.assertEqual([told[f'BULLY_{name}'] for name in ('NODE', 'COORDINATOR', 'PARTITIONS')], ['the only', 'the only', '0 1 2 3 4 5'])
         log = self.opened()
-        rows = list(log.read(0))
-        self.assertTrue(rows[int(told['BULLY_TOKEN'])].startswith('plan,1,'))
+        rows, token = list(log.read(0)), Token(int(told['BULLY_TOKEN']))
+        self.assertEqual(token.epoch, 1)
+        self.assertTrue(rows[token.events].startswith('plan,1,'))
         settings_told = {'names': ['the only'], 'weights': [3], 'partitions': 6, 'keep': False, 'ttl': 2.0, 'margin': 0.4}
         self.assertEqual(json.loads(told['BULLY_SETTINGS']), settings_told)
         member.terminate()
