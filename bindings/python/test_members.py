@@ -884,7 +884,7 @@ class Resizes(InFolder):
         self.addCleanup(member.leave)
 
     def run_member(self, member: Member) -> None:
-        with contextlib.closing(member.log), member.core.replica:
+        with member:
             member.run()
 
     def end(self, name: str) -> None:

@@ -651,9 +651,11 @@ class Simulation:
             self.after(self.changing.uniform(0, 0.1) * TTL, self.wish)
 
     def wish(self) -> None:
+        if self.is_calm:
+            return
         log, choice = self.current(), self.changing
         names = tuple(choice.sample(NAMES, choice.randint(2, len(NAMES))))
-        settings = Settings(Setup(len(names), choice.choice([4, PARTITIONS, 20])), names)
+        settings = Settings(Setup(len(names), choice.choice([len(NAMES), PARTITIONS, 20])), names)
         log.ask(log.opening().wish(settings).text())
         there = {member.name for member in self.members if not member.is_dead}
         for name in names:
