@@ -680,7 +680,7 @@ class Epochs(unittest.TestCase):
         """Who is present brings itself Down."""
         it = self.begun(2)
         it.log.hold(3, 'x', 500, False)
-        it.log.append(len(it.log.rows), ['recover,3', 'start,3'])
+        it.log.append(len(it.log.rows), ['recover,3', 'move,3'])
         steps = [it.step() for _ in range(50)]
         self.assertFalse([step for step in steps if isinstance(step, Finish)])
         self.assertEqual(it.log.rows[-1], 'crash,2')
@@ -1352,8 +1352,8 @@ class Commands(InFolder):
         new.write_bytes(toml({**TOP, 'nodes': 2, 'names': ['c', 'd']}))
         log = self.opened()
         for path, node, told in ((new, 'd', 'the log is of another group: bully,1,3,6 of a, b, c'), (None, 'd', 'the group has no node d')):
-            words = ['run', *(['--config', str(path)] if path else []), '--node', node, '--', 'true']
-            status, _, said = self.of_log(*words)
+            words = ['run', '--log', f'sqlite:{self.path}', *(['--config', str(path)] if path else []), '--node', node, '--', 'true']
+            status, _, said = self.call(*words)
             self.assertEqual(status, 3)
             self.assertIn(told, said)
         self.of_log('resize', '--config', str(new))
@@ -1361,8 +1361,8 @@ class Commands(InFolder):
         for path, name in ((self.config, 'c'), (new, 'd')):
             member = Member(self.opened(), name, print, print, settings=command.settings_of(str(path)))
             self.assertEqual(member.node, ('c', 'd').index(name) + 1)
-        words = ['run', '--config', str(self.config), '--node', 'a', '--', 'true']
-        self.assertEqual(self.of_log(*words), (3, '', 'bully-member: the group has no node a in epoch 2, but c, d\n'))
+        words = ['run', '--log', f'sqlite:{self.path}', '--config', str(self.config), '--node', 'a', '--', 'true']
+        self.assertEqual(self.call(*words), (3, '', 'bully-member: the group has no node a in epoch 2, but c, d\n'))
 
     def test_refused(self) -> None:
         config, log = str(self.config), f'sqlite:{self.path}'

@@ -520,7 +520,8 @@ class SqliteLog:
                 raise self._no_epoch()
             if count != place or (absent is not None and absent in self._present()):
                 return False
-            self._file.executemany('insert into log values (?, ?, ?)', ((self.epoch, number, row) for number, row in enumerate(rows, place)))
+            more = ((self.epoch, number, row) for number, row in enumerate(rows, place))
+            self._file.executemany('insert into log values (?, ?, ?)', more)
             self._pack(place + len(rows))
         return True
 

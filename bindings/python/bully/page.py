@@ -68,7 +68,8 @@ def page_of(name: str, group: GroupView) -> str:
         f'<noscript><meta http-equiv="refresh" content="3"></noscript><style>{STYLE}</style>'
         f'<body data-events="{group.events}" data-epoch="{group.epoch}"><h1>Group, as {html.escape(name)} sees it</h1>'
         f'<p class="small">coordinator <b>{html.escape(group.coordinator or "none")}</b>, token <b>{group.token or "none"}</b>, '
-        f'epoch {group.epoch}, {group.events} events, {sum(node.is_present for node in group.nodes)} of {len(group.nodes)} nodes present</p>'
+        f'{group.events} events in epoch {group.epoch}, '
+        f'{sum(node.is_present for node in group.nodes)} of {len(group.nodes)} nodes present</p>'
         f'<h2>Nodes</h2>{nodes_of(group)}<h2>Partitions</h2>{partitions_of(group)}<h2>Last events</h2>{last_of(group)}</body>'
         f'<script>{SCRIPT}</script></html>'
     )

@@ -50,7 +50,8 @@ class GroupView:
         """The same for JSON."""
         return {
             'epoch': self.epoch, 'rows': self.rows, 'events': self.events, 'token': self.token, 'coordinator': self.coordinator,
-            'owners': list(self.owners), 'nodes': [node.told() for node in self.nodes], 'last': [{'row': number, 'text': row} for number, row in self.last],
+            'owners': list(self.owners), 'nodes': [node.told() for node in self.nodes],
+            'last': [{'row': number, 'text': row} for number, row in self.last],
         }  # fmt: skip
 
 
