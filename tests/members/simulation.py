@@ -670,6 +670,8 @@ class Simulation:
                 is_past = has_ended(log, replica, log.opening())
             except NoEpoch:
                 is_past = True
+            except NotLearned as refused:
+                raise Wrong(f'who wished reads on: {refused}') from refused
         if not is_past:
             self.after(self.changing.uniform(0, 0.5) * TTL, lambda: self.end_epoch(log))
 
