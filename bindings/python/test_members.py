@@ -876,7 +876,7 @@ class Resizes(InFolder):
 
     def begin(self, name: str) -> None:
         log = SqliteLog(self.path)
-        member = Member(log, name, lambda each: self.places.start(name, each), lambda each: self.places.stop(name, each), ttl=2.0)
+        member = Member(log, name, lambda each: self.places.start(name, each), lambda each: self.places.stop(name, each), ttl=10.0)
         thread = threading.Thread(target=self.run_member, args=[member])
         self.members[name] = member, thread
         thread.start()
