@@ -10,6 +10,7 @@ import random
 import signal
 import socket
 import sqlite3
+import struct
 import subprocess
 import sys
 import tempfile
@@ -1262,6 +1263,18 @@ class Pages(unittest.TestCase):
         self.assertEqual(answers, [(2, 0)])
         self.assertEqual(json.loads(self.get('/group?after=2&epoch=1')[2])['epoch'], 2)
 
+    def test_gone(self) -> None:
+        """Who asked is gone before the answer."""
+        threads = threading.active_count()
+        with contextlib.redirect_stderr(io.StringIO()) as told:
+            with socket.create_connection(('127.0.0.1', self.page.port)) as client:
+                client.sendall(b'GET /group?after=0 HTTP/1.1\r\nHost: localhost:1\r\n\r\n')
+                wait_until(lambda: threading.active_count() > threads)
+                client.setsockopt(socket.SOL_SOCKET, socket.SO_LINGER, struct.pack('ii', 1, 0))  # it is reset
+            self.log.append(1, ['recover,1'])
+            wait_until(lambda: threading.active_count() == threads)
+        self.assertEqual(told.getvalue(), '')
+
     def test_page(self) -> None:
         self.begin()
         status, kind, text = self.get('/')
@@ -1399,11 +1412,13 @@ class Commands(InFolder):
 class Processes(InFolder):
     """`bully-member run`."""
 
-    def begin(self, worker: str) -> 'subprocess.Popen[bytes]':
-        """A member for the only node of a group, with a worker in shell."""
+    def begin(self, worker: str, writer: Optional[Callable[[], None]] = None) -> 'subprocess.Popen[bytes]':
+        """A member for the only node of a group, with a worker in shell; once the writer, if any, has the file's lock."""
         config = self.folder / 'group.toml'
         config.write_bytes(toml({**TOP, 'nodes': 1, 'names': ['the only'], 'weights': [3]}))
         self.assertEqual(command.main(['init', '--config', str(config), '--log', f'sqlite:{self.path}']), 0)
+        if writer is not None:
+            writer()
         words = ['run', '--config', str(config), '--log', f'sqlite:{self.path}', '--node', 'the only', '--ttl', '2', '--', 'sh', '-c', worker]
         environment = {**os.environ, 'PYTHONPATH': str(ROOT / 'bindings' / 'python'), 'PLACE': str(self.folder)}
         with open(self.folder / 'said', 'wb') as said:
@@ -1450,6 +1465,21 @@ class Processes(InFolder):
         member.terminate()
         self.assertEqual(member.wait(PATIENCE), 0)
         self.assertEqual(current(self.opened()).read(0)[-1], 'crash,2')
+
+    def test_a_busy_log(self) -> None:
+        """It waits for the lock, also before it takes part."""
+        others = contextlib.ExitStack()
+
+        def lock() -> None:
+            file = others.enter_context(contextlib.closing(sqlite3.connect(self.path, isolation_level=None)))
+            file.execute('begin immediate')
+
+        member = self.begin(self.BEGINS, lock)
+        wait_until(lambda: 'database is locked' in (self.folder / 'said').read_text())
+        others.close()
+        self.worker()
+        member.terminate()
+        self.assertEqual(member.wait(PATIENCE), 0)
 
     def test_the_worker_ends(self) -> None:
         member = self.begin('exit 5')

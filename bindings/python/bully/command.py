@@ -20,11 +20,12 @@ import json
 import logging
 import signal
 import sys
-from typing import List, Optional, Tuple, Type
+import time
+from typing import Callable, List, Optional, Tuple, Type, TypeVar
 
 from .epochs import Opening, cut_end
 from .faults import BullyError
-from .logs import LogError, SqliteLog
+from .logs import LogError, SqliteLog, Unanswered
 from .member import Assignment
 from .page import Page
 from .resizing import NotEnded, resize
@@ -34,6 +35,10 @@ from .view import GroupView, LogView
 from .worker import GuardLost, WorkerEnded, Workers
 
 OK, FAILED, BAD_WORDS, BAD_INPUT, NO_STORE = range(5)
+AGAIN = 0.1  # seconds before a log that didn't answer is asked again
+
+_Answer = TypeVar('_Answer')
+_told = logging.getLogger('bully')
 
 
 class BadWords(Exception):
@@ -199,6 +204,16 @@ def address_of(words: str) -> Tuple[str, int]:
     return host.strip('[]') or '127.0.0.1', int(port)
 
 
+def answered(ask: Callable[[], _Answer]) -> _Answer:
+    """What a log answers that may be busy: it is asked again until it does."""
+    while True:
+        try:
+            return ask()
+        except Unanswered as unanswered:
+            _told.warning('%s', unanswered)
+            time.sleep(AGAIN)
+
+
 def run(options: argparse.Namespace) -> int:
     """Takes part with a worker, until a signal tells it to leave."""
     if not options.quiet:
@@ -208,11 +223,11 @@ def run(options: argparse.Namespace) -> int:
         check_name(settings, options.node)
     address = address_of(options.listen) if options.listen else None
     with contextlib.ExitStack() as closing:
-        log = SqliteLog(path, patience=min(1.0, options.ttl / 5))
+        log = answered(lambda: SqliteLog(path, patience=min(1.0, options.ttl / 5)))
         closing.callback(log.close)
-        member = Run(options, settings, log)
+        member = answered(lambda: Run(options, settings, log))
         if address is not None:
-            view = LogView(SqliteLog(path, reads=True))
+            view = answered(lambda: LogView(SqliteLog(path, reads=True)))
             closing.callback(view.close)
             page = Page(address, view, member.member)
             closing.callback(page.close)

@@ -5,7 +5,9 @@ import base64
 import hashlib
 import html
 import json
+import logging
 import socket
+import sys
 import threading
 import time
 from http.server import BaseHTTPRequestHandler, ThreadingHTTPServer
@@ -17,6 +19,8 @@ from .logs import LogError, seconds_of_boot
 from .running import Member
 from .values import Status
 from .view import GroupView, LogView, NodeView
+
+_told = logging.getLogger('bully')
 
 POLL_SECONDS = 25.0  # how long a request waits for news at most
 POLL_PART = 0.1  # so often each of them looks
@@ -148,6 +152,11 @@ class Server(ThreadingHTTPServer):
     def __init__(self, address: Tuple[str, int], handler: Type[BaseHTTPRequestHandler]) -> None:
         self.address_family = socket.AF_INET6 if ':' in address[0] else socket.AF_INET
         super().__init__(address, handler)
+
+    def handle_error(self, request: object, client_address: object) -> None:
+        """Who asked may be gone before the answer. All else is told."""
+        if not isinstance(sys.exc_info()[1], OSError):
+            _told.exception('a request from %s failed', client_address)
 
 
 class Page:
