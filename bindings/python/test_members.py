@@ -999,6 +999,22 @@ class Resizes(InFolder):
             log.prune(epoch)
         self.judge()
 
+    def test_an_epoch_that_is_taken_away(self) -> None:
+        """Who was in it for long goes on in the current one, members and views."""
+        self.make(2, 4)
+        member = Member(self.opened(), 'b', lambda each: member.leave(), lambda each: None, ttl=10.0)
+        shown = view.LogView(self.opened())
+        self.addCleanup(shown.close)
+        self.assertEqual((member.core.opening.epoch, shown.show().epoch), (1, 1))
+        self.resize(4, 'b', 'c')
+        self.opened().prune(2)
+        with member:
+            member.run()
+        self.assertEqual((member.core.opening.epoch, member.node), (2, 1))
+        told = shown.show()
+        self.assertEqual((told.epoch, [node.name for node in told.nodes]), (2, ['b', 'c']))
+        self.assertEqual(told.last[-1][1], 'crash,1')
+
     def test_full_logs(self) -> None:
         """Logs are full after a hundred rows, and somebody goes and comes, again and again."""
         self.make(3, 6, 100)
