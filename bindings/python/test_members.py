@@ -21,7 +21,7 @@ from pathlib import Path
 from typing import Any, Callable, Dict, List, Optional, Sequence, Tuple, Type
 from unittest import mock
 
-from bully import Full, Replica, Setup, check, command, logs, page, plan_table, resizing, settings, view
+from bully import Full, Setup, check, command, logs, page, resizing, settings, view
 from bully.epochs import Opening, Token, cut_end, setup_of
 from bully.logs import (
     DamagedLog, DiskFull, ForeignLog, Log, LogBusy, LogError, LogExists, MemoryLog, NoEpoch, NoLog, ReadOnlyLog, SqliteLog, current,

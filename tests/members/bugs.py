@@ -1,9 +1,8 @@
 """Members that break one rule, each as a core of its own."""
 from __future__ import annotations
 
-from typing import Dict, List, NamedTuple, Optional, Sequence, Type
+from typing import Dict, NamedTuple, Optional, Sequence, Type
 
-from bully import Status
 from bully.epochs import FIRST, Token, cut_end
 from bully.member import Append, Assignment, Core, Step
 

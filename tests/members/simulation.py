@@ -19,7 +19,7 @@ from bully import NotLearned, Replica, Setup, Status, check
 from bully.epochs import Opening, Token, cut_end
 from bully.logs import MemoryLog, NoEpoch, current
 from bully.member import (
-    Append, Assignment, Begin, Core, End, Ending, Finish, Follow, Look, Pace, Read, Release, Renew, Rest, Step, Stop, Take, Wait,
+    Append, Assignment, Begin, End, Ending, Finish, Follow, Look, Pace, Read, Release, Renew, Rest, Step, Stop, Take, Wait,
 )  # fmt: skip
 from bully.resizing import has_ended
 from bully.settings import Settings
