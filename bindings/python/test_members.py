@@ -24,7 +24,7 @@ from unittest import mock
 from bully import Full, Setup, check, command, logs, page, resizing, settings, view
 from bully.epochs import Opening, Token, cut_end, setup_of
 from bully.logs import (
-    DamagedLog, DiskFull, ForeignLog, Log, LogBusy, LogError, LogExists, MemoryLog, NoEpoch, NoLog, ReadOnlyLog, SqliteLog, current,
+    DamagedLog, DiskFull, ForeignLog, Log, LogBusy, LogError, LogExists, MemoryLog, NoLog, ReadOnlyLog, SqliteLog, current,
 )  # fmt: skip
 from bully.member import (
     Append, Assignment, Begin, Core, End, Ending, Finish, Follow, Look, Pace, Read, Release, Renew, Rest, Step, Stop, Take, Wait,
@@ -32,10 +32,10 @@ from bully.member import (
 from bully.running import Member, NotInGroup, OtherGroup
 from bully.values import Rows
 from bully.worker import Guarded, GuardLost, WorkerEnded, Workers
+from epoch_laws import OPENING, EpochLaws
 
 ROOT = Path(__file__).resolve().parents[2]
 HEADER = Setup(3, 6).header()
-OPENING = Opening.first(HEADER)
 PATIENCE = 60.0
 
 
@@ -142,67 +142,6 @@ class Logs(InFolder):
                 other.release(2, 'y')
                 self.assertEqual(log.present(), set())
 
-    def test_epochs(self) -> None:
-        """One epoch follows the other, and each is seen by itself."""
-        after = Opening(2, 'bully,1,2,4', ('b', 'd'), 500, (1, 0, 2, 2), (1,))
-        for log, other, _ in self.each():
-            with self.subTest(log=log):
-                self.assertEqual((log.epoch, log.epochs(), log.opening()), (1, range(1, 2), OPENING))
-                self.assertTrue(log.append(1, ['recover,1', 'crash,1']))
-                self.assertTrue(log.hold(1, 'x', 5, False))
-                self.assertFalse(other.end(2, None, after))
-                self.assertTrue(other.end(3, None, after))
-                self.assertFalse(log.end(4, None, after), 'the epoch has ended')
-                self.assertEqual(list(log.read(3)), ['end,bully,1,2,4'])
-                self.assertEqual((log.epoch, log.epochs(), log.present()), (1, range(1, 3), {1}))
-                there = current(log)
-                self.assertEqual((there.epoch, there.opening(), list(there.read(0))), (2, after, ['bully,1,2,4']))
-                self.assertEqual(there.present(), set())
-                self.assertTrue(there.append(1, ['recover,2']))
-                self.assertTrue(there.hold(1, 'y', 5, False))
-                self.assertFalse(there.append(2, ['crash,1'], absent=1))
-                self.assertEqual(list(current(other).read(1)), ['recover,2'])
-                self.assertEqual(len(log.read(0)), 4)
-                with self.assertRaises(NoEpoch):
-                    log.at(3).opening()
-
-    def test_wishes(self) -> None:
-        """An epoch ends by what is wished for, or not at all."""
-        one, two = (OPENING.wish(settings.Settings(Setup(nodes, 4), tuple('abcd'[:nodes]))) for nodes in (2, 4))
-        for log, other, _ in self.each():
-            with self.subTest(log=log):
-                self.assertIsNone(log.wish())
-                self.assertTrue(log.ask(one.text()))
-                self.assertTrue(other.ask(two.text()))
-                self.assertEqual(log.wish(), two.text())
-                self.assertFalse(log.end(1, None, one))
-                self.assertFalse(log.end(1, one.text(), one))
-                self.assertTrue(log.end(1, two.text(), two))
-                self.assertFalse(other.ask(one.text()), 'the epoch has ended')
-                self.assertEqual((current(log).opening(), current(log).wish()), (two, None))
-
-    def test_prune(self) -> None:
-        for log, other, _ in self.each():
-            with self.subTest(log=log):
-                opening = OPENING
-                for epoch in (1, 2, 3):
-                    seen, opening = log.at(epoch), opening.next(None, (), frozenset())
-                    self.assertTrue(seen.append(1, [f'start,{epoch}'] * 60_000))
-                    self.assertTrue(seen.hold(1, 'x', 5, False))
-                    self.assertTrue(seen.end(60_001, None, opening))
-                other.prune(3)
-                self.assertEqual((log.epochs(), log.at(1).opening()), (range(3, 5), OPENING))
-                gone = log.at(2)
-                calls: List[Callable[[], object]] = [lambda: gone.read(0), lambda: gone.append(60_001, ['start,1'])]
-                for call in calls:
-                    with self.assertRaises(NoEpoch) as caught:
-                        call()
-                    self.assertIn('epoch 2 is not there, but 3 to 4', str(caught.exception))
-                gone.release(1, 'x')
-                self.assertEqual(len(log.at(3).read(0)), 60_002)
-                other.prune(99)
-                self.assertEqual((log.epochs(), list(log.at(4).read(0))), (range(4, 5), [HEADER]))
-
     def test_wait(self) -> None:
         memory = MemoryLog([HEADER])
         self.created()
@@ -210,7 +149,7 @@ class Logs(InFolder):
         for log, other in pairs:
             acts: List[Callable[[], object]] = [
                 lambda: other.append(1, ['recover,1']), lambda: other.hold(1, 'x', 0.2, False), lambda: None,
-                lambda: other.hold(1, 'x', 50, False), lambda: other.release(1, 'x'), lambda: other.ask('x'),
+                lambda: other.hold(1, 'x', 50, False), lambda: other.release(1, 'x'),
             ]  # fmt: skip
             for number, act in enumerate(acts):
                 with self.subTest(log=log, act=number):
@@ -225,6 +164,21 @@ class Logs(InFolder):
             begun = time.monotonic()
             log.wait(2, 0.1)
             self.assertGreaterEqual(time.monotonic(), begun + 0.1)
+
+
+class EpochsInMemory(EpochLaws, unittest.TestCase):
+    """The laws of epochs of a log in memory."""
+
+    def pair(self) -> Tuple[Log, Log]:
+        log = MemoryLog([HEADER])
+        return log, log.at(1)
+
+
+class EpochsInFile(EpochLaws, InFolder):
+    """The laws of epochs of a log in a file."""
+
+    def pair(self) -> Tuple[Log, Log]:
+        return self.created(), self.opened()
 
 
 class Files(InFolder):
