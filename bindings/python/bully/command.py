@@ -25,6 +25,7 @@ from .member import Assignment
 from .page import Page
 from .running import Member, OtherGroup
 from .settings import ConfigFault, Settings, read_settings
+from .stores import BadStore, Store, add_words, store_of
 from .view import GroupView, LogView
 from .worker import GuardLost, WorkerEnded, Workers
 
@@ -44,7 +45,7 @@ def parser() -> argparse.ArgumentParser:
     status = commands.add_parser('status', help='tell how the group stands')
     history = commands.add_parser('history', help='write the log as a trace')
     for command in (init, run, status, history):
-        command.add_argument('--log', required=True, metavar='sqlite:FILE')
+        add_words(command)
         if command is not history:
             command.add_argument('--config', required=command is not status, metavar='FILE')
     run.add_argument('--node', required=True, metavar='NAME')
@@ -65,14 +66,6 @@ def seconds(word: str) -> float:
     return number
 
 
-def file_of(words: str) -> str:
-    """The file of a log."""
-    kind, colon, path = words.partition(':')
-    if kind != 'sqlite' or not path:
-        raise BadWords(f'--log is {words}, and has to be sqlite:FILE')
-    return path
-
-
 def settings_of(path: str) -> Settings:
     """The settings in this file."""
     try:
@@ -88,13 +81,13 @@ def settings_of(path: str) -> Settings:
 def init(options: argparse.Namespace) -> int:
     """Makes the log."""
     settings = settings_of(options.config)
-    SqliteLog.create(file_of(options.log), settings.setup.header()).close()
+    store_of(options).create(settings.setup.header()).close()
     return OK
 
 
 def history(options: argparse.Namespace) -> int:
     """Writes the log as a trace."""
-    with contextlib.closing(SqliteLog(file_of(options.log), reads=True)) as log:
+    with contextlib.closing(store_of(options).open(reads=True)) as log:
         sys.stdout.write(log.read(0).text)
     return OK
 
@@ -102,7 +95,7 @@ def history(options: argparse.Namespace) -> int:
 def status(options: argparse.Namespace) -> int:
     """Tells how the group stands."""
     settings = settings_of(options.config) if options.config else None
-    with contextlib.closing(SqliteLog(file_of(options.log), reads=True)) as log:
+    with contextlib.closing(store_of(options).open(reads=True)) as log:
         shown = LogView(log, settings).show()
     print(json.dumps(shown.told(), ensure_ascii=False) if options.json else text_of(shown))
     return OK
@@ -124,7 +117,7 @@ def text_of(group: GroupView) -> str:
 class Run:
     """A member with its worker."""
 
-    def __init__(self, options: argparse.Namespace, settings: Settings, log: SqliteLog) -> None:
+    def __init__(self, options: argparse.Namespace, settings: Settings, log: Store) -> None:
         self.settings = settings
         number = number_of(settings, options.node)
         self.member = Member(log, number, self.start, self.stop, options.ttl, settings.setup.header(), sure=self.hear_until)
@@ -168,19 +161,20 @@ def run(options: argparse.Namespace) -> int:
     """Takes part with a worker, until a signal tells it to leave."""
     if not options.quiet:
         logging.basicConfig(level=logging.INFO, format='%(asctime)s bully-member: %(message)s')
-    settings, path = settings_of(options.config), file_of(options.log)
+    settings, store = settings_of(options.config), store_of(options)
     address = address_of(options.listen) if options.listen else None
     with contextlib.ExitStack() as closing:
-        log = SqliteLog(path, patience=min(1.0, options.ttl / 5))
+        log = store.open(patience=min(1.0, options.ttl / 5))
         closing.callback(log.close)
         member = Run(options, settings, log)
         if address is not None:
-            view = LogView(SqliteLog(path, reads=True), settings)
+            view = LogView(store.open(reads=True), settings)
             closing.callback(view.close)
             page = Page(address, view, member.member, options.node, settings)
             closing.callback(page.close)
             page.start()
-        log.watch(options.ttl)
+        if isinstance(log, SqliteLog):
+            log.watch(options.ttl)
         member.run()
     return OK
 
@@ -189,8 +183,8 @@ COMMANDS = {'init': init, 'run': run, 'status': status, 'history': history}
 
 # What ends a command, and its status.
 STATUSES: Tuple[Tuple[Type[Exception], int], ...] = (
-    (BadWords, BAD_WORDS), (ConfigFault, BAD_INPUT), (OtherGroup, BAD_INPUT), (BullyError, BAD_INPUT), (LogError, NO_STORE),
-    (OSError, NO_STORE), (WorkerEnded, FAILED), (GuardLost, FAILED),
+    (BadWords, BAD_WORDS), (BadStore, BAD_WORDS), (ConfigFault, BAD_INPUT), (OtherGroup, BAD_INPUT), (BullyError, BAD_INPUT),
+    (LogError, NO_STORE), (OSError, NO_STORE), (WorkerEnded, FAILED), (GuardLost, FAILED),
 )  # fmt: skip
 
 
