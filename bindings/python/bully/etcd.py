@@ -23,7 +23,7 @@ from .logs import DamagedLog, ForeignLog, LogError, LogExists, NoLog, Unanswered
 from .values import Rows
 
 APPEND_MAX = 128  # rows: etcd takes no more in one transaction
-PAGE = 2000  # rows that are read in one request
+PAGE = 1000  # rows that are read in one request
 READS = 3  # how often a read is begun, if etcd compacts its revision meanwhile
 AGAIN = 0.2  # seconds from the end of a watch that broke to the next
 
@@ -42,6 +42,14 @@ class Keys:
 
     def presence(self, node: int) -> bytes:
         return self.presences + b'%d' % node
+
+    def page(self, place: int) -> Json:
+        """The range of the rows from there on that are read together."""
+        return one(self.row(place), range_end=coded(self.row(place + PAGE)))
+
+    def beyond(self, place: int) -> Json:
+        """The range of a row behind those."""
+        return {**below(self.rows, limit=1, keys_only=True), **one(self.row(place + PAGE))}
 
 
 class Held(NamedTuple):
@@ -97,15 +105,19 @@ class EtcdLog:
     def _open(self) -> int:
         """Sees that there is a log. The revision in which it was made."""
         self._client.begin()
-        keys = self._keys
-        header, first = map(pairs_of, self._client.transact([], ranges(one(keys.header), below(keys.root, limit=1, keys_only=True))).ranges)
+        keys, header = self._keys, self._found(one(self._keys.header))
         if header and header[0].value.startswith(b'bully,'):
             return header[0].created
+        first = self._found(below(keys.root, limit=1, keys_only=True))
         if not first:
             raise NoLog(f'{self.address}: there is none; bully-member init makes a log')
         if header or not first[0].key.startswith((keys.rows, keys.presences)):
             raise ForeignLog(f'{self.address}: something else than a log is below its prefix')
         raise DamagedLog(f'{self.address}: the log has no header')
+
+    def _found(self, asked: Json) -> List[Pair]:
+        """What one range finds."""
+        return pairs_of(self._client.ask(KV_RANGE, asked, repeats=True))
 
     def read(self, place: int) -> Rows:
         for _ in range(READS):
@@ -162,9 +174,10 @@ class EtcdLog:
 
     # What is asked of etcd.
 
-    def _look(self, *asked: Json) -> Answer:
-        """What these ranges find, at one revision, in the log that was opened."""
-        answer = self._client.transact([], ranges(one(self._keys.header, keys_only=True), *asked))
+    def _look(self, *asked: Json, condition: Optional[Json] = None, otherwise: Sequence[Json] = ()) -> Answer:
+        """What these ranges find, at one revision, in the log that was opened, or the others, unless the condition is so."""
+        header = one(self._keys.header, keys_only=True)
+        answer = self._client.transact([condition] if condition else [], ranges(header, *asked), [header, *otherwise])
         self._see_header(answer.ranges[0])
         return answer._replace(ranges=answer.ranges[1:])
 
@@ -188,24 +201,32 @@ class EtcdLog:
 
     def _pages(self, place: int) -> Iterator[str]:
         """The rows from that place on, part by part, as they stand at one revision. Raises Compacted."""
-        keys = self._keys
+        keys, first = self._keys, place
         self._client.begin()
-        answer = self._look({**below(keys.rows, limit=PAGE), **one(keys.row(place))})
-        end = place + int(answer.ranges[0].get('count', 0))
-        yield self._text(answer.ranges[0], place, min(place + PAGE, end))
-        for first in range(place + PAGE, end, PAGE):
-            self._client.begin()
-            last = min(first + PAGE, end)
-            asked = one(keys.row(first), range_end=coded(keys.row(last)), revision=str(answer.revision))
-            yield self._text(self._client.ask(KV_RANGE, asked, repeats=True), first, last)
+        is_full = exists(keys.row(place + PAGE - 1))
+        answer = self._look(keys.page(place), condition=is_full, otherwise=[keys.page(place), keys.beyond(place)])
+        found, beyond = answer.ranges[0], answer.ranges[1:]
+        while True:
+            yield self._text(found, first)
+            if len(found.get('kvs', ())) < PAGE:
+                break
+            first += PAGE
+            found = self._more(keys.page(first), answer.revision)
+        if (beyond[0] if beyond else self._more(keys.beyond(first), answer.revision)).get('kvs'):
+            raise DamagedLog(f'{self.address}: rows are missing from place {first} on')
 
-    def _text(self, found: Json, first: int, end: int) -> str:
-        """The rows of these places, each with its line end."""
+    def _more(self, asked: Json, revision: int) -> Json:
+        """What this range found at that revision. Raises Compacted."""
+        self._client.begin()
+        return self._client.ask(KV_RANGE, {**asked, 'revision': str(revision)}, repeats=True)
+
+    def _text(self, found: Json, first: int) -> str:
+        """The rows of a part that begins there, each with its line end."""
         pairs = found.get('kvs', ())
         text = b''.join([b64decode(pair.get('value', '')) + b'\n' for pair in pairs])
-        is_whole = [pair['key'] for pair in pairs] == [coded(self._keys.row(place)) for place in range(first, end)]
-        if not is_whole or text.count(b'\n') != end - first:
-            raise DamagedLog(f'{self.address}: rows are missing from place {first} on, or others are between them')
+        is_whole = [pair['key'] for pair in pairs] == [coded(self._keys.row(first + number)) for number in range(len(pairs))]
+        if not is_whole or text.count(b'\n') != len(pairs):
+            raise DamagedLog(f'{self.address}: rows are missing from place {first} on, or something else is between them')
         try:
             return text.decode()
         except ValueError as error:
@@ -306,13 +327,13 @@ class News:
 
 def make(client: Client, address: str, keys: Keys, header: str) -> None:
     """Makes a log. Raises LogExists, ForeignLog."""
-    there = (one(keys.header, keys_only=True), below(keys.root, limit=1, keys_only=True))
-    answer = client.transact([], ranges(*there))  # so that the rows of a long log aren't compared
-    if not answer.ranges[1].get('kvs'):
+    there = [one(keys.header, keys_only=True), below(keys.root, limit=1, keys_only=True)]
+    answer = client.transact([exists(keys.header)], [], there)  # so that the rows of a long log aren't compared
+    if not answer.is_done and not answer.ranges[1].get('kvs'):
         is_empty = {**below(keys.root), **number_is(keys.root, 'version', 0)}
         answer = client.transact([is_empty], [put(keys.header, header)], there)
         if answer.is_done:
             return
-    if answer.ranges[0].get('kvs'):
+    if answer.is_done or answer.ranges[0].get('kvs'):
         raise LogExists(f'{address}: there is a log already')
     raise ForeignLog(f'{address}: something else is below its prefix already')

@@ -435,5 +435,6 @@ class Watch:
 
 
 def limit(connection: http.client.HTTPConnection, end: float) -> None:
-    """What is done next over the connection takes no longer than up to then."""
-    connection.sock.settimeout(max(LEAST_LIMIT, end - seconds_of_boot()))
+    """What is done next over the connection takes no longer than up to then. (Who is told that it ends with an answer has no socket.)"""
+    if connection.sock is not None:
+        connection.sock.settimeout(max(LEAST_LIMIT, end - seconds_of_boot()))

@@ -1,0 +1,970 @@
+#!/usr/bin/env python3
+"""Tests of logs in etcd, over servers of their own. `try` runs them; without the program `etcd` on the path they are skipped."""
+import contextlib
+import http.client
+import json
+import os
+import shutil
+import signal
+import socket
+import ssl
+import subprocess
+import tempfile
+import threading
+import time
+import unittest
+from base64 import b64decode, b64encode
+from pathlib import Path
+from typing import Any, Callable, Dict, Iterator, List, Optional, Sequence, Tuple, Type
+from unittest import mock
+
+from bully import etcd, gateway
+from bully.etcd import EtcdLog
+from bully.gateway import Address, Client, Denied, Endpoint, read_address
+from bully.logs import DamagedLog, DiskFull, ForeignLog, Log, LogError, LogExists, NoLog, Unanswered
+from laws import HEADER, PATIENCE, Laws, Waits, wait_until
+
+PROGRAM = shutil.which('etcd')
+PACE = ['--heartbeat-interval', '50', '--election-timeout', '500']  # milliseconds; so the shortest lease is of 1 s
+
+Json = Dict[str, Any]
+
+
+def coded(word: str) -> str:
+    return b64encode(word.encode()).decode()
+
+
+def decoded(word: str) -> str:
+    return b64decode(word).decode()
+
+
+def free_ports(count: int) -> List[int]:
+    """Ports of the loopback on which nobody listens."""
+    found = [socket.create_server(('127.0.0.1', 0)) for _ in range(count)]
+    ports = [int(each.getsockname()[1]) for each in found]
+    for each in found:
+        each.close()
+    return ports
+
+
+class Server:
+    """A server of etcd, in a process of its own."""
+
+    def __init__(self, folder: Path, name: str, ports: Sequence[int], cluster: str, words: Sequence[str]) -> None:
+        self.name, (self.port, peer_port) = name, ports
+        self.folder = folder
+        kind = 'https' if '--cert-file' in words else 'http'
+        client, peer = f'{kind}://127.0.0.1:{self.port}', f'http://127.0.0.1:{peer_port}'
+        self.words = [
+            str(PROGRAM), '--name', name, '--data-dir', str(folder / name), '--listen-client-urls', client, '--advertise-client-urls', client,
+            '--listen-peer-urls', peer, '--initial-advertise-peer-urls', peer, '--initial-cluster', cluster, *PACE, *words,
+        ]  # fmt: skip
+        self.process: Optional['subprocess.Popen[bytes]'] = None
+
+    def start(self) -> None:
+        with open(self.folder / f'{self.name}.said', 'ab') as said:
+            self.process = subprocess.Popen(self.words, stdin=subprocess.DEVNULL, stdout=said, stderr=said)
+
+    def send(self, number: int) -> None:
+        assert self.process is not None
+        self.process.send_signal(number)
+
+    def kill(self) -> None:
+        if self.process is not None:
+            self.process.kill()
+            self.process.wait()
+
+    @property
+    def has_ended(self) -> bool:
+        return self.process is None or self.process.poll() is not None
+
+    def ask(self, path: str, told: Json, tls: Optional[ssl.SSLContext] = None, token: str = '') -> Json:
+        """What it answers. Raises OSError, HTTPException, ValueError."""
+        if tls is None:
+            connection = http.client.HTTPConnection('127.0.0.1', self.port, timeout=5.0)
+        else:
+            connection = http.client.HTTPSConnection('127.0.0.1', self.port, timeout=5.0, context=tls)
+        with contextlib.closing(connection):
+            connection.request('POST', path, json.dumps(told), {'Authorization': token} if token else {})
+            answer: Json = json.loads(connection.getresponse().read())
+        if 'error' in answer:
+            raise ValueError(answer['error'])
+        return answer
+
+    def is_up(self, tls: Optional[ssl.SSLContext] = None) -> bool:
+        """Whether it answers what needs a quorum; also that it doesn't know who asks."""
+        try:
+            self.ask('/v3/kv/range', {'key': coded('x')}, tls)
+        except ValueError as error:
+            return 'user name is empty' in str(error)
+        except (OSError, http.client.HTTPException):
+            return False
+        return True
+
+    def keys(self, prefix: str = '') -> Dict[str, Json]:
+        """What is known of the keys that begin so."""
+        found = self.ask('/v3/kv/range', {'key': coded(prefix or '\0'), 'range_end': coded(prefix + '\x7f')})
+        return {decoded(pair['key']): pair for pair in found.get('kvs', ())}
+
+    def delete(self, key: str, end: str = '') -> None:
+        self.ask('/v3/kv/deleterange', {'key': coded(key), **({'range_end': coded(end)} if end else {})})
+
+    def put(self, key: str, value: str) -> None:
+        self.ask('/v3/kv/put', {'key': coded(key), 'value': coded(value)})
+
+    def compact(self) -> None:
+        """Only the newest revision is kept."""
+        revision = self.ask('/v3/kv/range', {'key': coded('x')})['header']['revision']
+        self.ask('/v3/kv/compaction', {'revision': revision, 'physical': True})
+
+
+class Servers:
+    """Servers that are one etcd."""
+
+    def __init__(self, count: int = 1, words: Sequence[str] = (), tls: Optional[ssl.SSLContext] = None) -> None:
+        self._folder = tempfile.TemporaryDirectory()
+        self._tls = tls
+        self.each: List[Server] = []
+        try:
+            for _ in range(5):  # others may take a port before its server does
+                self.each = self._begun(count, words)
+                wait_until(lambda: self.have_ended() or self.are_up())
+                if not self.have_ended():
+                    return
+                self._kill()
+            said = '\n'.join(path.read_text()[-1000:] for path in Path(self._folder.name).glob('*.said'))
+            raise AssertionError(f'etcd does not start: {said}')
+        except BaseException:
+            self.close()
+            raise
+
+    def have_ended(self) -> bool:
+        """Whether one has."""
+        return any(server.has_ended for server in self.each)
+
+    def _begun(self, count: int, words: Sequence[str]) -> List[Server]:
+        ports = free_ports(2 * count)
+        places = [(f's{number}', ports[2 * number : 2 * number + 2]) for number in range(count)]
+        cluster = ','.join(f'{name}=http://127.0.0.1:{peer}' for name, (_, peer) in places)
+        shutil.rmtree(self._folder.name)
+        os.mkdir(self._folder.name)
+        servers = [Server(Path(self._folder.name), name, each, cluster, words) for name, each in places]
+        for server in servers:
+            server.start()
+        return servers
+
+    def are_up(self) -> bool:
+        return all(server.is_up(self._tls) for server in self.each)
+
+    def leader(self) -> Server:
+        """The one that is known as the leader to a server that answers."""
+        found: List[Server] = []
+
+        def is_found() -> bool:
+            found[:] = [server for server in self.each if self._leads(server)]
+            return len(found) == 1
+
+        wait_until(is_found)
+        return found[0]
+
+    def _leads(self, server: Server) -> bool:
+        try:
+            told = server.ask('/v3/maintenance/status', {})
+        except (OSError, http.client.HTTPException, ValueError):
+            return False
+        return bool(told.get('leader') == told['header']['member_id'] and server.is_up())
+
+    def address(self, prefix: str, *servers: Server, kind: str = 'etcd') -> str:
+        return f'{kind}://{",".join(f"127.0.0.1:{server.port}" for server in servers or self.each)}/{prefix}'
+
+    def _kill(self) -> None:
+        for server in self.each:
+            server.kill()
+
+    def close(self) -> None:
+        self._kill()
+        self._folder.cleanup()
+
+
+class Proxy:
+    """Stands between a log and a server. It loses, once, an answer or a request, the first whose request has these bytes."""
+
+    def __init__(self, port: int, host: str = '127.0.0.1') -> None:
+        self.port = port  # of the server
+        self.requests = 0
+        self._loses: Tuple[str, bytes] = ('', b'')
+        self.lost = threading.Event()
+        self._listening = socket.create_server((host, 0), family=socket.AF_INET6 if ':' in host else socket.AF_INET)
+        self.endpoint = str(Endpoint(host, self._listening.getsockname()[1]))
+        threading.Thread(target=self._accept, daemon=True).start()
+
+    def address(self, prefix: str) -> str:
+        return f'etcd://{self.endpoint}/{prefix}'
+
+    def lose(self, what: str, part: bytes) -> None:
+        self.lost.clear()
+        self._loses = (what, part)
+
+    def close(self) -> None:
+        with contextlib.suppress(OSError):
+            self._listening.shutdown(socket.SHUT_RDWR)
+        self._listening.close()
+
+    def _accept(self) -> None:
+        while True:
+            try:
+                client, _ = self._listening.accept()
+                server = socket.create_connection(('127.0.0.1', self.port))
+            except OSError:
+                return
+            threading.Thread(target=self._carry, args=[client, server], daemon=True).start()
+
+    def _carry(self, client: socket.socket, server: socket.socket) -> None:
+        """Carries requests and answers, one after the other."""
+        with client, server, contextlib.suppress(OSError):
+            threading.Thread(target=self._answer, args=[client, server], daemon=True).start()
+            while True:
+                request = client.recv(1 << 20)
+                if not request:
+                    break
+                self.requests += 1
+                what, part = self._loses
+                if what == 'request' and part in request:
+                    self._lose()
+                    break
+                self._is_next |= what == 'answer' and part in request
+                server.sendall(request)
+            for each in (client, server):
+                each.shutdown(socket.SHUT_RDWR)
+
+    _is_next = False
+
+    def _answer(self, client: socket.socket, server: socket.socket) -> None:
+        with contextlib.suppress(OSError):
+            while True:
+                answer = server.recv(1 << 20)
+                if self._is_next:
+                    self._lose()
+                    answer = b''
+                if not answer:
+                    client.shutdown(socket.SHUT_RDWR)
+                    return
+                client.sendall(answer)
+
+    def _lose(self) -> None:
+        self._is_next = False
+        self._loses = ('', b'')
+        self.lost.set()
+
+
+ALONE: Servers
+TXN, GRANT, KEEPALIVE = b'POST /v3/kv/txn ', b'POST /v3/lease/grant ', b'POST /v3/lease/keepalive '
+PUT = b'request_put'
+
+
+def setUpModule() -> None:
+    global ALONE
+    if PROGRAM is None:
+        raise unittest.SkipTest('no program `etcd` is on the path')
+    ALONE = Servers()
+
+
+def tearDownModule() -> None:
+    if PROGRAM is not None:
+        ALONE.close()
+
+
+class InEtcd(unittest.TestCase):
+    """Tests with a server that others use, too, and a prefix of their own."""
+
+    def setUp(self) -> None:
+        self.server = ALONE.each[0]
+        self.prefix = self.id().replace('.', '/')
+        self.address = ALONE.address(self.prefix)
+
+    def created(self, address: str = '', header: str = HEADER, patience: float = 5.0, **more: Any) -> EtcdLog:
+        return self.closing(EtcdLog.create(address or self.address, header, patience, **more))
+
+    def opened(self, address: str = '', patience: float = 5.0, **more: Any) -> EtcdLog:
+        return self.closing(EtcdLog(address or self.address, patience, **more))
+
+    def closing(self, log: EtcdLog) -> EtcdLog:
+        self.addCleanup(log.close)
+        return log
+
+    def begun(self, count: int = 1, words: Sequence[str] = (), tls: Optional[ssl.SSLContext] = None) -> Servers:
+        """Servers of the test's own."""
+        servers = Servers(count, words, tls)
+        self.addCleanup(servers.close)
+        return servers
+
+    def proxy(self, host: str = '127.0.0.1') -> Proxy:
+        proxy = Proxy(self.server.port, host)
+        self.addCleanup(proxy.close)
+        return proxy
+
+    def renewed(self, log: EtcdLog, life: str = 'x', ttl: float = 2.0) -> bool:
+        """Whether a presence of node 1 is renewed, once that is answered."""
+        while True:
+            with contextlib.suppress(Unanswered):
+                return log.hold(1, life, ttl, True)
+
+
+class OverEtcd(Laws, Waits, InEtcd):
+    """The laws of a log in etcd."""
+
+    TTL = 2.0
+    SHORT = 1.0
+    PACK = 50
+    MOST = 128
+
+    def setUp(self) -> None:
+        super().setUp()
+        patch = mock.patch.object(etcd, 'PAGE', self.PACK)
+        patch.start()
+        self.addCleanup(patch.stop)
+
+    def pair(self) -> Tuple[Log, Log]:
+        return self.created(), self.opened()
+
+    def now(self) -> float:
+        return time.monotonic()
+
+    def pass_time(self, seconds: float) -> None:
+        time.sleep(seconds)
+
+    def pass_end(self, log: Log) -> None:
+        wait_until(lambda: not log.present())
+
+
+class Keys(InEtcd):
+    """What stands in etcd."""
+
+    def test_keys(self) -> None:
+        log = self.created()
+        log.append(1, ['recover,1', 'größer'])
+        log.hold(3, 'x', 2, False)
+        pairs = self.server.keys(f'{self.prefix}/')
+        wanted = {'log/0000000000': HEADER, 'log/0000000001': 'recover,1', 'log/0000000002': 'größer', 'presence/3': 'x'}
+        self.assertEqual({key: decoded(pair['value']) for key, pair in pairs.items()}, {f'{self.prefix}/{key}': row for key, row in wanted.items()})
+        self.assertEqual([key for key, pair in pairs.items() if 'lease' in pair], [f'{self.prefix}/presence/3'])
+        self.assertEqual(log.read(2)[0], 'größer')
+
+    def test_seconds_of_leases(self) -> None:
+        """A ttl is rounded up to whole seconds, and etcd has a shortest one."""
+        log = self.created()
+        for number, (ttl, seconds) in enumerate([(0.01, '1'), (1.0, '1'), (1.01, '2'), (7, '7'), (86400.0, '86400')]):
+            with self.subTest(ttl=ttl):
+                self.assertTrue(log.hold(number, 'x', ttl, False))
+                lease = self.server.keys(f'{self.prefix}/presence/{number}')[f'{self.prefix}/presence/{number}']['lease']
+                self.assertEqual(self.server.ask('/v3/lease/timetolive', {'ID': lease})['grantedTTL'], seconds)
+
+    def test_shorter_lease(self) -> None:
+        log = self.created()
+        with mock.patch.object(Client, 'ask', self.granting(Client.ask, '4')), self.assertRaises(LogError) as caught:
+            log.hold(1, 'x', 4.1, False)
+        self.assertNotIsInstance(caught.exception, Unanswered)
+        self.assertEqual(log.present(), set())
+
+    def granting(self, ask: Callable[..., Json], seconds: str) -> Callable[..., Json]:
+        """The answers of etcd, but for the seconds of a lease."""
+
+        def answer(client: Client, path: str, told: Json, repeats: bool = False) -> Json:
+            answer = ask(client, path, told, repeats)
+            return {**answer, 'TTL': seconds} if path == gateway.LEASE_GRANT else answer
+
+        return answer
+
+    def test_many_rows_at_once(self) -> None:
+        log = self.created()
+        self.assertTrue(log.append(1, ['start,1'] * 128))
+        with self.assertRaisesRegex(ValueError, '129 rows'):
+            log.append(129, ['start,1'] * 129)
+
+    def test_renewals_write_nothing(self) -> None:
+        log, other = self.created(), self.opened()
+        log.hold(1, 'x', 5, False)
+        before = self.server.keys(self.prefix)
+        for _ in range(3):
+            self.assertTrue(log.hold(1, 'x', 5, True))
+        self.assertEqual(self.server.keys(self.prefix), before)
+        self.assertTrue(other.hold(1, 'x', 9, True), 'by another handle, and for longer')
+        self.assertTrue(log.hold(1, 'x', 5, True))
+
+
+class Prefixes(InEtcd):
+    """What begins the keys."""
+
+    ODD = (
+        'x', 'x0', 'x-', 'xy', 'x/y', 'x.y', '/x', 'x//y', '..', ' x ', 'größer', '%2F', 'a?b#c', 'a=b&c', '"', "'\\", '*', 'x,y', 'etcd://x/y', '0',
+        'logs', 'x/logs', 'presences', 'x\ny', '\U0001f600', 'x' * 1000,
+    )  # fmt: skip
+
+    def test_odd(self) -> None:
+        """Logs whose prefixes are odd or alike don't meet."""
+        logs = [self.created(f'{self.address}/{prefix}') for prefix in self.ODD]
+        for number, log in enumerate(logs):
+            self.assertTrue(log.append(1, [f'recover,{number}']))
+            self.assertTrue(log.hold(number, 'x', 50, False))
+        for number, prefix in enumerate(self.ODD):
+            log = self.opened(f'{self.address}/{prefix}/')
+            self.assertEqual((list(log.read(0)), log.present()), ([HEADER, f'recover,{number}'], {number}))
+
+    def test_below_another(self) -> None:
+        """What happens in a log below another one's prefix is no news of that one."""
+        log, below = self.created(), self.created(f'{self.address}/b')
+        log.present()
+        later = threading.Thread(target=lambda: [below.append(1, ['recover,1']), below.hold(1, 'x', 50, False)])
+        later.start()
+        begun = time.monotonic()
+        log.wait(1, 0.5)
+        self.assertGreaterEqual(time.monotonic(), begun + 0.5)
+        later.join()
+        self.assertEqual((list(log.read(0)), log.present()), ([HEADER], set()))
+        self.assertEqual((list(below.read(1)), below.present()), (['recover,1'], {1}))
+
+    def test_above_another(self) -> None:
+        """No log is made where another one is below its prefix."""
+        self.created(f'{self.address}/a/b')
+        for prefix in (self.address, f'{self.address}/a'):
+            with self.assertRaises(ForeignLog):
+                EtcdLog.create(prefix, HEADER)
+            with self.assertRaises(ForeignLog):
+                EtcdLog(prefix)
+
+    def test_addresses(self) -> None:
+        one, two, six = Endpoint('a', 2379), Endpoint('10.0.0.1', 80), Endpoint('::1', 2379)
+        for words, read in (
+            ('etcd://a/x', Address((one,), 'x', False)), ('etcds://a:2379,10.0.0.1:80/x/y//', Address((one, two), 'x/y', True)),
+            ('etcd://[::1]:2379/x', Address((six,), 'x', False)), ('etcd://[::1],a//x', Address((six, one), '/x', False)),
+        ):  # fmt: skip
+            with self.subTest(words=words):
+                self.assertEqual(read_address(words), read)
+        self.assertEqual((str(one), str(six)), ('a:2379', '[::1]:2379'))
+
+    def test_bad_addresses(self) -> None:
+        for words in (
+            '', 'etcd', 'etcd:a/x', 'etcd:/a/x', 'http://a/x', 'etcd://a', 'etcd://a/', 'etcd://a//', 'etcd:///x', 'etcd://a,/x', 'etcd://a:/x',
+            'etcd://:1/x', 'etcd://a:65536/x', 'etcd://a:b/x', 'etcd://::1/x', 'etcd://[::1/x', 'etcd://a/log', 'etcd://a/x/presence/y', 'etcd://a/\udc80',
+        ):  # fmt: skip
+            with self.subTest(words=words), self.assertRaises(ValueError):
+                read_address(words)
+
+    def test_ipv6(self) -> None:
+        try:
+            proxy = self.proxy('::1')
+        except OSError:
+            self.skipTest('there is no loopback of IPv6')
+        log = self.created(f'etcd://{proxy.endpoint}/{self.prefix}')
+        log.wait(1, 0.1)
+        self.assertTrue(log.append(1, ['recover,1']))
+        log.wait(1, PATIENCE)
+
+
+class Contents(InEtcd):
+    """What can be wrong with what is there."""
+
+    def refused(self, fault: Type[LogError], call: Callable[[], object]) -> None:
+        with self.assertRaises(fault) as caught:
+            call()
+        self.assertIn(self.address, str(caught.exception))
+
+    def test_none(self) -> None:
+        self.refused(NoLog, lambda: EtcdLog(self.address))
+
+    def test_exists(self) -> None:
+        self.created().append(1, ['recover,1'])
+        before = self.server.keys(self.prefix)
+        self.refused(LogExists, lambda: EtcdLog.create(self.address, 'bully,1,1,1'))
+        self.assertEqual(self.server.keys(self.prefix), before)
+
+    def test_at_one_moment(self) -> None:
+        """Of two that make a log one does."""
+        looked = Client.transact
+
+        def other_makes_it(client: Client, *asked: Any) -> gateway.Answer:
+            answer = looked(client, *asked)
+            with mock.patch.object(Client, 'transact', looked):
+                self.created(header='bully,1,1,1') if not self.server.keys(self.prefix) else None
+            return answer
+
+        with mock.patch.object(Client, 'transact', other_makes_it):
+            self.refused(LogExists, lambda: EtcdLog.create(self.address, HEADER))
+        self.assertEqual(list(self.opened().read(0)), ['bully,1,1,1'])
+
+    def test_foreign(self) -> None:
+        for key, value in (('log/0000000000', 'hello'), ('log/0000000000', ''), ('x', HEADER), ('', HEADER)):
+            with self.subTest(key=key, value=value):
+                self.server.put(f'{self.prefix}/{key}', value)
+                self.refused(ForeignLog, lambda: EtcdLog(self.address))
+                self.refused(LogExists if key.startswith('log') else ForeignLog, lambda: EtcdLog.create(self.address, HEADER))
+                self.server.delete(f'{self.prefix}/{key}')
+
+    def test_holes(self) -> None:
+        log = self.created()
+        log.append(1, ['recover,1', 'start,1', 'recover,2'])
+        self.server.delete(f'{self.prefix}/log/0000000002')
+        for place in (0, 1, 2):
+            self.refused(DamagedLog, lambda: log.read(place))
+        self.assertEqual(list(log.read(3)), ['recover,2'])
+
+    def test_holes_in_any_part(self) -> None:
+        log = self.created()
+        log.append(1, ['recover,1'] * 40)
+        with mock.patch.object(etcd, 'PAGE', 10):
+            for place in range(1, 40):
+                key = f'{self.prefix}/log/{place:010}'
+                self.server.delete(key)
+                self.refused(DamagedLog, lambda: log.read(0))
+                self.server.put(f'{key}0', 'recover,1')
+                self.refused(DamagedLog, lambda: log.read(0))
+                self.server.delete(f'{key}0')
+                self.server.put(key, 'recover,1')
+            self.assertEqual(len(log.read(0)), 41)
+
+    def test_no_rows(self) -> None:
+        log = self.created()
+        for value in ('recover,1\nrecover,2', ''):
+            self.server.put(f'{self.prefix}/log/0000000001', value)
+            if value:
+                self.refused(DamagedLog, lambda: log.read(1))
+        self.server.ask('/v3/kv/put', {'key': coded(f'{self.prefix}/log/0000000001'), 'value': b64encode(b'\xff').decode()})
+        self.refused(DamagedLog, lambda: log.read(0))
+
+    def calls(self, log: EtcdLog) -> List[Callable[[], object]]:
+        """Each call of a log."""
+        return [
+            lambda: log.read(0), lambda: log.read(2), lambda: log.append(2, ['recover,2']), lambda: log.hold(1, 'x', 5, True),
+            lambda: log.hold(2, 'y', 5, False), lambda: log.release(1, 'x'), log.present, lambda: log.wait(2, PATIENCE),
+        ]  # fmt: skip
+
+    def test_removed(self) -> None:
+        log = self.created()
+        log.append(1, ['recover,1'])
+        log.hold(1, 'x', 50, False)
+        self.server.delete(f'{self.prefix}/log/', f'{self.prefix}/log0')
+        for call in self.calls(log):
+            self.refused(DamagedLog, call)
+        self.refused(DamagedLog, lambda: EtcdLog(self.address))
+
+    def test_replaced(self) -> None:
+        log = self.created()
+        log.append(1, ['recover,1'])
+        log.hold(1, 'x', 50, False)
+        self.server.delete(f'{self.prefix}/', f'{self.prefix}0')
+        self.created().append(1, ['recover,1'])
+        for call in self.calls(log):
+            self.refused(ForeignLog, call)
+        self.assertEqual(len(self.opened().read(0)), 2)
+
+    def test_compacted(self) -> None:
+        """Whatever is compacted while it is read, all rows are read."""
+        log = self.created()
+        log.append(1, ['recover,1'] * 40)
+        with mock.patch.object(etcd, 'PAGE', 10), mock.patch.object(Client, 'ask', self.compacting(1)):
+            self.assertEqual(len(log.read(0)), 41)
+        with mock.patch.object(etcd, 'PAGE', 10), mock.patch.object(Client, 'ask', self.compacting(100)):
+            self.refused(Unanswered, lambda: log.read(0))
+
+    def compacting(self, times: int) -> Callable[..., Json]:
+        """The answers of an etcd that is compacted so often behind the first part of a read."""
+        ask, left = Client.ask, [times]
+
+        def answer(client: Client, path: str, told: Json, repeats: bool = False) -> Json:
+            if path == gateway.KV_RANGE and left[0]:
+                left[0] -= 1
+                self.server.put('x', 'y')
+                self.server.compact()
+            return ask(client, path, told, repeats)
+
+        return answer
+
+    def test_compacted_watch(self) -> None:
+        log, other = self.created(), self.opened()
+        watch = Client.watch
+        from_start = mock.patch.object(Client, 'watch', lambda client, told: watch(client, {**told, 'start_revision': '1'}))
+        self.server.put('x', 'y')
+        self.server.compact()
+        with from_start:
+            log.wait(1, 0.3)
+        later = threading.Timer(0.1, lambda: other.append(1, ['recover,1']))
+        later.start()
+        begun = time.monotonic()
+        log.wait(1, PATIENCE)
+        self.assertLess(time.monotonic(), begun + PATIENCE)
+        later.join()
+
+
+class Lost(InEtcd):
+    """What isn't answered."""
+
+    def setUp(self) -> None:
+        super().setUp()
+        self.between = self.proxy()
+        self.direct = self.created()
+        self.log = self.opened(self.between.address(self.prefix))
+
+    def loses(self, what: str, part: bytes, call: Callable[[], object]) -> None:
+        """The call isn't answered, since that gets lost."""
+        self.between.lose(what, part)
+        with self.assertRaises(Unanswered) as caught:
+            call()
+        self.assertTrue(self.between.lost.is_set())
+        self.assertIn(self.between.endpoint, str(caught.exception))
+
+    def test_append(self) -> None:
+        count = 1
+        for what in ('answer', 'request', 'answer'):
+            self.loses(what, PUT, lambda: self.log.append(count, ['recover,1', 'start,1']))
+            count += 2 * (what == 'answer')
+            self.assertEqual(len(self.direct.read(0)), count)
+            self.assertTrue(self.log.append(count, ['recover,2']))
+            count += 1
+
+    def test_take(self) -> None:
+        for number, (what, part) in enumerate([('answer', PUT), ('request', PUT), ('answer', GRANT), ('request', GRANT), ('answer', TXN)]):
+            with self.subTest(what=what, part=part):
+                self.loses(what, part, lambda: self.log.hold(1, f'x{number}', 50, False))
+                self.assertEqual(self.direct.present(), {1} if (what, part) == ('answer', PUT) else set())
+                self.log.release(1, f'x{number}')
+                self.assertTrue(self.log.hold(1, 'y', 50, False))
+                self.log.release(1, 'y')
+
+    def test_renewal(self) -> None:
+        self.assertTrue(self.log.hold(1, 'x', 50, False))
+        for what in ('answer', 'request'):
+            for part in (KEEPALIVE, TXN):
+                self.loses(what, part, lambda: self.log.hold(1, 'x', 50, True))
+                self.assertTrue(self.log.hold(1, 'x', 50, True))
+
+    def test_renewal_by_another_lease(self) -> None:
+        self.assertTrue(self.log.hold(1, 'x', 50, False))
+        for what in ('answer', 'request'):
+            for part in (GRANT, PUT):
+                self.assertTrue(self.direct.hold(1, 'x', 60, True))
+                self.loses(what, part, lambda: self.log.hold(1, 'x', 50, True))
+                self.assertTrue(self.log.hold(1, 'x', 50, True))
+                self.assertEqual(self.direct.present(), {1})
+
+    def test_late_renewal(self) -> None:
+        """What is done later than a newer renewal changes nothing."""
+        self.assertTrue(self.log.hold(1, 'x', 50, False))
+        asked: List[Json] = []
+        ask = Client.ask
+
+        def lose(client: Client, path: str, told: Json, repeats: bool = False) -> Json:
+            if path == gateway.KV_TXN and any('request_put' in each for each in told['success']):
+                asked.append(told)
+                raise Unanswered('lost')
+            return ask(client, path, told, repeats)
+
+        with mock.patch.object(Client, 'ask', lose), self.assertRaises(Unanswered):
+            self.log.hold(1, 'x', 40, True)
+        self.assertTrue(self.log.hold(1, 'x', 60, True))
+        before = self.server.keys(f'{self.prefix}/')
+        self.assertNotIn('succeeded', self.server.ask('/v3/kv/txn', asked[0]))
+        self.assertEqual(self.server.keys(f'{self.prefix}/'), before)
+
+    def test_renewal_that_was_done_meanwhile(self) -> None:
+        """Of one's own, whose answer was lost: it isn't known to be a gap, and is tried again."""
+        self.assertTrue(self.log.hold(1, 'x', 50, False))
+        granted = Client.ask
+
+        def renew_first(client: Client, path: str, told: Json, repeats: bool = False) -> Json:
+            if path == gateway.LEASE_GRANT:
+                with mock.patch.object(Client, 'ask', granted):
+                    self.assertTrue(self.direct.hold(1, 'x', 70, True))
+            return granted(client, path, told, repeats)
+
+        with mock.patch.object(Client, 'ask', renew_first), self.assertRaises(Unanswered):
+            self.log.hold(1, 'x', 60, True)
+        self.assertTrue(self.log.hold(1, 'x', 60, True))
+
+    def test_release(self) -> None:
+        for what in ('answer', 'request'):
+            self.assertTrue(self.log.hold(1, what, 50, False))
+            self.loses(what, TXN, lambda: self.log.release(1, what))
+            self.assertEqual(self.direct.present(), set() if what == 'answer' else {1})
+            self.log.release(1, what)
+            self.assertEqual(self.direct.present(), set())
+
+    def test_reads(self) -> None:
+        """They are asked for again, of another server, if there is one."""
+        calls: List[Callable[[EtcdLog], object]] = [lambda log: list(log.read(0)), lambda log: log.present()]
+        for call in calls:
+            self.loses('answer', TXN, lambda: call(self.log))
+            both = self.opened(f'etcd://{self.between.endpoint},127.0.0.1:{self.server.port}/{self.prefix}')
+            self.between.lose('answer', TXN)
+            self.assertEqual(call(both), call(self.direct))
+            self.assertTrue(self.between.lost.is_set())
+
+    def test_create(self) -> None:
+        for what in ('answer', 'request'):
+            address = self.between.address(f'{self.prefix}/{what}')
+            self.loses(what, PUT, lambda: EtcdLog.create(address, HEADER))
+            if what == 'request':
+                self.created(address)
+            self.assertEqual(list(self.opened(address).read(0)), [HEADER])
+
+    def test_watch(self) -> None:
+        """A watch that breaks is begun again, and what came meanwhile is seen."""
+        self.log.wait(1, 0.1)
+        self.direct.append(1, ['recover,1'])
+        for lost in (b'POST /v3/watch', TXN):
+            self.log._end_watch()
+            self.between.lose('answer', lost)
+            with contextlib.suppress(Unanswered):
+                self.log.wait(2, 0.3)
+            self.assertTrue(self.between.lost.is_set())
+        later = threading.Timer(0.1, lambda: self.direct.append(2, ['recover,2']))
+        later.start()
+        begun = time.monotonic()
+        self.log.wait(2, PATIENCE)
+        self.assertLess(time.monotonic(), begun + PATIENCE)
+        later.join()
+
+    def test_rest(self) -> None:
+        """Nothing is asked while nothing happens, also over many waits."""
+        self.log.present()
+        self.log.wait(1, 0.1)
+        asked = self.between.requests
+        for _ in range(5):
+            self.log.wait(1, 0.1)
+        self.assertEqual(self.between.requests, asked)
+
+    def test_another_etcd(self) -> None:
+        other = self.begun()
+        self.created(other.address(self.prefix))
+        self.between.port = other.each[0].port
+        self.loses('request', TXN, self.log.present)
+        calls: List[Callable[[], object]] = [lambda: self.log.read(0), lambda: self.log.append(1, ['recover,1']), self.log.present]
+        for call in calls:
+            with self.assertRaisesRegex(ForeignLog, 'another etcd'):
+                call()
+
+
+class Endpoints(InEtcd):
+    """Servers that don't answer, from the begin."""
+
+    def setUp(self) -> None:
+        super().setUp()
+        self.created().append(1, ['recover,1'])
+        self.silent = socket.create_server(('127.0.0.1', 0))  # it takes connections, and says nothing
+        self.addCleanup(self.silent.close)
+        self.dead, self.mute = (f'127.0.0.1:{port}' for port in (free_ports(1)[0], self.silent.getsockname()[1]))
+        self.alive = f'127.0.0.1:{self.server.port}'
+
+    def test_others(self) -> None:
+        for first in (self.dead, self.mute, 'nowhere.invalid', f'{self.mute},{self.dead}'):
+            with self.subTest(first=first):
+                log = self.opened(f'etcd://{first},{self.alive}/{self.prefix}', 2.0)
+                count = len(log.read(0))
+                self.assertTrue(log.append(count, ['recover,1']))
+                log.present()
+                log.wait(count, PATIENCE)
+
+    def test_none(self) -> None:
+        for all_of_them in ((self.dead,), (self.mute,), (self.dead, self.mute), ('nowhere.invalid',)):
+            begun = time.monotonic()
+            with self.assertRaises(Unanswered) as caught:
+                EtcdLog(f'etcd://{",".join(all_of_them)}/{self.prefix}', 0.5)
+            self.assertLess(time.monotonic(), begun + PATIENCE)
+            for each in all_of_them:
+                self.assertIn(each, str(caught.exception))
+
+    def test_append(self) -> None:
+        """What may have been done isn't asked of another server; the next call is."""
+        log = self.opened(f'etcd://{self.alive},{self.alive}/{self.prefix}', 0.5)
+        log._client._endpoints = read_address(f'etcd://{self.mute},{self.alive}/x').endpoints
+        log._client.close()
+        with self.assertRaisesRegex(Unanswered, f'^{self.mute}: it did not answer in time$'):
+            log.append(2, ['recover,2'])
+        self.assertTrue(log.append(2, ['recover,3']))
+
+    def test_no_etcd(self) -> None:
+        for said, fault in (
+            (b'HTTP/1.0 404 Not Found\r\n\r\nnothing here', LogError), (b'HTTP/1.0 200 OK\r\n\r\n[]', LogError),
+            (b'HTTP/1.0 502 Bad Gateway\r\n\r\n<html>', Unanswered), (b'SSH-2.0-OpenSSH\r\n', Unanswered), (b'', Unanswered),
+        ):  # fmt: skip
+            with self.subTest(said=said):
+                thread = threading.Thread(target=self.say, args=[said])
+                thread.start()
+                with self.assertRaises(fault) as caught:
+                    EtcdLog(f'etcd://{self.mute}/{self.prefix}', 5.0)
+                thread.join()
+                self.assertEqual((type(caught.exception), self.mute in str(caught.exception)), (fault, True))
+
+    def say(self, said: bytes) -> None:
+        """Answers one request so."""
+        with self.silent.accept()[0] as connection:
+            request = b''
+            while not request.endswith(b'}'):
+                request += connection.recv(1 << 20)
+            connection.sendall(said)
+
+
+class Killed(InEtcd):
+    """Servers that are killed and paused, and come back."""
+
+    def test_one(self) -> None:
+        servers = self.begun()
+        log, other, server = self.created(servers.address('x')), self.opened(servers.address('x')), servers.each[0]
+        self.assertTrue(log.hold(1, 'x', 5.0, False))
+        log.present()
+        log.wait(1, 0.1)
+        server.kill()
+        calls: List[Callable[[], object]] = [
+            lambda: log.read(0), lambda: log.append(1, ['recover,1']), lambda: log.hold(1, 'x', 5.0, True), log.present, lambda: log.wait(1, 1.0),
+        ]  # fmt: skip
+        for call in calls:
+            with self.assertRaisesRegex(Unanswered, f'^127.0.0.1:{server.port}: '):
+                call()
+        server.start()
+        wait_until(servers.are_up)
+        self.assertTrue(self.renewed(log, ttl=5.0))
+        self.assertTrue(other.append(1, ['recover,1']), 'its connection is a new one')
+        log.wait(1, PATIENCE)
+        self.assertEqual((list(log.read(1)), log.present()), (['recover,1'], {1}))
+
+    def test_no_quorum(self) -> None:
+        servers = self.begun(3)
+        log = self.created(servers.address('x'))
+        for server in servers.each[1:]:
+            server.kill()
+        calls: List[Callable[[], object]] = [
+            lambda: log.read(0), lambda: log.append(1, ['recover,1']), lambda: log.hold(1, 'x', 5.0, False),
+        ]  # fmt: skip
+        for call in calls:
+            with self.assertRaises(Unanswered):
+                call()
+        servers.each[1].start()
+        wait_until(lambda: all(server.is_up() for server in servers.each[:2]))
+        count = len(log.read(0))  # the append may have been done now
+        self.assertTrue(log.append(count, ['recover,2']))
+
+    def test_leader(self) -> None:
+        """A presence is kept while another leader is found, and the log goes on."""
+        servers = self.begun(3)
+        leader = servers.leader()
+        servers.each.sort(key=lambda server: server is not leader)
+        log, other = self.created(servers.address('x'), patience=1.0), self.opened(servers.address('x'), 1.0)
+        self.assertTrue(log.hold(1, 'x', 3.0, False))
+        log.present()
+        log.wait(1, 0.1)
+        leader.kill()
+        for _ in range(3):
+            self.assertTrue(self.renewed(log, ttl=3.0))
+        wait_until(lambda: self.appended(other))
+        log.wait(1, PATIENCE)
+        self.assertEqual((log.read(1)[0], log.present()), ('recover,1', {1}))
+        self.assertEqual(servers.each[1].keys('x/presence/1')['x/presence/1']['value'], coded('x'))
+
+    def appended(self, log: EtcdLog) -> bool:
+        with contextlib.suppress(Unanswered):
+            count = len(log.read(0))
+            return count > 1 or log.append(count, ['recover,1'])
+        return False
+
+    def test_all_paused(self) -> None:
+        """A presence that is renewed behind a pause was never away."""
+        servers = self.begun(3)
+        log = self.created(servers.address('x'), patience=0.5)
+        self.assertTrue(log.hold(1, 'x', 2.0, False))
+        made = self.presence(servers)
+        for number in (signal.SIGSTOP, signal.SIGCONT):
+            for server in servers.each:
+                server.send(number)
+            if number == signal.SIGSTOP:
+                for _ in range(5):
+                    with self.assertRaises(Unanswered):
+                        log.hold(1, 'x', 2.0, True)
+        is_renewed = self.renewed(log)
+        self.assertEqual(self.presence(servers), made if is_renewed else None)
+        wait_until(lambda: self.appended(log))
+
+    def presence(self, servers: Servers) -> Optional[str]:
+        """The revision in which the presence was taken, if it is held."""
+        wait_until(servers.are_up)
+        found = servers.each[0].keys('x/presence/1').get('x/presence/1')
+        return str(found['create_revision']) if found else None
+
+    def test_leader_of_before(self) -> None:
+        """One that was paused, and doesn't know that another life holds the presence."""
+        servers = self.begun(3)
+        self.created(servers.address('x'))
+        for number in range(3):
+            leader = servers.leader()
+            log = self.opened(servers.address('x', leader))
+            other = self.opened(servers.address('x', *(server for server in servers.each if server is not leader)), 1.0)
+            self.assertTrue(log.hold(1, f'x{number}', 1.0, False))
+            leader.send(signal.SIGSTOP)
+            wait_until(lambda: self.taken(other, f'y{number}'))
+            leader.send(signal.SIGCONT)
+            self.assertFalse(self.renewed(log, f'x{number}', 1.0))
+            wait_until(servers.are_up)
+            other.release(1, f'y{number}')
+
+    def taken(self, log: EtcdLog, life: str) -> bool:
+        with contextlib.suppress(Unanswered):
+            return log.hold(1, life, 50.0, False) or log.hold(1, life, 50.0, True)
+        return False
+
+    def test_renewal_at_a_leader_of_before(self) -> None:
+        """A renewal that was answered lasts, also if it was asked of a leader that was paused meanwhile."""
+        servers = self.begun(3)
+        self.created(servers.address('x'))
+        for _ in range(3):
+            leader = servers.leader()
+            log = self.opened(servers.address('x', leader))
+            others = [server for server in servers.each if server is not leader]
+            other = self.opened(servers.address('x', *others), 1.0)
+            self.assertTrue(log.hold(1, 'x', 4.0, False))
+            leader.send(signal.SIGSTOP)
+            wait_until(lambda: any(servers._leads(server) for server in others))
+            time.sleep(1.5)
+            leader.send(signal.SIGCONT)
+            begun = time.monotonic()
+            with contextlib.suppress(Unanswered):
+                if log.hold(1, 'x', 4.0, True):
+                    wait_until(lambda: not self.is_present(other))
+                    self.assertGreaterEqual(time.monotonic(), begun + 4.0)
+            wait_until(servers.are_up)
+            other.release(1, 'x')
+
+    def is_present(self, log: EtcdLog) -> bool:
+        try:
+            return bool(log.present())
+        except Unanswered:
+            return True
+
+    def test_late_end_by_a_leader_of_before(self) -> None:
+        """A leader that was paused for longer than a lease, and comes back, doesn't end what was renewed meanwhile."""
+        servers = self.begun(3)
+        self.created(servers.address('x'))
+        for _ in range(3):
+            leader = servers.leader()
+            log = self.opened(servers.address('x', *(server for server in servers.each if server is not leader)), 1.0)
+            self.assertTrue(log.hold(1, 'x', 2.0, False))
+            made = servers.each[0].keys('x/presence/1')['x/presence/1']['create_revision']
+            self.renew_for(log, 0.5)
+            leader.send(signal.SIGSTOP)
+            self.renew_for(log, 4.0)
+            leader.send(signal.SIGCONT)
+            self.renew_for(log, 1.5)
+            self.assertEqual(self.presence(servers), made)
+            log.release(1, 'x')
+
+    def renew_for(self, log: EtcdLog, seconds: float) -> None:
+        """The presence is renewed over and over, and is never found to be gone."""
+        end = time.monotonic() + seconds
+        while time.monotonic() < end:
+            self.assertTrue(self.renewed(log, ttl=2.0))
+            time.sleep(0.1)
+
+    def test_full(self) -> None:
+        servers = self.begun(words=['--quota-backend-bytes', '1000000'])
+        log, count = self.created(servers.address('x')), 1
+        with self.assertRaises(DiskFull):
+            while log.append(count, ['x' * 100_000]):
+                count += 1
+        self.assertEqual(len(log.read(0)), count)
