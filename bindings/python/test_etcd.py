@@ -2,6 +2,7 @@
 """Tests of logs in etcd, over servers of their own. `try` runs them; without the program `etcd` on the path they are skipped."""
 import contextlib
 import http.client
+import io
 import json
 import os
 import shutil
@@ -9,19 +10,21 @@ import signal
 import socket
 import ssl
 import subprocess
+import sys
 import tempfile
 import threading
 import time
 import unittest
 from base64 import b64decode, b64encode
 from pathlib import Path
-from typing import Any, Callable, Dict, Iterator, List, Optional, Sequence, Tuple, Type
+from typing import Any, Callable, Dict, List, Optional, Sequence, Tuple, Type
 from unittest import mock
 
-from bully import etcd, gateway
+from bully import check, command, etcd, gateway, stores
 from bully.etcd import EtcdLog
 from bully.gateway import Address, Client, Denied, Endpoint, read_address
 from bully.logs import DamagedLog, DiskFull, ForeignLog, Log, LogError, LogExists, NoLog, Unanswered
+from bully.running import Member
 from laws import HEADER, PATIENCE, Laws, Waits, wait_until
 
 PROGRAM = shutil.which('etcd')
@@ -941,25 +944,29 @@ class Killed(InEtcd):
         """A leader that was paused for longer than a lease, and comes back, doesn't end what was renewed meanwhile."""
         servers = self.begun(3)
         self.created(servers.address('x'))
-        for _ in range(3):
+        for number in range(3):
             leader = servers.leader()
-            log = self.opened(servers.address('x', *(server for server in servers.each if server is not leader)), 1.0)
-            self.assertTrue(log.hold(1, 'x', 2.0, False))
-            made = servers.each[0].keys('x/presence/1')['x/presence/1']['create_revision']
-            self.renew_for(log, 0.5)
+            address = servers.address('x', *(server for server in servers.each if server is not leader))
+            members = {node: self.opened(address, 1.0) for node in range(1, 31)}
+            for node, log in members.items():
+                self.assertTrue(log.hold(node, f'x{number}', 3.0, False))
+            self.renew_for(members, f'x{number}', 1.0)
             leader.send(signal.SIGSTOP)
-            self.renew_for(log, 4.0)
+            self.renew_for(members, f'x{number}', 6.0)
             leader.send(signal.SIGCONT)
-            self.renew_for(log, 1.5)
-            self.assertEqual(self.presence(servers), made)
-            log.release(1, 'x')
+            self.renew_for(members, f'x{number}', 2.0)
+            wait_until(servers.are_up)
+            self.assertEqual(members[1].present(), set(members))
+            for node, log in members.items():
+                log.release(node, f'x{number}')
 
-    def renew_for(self, log: EtcdLog, seconds: float) -> None:
-        """The presence is renewed over and over, and is never found to be gone."""
+    def renew_for(self, members: Dict[int, EtcdLog], life: str, seconds: float) -> None:
+        """The presences are renewed over and over, and are never found to be gone."""
         end = time.monotonic() + seconds
         while time.monotonic() < end:
-            self.assertTrue(self.renewed(log, ttl=2.0))
-            time.sleep(0.1)
+            for node, log in members.items():
+                with contextlib.suppress(Unanswered):
+                    self.assertTrue(log.hold(node, life, 3.0, True))
 
     def test_full(self) -> None:
         servers = self.begun(words=['--quota-backend-bytes', '1000000'])
@@ -968,3 +975,279 @@ class Killed(InEtcd):
             while log.append(count, ['x' * 100_000]):
                 count += 1
         self.assertEqual(len(log.read(0)), count)
+
+
+class Users(InEtcd):
+    """An etcd whose users log in."""
+
+    servers: Servers
+    token: str
+
+    @classmethod
+    def setUpClass(cls) -> None:
+        cls.servers = Servers()
+        cls.addClassCleanup(cls.servers.close)
+        ask = cls.servers.each[0].ask
+        for user, role in (('root', 'root'), ('member', 'group'), ('reader', 'looking'), ('other', 'elsewhere')):
+            ask('/v3/auth/user/add', {'name': user, 'password': f'{user} password'})
+            ask('/v3/auth/role/add', {'name': role})
+            ask('/v3/auth/user/grant', {'user': user, 'role': role})
+        for role, kind, prefix in (('group', 'READWRITE', 'x/'), ('looking', 'READ', 'x/'), ('elsewhere', 'READWRITE', 'y/')):
+            permission = {'permType': kind, 'key': coded(prefix), 'range_end': coded(prefix[:-1] + '0')}
+            ask('/v3/auth/role/grant', {'name': role, 'perm': permission})
+        ask('/v3/auth/enable', {})
+
+    def setUp(self) -> None:
+        self.address = self.servers.address('x')
+
+    def words(self, user: str) -> Dict[str, Any]:
+        return {'user': user, 'password': f'{user} password'}
+
+    def tearDown(self) -> None:
+        """Nothing is left for the next test."""
+        server = self.servers.each[0]
+        token = server.ask('/v3/auth/authenticate', {'name': 'root', 'password': 'root password'})['token']
+        server.ask('/v3/kv/deleterange', {'key': coded('x/'), 'range_end': coded('x0')}, token=token)
+
+    def denied(self, call: Callable[[], object], why: str) -> None:
+        with self.assertRaisesRegex(Denied, f'^127.0.0.1:{self.servers.each[0].port}: .*{why}'):
+            call()
+
+    def test_denied(self) -> None:
+        create = EtcdLog.create
+        self.denied(lambda: create(self.address, HEADER), 'user name is empty')
+        for user, password in (('member', 'x'), ('member', ''), ('nobody', 'x')):
+            self.denied(lambda: create(self.address, HEADER, user=user, password=password), '(authentication failed|user name)')
+        for user in ('reader', 'other'):
+            self.denied(lambda: create(self.address, HEADER, **self.words(user)), 'permission denied')
+        self.created(**self.words('member'))
+        self.denied(lambda: EtcdLog(self.address), 'user name is empty')
+        self.denied(lambda: EtcdLog(self.address, **self.words('other')), 'permission denied')
+
+    def test_reader(self) -> None:
+        self.created(**self.words('member')).append(1, ['recover,1'])
+        log = self.opened(**self.words('reader'))
+        self.assertEqual((list(log.read(1)), log.present()), (['recover,1'], set()))
+        log.wait(1, PATIENCE)
+        calls: List[Callable[[], object]] = [
+            lambda: log.append(2, ['recover,2']), lambda: log.hold(1, 'x', 5, False), lambda: log.release(1, 'x'),
+        ]  # fmt: skip
+        for call in calls:
+            self.denied(call, 'permission denied')
+
+    def test_member(self) -> None:
+        """A server that came back knows no login of before, and is told again."""
+        log, other = self.created(**self.words('member')), self.opened(**self.words('member'))
+        count = 1
+        for _ in range(2):
+            self.assertTrue(log.hold(1, 'x', 50, False))
+            self.assertTrue(log.hold(1, 'x', 50, True))
+            log.present()
+            later = threading.Timer(0.1, lambda: other.append(count, ['recover,1']))
+            later.start()
+            log.wait(count, PATIENCE)
+            later.join()
+            count += 1
+            self.assertEqual((len(log.read(0)), log.present()), (count, {1}))
+            self.assertTrue(log.hold(1, 'x', 50, True))
+            log.release(1, 'x')
+            self.servers.each[0].kill()
+            self.servers.each[0].start()
+            wait_until(self.servers.are_up)
+
+    def test_no_users(self) -> None:
+        with self.assertRaisesRegex(Denied, 'authentication is not enabled'):
+            EtcdLog.create(ALONE.address('x'), HEADER, **self.words('member'))
+
+
+def make_certificates(folder: Path) -> None:
+    """Makes authorities `mine` and `other`; and certificates `server`, `elsewhere` and `client` by the first."""
+
+    def openssl(*words: str) -> None:
+        subprocess.run(['openssl', *words], cwd=folder, check=True, stdout=subprocess.DEVNULL, stderr=subprocess.DEVNULL)
+
+    key = ['-newkey', 'ec', '-pkeyopt', 'ec_paramgen_curve:prime256v1', '-nodes']
+    for name in ('mine', 'other'):
+        openssl('req', *key, '-new', '-x509', '-days', '2', '-subj', f'/CN={name}', '-keyout', f'{name}.key', '-out', f'{name}.pem')
+    for name, place in (('server', 'IP:127.0.0.1'), ('elsewhere', 'DNS:elsewhere.example'), ('client', 'DNS:client')):
+        openssl('req', *key, '-new', '-subj', f'/CN={name}', '-keyout', f'{name}.key', '-out', f'{name}.csr')
+        (folder / 'more').write_text(f'subjectAltName = {place}\n')
+        openssl(
+            'x509', '-req', '-in', f'{name}.csr', '-CA', 'mine.pem', '-CAkey', 'mine.key', '-CAcreateserial', '-days', '2', '-extfile', 'more',
+            '-out', f'{name}.pem',
+        )  # fmt: skip
+
+
+@unittest.skipIf(shutil.which('openssl') is None, 'no program `openssl` is on the path')
+class Certificates(InEtcd):
+    """Servers over TLS."""
+
+    folder: Path
+
+    @classmethod
+    def setUpClass(cls) -> None:
+        folder = tempfile.TemporaryDirectory()
+        cls.addClassCleanup(folder.cleanup)
+        cls.folder = Path(folder.name)
+        make_certificates(cls.folder)
+
+    def tls(self, authority: str = 'mine', client: str = '') -> ssl.SSLContext:
+        tls = ssl.create_default_context(cafile=str(self.folder / f'{authority}.pem'))
+        if client:
+            tls.load_cert_chain(self.folder / f'{client}.pem', self.folder / f'{client}.key')
+        return tls
+
+    def secure(self, certificate: str = 'server', *words: str) -> Servers:
+        """Servers with this certificate."""
+        files = ['--cert-file', str(self.folder / f'{certificate}.pem'), '--key-file', str(self.folder / f'{certificate}.key')]
+        tls = self.tls(client='client')
+        tls.check_hostname = False
+        return self.begun(1, [*files, *words], tls)
+
+    def refused(self, call: Callable[[], object], why: str, fault: Type[LogError] = Denied) -> None:
+        with self.assertRaisesRegex(fault, f'^127.0.0.1:[0-9]+: .*{why}'):
+            call()
+
+    def test_trusted(self) -> None:
+        servers = self.secure()
+        address, tls = servers.address('x', kind='etcds'), self.tls()
+        log, other = self.created(address, tls=tls), self.opened(address, tls=tls)
+        self.assertTrue(log.hold(1, 'x', 5, False))
+        self.assertTrue(log.hold(1, 'x', 5, True))
+        log.present()
+        later = threading.Timer(0.1, lambda: other.append(1, ['recover,1' * 100] * 20))
+        later.start()
+        log.wait(20, PATIENCE)
+        later.join()
+        self.assertEqual((len(log.read(1)), log.present()), (20, {1}))
+
+        self.refused(lambda: EtcdLog(address, 5.0), 'TLS: .*certificate')
+        self.refused(lambda: EtcdLog(address, 5.0, self.tls('other')), 'TLS: .*certificate')
+        self.refused(lambda: EtcdLog(servers.address('x'), 5.0), '', Unanswered)
+        self.refused(lambda: EtcdLog(ALONE.address('x', kind='etcds'), 5.0, tls), 'TLS: ', LogError)
+        dead, port = free_ports(1)[0], servers.each[0].port
+        self.assertEqual(len(self.opened(f'etcds://127.0.0.1:{dead},127.0.0.1:{port}/x', tls=tls).read(0)), 21)
+        mixed = f'etcds://127.0.0.1:{self.server.port},127.0.0.1:{port}/x'
+        self.assertEqual(len(self.opened(mixed, tls=tls).read(0)), 21, 'one server with a wrong certificate is passed over')
+        with self.assertRaises(ValueError):
+            EtcdLog(servers.address('x'), tls=tls)
+
+    def test_wrong_name(self) -> None:
+        address = self.secure('elsewhere').address('x', kind='etcds')
+        self.refused(lambda: EtcdLog.create(address, HEADER, 5.0, self.tls()), "TLS: .*127.0.0.1")
+
+    def test_certificate_of_client(self) -> None:
+        servers = self.secure('server', '--client-cert-auth', '--trusted-ca-file', str(self.folder / 'mine.pem'))
+        address = servers.address('x', kind='etcds')
+        self.refused(lambda: EtcdLog.create(address, HEADER, 5.0, self.tls()), 'TLS: ')
+        log = self.created(address, tls=self.tls(client='client'))
+        self.assertTrue(log.append(1, ['recover,1']))
+        log.wait(1, PATIENCE)
+
+
+@unittest.skipIf(sys.version_info < (3, 11), 'the standard library reads TOML from Python 3.11 on')
+class Commands(InEtcd):
+    """`bully-member` over etcd."""
+
+    CONFIG = 'nodes = 1\npartitions = 3\nevents = 10\nturns = 5\nnames = ["the only"]\nweights = [3]\n'
+
+    def setUp(self) -> None:
+        super().setUp()
+        folder = tempfile.TemporaryDirectory()
+        self.addCleanup(folder.cleanup)
+        self.folder = Path(folder.name)
+        self.config = self.folder / 'group.toml'
+        self.config.write_text(self.CONFIG)
+
+    def call(self, *words: str) -> Tuple[int, str, str]:
+        """The status, and what it said."""
+        with contextlib.redirect_stdout(io.StringIO()) as said, contextlib.redirect_stderr(io.StringIO()) as told:
+            status = command.main(list(words))
+        return status, said.getvalue(), told.getvalue()
+
+    def test_life_of_a_log(self) -> None:
+        config, log = ['--config', str(self.config)], ['--log', self.address]
+        self.assertEqual(self.call('status', *log)[0], 4)
+        self.assertEqual(self.call('init', *config, *log), (0, '', ''))
+        self.assertEqual(self.call('init', *config, *log)[0], 4)
+        self.opened().append(1, ['recover,1'])
+        self.assertEqual(self.call('history', *log), (0, 'bully,1,1,3\nrecover,1\n', ''))
+        self.assertIn('the only  election  no', self.call('status', *config, *log)[1])
+
+    def test_bad_words(self) -> None:
+        certificates = [word for name in ('cacert', 'cert', 'key') for word in (f'--{name}', str(self.folder / 'none'))]
+        secure = self.address.replace('etcd:', 'etcds:')
+        for words, status, why in (
+            (['etcd://x'], 2, 'has to be'), (['etcd:x'], 2, 'has to be'), (['etcd://127.0.0.1:1/log'], 2, '`log`'),
+            ([self.address, '--cacert', 'x'], 2, 'etcds://'), ([self.address, '--cert', 'x', '--key', 'y'], 2, 'etcds://'),
+            ([secure, '--cert', 'x'], 2, '--key'), ([secure, *certificates], 4, 'none'), (['sqlite:x', '--user', 'x'], 2, '--user'),
+            ([self.address, '--user', 'x'], 2, 'BULLY_ETCD_PASSWORD'), ([self.address, '--password-file', 'x'], 2, '--user'),
+            ([self.address, '--user', 'x', '--password-file', '/nowhere/file'], 4, '/nowhere/file'),
+        ):  # fmt: skip
+            with self.subTest(words=words):
+                ended, said, told = self.call('status', '--log', *words)
+                self.assertEqual((ended, said), (status, ''))
+                self.assertIn(why, told)
+
+    def test_passwords(self) -> None:
+        """Of the environment, in which it doesn't stay, or of a file."""
+        options = command.parser().parse_args(['status', '--log', self.address, '--user', 'x'])
+        with mock.patch.dict(os.environ, {'BULLY_ETCD_PASSWORD': ' a b '}):
+            store = stores.store_of(options)
+            self.assertNotIn('BULLY_ETCD_PASSWORD', os.environ)
+        assert isinstance(store, stores.EtcdStore)
+        self.assertEqual(store.password, ' a b ')
+        (self.folder / 'password').write_text(' c d \r\nmore')
+        options.password_file = str(self.folder / 'password')
+        store = stores.store_of(options)
+        assert isinstance(store, stores.EtcdStore)
+        self.assertEqual((store.user, store.password), ('x', ' c d '))
+        self.assertNotIn('c d', repr(store))
+
+    def test_run(self) -> None:
+        config, log = ['--config', str(self.config)], ['--log', self.address]
+        self.assertEqual(self.call('init', *config, *log)[0], 0)
+        worker = ['sh', '-c', f'echo $BULLY_PARTITIONS > {self.folder}/new; mv {self.folder}/new {self.folder}/begun; exec sleep 1000']
+        words = ['run', *config, *log, '--node', 'the only', '--ttl', '2', '--', *worker]
+        environment = {**os.environ, 'PYTHONPATH': str(Path(__file__).resolve().parent)}
+        with open(self.folder / 'said', 'wb') as said:
+            member = subprocess.Popen([sys.executable, '-W', 'error', '-m', 'bully.command', *words], env=environment, stderr=said)
+        self.addCleanup(member.kill)
+        wait_until((self.folder / 'begun').exists)
+        self.assertEqual((self.folder / 'begun').read_text(), '0 1 2\n')
+        member.terminate()
+        self.assertEqual(member.wait(PATIENCE), 0)
+        log_after = self.opened()
+        self.assertEqual((log_after.read(0)[-1], log_after.present()), ('crash,1', set()))
+
+
+class Members(InEtcd):
+    """Members in threads over three servers."""
+
+    def test_three(self) -> None:
+        """They share the partitions, and do so again once a server and a member are killed and left."""
+        servers = self.begun(3)
+        self.created(servers.address('x'))
+        members = {node: self.member(servers, node) for node in (1, 2, 3)}
+
+        def owners() -> List[int]:
+            owned = {node: member.assignment() for node, member in members.items()}
+            tokens = {each.token for each in owned.values() if each}
+            return [node for node, each in owned.items() if each and len(each.partitions) == 6 // len(members) and len(tokens) == 1]
+
+        wait_until(lambda: owners() == [1, 2, 3])
+        servers.leader().kill()
+        members.pop(3).leave()
+        wait_until(lambda: owners() == [1, 2])
+        alive = [server for server in servers.each if not server.has_ended]
+        rows = self.opened(servers.address('x', *alive)).read(0)
+        self.assertTrue(check('\n'.join([*rows, '']).encode()).is_lawful)
+
+    def member(self, servers: Servers, node: int) -> Member:
+        """A member that takes part until the test is over."""
+        member = Member(self.opened(servers.address('x'), 0.6), node, lambda assignment: None, lambda assignment: None, ttl=3.0)
+        thread = threading.Thread(target=member.run)
+        thread.start()
+        self.addCleanup(thread.join)
+        self.addCleanup(member.leave)
+        return member

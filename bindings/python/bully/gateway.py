@@ -210,10 +210,25 @@ def silent_of(endpoint: Endpoint, error: Exception, may_be_done: bool) -> Silent
     """What an error of a connection means."""
     if isinstance(error, socket.timeout):
         return Silent(endpoint, 'it did not answer in time', may_be_done)
-    passes = (ssl.SSLEOFError, ssl.SSLZeroReturnError, ssl.SSLSyscallError)
-    is_final = isinstance(error, ssl.SSLError) and not isinstance(error, passes)
+    is_of_tls = isinstance(error, ssl.SSLError)
+    is_final = is_of_tls and not isinstance(error, (ssl.SSLEOFError, ssl.SSLZeroReturnError, ssl.SSLSyscallError))
     why = getattr(error, 'verify_message', '') or getattr(error, 'strerror', '') or str(error) or type(error).__name__
-    return Silent(endpoint, f'TLS: {why}' if is_final else why, may_be_done, is_final)
+    return Silent(endpoint, f'TLS: {why}' if is_of_tls else why, may_be_done, is_final)
+
+
+def alert_of(connection: http.client.HTTPConnection) -> Optional[ssl.SSLError]:
+    """What the other side said by TLS before it ended the connection, if it did."""
+    if isinstance(connection.sock, ssl.SSLSocket):
+        try:
+            connection.sock.settimeout(0)
+            connection.sock.recv(1)
+        except (ssl.SSLWantReadError, ssl.SSLWantWriteError):
+            return None
+        except ssl.SSLError as alert:
+            return alert
+        except (OSError, ValueError):
+            return None
+    return None
 
 
 def is_over(connection: http.client.HTTPConnection) -> bool:
@@ -340,8 +355,9 @@ class Client:
             limit(connection, end)
             text = response.read()
         except (OSError, http.client.HTTPException) as error:
+            cause = alert_of(connection) or error
             self.close()
-            raise silent_of(self.endpoint, error, may_be_done=True) from error
+            raise silent_of(self.endpoint, cause, may_be_done=True) from error
         return self._checked(response.status, text)
 
     def _connected(self, end: float) -> http.client.HTTPConnection:

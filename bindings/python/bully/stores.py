@@ -4,7 +4,7 @@ from __future__ import annotations
 import argparse
 import os
 import ssl
-from dataclasses import dataclass
+from dataclasses import dataclass, field
 from typing import Optional, Union
 
 from .etcd import EtcdLog
@@ -58,7 +58,7 @@ class EtcdStore:
     address: str
     tls: Optional[ssl.SSLContext]
     user: str
-    password: str
+    password: str = field(repr=False)
 
     def create(self, header: str) -> Store:
         """A new log."""
