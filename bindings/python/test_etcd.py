@@ -268,6 +268,7 @@ PUT = b'request_put'
 def setUpModule() -> None:
     global ALONE
     if PROGRAM is None:
+        print('test_etcd.py: skipped, since no program `etcd` is on the path')
         raise unittest.SkipTest('no program `etcd` is on the path')
     ALONE = Servers()
 
@@ -786,7 +787,7 @@ class Endpoints(InEtcd):
 
     def test_no_etcd(self) -> None:
         for said, fault in (
-            (b'HTTP/1.0 404 Not Found\r\n\r\nnothing here', LogError), (b'HTTP/1.0 200 OK\r\n\r\n[]', LogError),
+            (b'HTTP/1.0 404 Not Found\r\n\r\nnothing here', LogError), (b'HTTP/1.0 200 OK\r\n\r\n[]', LogError), (b'HTTP/1.0 200 OK\r\n\r\n{}', LogError),
             (b'HTTP/1.0 502 Bad Gateway\r\n\r\n<html>', Unanswered), (b'SSH-2.0-OpenSSH\r\n', Unanswered), (b'', Unanswered),
         ):  # fmt: skip
             with self.subTest(said=said):

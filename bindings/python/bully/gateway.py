@@ -290,8 +290,9 @@ class Client:
         causes: List[Silent] = []
         for count in range(len(self._endpoints), 0, -1):
             now = seconds_of_boot()
+            reached = now + (self._end - now) / count
             try:
-                return self._ask_here(path, told, now + max(LEAST_LIMIT, (self._end - now) / count))
+                return self._ask_here(path, told, reached, reached if repeats else self._end)
             except Silent as silent:
                 causes.append(silent)
                 self._move_on()
@@ -325,28 +326,29 @@ class Client:
         self.close()
         self._turn = (self._turn + 1) % len(self._endpoints)
 
-    def _ask_here(self, path: str, told: Json, end: float) -> Json:
-        """What this server answers, up to then. If it doesn't know the user any more, that one logs in again, once."""
+    def _ask_here(self, path: str, told: Json, reached: float, end: float) -> Json:
+        """What this server answers up to the end, if it is reached up to then. If it doesn't know the user any more, that one logs in again,
+        once."""
         try:
             if self._user and not self._token:
-                self._log_in(end)
+                self._log_in(reached, end)
             try:
-                return self._exchange(path, told, end)
+                return self._exchange(path, told, reached, end)
             except Refusal as refusal:
                 if not (self._user and refusal.is_of_token):
                     raise
-                self._log_in(end)
-                return self._exchange(path, told, end)
+                self._log_in(reached, end)
+                return self._exchange(path, told, reached, end)
         except Refusal as refusal:
             fail(self.endpoint, refusal)
 
-    def _log_in(self, end: float) -> None:
+    def _log_in(self, reached: float, end: float) -> None:
         self._token = ''
-        self._token = str(self._exchange(LOGIN, {'name': self._user, 'password': self._password}, end)['token'])
+        self._token = str(self._exchange(LOGIN, {'name': self._user, 'password': self._password}, reached, end)['token'])
 
-    def _exchange(self, path: str, told: Json, end: float) -> Json:
+    def _exchange(self, path: str, told: Json, reached: float, end: float) -> Json:
         """A request and its answer. Raises Silent, Refusal, ForeignLog, LogError."""
-        connection = self._connected(end)
+        connection = self._connected(reached)
         headers = {'Content-Type': 'application/json', **({'Authorization': self._token} if self._token else {})}
         try:
             limit(connection, end)
@@ -387,14 +389,14 @@ class Client:
             told = json.loads(text)
         except ValueError:
             told = None
-        if not isinstance(told, dict):
-            if status >= 500 or not text:
-                raise Silent(self.endpoint, f'status {status}', may_be_done=True)
-            raise LogError(f'{self.endpoint}: it does not answer as etcd 3.4 does, but with status {status}: {text[:80]!r}')
-        if 'error' in told or status != 200:
+        if not isinstance(told, dict) and (status >= 500 or not text):
+            raise Silent(self.endpoint, f'status {status}', may_be_done=True)
+        if isinstance(told, dict) and ('error' in told or 'code' in told):
             raise refusal_of(told['error'] if isinstance(told.get('error'), dict) else told)
-        answer: Json = told.get('result', told)
-        cluster = answer.get('header', {}).get('cluster_id')
+        answer: Json = told.get('result', told) if isinstance(told, dict) else {}
+        if status != 200 or 'raft_term' not in answer.get('header', {}):
+            raise LogError(f'{self.endpoint}: it does not answer as etcd 3.4 does, but with status {status}: {text[:80]!r}')
+        cluster = answer['header'].get('cluster_id')
         if self._cluster not in (None, cluster):
             raise ForeignLog(f'{self.endpoint}: it is a server of another etcd')
         self._cluster = cluster
@@ -440,7 +442,10 @@ class Watch:
         return lines
 
     def _events_of(self, line: bytes) -> List[Json]:
-        told = json.loads(line)
+        try:
+            told = json.loads(line)
+        except ValueError as error:
+            raise Silent(self.endpoint, f'no watch, but {line[:80]!r}', may_be_done=False) from error
         result = told.get('result', {})
         if 'error' in told or result.get('canceled'):
             why = refusal_of(told['error']) if 'error' in told else Refusal(0, result.get('cancel_reason', 'compacted'))
