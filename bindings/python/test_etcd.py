@@ -23,7 +23,7 @@ from unittest import mock
 from bully import check, command, etcd, gateway, stores
 from bully.etcd import EtcdLog
 from bully.gateway import Address, Client, Denied, Endpoint, read_address
-from bully.logs import DamagedLog, DiskFull, ForeignLog, Log, LogError, LogExists, NoLog, Unanswered
+from bully.logs import DamagedLog, ForeignLog, Log, LogError, LogExists, NoLog, Unanswered
 from bully.running import Member
 from laws import HEADER, PATIENCE, Laws, Waits, wait_until
 
@@ -68,9 +68,16 @@ class Server:
         with open(self.folder / f'{self.name}.said', 'ab') as said:
             self.process = subprocess.Popen(self.words, stdin=subprocess.DEVNULL, stdout=said, stderr=said)
 
-    def send(self, number: int) -> None:
+    def pause(self) -> None:
+        """It does nothing more."""
         assert self.process is not None
-        self.process.send_signal(number)
+        self.process.send_signal(signal.SIGSTOP)
+        tasks = Path(f'/proc/{self.process.pid}/task')
+        wait_until(lambda: all(stat.read_text().rsplit(')', 1)[1].split()[0] == 'T' for stat in tasks.glob('*/stat')))
+
+    def resume(self) -> None:
+        assert self.process is not None
+        self.process.send_signal(signal.SIGCONT)
 
     def kill(self) -> None:
         if self.process is not None:
@@ -526,6 +533,15 @@ class Contents(InEtcd):
                 self.server.put(key, 'recover,1')
             self.assertEqual(len(log.read(0)), 41)
 
+    def test_long_holes(self) -> None:
+        log = self.created()
+        log.append(1, ['recover,1'] * 40)
+        self.server.delete(f'{self.prefix}/log/0000000010', f'{self.prefix}/log/0000000035')
+        with mock.patch.object(etcd, 'PAGE', 10):
+            for place in (0, 9, 10, 20, 34):
+                self.refused(DamagedLog, lambda: log.read(place))
+            self.assertEqual(len(log.read(35)), 6)
+
     def test_no_rows(self) -> None:
         log = self.created()
         for value in ('recover,1\nrecover,2', ''):
@@ -714,7 +730,7 @@ class Lost(InEtcd):
         """A watch that breaks is begun again, and what came meanwhile is seen."""
         self.log.wait(1, 0.1)
         self.direct.append(1, ['recover,1'])
-        for lost in (b'POST /v3/watch', TXN):
+        for lost in (TXN, b'POST /v3/watch'):
             self.log._end_watch()
             self.between.lose('answer', lost)
             with contextlib.suppress(Unanswered):
@@ -726,6 +742,22 @@ class Lost(InEtcd):
         self.log.wait(2, PATIENCE)
         self.assertLess(time.monotonic(), begun + PATIENCE)
         later.join()
+
+    def test_begin_of_a_watch(self) -> None:
+        """What comes between the look and the watch is seen."""
+        watch = Client.watch
+        acts: List[Callable[[], object]] = [lambda: self.direct.append(1, ['recover,1']), lambda: self.direct.hold(1, 'x', 50, False)]
+        for act in acts:
+            self.log._end_watch()
+
+            def begin(client: Client, told: Json) -> gateway.Watch:
+                act()
+                return watch(client, told)
+
+            begun = time.monotonic()
+            with mock.patch.object(Client, 'watch', begin):
+                self.log.wait(len(self.direct.read(0)), PATIENCE)
+            self.assertLess(time.monotonic(), begun + PATIENCE)
 
     def test_rest(self) -> None:
         """Nothing is asked while nothing happens, also over many waits."""
@@ -761,7 +793,9 @@ class Endpoints(InEtcd):
     def test_others(self) -> None:
         for first in (self.dead, self.mute, 'nowhere.invalid', f'{self.mute},{self.dead}'):
             with self.subTest(first=first):
-                log = self.opened(f'etcd://{first},{self.alive}/{self.prefix}', 2.0)
+                begun = time.monotonic()
+                log = self.opened(f'etcd://{first},{self.alive}/{self.prefix}', 4.0)
+                self.assertLess(time.monotonic(), begun + 4.0)
                 count = len(log.read(0))
                 self.assertTrue(log.append(count, ['recover,1']))
                 log.present()
@@ -863,6 +897,21 @@ class Killed(InEtcd):
         self.assertEqual((log.read(1)[0], log.present()), ('recover,1', {1}))
         self.assertEqual(servers.each[1].keys('x/presence/1')['x/presence/1']['value'], coded('x'))
 
+    def test_paused_server(self) -> None:
+        """A watch at a server that says nothing any more is begun at another one, once that one is asked."""
+        servers = self.begun(3)
+        leader = servers.leader()
+        servers.each.sort(key=lambda server: server is leader)
+        log, other = self.created(servers.address('x'), patience=1.0), self.opened(servers.address('x', leader))
+        log.present()
+        log.wait(1, 0.1)
+        servers.each[0].pause()
+        self.assertEqual(log.present(), set())
+        self.assertTrue(other.append(1, ['recover,1']))
+        begun = time.monotonic()
+        log.wait(1, PATIENCE)
+        self.assertLess(time.monotonic(), begun + PATIENCE)
+
     def appended(self, log: EtcdLog) -> bool:
         with contextlib.suppress(Unanswered):
             count = len(log.read(0))
@@ -875,13 +924,13 @@ class Killed(InEtcd):
         log = self.created(servers.address('x'), patience=0.5)
         self.assertTrue(log.hold(1, 'x', 2.0, False))
         made = self.presence(servers)
-        for number in (signal.SIGSTOP, signal.SIGCONT):
-            for server in servers.each:
-                server.send(number)
-            if number == signal.SIGSTOP:
-                for _ in range(5):
-                    with self.assertRaises(Unanswered):
-                        log.hold(1, 'x', 2.0, True)
+        for server in servers.each:
+            server.pause()
+        for _ in range(5):
+            with self.assertRaises(Unanswered):
+                log.hold(1, 'x', 2.0, True)
+        for server in servers.each:
+            server.resume()
         is_renewed = self.renewed(log)
         self.assertEqual(self.presence(servers), made if is_renewed else None)
         wait_until(lambda: self.appended(log))
@@ -901,9 +950,9 @@ class Killed(InEtcd):
             log = self.opened(servers.address('x', leader))
             other = self.opened(servers.address('x', *(server for server in servers.each if server is not leader)), 1.0)
             self.assertTrue(log.hold(1, f'x{number}', 1.0, False))
-            leader.send(signal.SIGSTOP)
+            leader.pause()
             wait_until(lambda: self.taken(other, f'y{number}'))
-            leader.send(signal.SIGCONT)
+            leader.resume()
             self.assertFalse(self.renewed(log, f'x{number}', 1.0))
             wait_until(servers.are_up)
             other.release(1, f'y{number}')
@@ -923,10 +972,10 @@ class Killed(InEtcd):
             others = [server for server in servers.each if server is not leader]
             other = self.opened(servers.address('x', *others), 1.0)
             self.assertTrue(log.hold(1, 'x', 4.0, False))
-            leader.send(signal.SIGSTOP)
+            leader.pause()
             wait_until(lambda: any(servers._leads(server) for server in others))
             time.sleep(1.5)
-            leader.send(signal.SIGCONT)
+            leader.resume()
             begun = time.monotonic()
             with contextlib.suppress(Unanswered):
                 if log.hold(1, 'x', 4.0, True):
@@ -952,9 +1001,9 @@ class Killed(InEtcd):
             for node, log in members.items():
                 self.assertTrue(log.hold(node, f'x{number}', 3.0, False))
             self.renew_for(members, f'x{number}', 1.0)
-            leader.send(signal.SIGSTOP)
+            leader.pause()
             self.renew_for(members, f'x{number}', 6.0)
-            leader.send(signal.SIGCONT)
+            leader.resume()
             self.renew_for(members, f'x{number}', 2.0)
             wait_until(servers.are_up)
             self.assertEqual(members[1].present(), set(members))
@@ -970,12 +1019,17 @@ class Killed(InEtcd):
                     self.assertTrue(log.hold(node, life, 3.0, True))
 
     def test_full(self) -> None:
+        """An etcd that is full may have done what it refuses, the first time."""
         servers = self.begun(words=['--quota-backend-bytes', '1000000'])
         log, count = self.created(servers.address('x')), 1
-        with self.assertRaises(DiskFull):
+        with self.assertRaisesRegex(Unanswered, 'space exceeded'):
             while log.append(count, ['x' * 100_000]):
                 count += 1
-        self.assertEqual(len(log.read(0)), count)
+        rows = len(log.read(0))
+        self.assertIn(rows, (count, count + 1))
+        with self.assertRaisesRegex(Unanswered, 'space exceeded'):
+            log.append(rows, ['x'])
+        self.assertEqual(len(log.read(0)), rows)
 
 
 class Users(InEtcd):
@@ -1150,7 +1204,7 @@ class Certificates(InEtcd):
 class Commands(InEtcd):
     """`bully-member` over etcd."""
 
-    CONFIG = 'nodes = 1\npartitions = 3\nevents = 10\nturns = 5\nnames = ["the only"]\nweights = [3]\n'
+    CONFIG = 'nodes = 1\npartitions = 3\nevents = 10\nturns = 5\nnames = ["the only"]\n'
 
     def setUp(self) -> None:
         super().setUp()

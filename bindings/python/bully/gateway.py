@@ -10,7 +10,7 @@ import ssl
 from base64 import b64decode, b64encode
 from typing import Any, Dict, List, NamedTuple, NoReturn, Optional, Sequence, Tuple
 
-from .logs import DiskFull, ForeignLog, LogError, Unanswered, seconds_of_boot
+from .logs import ForeignLog, LogError, Unanswered, seconds_of_boot
 
 PORT = 2379
 LEAST_LIMIT = 0.01  # seconds that a request is given at least
@@ -21,7 +21,7 @@ LEASE_GRANT, LEASE_KEEPALIVE = '/v3/lease/grant', '/v3/lease/keepalive'
 
 # Codes of gRPC, by which etcd says why it refuses.
 PERMISSION_DENIED, OUT_OF_RANGE, UNAUTHENTICATED = 7, 11, 16
-MAY_PASS = frozenset({1, 2, 4, 8, 10, 13, 14})  # whether it was done isn't known
+MAY_PASS = frozenset({1, 2, 4, 8, 10, 13, 14})  # whether it was done isn't known: also, if etcd is full
 
 TARGETS = {'version': 'VERSION', 'create_revision': 'CREATE', 'mod_revision': 'MOD'}  # of a condition, by the number
 
@@ -199,8 +199,6 @@ def fail(endpoint: Endpoint, refusal: Refusal) -> NoReturn:
     said = f'{endpoint}: {refusal}'
     if refusal.code == OUT_OF_RANGE and 'compacted' in said:
         raise Compacted(said) from refusal
-    if 'space exceeded' in said:
-        raise DiskFull(said) from refusal
     if refusal.code in MAY_PASS:
         raise Silent(endpoint, str(refusal), may_be_done=True) from refusal
     raise (Denied if refusal.denies else LogError)(said) from refusal
