@@ -33,29 +33,9 @@ from bully.running import Member, NotInGroup, OtherGroup
 from bully.values import Rows
 from bully.worker import Guarded, GuardLost, WorkerEnded, Workers
 from epoch_laws import OPENING, EpochLaws
+from laws import HEADER, PATIENCE, Clock, Laws, Waits, wait_until
 
 ROOT = Path(__file__).resolve().parents[2]
-HEADER = Setup(3, 6).header()
-PATIENCE = 60.0
-
-
-def wait_until(is_so: Callable[[], object]) -> None:
-    """Waits until that is so."""
-    end = time.monotonic() + PATIENCE
-    while not is_so():
-        if time.monotonic() > end:
-            raise AssertionError('it never came to be so')
-        time.sleep(0.01)
-
-
-class Clock:
-    """A clock that stands, until it is set."""
-
-    def __init__(self) -> None:
-        self.now = 100.0
-
-    def __call__(self) -> float:
-        return self.now
 
 
 class InFolder(unittest.TestCase):
@@ -78,92 +58,49 @@ class InFolder(unittest.TestCase):
         return log
 
 
-class Logs(InFolder):
-    """What both logs do."""
+class InMemory(Laws, unittest.TestCase):
+    """The laws of a log in memory."""
 
-    def each(self) -> List[Tuple[Log, Log, Clock]]:
-        """Each kind: two handles of one log, and its clock."""
-        clock = Clock()
-        patch = mock.patch.object(logs, 'seconds_of_boot', clock)
+    def setUp(self) -> None:
+        self.clock = Clock()
+
+    def pair(self) -> Tuple[Log, Log]:
+        log = MemoryLog([HEADER], self.clock)
+        return log, log
+
+    def now(self) -> float:
+        return self.clock.now
+
+    def pass_time(self, seconds: float) -> None:
+        self.clock.now += seconds
+
+    def pass_end(self, log: Log) -> None:
+        self.pass_time(self.TTL)
+
+
+class InFile(InMemory, InFolder):
+    """The laws of a log in a file."""
+
+    def setUp(self) -> None:
+        InFolder.setUp(self)
+        InMemory.setUp(self)
+        patch = mock.patch.object(logs, 'seconds_of_boot', self.clock)
         patch.start()
         self.addCleanup(patch.stop)
-        memory = MemoryLog([HEADER], clock)
-        return [(memory, memory, clock), (self.created(), self.opened(), clock)]
 
-    def test_append(self) -> None:
-        for log, other, _ in self.each():
-            with self.subTest(log=log):
-                self.assertTrue(log.append(1, ['recover,1', 'start,1']))
-                for place in (0, 1, 2, 4):
-                    self.assertFalse(other.append(place, ['recover,2']))
-                self.assertTrue(other.append(3, ['recover,2']))
-                self.assertEqual(list(log.read(0)), [HEADER, 'recover,1', 'start,1', 'recover,2'])
-                self.assertEqual([list(log.read(place)) for place in (3, 4, 9)], [['recover,2'], [], []])
+    def pair(self) -> Tuple[Log, Log]:
+        return self.created(), self.opened()
 
-    def test_many_rows(self) -> None:
-        """Whatever a file keeps in packs, it reads the same."""
-        choice, log = random.Random(1), self.created()
-        rows = [HEADER]
-        while len(rows) < 5000:
-            more = [f'start,{choice.randint(1, 3)}' for _ in range(choice.choice([1, 2, 999, 1000, 1001, choice.randint(1, 500)]))]
-            self.assertTrue(log.append(len(rows), more))
-            rows += more
-            for place in {0, 1, len(rows) - 1, len(rows), len(rows) + 1, choice.randrange(len(rows)), len(rows) // 1000 * 1000}:
-                self.assertEqual(list(log.read(place)), rows[place:])
-                self.assertEqual(len(log.read(place)), len(rows[place:]))
-        self.assertEqual(list(self.opened().read(0)), rows)
 
-    def test_absent(self) -> None:
-        for log, other, clock in self.each():
-            with self.subTest(log=log):
-                self.assertTrue(log.hold(2, 'x', 5, False))
-                self.assertFalse(other.append(1, ['recover,1'], absent=2))
-                self.assertTrue(other.append(1, ['recover,1'], absent=1))
-                clock.now += 5
-                self.assertTrue(other.append(2, ['recover,2'], absent=2))
+class WaitsInMemory(Waits, unittest.TestCase):
+    def pair(self) -> Tuple[Log, Log]:
+        log = MemoryLog([HEADER])
+        return log, log
 
-    def test_presence(self) -> None:
-        for log, other, clock in self.each():
-            with self.subTest(log=log):
-                self.assertFalse(log.hold(2, 'x', 5, True))
-                self.assertTrue(log.hold(2, 'x', 5, False))
-                for life, renews in (('x', False), ('y', False), ('y', True)):
-                    self.assertFalse(other.hold(2, life, 50, renews))
-                clock.now += 4
-                self.assertTrue(log.hold(2, 'x', 5, True))
-                clock.now += 4
-                self.assertEqual(other.present(), {2})
-                clock.now += 1
-                self.assertEqual(other.present(), set())
-                self.assertFalse(log.hold(2, 'x', 5, True), 'a presence that has ended is not renewed')
-                self.assertTrue(other.hold(2, 'y', 5, False))
-                log.release(2, 'x')
-                self.assertEqual(log.present(), {2})
-                other.release(2, 'y')
-                self.assertEqual(log.present(), set())
 
-    def test_wait(self) -> None:
-        memory = MemoryLog([HEADER])
-        self.created()
-        pairs: List[Tuple[Log, Log]] = [(memory, memory), (self.opened(), self.opened())]
-        for log, other in pairs:
-            acts: List[Callable[[], object]] = [
-                lambda: other.append(1, ['recover,1']), lambda: other.hold(1, 'x', 0.2, False), lambda: None,
-                lambda: other.hold(1, 'x', 50, False), lambda: other.release(1, 'x'),
-            ]  # fmt: skip
-            for number, act in enumerate(acts):
-                with self.subTest(log=log, act=number):
-                    log.present()
-                    log.wish()
-                    later = threading.Timer(0.05, act)
-                    later.start()
-                    log.wait(1 if number == 0 else 2, PATIENCE)
-                    later.join()
-            log.present()
-            log.wish()
-            begun = time.monotonic()
-            log.wait(2, 0.1)
-            self.assertGreaterEqual(time.monotonic(), begun + 0.1)
+class WaitsInFile(Waits, InFolder):
+    def pair(self) -> Tuple[Log, Log]:
+        return self.created(), self.opened()
 
 
 class EpochsInMemory(EpochLaws, unittest.TestCase):

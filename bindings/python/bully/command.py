@@ -31,6 +31,7 @@ from .page import Page
 from .resizing import NotEnded, resize
 from .running import Member, NotInGroup, OtherGroup
 from .settings import ConfigFault, Settings, read_settings, shown_name
+from .stores import BadStore, Store, add_words, store_of
 from .view import GroupView, LogView
 from .worker import GuardLost, WorkerEnded, Workers
 
@@ -56,7 +57,7 @@ def parser() -> argparse.ArgumentParser:
     resize = commands.add_parser('resize', help='give the group other settings, in a new epoch')
     prune = commands.add_parser('prune', help='take old epochs away')
     for command in (init, run, status, history, resize, prune):
-        command.add_argument('--log', required=True, metavar='sqlite:FILE')
+        add_words(command)
     for command in (init, run, resize):
         command.add_argument('--config', required=command is not run, metavar='FILE')
     run.add_argument('--node', required=True, metavar='NAME')
@@ -88,14 +89,6 @@ def count(word: str) -> int:
     return number
 
 
-def file_of(words: str) -> str:
-    """The file of a log."""
-    kind, colon, path = words.partition(':')
-    if kind != 'sqlite' or not path:
-        raise BadWords(f'--log is {words}, and has to be sqlite:FILE')
-    return path
-
-
 def settings_of(path: str) -> Settings:
     """The settings in this file."""
     try:
@@ -114,13 +107,13 @@ def settings_of(path: str) -> Settings:
 def init(options: argparse.Namespace) -> int:
     """Makes the log."""
     settings = settings_of(options.config)
-    SqliteLog.create(file_of(options.log), Opening.first(settings.setup.header(), settings.names)).close()
+    store_of(options).create(Opening.first(settings.setup.header(), settings.names)).close()
     return OK
 
 
 def history(options: argparse.Namespace) -> int:
     """Writes the log of an epoch as a trace."""
-    with contextlib.closing(SqliteLog(file_of(options.log), reads=True)) as log:
+    with contextlib.closing(store_of(options).open(reads=True)) as log:
         rows, _ = cut_end(log.at(options.epoch or log.epoch).read(0))
         sys.stdout.writelines(f'{row}\n' for row in rows)
     return OK
@@ -129,7 +122,7 @@ def history(options: argparse.Namespace) -> int:
 def change(options: argparse.Namespace) -> int:
     """Gives the group other settings."""
     settings = settings_of(options.config)
-    with contextlib.closing(SqliteLog(file_of(options.log))) as log:
+    with contextlib.closing(store_of(options).open()) as log:
         opening = resize(log, settings, options.seconds)
     print(f'epoch {opening.epoch}: {settings.setup.nodes} nodes, {settings.setup.partitions} partitions')
     return OK
@@ -137,7 +130,7 @@ def change(options: argparse.Namespace) -> int:
 
 def prune(options: argparse.Namespace) -> int:
     """Takes old epochs away."""
-    with contextlib.closing(SqliteLog(file_of(options.log))) as log:
+    with contextlib.closing(store_of(options).open()) as log:
         log.prune(log.epochs()[-1] + 1 - options.keep)
         there = log.epochs()
     print(f'epochs {there[0]} to {there[-1]} are there' if len(there) > 1 else f'epoch {there[0]} is there')
@@ -146,7 +139,7 @@ def prune(options: argparse.Namespace) -> int:
 
 def status(options: argparse.Namespace) -> int:
     """Tells how the group stands."""
-    with contextlib.closing(SqliteLog(file_of(options.log), reads=True)) as log:
+    with contextlib.closing(store_of(options).open(reads=True)) as log:
         shown = LogView(log).show()
     print(json.dumps(shown.told(), ensure_ascii=False) if options.json else text_of(shown))
     return OK
@@ -168,7 +161,7 @@ def text_of(group: GroupView) -> str:
 class Run:
     """A member with its worker."""
 
-    def __init__(self, options: argparse.Namespace, settings: Optional[Settings], log: SqliteLog) -> None:
+    def __init__(self, options: argparse.Namespace, settings: Optional[Settings], log: Store) -> None:
         self.member = Member(log, options.node, self.start, self.stop, options.ttl, settings, sure=self.hear_until)
         self.pace = self.member.core.pace
         self.workers = Workers(options.worker, {'BULLY_NODE': options.node}, options.stop_seconds, self.member.end_with)
@@ -218,21 +211,22 @@ def run(options: argparse.Namespace) -> int:
     """Takes part with a worker, until a signal tells it to leave."""
     if not options.quiet:
         logging.basicConfig(level=logging.INFO, format='%(asctime)s bully-member: %(message)s')
-    settings, path = settings_of(options.config) if options.config else None, file_of(options.log)
+    settings, store = settings_of(options.config) if options.config else None, store_of(options)
     if settings is not None:
         check_name(settings, options.node)
     address = address_of(options.listen) if options.listen else None
     with contextlib.ExitStack() as closing:
-        log = answered(lambda: SqliteLog(path, patience=min(1.0, options.ttl / 5)))
+        log = answered(lambda: store.open(patience=min(1.0, options.ttl / 5)))
         closing.callback(log.close)
         member = answered(lambda: Run(options, settings, log))
         if address is not None:
-            view = answered(lambda: LogView(SqliteLog(path, reads=True)))
+            view = answered(lambda: LogView(store.open(reads=True)))
             closing.callback(view.close)
             page = Page(address, view, member.member)
             closing.callback(page.close)
             page.start()
-        log.watch(options.ttl)
+        if isinstance(log, SqliteLog):
+            log.watch(options.ttl)
         member.run()
     return OK
 
@@ -241,8 +235,8 @@ COMMANDS = {'init': init, 'run': run, 'status': status, 'history': history, 'res
 
 # What ends a command, and its status.
 STATUSES: Tuple[Tuple[Type[Exception], int], ...] = (
-    (BadWords, BAD_WORDS), (ConfigFault, BAD_INPUT), (OtherGroup, BAD_INPUT), (NotInGroup, BAD_INPUT), (BullyError, BAD_INPUT),
-    (LogError, NO_STORE), (OSError, NO_STORE), (WorkerEnded, FAILED), (GuardLost, FAILED), (NotEnded, FAILED),
+    (BadWords, BAD_WORDS), (BadStore, BAD_WORDS), (ConfigFault, BAD_INPUT), (OtherGroup, BAD_INPUT), (NotInGroup, BAD_INPUT),
+    (BullyError, BAD_INPUT), (LogError, NO_STORE), (OSError, NO_STORE), (WorkerEnded, FAILED), (GuardLost, FAILED), (NotEnded, FAILED),
 )  # fmt: skip
 
 
