@@ -375,7 +375,8 @@ class Keys(InEtcd):
             'opening/0000000001': OPENING.text(), 'log/0000000001/0000000000': HEADER, 'log/0000000001/0000000001': 'recover,1',
             'log/0000000001/0000000002': 'größer', 'presence/0000000001/3': 'x',
         }  # fmt: skip
-        self.assertEqual({key: decoded(pair['value']) for key, pair in pairs.items()}, {f'{self.prefix}/{key}': row for key, row in wanted.items()})
+        found = {key[len(self.prefix) + 1 :]: decoded(pair['value']) for key, pair in pairs.items()}
+        self.assertEqual(found, wanted)
         self.assertEqual([key for key, pair in pairs.items() if 'lease' in pair], [f'{self.prefix}/presence/0000000001/3'])
         self.assertEqual(log.read(2)[0], 'größer')
 
@@ -425,8 +426,8 @@ class Prefixes(InEtcd):
     """What begins the keys."""
 
     ODD = (
-        'x', 'x0', 'x-', 'xy', 'x/y', 'x.y', '/x', 'x//y', '..', ' x ', 'größer', '%2F', 'a?b#c', 'a=b&c', '"', "'\\", '*', 'x,y', 'etcd://x/y', '0',
-        'logs', 'x/logs', 'presences', 'x\ny', '\U0001f600', 'x' * 1000,
+        'x', 'x0', 'x-', 'xy', 'x/y', 'x.y', '/x', 'x//y', '..', ' x ', 'größer', '%2F', 'a?b#c', 'a=b&c', '"', "'\\", '*', 'x,y',
+        'etcd://x/y', '0', 'logs', 'x/logs', 'presences', 'x\ny', '\U0001f600', 'x' * 1000,
     )  # fmt: skip
 
     def test_odd(self) -> None:
@@ -473,8 +474,9 @@ class Prefixes(InEtcd):
 
     def test_bad_addresses(self) -> None:
         for words in (
-            '', 'etcd', 'etcd:a/x', 'etcd:/a/x', 'http://a/x', 'etcd://a', 'etcd://a/', 'etcd://a//', 'etcd:///x', 'etcd://a,/x', 'etcd://a:/x',
-            'etcd://:1/x', 'etcd://a:65536/x', 'etcd://a:b/x', 'etcd://::1/x', 'etcd://[::1/x', 'etcd://a/log', 'etcd://a/x/presence/y', 'etcd://a/\udc80',
+            '', 'etcd', 'etcd:a/x', 'etcd:/a/x', 'http://a/x', 'etcd://a', 'etcd://a/', 'etcd://a//', 'etcd:///x', 'etcd://a,/x',
+            'etcd://a:/x', 'etcd://:1/x', 'etcd://a:65536/x', 'etcd://a:b/x', 'etcd://::1/x', 'etcd://[::1/x', 'etcd://a/log',
+            'etcd://a/x/presence/y', 'etcd://a/\udc80',
         ):  # fmt: skip
             with self.subTest(words=words), self.assertRaises(ValueError):
                 read_address(words)
@@ -839,8 +841,10 @@ class Endpoints(InEtcd):
 
     def test_no_etcd(self) -> None:
         for said, fault in (
-            (b'HTTP/1.0 404 Not Found\r\n\r\nnothing here', LogError), (b'HTTP/1.0 200 OK\r\n\r\n[]', LogError), (b'HTTP/1.0 200 OK\r\n\r\n{}', LogError),
-            (b'HTTP/1.0 502 Bad Gateway\r\n\r\n<html>', Unanswered), (b'SSH-2.0-OpenSSH\r\n', Unanswered), (b'', Unanswered),
+            (b'HTTP/1.0 404 Not Found\r\n\r\nnothing here', LogError), (b'HTTP/1.0 200 OK\r\n\r\n[]', LogError),
+            (b'HTTP/1.0 200 OK\r\n\r\n{}', LogError),
+            (b'HTTP/1.0 502 Bad Gateway\r\n\r\n<html>', Unanswered), (b'SSH-2.0-OpenSSH\r\n', Unanswered),
+            (b'', Unanswered),
         ):  # fmt: skip
             with self.subTest(said=said):
                 thread = threading.Thread(target=self.say, args=[said])
@@ -870,7 +874,8 @@ class Killed(InEtcd):
         log.wait(1, 0.1)
         server.kill()
         calls: List[Callable[[], object]] = [
-            lambda: log.read(0), lambda: log.append(1, ['recover,1']), lambda: log.hold(1, 'x', 5.0, True), log.present, lambda: log.wait(1, 1.0),
+            lambda: log.read(0), lambda: log.append(1, ['recover,1']), lambda: log.hold(1, 'x', 5.0, True), log.present,
+            lambda: log.wait(1, 1.0),
         ]  # fmt: skip
         for call in calls:
             with self.assertRaisesRegex(Unanswered, f'^127.0.0.1:{server.port}: '):
