@@ -20,8 +20,8 @@ from pathlib import Path
 from typing import Any, Callable, Dict, List, Optional, Sequence, Tuple, Type
 from unittest import mock
 
-from bully import check, command, etcd, gateway, stores
-from bully.epochs import Opening
+from bully import Setup, check, command, etcd, gateway, resizing, settings, stores
+from bully.epochs import Opening, cut_end
 from bully.etcd import EtcdLog
 from bully.gateway import Address, Client, Denied, Endpoint, read_address
 from bully.logs import DamagedLog, ForeignLog, Log, LogError, LogExists, NoLog, Unanswered
@@ -591,7 +591,7 @@ class Contents(InEtcd):
         log = self.created()
         log.append(1, ['recover,1'])
         log.hold(1, 'x', 50, False)
-        self.server.delete(f'{self.prefix}/opening/', f'{self.prefix}/opening0')
+        self.server.delete(f'{self.prefix}/', f'{self.prefix}0')
         self.created().append(1, ['recover,1'])
         for call in self.calls(log):
             self.refused(ForeignLog, call)
@@ -1250,7 +1250,7 @@ class Commands(InEtcd):
         self.assertEqual(self.call('init', *config, *log)[0], 4)
         self.opened().append(1, ['recover,1'])
         self.assertEqual(self.call('history', *log), (0, 'bully,1,1,3\nrecover,1\n', ''))
-        self.assertIn('the only  election  no', self.call('status', *config, *log)[1])
+        self.assertIn('the only  election  no', self.call('status', *log)[1])
 
     def test_bad_words(self) -> None:
         certificates = [word for name in ('cacert', 'cert', 'key') for word in (f'--{name}', str(self.folder / 'none'))]
@@ -1320,6 +1320,29 @@ class Members(InEtcd):
         alive = [server for server in servers.each if not server.has_ended]
         rows = self.opened(servers.address('x', *alive)).read(0)
         self.assertTrue(check('\n'.join([*rows, '']).encode()).is_lawful)
+
+    def test_resize(self) -> None:
+        """They go on by their names in a new epoch, and the old one is taken away."""
+        servers = self.begun(3)
+        self.created(servers.address('x'))
+        members = [self.member(servers, node) for node in (1, 2, 3)]
+
+        def owned(epoch: int) -> int:
+            """How many partitions they own in this epoch, by one token."""
+            found = [each for each in (member.assignment() for member in members) if each and each.token.epoch == epoch]
+            return sum(len(each.partitions) for each in found) if len({each.token for each in found}) == 1 else 0
+
+        wait_until(lambda: owned(1) == 6)
+        log = self.opened(servers.address('x'))
+        after = resizing.resize(log, settings.Settings(Setup(4, 12), ('3', 'x', '1', '2')), PATIENCE)
+        self.assertEqual((after.epoch, after.expected), (2, (1, 3, 4)))
+        wait_until(lambda: owned(2) == 12)
+        self.assertEqual([member.node for member in members], [3, 4, 1])
+        for epoch in (1, 2):
+            rows, _ = cut_end(log.at(epoch).read(0))
+            self.assertTrue(check('\n'.join([*rows, '']).encode()).is_lawful)
+        log.prune(2)
+        self.assertEqual((log.epochs(), owned(2)), (range(2, 3), 12))
 
     def member(self, servers: Servers, node: int) -> Member:
         """A member that takes part until the test is over."""

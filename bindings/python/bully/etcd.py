@@ -93,6 +93,7 @@ class EtcdLog:
         self._told_wish: Optional[str] = None
         self._news = News(self._keys)
         self._watch: Optional[Watch] = None
+        self._watches: List[Watch] = []  # of all that this one is seen as
         self._broken = float('-inf')  # when a watch broke
         try:
             self._created = self._open()
@@ -147,6 +148,7 @@ class EtcdLog:
         self._watch = None
 
     def at(self, epoch: int) -> 'EtcdLog':
+        self._end_watch()
         seen = copy.copy(self)
         seen._see(epoch)
         return seen
@@ -271,7 +273,9 @@ class EtcdLog:
 
     def close(self) -> None:
         self._client.close()
-        self._end_watch()
+        for watch in self._watches:
+            watch.close()
+        self._watches.clear()
 
     # What is asked of etcd.
 
@@ -400,6 +404,7 @@ class EtcdLog:
             return True
         try:
             self._watch = self._client.watch(below(self._keys.root, start_revision=str(answer.revision + 1)))
+            self._watches.append(self._watch)
         except Silent:
             self._broken = seconds_of_boot()
         return False
@@ -407,6 +412,8 @@ class EtcdLog:
     def _end_watch(self) -> None:
         if self._watch is not None:
             self._watch.close()
+            if self._watch in self._watches:  # else the log was closed
+                self._watches.remove(self._watch)
             self._watch = None
 
 
