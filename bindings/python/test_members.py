@@ -3,6 +3,7 @@
 import contextlib
 import http.client
 import io
+import itertools
 import json
 import os
 import random
@@ -17,39 +18,24 @@ import threading
 import time
 import unittest
 from pathlib import Path
-from typing import Any, Callable, Dict, List, Optional, Tuple, Type
+from typing import Any, Callable, Dict, List, Optional, Sequence, Tuple, Type
 from unittest import mock
 
-from bully import Full, Setup, check, command, logs, page, settings, view
-from bully.logs import DamagedLog, DiskFull, ForeignLog, Log, LogBusy, LogError, LogExists, MemoryLog, NoLog, ReadOnlyLog, SqliteLog
-from bully.member import (
-    Append, Assignment, Begin, Core, End, Ending, Look, Pace, Read, Release, Renew, Rest, Step, Stop, Take, Wait,
+from bully import Full, Setup, check, command, logs, page, resizing, settings, view
+from bully.epochs import Opening, Token, cut_end, setup_of
+from bully.logs import (
+    DamagedLog, DiskFull, ForeignLog, Log, LogBusy, LogError, LogExists, MemoryLog, NoLog, ReadOnlyLog, SqliteLog, current,
 )  # fmt: skip
-from bully.running import Member, OtherGroup
+from bully.member import (
+    Append, Assignment, Begin, Core, End, Ending, Finish, Follow, Look, Pace, Read, Release, Renew, Rest, Step, Stop, Take, Wait,
+)  # fmt: skip
+from bully.running import Member, NotInGroup, OtherGroup
+from bully.values import Rows
 from bully.worker import Guarded, GuardLost, WorkerEnded, Workers
+from epoch_laws import OPENING, EpochLaws
+from laws import HEADER, PATIENCE, Clock, Laws, Waits, wait_until
 
 ROOT = Path(__file__).resolve().parents[2]
-HEADER = Setup(3, 6).header()
-PATIENCE = 60.0
-
-
-def wait_until(is_so: Callable[[], object]) -> None:
-    """Waits until that is so."""
-    end = time.monotonic() + PATIENCE
-    while not is_so():
-        if time.monotonic() > end:
-            raise AssertionError('it never came to be so')
-        time.sleep(0.01)
-
-
-class Clock:
-    """A clock that stands, until it is set."""
-
-    def __init__(self) -> None:
-        self.now = 100.0
-
-    def __call__(self) -> float:
-        return self.now
 
 
 class InFolder(unittest.TestCase):
@@ -62,7 +48,7 @@ class InFolder(unittest.TestCase):
         self.path = self.folder / 'group.db'
 
     def created(self) -> SqliteLog:
-        return self.closing(SqliteLog.create(self.path, HEADER))
+        return self.closing(SqliteLog.create(self.path, OPENING))
 
     def opened(self, patience: float = 1.0) -> SqliteLog:
         return self.closing(SqliteLog(self.path, patience))
@@ -72,90 +58,64 @@ class InFolder(unittest.TestCase):
         return log
 
 
-class Logs(InFolder):
-    """What both logs do."""
+class InMemory(Laws, unittest.TestCase):
+    """The laws of a log in memory."""
 
-    def each(self) -> List[Tuple[Log, Log, Clock]]:
-        """Each kind: two handles of one log, and its clock."""
-        clock = Clock()
-        patch = mock.patch.object(logs, 'seconds_of_boot', clock)
+    def setUp(self) -> None:
+        self.clock = Clock()
+
+    def pair(self) -> Tuple[Log, Log]:
+        log = MemoryLog([HEADER], self.clock)
+        return log, log
+
+    def now(self) -> float:
+        return self.clock.now
+
+    def pass_time(self, seconds: float) -> None:
+        self.clock.now += seconds
+
+    def pass_end(self, log: Log) -> None:
+        self.pass_time(self.TTL)
+
+
+class InFile(InMemory, InFolder):
+    """The laws of a log in a file."""
+
+    def setUp(self) -> None:
+        InFolder.setUp(self)
+        InMemory.setUp(self)
+        patch = mock.patch.object(logs, 'seconds_of_boot', self.clock)
         patch.start()
         self.addCleanup(patch.stop)
-        memory = MemoryLog([HEADER], clock)
-        return [(memory, memory, clock), (self.created(), self.opened(), clock)]
 
-    def test_append(self) -> None:
-        for log, other, _ in self.each():
-            with self.subTest(log=log):
-                self.assertTrue(log.append(1, ['recover,1', 'start,1']))
-                for place in (0, 1, 2, 4):
-                    self.assertFalse(other.append(place, ['recover,2']))
-                self.assertTrue(other.append(3, ['recover,2']))
-                self.assertEqual(list(log.read(0)), [HEADER, 'recover,1', 'start,1', 'recover,2'])
-                self.assertEqual([list(log.read(place)) for place in (3, 4, 9)], [['recover,2'], [], []])
+    def pair(self) -> Tuple[Log, Log]:
+        return self.created(), self.opened()
 
-    def test_many_rows(self) -> None:
-        """Whatever a file keeps in packs, it reads the same."""
-        choice, log = random.Random(1), self.created()
-        rows = [HEADER]
-        while len(rows) < 5000:
-            more = [f'start,{choice.randint(1, 3)}' for _ in range(choice.choice([1, 2, 999, 1000, 1001, choice.randint(1, 500)]))]
-            self.assertTrue(log.append(len(rows), more))
-            rows += more
-            for place in {0, 1, len(rows) - 1, len(rows), len(rows) + 1, choice.randrange(len(rows)), len(rows) // 1000 * 1000}:
-                self.assertEqual(list(log.read(place)), rows[place:])
-                self.assertEqual(len(log.read(place)), len(rows[place:]))
-        self.assertEqual(list(self.opened().read(0)), rows)
 
-    def test_absent(self) -> None:
-        for log, other, clock in self.each():
-            with self.subTest(log=log):
-                self.assertTrue(log.hold(2, 'x', 5, False))
-                self.assertFalse(other.append(1, ['recover,1'], absent=2))
-                self.assertTrue(other.append(1, ['recover,1'], absent=1))
-                clock.now += 5
-                self.assertTrue(other.append(2, ['recover,2'], absent=2))
+class WaitsInMemory(Waits, unittest.TestCase):
+    def pair(self) -> Tuple[Log, Log]:
+        log = MemoryLog([HEADER])
+        return log, log
 
-    def test_presence(self) -> None:
-        for log, other, clock in self.each():
-            with self.subTest(log=log):
-                self.assertFalse(log.hold(2, 'x', 5, True))
-                self.assertTrue(log.hold(2, 'x', 5, False))
-                for life, renews in (('x', False), ('y', False), ('y', True)):
-                    self.assertFalse(other.hold(2, life, 50, renews))
-                clock.now += 4
-                self.assertTrue(log.hold(2, 'x', 5, True))
-                clock.now += 4
-                self.assertEqual(other.present(), {2})
-                clock.now += 1
-                self.assertEqual(other.present(), set())
-                self.assertFalse(log.hold(2, 'x', 5, True), 'a presence that has ended is not renewed')
-                self.assertTrue(other.hold(2, 'y', 5, False))
-                log.release(2, 'x')
-                self.assertEqual(log.present(), {2})
-                other.release(2, 'y')
-                self.assertEqual(log.present(), set())
 
-    def test_wait(self) -> None:
-        memory = MemoryLog([HEADER])
-        self.created()
-        pairs: List[Tuple[Log, Log]] = [(memory, memory), (self.opened(), self.opened())]
-        for log, other in pairs:
-            acts: List[Callable[[], object]] = [
-                lambda: other.append(1, ['recover,1']), lambda: other.hold(1, 'x', 0.2, False), lambda: None,
-                lambda: other.hold(1, 'x', 50, False), lambda: other.release(1, 'x'),
-            ]  # fmt: skip
-            for number, act in enumerate(acts):
-                with self.subTest(log=log, act=number):
-                    log.present()
-                    later = threading.Timer(0.05, act)
-                    later.start()
-                    log.wait(1 if number == 0 else 2, PATIENCE)
-                    later.join()
-            log.present()
-            begun = time.monotonic()
-            log.wait(2, 0.1)
-            self.assertGreaterEqual(time.monotonic(), begun + 0.1)
+class WaitsInFile(Waits, InFolder):
+    def pair(self) -> Tuple[Log, Log]:
+        return self.created(), self.opened()
+
+
+class EpochsInMemory(EpochLaws, unittest.TestCase):
+    """The laws of epochs of a log in memory."""
+
+    def pair(self) -> Tuple[Log, Log]:
+        log = MemoryLog([HEADER])
+        return log, log.at(1)
+
+
+class EpochsInFile(EpochLaws, InFolder):
+    """The laws of epochs of a log in a file."""
+
+    def pair(self) -> Tuple[Log, Log]:
+        return self.created(), self.opened()
 
 
 class Files(InFolder):
@@ -183,11 +143,22 @@ class Files(InFolder):
         self.path.mkdir()
         self.refused(ForeignLog)
 
+    def test_another_form(self) -> None:
+        """A log of another version is told as one."""
+        for form, word in ((1, 'an older'), (3, 'another')):
+            self.created().close()
+            with sqlite3.connect(self.path) as other:
+                other.execute(f'pragma user_version = {form}')
+            other.close()
+            with self.subTest(form=form), self.assertRaisesRegex(ForeignLog, f'a log of form {form}, by {word} version, and not of form 2'):
+                SqliteLog(self.path)
+            self.path.unlink()
+
     def test_exists(self) -> None:
         self.created()
         before = self.path.read_bytes()
         with self.assertRaises(LogExists):
-            SqliteLog.create(self.path, 'bully,1,1,1')
+            SqliteLog.create(self.path, Opening.first('bully,1,1,1'))
         self.assertEqual(self.path.read_bytes(), before)
         self.assertEqual([each.name for each in self.folder.iterdir() if '.new' in each.name], [])
 
@@ -306,7 +277,7 @@ class Driven:
         self.clock = Clock()
         self.log = log or MemoryLog([HEADER, *rows], self.clock)
         self.log.clock = self.clock
-        self.core = Core(HEADER, node, 'it', Pace(5.0))
+        self.core = Core(self.log.opening(), node, 'it', Pace(5.0))
 
     def step(self) -> Step:
         """It takes one step, which is answered at once."""
@@ -320,14 +291,24 @@ class Driven:
         elif isinstance(step, Read):
             core.read(now, log.read(step.place))
         elif isinstance(step, Look):
-            core.looked(now, now, log.present())
+            core.looked(now, now, log.present(), log.wish())
         elif isinstance(step, Append):
             core.appended(now, log.append(step.place, step.rows, step.absent))
+        elif isinstance(step, Finish):
+            core.finished(now, log.end(step.place, step.wish, step.opening))
+        elif isinstance(step, Follow):
+            self.follow()
         elif isinstance(step, Stop):
             core.stopped(now)
         elif isinstance(step, Wait):
             core.woke()
         return step
+
+    def follow(self) -> None:
+        """It goes on in the current epoch."""
+        log = self.log.at(self.log.epochs()[-1])
+        self.core.followed(self.clock.now, log.opening())
+        self.log = log if log.opening() == self.core.opening else self.log
 
     def steps(self, last: type) -> List[Step]:
         """Its steps up to one of this kind."""
@@ -393,7 +374,7 @@ class Rules(unittest.TestCase):
             with self.subTest(rows=rows):
                 it = Driven()
                 it.steps(Begin)
-                it.log.rows += rows
+                it.log.rows.extend(rows)
                 steps = it.steps(Take)
                 self.assertEqual([type(step) for step in steps[-3:]], [Stop, Release, Take])
                 self.assertEqual(self.appended(steps), [])
@@ -501,6 +482,182 @@ class Rules(unittest.TestCase):
         self.assertEqual(it.core.work and it.core.work.partitions, tuple(range(6)))
 
 
+class Epochs(unittest.TestCase):
+    """What a core does at the end of an epoch, and behind it."""
+
+    def begun(self, limit: Optional[int] = None) -> Driven:
+        """Node 2 of three at work, in an epoch that ends from so many rows on behind those that there are."""
+        first = Driven()
+        first.steps(Begin)
+        opening = Opening.first(HEADER) if limit is None else Opening.first(HEADER, limit=len(first.rows()) + limit)
+        it = Driven(log=MemoryLog([HEADER], opening=opening))
+        it.steps(Begin)
+        return it
+
+    def wish(self, it: Driven, *names: str) -> None:
+        it.log.ask(it.log.opening().wish(settings.Settings(Setup(len(names), 4), names)).text())
+
+    def test_a_full_log(self) -> None:
+        """All stop and crash, who is gone is crashed, and then comes the end. The table and the node's work stay."""
+        it = self.begun(1)
+        old = it.log
+        old.hold(1, 'x', 5, False)
+        old.append(len(old.rows), ['recover,1'])
+        steps = it.steps(Append)
+        self.assertEqual([type(step) for step in steps if not isinstance(step, (Wait, Read, Look))], [Stop, Append])
+        self.assertEqual(old.rows[-1], 'crash,2')
+        self.assertIsInstance(it.steps(Wait)[-1], Wait)
+        old.release(1, 'x')
+        steps = it.steps(Begin)
+        self.assertEqual(steps[2], Append(len(old.rows) - 2, ('crash,1',), 1))
+        self.assertEqual([type(step) for step in steps[3:7]], [Finish, Release, Follow, Take])
+        self.assertEqual(old.rows[-1], f'end,{HEADER}')
+        self.assertEqual((it.log.epoch, it.log.opening().table, it.log.opening().expected), (2, (2,) * 6, (2,)))
+        work = it.core.work
+        assert work is not None
+        self.assertEqual((work.token.epoch, work.partitions), (2, tuple(range(6))))
+
+    def test_a_wish(self) -> None:
+        """It goes on by its name, with the settings that were wished for."""
+        it = self.begun()
+        self.wish(it, 'x', '3', 'y', '2')
+        steps = [type(step) for step in it.steps(Begin) if not isinstance(step, (Wait, Read, Look))]
+        self.assertEqual(steps[:7], [Stop, Append, Finish, Release, Follow, Take, Append])
+        self.assertEqual((it.core.node, it.core.opening.names, it.core.opening.table), (4, ('x', '3', 'y', '2'), (4,) * 4))
+        self.assertEqual(it.core.work and it.core.work.settings, settings.Settings(Setup(4, 4, weights=()), ('x', '3', 'y', '2')))
+
+    def test_a_name_that_is_gone(self) -> None:
+        it = self.begun()
+        self.wish(it, 'x', 'y')
+        steps = it.steps(End)
+        self.assertEqual([type(step) for step in steps[-4:]], [Finish, Release, Follow, End])
+        self.assertEqual(steps[-1], End(Ending.NOT_THERE))
+        self.assertEqual(it.log.at(2).opening().table, ())
+
+    def test_an_end_by_others(self) -> None:
+        """It was crashed, and reads that and the end at once."""
+        it = self.begun()
+        old = it.log
+        old.append(len(old.rows), ['crash,2'])
+        old.end(len(old.rows), None, old.opening().next(None, (2,) * 6, frozenset()))
+        steps = [type(step) for step in it.steps(Begin)]
+        self.assertEqual(steps[: steps.index(Take) + 1][-4:], [Stop, Release, Follow, Take])
+
+    def test_an_epoch_that_is_taken_away(self) -> None:
+        it = self.begun()
+        it.core.passed()
+        self.assertEqual([type(it.step()) for _ in range(3)], [Stop, Release, Follow])
+
+    def test_an_end_that_is_not_answered(self) -> None:
+        """It was done or not: the epoch ends once."""
+        for is_done in (True, False):
+            with self.subTest(is_done=is_done):
+                it = self.begun()
+                self.wish(it, '1', '2')
+                it.steps(Append)
+                step = it.core.next(it.clock.now)
+                while not isinstance(step, Finish):
+                    it.step()
+                    step = it.core.next(it.clock.now)
+                if is_done:
+                    it.log.end(step.place, step.wish, step.opening)
+                it.core.finished(it.clock.now, None)
+                self.assertIsInstance(it.step(), Rest)
+                it.clock.now += 0.3
+                old = it.log
+                it.steps(Begin)
+                self.assertEqual((old.epochs(), sum(row.startswith('end') for row in old.rows)), (range(1, 3), 1))
+
+    def test_no_end_while_one_is_up(self) -> None:
+        """Who is present brings itself Down."""
+        it = self.begun(2)
+        it.log.hold(3, 'x', 500, False)
+        it.log.append(len(it.log.rows), ['recover,3', 'move,3'])
+        steps = [it.step() for _ in range(50)]
+        self.assertFalse([step for step in steps if isinstance(step, Finish)])
+        self.assertEqual(it.log.rows[-1], 'crash,2')
+
+    def test_back_together(self) -> None:
+        """Nobody plans before all are back that were there, or a ttl is over: then no partition moves."""
+        opening = Opening(2, HEADER, ('1', '2', '3'), 500, (1, 2, 3, 2, 1, 3), (1, 2, 3))
+        for is_back in (True, False):
+            with self.subTest(is_back=is_back):
+                members = [Driven(node, log=MemoryLog([HEADER], opening=opening)) for node in (1,)]
+                members += [Driven(node, log=members[0].log) for node in ((2, 3) if is_back else (2,))]
+                for member in members:
+                    member.clock = members[0].clock
+                members[0].log.clock = members[0].clock
+                for _ in range(400):
+                    for member in members:
+                        member.step()
+                    members[0].clock.now += 0.01
+                plans = [row for row in members[0].log.rows if row.startswith('plan')]
+                self.assertEqual(plans, ['plan,3,1 2 3 2 1 3'] if is_back else [])
+                members[0].clock.now += 1.5
+                for _ in range(400):
+                    for member in members:
+                        member.step()
+                    members[0].clock.now += 0.01
+                plans = [row for row in members[0].log.rows if row.startswith('plan')]
+                self.assertEqual(plans, ['plan,3,1 2 3 2 1 3'] if is_back else ['plan,2,1 2 1 2 1 2'])
+
+    def test_openings(self) -> None:
+        """The last table is carried over by name, and the first partitions stay."""
+        first = Opening.first(Setup(3, 6).header(), ('a', 'b', 'c'), 700)
+        wish = first.wish(settings.Settings(Setup(4, 8, weights=(1, 2, 3, 4)), ('c', 'd', 'a', 'e')))
+        after = first.next(wish.text(), (1, 2, 3, 3, 2, 1), frozenset({1, 2}))
+        self.assertEqual(after, Opening(2, 'bully,2,4,8,1 2 3 4,clear', ('c', 'd', 'a', 'e'), 700, (3, 0, 1, 1, 0, 3, 0, 0), (3,)))
+        self.assertEqual(Opening.parse(after.text()), after)
+        self.assertEqual(after.end, 'end,bully,2,4,8,1 2 3 4,clear')
+        self.assertEqual((first.limit, Opening.first(HEADER).limit), (700, 1_000_000 - 12 - 1000))
+        same = first.next(None, (), frozenset({3}))
+        self.assertEqual(same, Opening(2, first.header, first.names, 700, (), (3,)))
+        for setup in (Setup(3, 6), Setup(2, 300, weights=(1, 5)), Setup(70, 5, weights=(1,) * 70), Setup(2, 2, weights=(1, 1), keeps=True)):
+            self.assertEqual(setup_of(setup.header()).header(), setup.header())
+
+    def test_first_plans(self) -> None:
+        """No balanced table over the members keeps more of the partitions that had an owner."""
+        choice = random.Random(1)
+        for _ in range(300):
+            nodes, partitions = choice.randint(1, 4), choice.randint(1, 6)
+            members = sorted(choice.sample(range(1, nodes + 1), choice.randint(1, nodes)))
+            weights = tuple(choice.randint(1, 3) for _ in range(nodes))
+            old = tuple(choice.randint(0, nodes) for _ in range(partitions))
+            header = Setup(nodes, partitions, weights=weights).header()
+            told = Opening(2, header, tuple(map(str, range(nodes))), 500, old)
+            with self.subTest(header=header, members=members, old=old):
+                self.assertEqual(kept(told.plan(members), old), most_kept(members, weights, old))
+
+    def test_tokens(self) -> None:
+        tokens = [Token.of(1, 1), Token.of(1, 999_999), Token.of(2, 1), Token.of(12, 34)]
+        self.assertEqual(sorted(tokens, key=int), tokens)
+        self.assertEqual([str(token) for token in tokens], ['10000001', '10999999', '20000001', '120000034'])
+        self.assertEqual([(token.epoch, token.events) for token in tokens], [(1, 1), (1, 999_999), (2, 1), (12, 34)])
+
+    def test_ends(self) -> None:
+        cases: List[Tuple[List[str], List[str], bool]] = [
+            (['a', 'b'], ['a', 'b'], False), (['a', 'end,x'], ['a'], True), (['end,x'], [], True), ([], [], False),
+        ]  # fmt: skip
+        for rows, wanted, is_past in cases:
+            kinds: List[Sequence[str]] = [rows, Rows(''.join(f'{row}\n' for row in rows))]
+            for each in kinds:
+                cut, has_ended = cut_end(each)
+                self.assertEqual((list(cut), has_ended), (wanted, is_past))
+
+
+def kept(table: Sequence[int], old: Sequence[int]) -> int:
+    """How many partitions stay with their owner."""
+    return sum(owner == before for owner, before in zip(table, old))
+
+
+def most_kept(members: List[int], weights: Tuple[int, ...], old: Tuple[int, ...]) -> int:
+    """The most that any balanced table keeps, as docs/ALGORITHM.md has these."""
+    total = sum(weights[member - 1] for member in members)
+    bases = {member: len(old) * weights[member - 1] // total for member in members}
+    tables = itertools.product(members, repeat=len(old))
+    return max(kept(table, old) for table in tables if all(0 <= table.count(member) - bases[member] <= 1 for member in members))
+
+
 class Running(unittest.TestCase):
     """Members in threads over one log in memory."""
 
@@ -508,7 +665,7 @@ class Running(unittest.TestCase):
         told: List[str] = []
         start = more.pop('start', lambda assignment: told.append(f'start {assignment.token}'))
         stop = more.pop('stop', lambda assignment: told.append(f'stop {assignment.token}'))
-        member = Member(log, node, start, stop, ttl=2.0, header=HEADER)
+        member = Member(log, node, start, stop, ttl=2.0, settings=OPENING.settings)
         thread = threading.Thread(target=self.run_member, args=[member])
         thread.start()
         self.addCleanup(thread.join)
@@ -549,7 +706,7 @@ class Running(unittest.TestCase):
         _, told, thread = self.begin(log, 1, start=start)
         thread.join()
         self.assertIsInstance(self.raised, KeyError)
-        self.assertEqual(told, [f'stop {log.rows.index(next(row for row in log.rows if row.startswith("plan")))}'])
+        self.assertEqual(told, [f'stop {Token.of(1, log.rows.index(next(row for row in log.rows if row.startswith("plan"))))}'])
         self.assertEqual((log.rows[-1], log.present()), ('crash,1', set()))
 
     def test_a_stop_that_raises(self) -> None:
@@ -569,13 +726,199 @@ class Running(unittest.TestCase):
 
     def test_other_group(self) -> None:
         with self.assertRaises(OtherGroup):
-            Member(self.log(), 1, print, print, header='bully,1,3,7')
+            Member(self.log(), 1, print, print, settings=settings.Settings(Setup(3, 7), ('1', '2', '3')))
 
     def test_with(self) -> None:
         log = self.log()
         with Member(log, 1, lambda assignment: member.leave(), lambda assignment: None, ttl=2.0) as member:
             member.run()
         self.assertEqual(log.rows[-1], 'crash,1')
+
+
+class Places:
+    """What members work on: it tells if two work on one partition, or if a token falls."""
+
+    def __init__(self) -> None:
+        self.workers: Dict[int, str] = {}
+        self.tokens: Dict[int, int] = {}
+        self.faults: List[str] = []
+        self.lock = threading.Lock()
+
+    def start(self, name: str, assignment: Assignment) -> None:
+        with self.lock:
+            for partition in assignment.partitions:
+                if self.workers.setdefault(partition, name) != name or self.tokens.get(partition, 0) >= assignment.token:
+                    self.faults.append(f'{name} begins {partition} by {assignment.token}, beside {self.workers} and {self.tokens}')
+                self.tokens[partition] = assignment.token
+
+    def stop(self, name: str, assignment: Assignment) -> None:
+        with self.lock:
+            for partition in assignment.partitions:
+                del self.workers[partition]
+
+
+class Resizes(InFolder):
+    """Members in threads over a file, through several epochs."""
+
+    def make(self, nodes: int, partitions: int, limit: int = 1_000_000) -> None:
+        names = tuple('abcdefg'[:nodes])
+        self.closing(SqliteLog.create(self.path, Opening.first(Setup(nodes, partitions).header(), names, limit)))
+        self.places = Places()
+        self.members: Dict[str, Tuple[Member, threading.Thread]] = {}
+
+    def begin(self, name: str) -> None:
+        log = SqliteLog(self.path)
+        member = Member(log, name, lambda each: self.places.start(name, each), lambda each: self.places.stop(name, each), ttl=10.0)
+        thread = threading.Thread(target=self.run_member, args=[member])
+        self.members[name] = member, thread
+        thread.start()
+        self.addCleanup(thread.join)
+        self.addCleanup(member.leave)
+
+    def run_member(self, member: Member) -> None:
+        with member:
+            member.run()
+
+    def end(self, name: str) -> None:
+        member, thread = self.members.pop(name)
+        member.leave()
+        thread.join()
+
+    def owned(self) -> Dict[str, Tuple[int, ...]]:
+        """Who owns what, if all that are there own some by one token, and all that there is."""
+        found = {name: member.assignment() for name, (member, _) in self.members.items()}
+        tokens = {each.token for each in found.values() if each}
+        owned = {name: each.partitions for name, each in found.items() if each}
+        all_of_them = sorted(partition for each in owned.values() for partition in each)
+        return owned if len(tokens) == 1 and len(owned) == len(self.members) and all_of_them == list(range(len(all_of_them))) else {}
+
+    def rest(self, partitions: int) -> Dict[str, Tuple[int, ...]]:
+        """The same, once they do."""
+        wait_until(lambda: sum(map(len, self.owned().values())) == partitions)
+        return self.owned()
+
+    def resize(self, partitions: int, *names: str) -> Opening:
+        with contextlib.closing(SqliteLog(self.path)) as log:
+            return resizing.resize(log, settings.Settings(Setup(len(names), partitions), names), PATIENCE)
+
+    def plans(self, epoch: int) -> List[List[str]]:
+        """The plans of an epoch, each with the names of the owners."""
+        log = self.opened().at(epoch)
+        names = log.opening().names
+        return [[names[int(owner) - 1] for owner in row.split(',')[2].split()] for row in log.read(0) if row.startswith('plan')]
+
+    def judge(self) -> None:
+        """Each epoch is lawful, and nobody worked where somebody else did, or by an old token."""
+        for name in list(self.members):
+            self.end(name)
+        self.assertEqual(self.places.faults, [])
+        log = self.opened()
+        for epoch in log.epochs():
+            rows, has_ended = cut_end(log.at(epoch).read(0))
+            self.assertTrue(check('\n'.join([*rows, '']).encode()).is_lawful)
+            self.assertEqual(has_ended, epoch < log.epochs()[-1])
+
+    def test_more_nodes(self) -> None:
+        """From 3 nodes and 12 partitions to 5 and 24, while members work."""
+        self.make(3, 12)
+        for name in 'abc':
+            self.begin(name)
+        before = self.rest(12)
+        opening = self.resize(24, 'b', 'd', 'a', 'e', 'c')
+        self.assertEqual((opening.epoch, opening.settings.setup.nodes), (2, 5))
+        for name in 'de':
+            self.begin(name)
+        after = self.rest(24)
+        self.assertEqual(sorted(map(len, after.values())), [4, 5, 5, 5, 5])
+        kept = sum(len(set(before[name]) & set(self.places_of(self.plans(2)[0], name))) for name in 'abc')
+        self.assertEqual(kept, 12, 'the three own 4 each, and get more')
+        self.judge()
+
+    def places_of(self, table: List[str], name: str) -> List[int]:
+        return [partition for partition, owner in enumerate(table) if owner == name]
+
+    def test_fewer_nodes(self) -> None:
+        """A member whose node is gone ends, and says so."""
+        self.make(3, 6)
+        for name in 'abc':
+            self.begin(name)
+        self.rest(6)
+        with self.assertLogs('bully', 'WARNING') as told:
+            self.resize(6, 'c', 'a')
+            self.members.pop('b')[1].join(PATIENCE)
+        self.assertIn('node b: its node is not in the group any more', told.output[0])
+        self.rest(6)
+        with self.assertRaisesRegex(NotInGroup, 'the group has no node b in epoch 2, but c, a'):
+            self.begin('b')
+        self.judge()
+
+    def test_no_member(self) -> None:
+        """Nobody is there, but a node that died: the epoch ends all the same."""
+        self.make(3, 6)
+        self.opened().append(1, ['recover,1', 'recover,2'])
+        self.assertEqual(self.resize(4, 'x', 'y').names, ('x', 'y'))
+        self.assertEqual(list(self.opened().at(1).read(3)), ['crash,1', 'crash,2', 'end,bully,1,2,4'])
+        self.assertEqual(self.resize(4, 'x', 'y').epoch, 2, 'it has these settings already')
+
+    def test_not_in_time(self) -> None:
+        """The wish stays, and the epoch ends later."""
+        self.make(2, 4)
+        log = self.opened()
+        log.append(1, ['recover,2'])
+        log.hold(2, 'x', 1000, False)
+        with self.assertRaisesRegex(resizing.NotEnded, 'epoch 1 has not ended yet: b still up'):
+            resizing.resize(log, settings.Settings(Setup(1, 4), ('a',)), 0.1)
+        log.release(2, 'x')
+        self.begin('a')
+        self.rest(4)
+        self.assertEqual(self.opened().epochs(), range(1, 3))
+        self.judge()
+
+    def test_no_moves(self) -> None:
+        """In a new epoch with the same members all partitions stay. Old epochs are taken away meanwhile."""
+        self.make(3, 7)
+        for name in 'abc':
+            self.begin(name)
+        before = self.rest(7)
+        log = self.opened()
+        for epoch in range(1, 4):
+            opening = log.at(epoch).opening()
+            self.assertTrue(log.at(epoch).ask(opening.wish(opening.settings).text()))
+            wait_until(lambda: log.epochs()[-1] > epoch and self.owned())
+            self.assertEqual((log.epochs()[-1], self.owned()), (epoch + 1, before))
+            self.assertEqual(len(self.plans(epoch + 1)), 1)
+            log.prune(epoch)
+        self.judge()
+
+    def test_an_epoch_that_is_taken_away(self) -> None:
+        """Who was in it for long goes on in the current one, members and views."""
+        self.make(2, 4)
+        member = Member(self.opened(), 'b', lambda each: member.leave(), lambda each: None, ttl=10.0)
+        shown = view.LogView(self.opened())
+        self.addCleanup(shown.close)
+        self.assertEqual((member.core.opening.epoch, shown.show().epoch), (1, 1))
+        self.resize(4, 'b', 'c')
+        self.opened().prune(2)
+        with member:
+            member.run()
+        self.assertEqual((member.core.opening.epoch, member.node), (2, 1))
+        told = shown.show()
+        self.assertEqual((told.epoch, [node.name for node in told.nodes]), (2, ['b', 'c']))
+        self.assertEqual(told.last[-1][1], 'crash,1')
+
+    def test_full_logs(self) -> None:
+        """Logs are full after a hundred rows, and somebody goes and comes, again and again."""
+        self.make(3, 6, 100)
+        for name in 'abc':
+            self.begin(name)
+        log = self.opened()
+        while log.epochs()[-1] < 4:
+            self.rest(6)
+            self.end('a')
+            self.rest(6)
+            self.begin('a')
+        self.rest(6)
+        self.judge()
 
 
 WORKER = """
@@ -604,14 +947,14 @@ def is_running(process: int) -> bool:
 class Guards(InFolder):
     """Workers below their guards."""
 
-    assignment = Assignment(42, 3, (0, 5))
+    assignment = Assignment(Token.of(4, 2), 3, (0, 5), OPENING.settings)
 
     def begin(self, way: str, patience: float = PATIENCE, seconds: float = 1000.0) -> Workers:
         self.failures: List[BaseException] = []
         words = [sys.executable, '-c', WORKER, str(self.folder), way]
         workers = Workers(words, {'BULLY_NODE': 'x'}, patience, self.failures.append)
         workers.hear_until(logs.seconds_of_boot() + seconds)
-        workers.start(self.assignment, 'c')
+        workers.start(self.assignment, '{}')
         wait_until((self.folder / 'begun').exists)
         self.worker, self.child = map(int, (self.folder / 'begun').read_text().split()[:2])
         return workers
@@ -623,7 +966,7 @@ class Guards(InFolder):
         for way, patience in (('mild', PATIENCE), ('stubborn', 0.1)):
             with self.subTest(way=way):
                 workers = self.begin(way, patience)
-                self.assertEqual((self.folder / 'begun').read_text().split()[2:], ['42', '0', '5'])
+                self.assertEqual((self.folder / 'begun').read_text().split()[2:], ['40000002', '0', '5'])
                 workers.stop()
                 self.assertTrue(self.are_gone())
                 self.assertEqual(self.failures, [])
@@ -634,7 +977,7 @@ class Guards(InFolder):
         workers = Workers(['sleep', '1000'], {}, 3600.0, self.fail)
         workers.hear_until(logs.seconds_of_boot() + 3600)
         for _ in range(10):
-            workers.start(self.assignment, 'c')
+            workers.start(self.assignment, '{}')
             thread = threading.Thread(target=workers.stop, daemon=True)
             thread.start()
             wait_until(lambda: not thread.is_alive())
@@ -683,7 +1026,7 @@ class Guards(InFolder):
         failures: List[BaseException] = []
         workers = Workers(['/nowhere/worker'], {}, 1.0, failures.append)
         workers.hear_until(logs.seconds_of_boot() + 100)
-        workers.start(self.assignment, 'c')
+        workers.start(self.assignment, '{}')
         wait_until(lambda: failures)
         self.assertEqual(getattr(failures[0], 'status'), 127)
 
@@ -756,12 +1099,11 @@ class Pages(unittest.TestCase):
     NAMES = ('a"\\b', '<script>alert(1)</script>', 'c')
 
     def setUp(self) -> None:
-        self.log = MemoryLog([HEADER], logs.seconds_of_boot)
-        self.read = settings.Settings(Setup(3, 6), self.NAMES)
+        self.log = MemoryLog([HEADER], logs.seconds_of_boot, Opening.first(HEADER, self.NAMES))
         self.member = Member(self.log, 2, lambda assignment: None, lambda assignment: None, ttl=2.0)
-        shown = view.LogView(self.log, self.read)
+        shown = view.LogView(self.log)
         self.addCleanup(shown.close)
-        self.page = page.Page(('127.0.0.1', 0), shown, self.member, self.NAMES[1], self.read)
+        self.page = page.Page(('127.0.0.1', 0), shown, self.member)
         self.page.start()
         self.addCleanup(self.page.close)
 
@@ -787,7 +1129,8 @@ class Pages(unittest.TestCase):
         status, kind, text = self.get('/group')
         self.assertEqual((status, kind), (200, 'application/json; charset=utf-8'))
         told = json.loads(text)
-        self.assertEqual((told['events'], told['token'], told['coordinator'], told['owners']), (0, None, None, [None] * 6))
+        self.assertEqual((told['epoch'], told['events'], told['token'], told['coordinator']), (1, 0, None, None))
+        self.assertEqual(told['owners'], [None] * 6)
         self.assertEqual(json.loads(self.get('/assignment')[2])['partitions'], [])
 
     def test_group(self) -> None:
@@ -809,6 +1152,23 @@ class Pages(unittest.TestCase):
         self.log.append(1, ['recover,1'])
         thread.join()
         self.assertEqual(answers, [1])
+
+    def test_long_poll_over_epochs(self) -> None:
+        """Events of another epoch are more, also if they are fewer."""
+        answers: List[Tuple[int, int]] = []
+
+        def poll() -> None:
+            told = json.loads(self.get('/group?after=2')[2])
+            answers.append((told['epoch'], told['events']))
+
+        self.log.append(1, ['recover,1', 'crash,1'])
+        thread = threading.Thread(target=poll)
+        thread.start()
+        time.sleep(0.2)
+        self.assertTrue(self.log.end(3, None, self.log.opening().next(None, (), frozenset())))
+        thread.join()
+        self.assertEqual(answers, [(2, 0)])
+        self.assertEqual(json.loads(self.get('/group?after=2&epoch=1')[2])['epoch'], 2)
 
     def test_gone(self) -> None:
         """Who asked is gone before the answer."""
@@ -840,6 +1200,8 @@ class Pages(unittest.TestCase):
             self.assertRegex(line, rf'^(# (HELP [a-z_]+ .+|TYPE [a-z_]+ (counter|gauge))|{sample})$')
         self.assertIn('bully_node_partitions{node="<script>alert(1)</script>"} 6', text)
         self.assertIn('bully_node_present{node="a\\"\\\\b"} 0', text)
+        token = Token.of(1, self.log.rows.index(next(row for row in self.log.rows if row.startswith('plan'))))
+        self.assertTrue({'bully_epoch 1', f'bully_token {token}'} <= set(text.splitlines()))
 
     def test_refused(self) -> None:
         for method in ('POST', 'PUT', 'DELETE', 'HEAD', 'OPTIONS'):
@@ -876,10 +1238,51 @@ class Commands(InFolder):
         self.assertEqual(self.of_log('init', '--config', str(self.config)), (0, '', ''))
         self.opened().append(1, ['recover,2'])
         self.assertEqual(self.of_log('history'), (0, f'{HEADER}\nrecover,2\n', ''))
-        status, said, _ = self.of_log('status', '--config', str(self.config))
+        status, said, _ = self.of_log('status')
         self.assertEqual(status, 0)
+        self.assertIn('epoch 1, events 1, token -', said)
         self.assertIn('b     election  no', said)
         self.assertEqual(json.loads(self.of_log('status', '--json')[1])['nodes'][1]['status'], 'election')
+
+    def test_epochs(self) -> None:
+        """A group is resized twice, and what is old is taken away."""
+        self.of_log('init', '--config', str(self.config))
+        self.opened().append(1, ['recover,2'])
+        new = self.folder / 'new.toml'
+        resize = ['resize', '--config', str(new)]
+        new.write_bytes(toml({**TOP, 'nodes': 2, 'names': ['c', 'd'], 'partitions': 4}))
+        for _ in range(2):
+            self.assertEqual(self.of_log(*resize), (0, 'epoch 2: 2 nodes, 4 partitions\n', ''))
+        self.assertEqual(self.of_log('history', '--epoch', '1'), (0, f'{HEADER}\nrecover,2\ncrash,2\n', ''))
+        self.assertEqual(self.of_log('history'), (0, 'bully,1,2,4\n', ''))
+        self.assertTrue(self.of_log('status')[1].startswith('epoch 2, events 0, token -, coordinator -\n'))
+        new.write_bytes(toml({**TOP, 'weights': [1, 2, 3]}))
+        self.assertEqual(self.of_log(*resize)[1], 'epoch 3: 3 nodes, 6 partitions\n')
+        self.assertEqual(self.of_log('prune', '--keep', '2'), (0, 'epochs 2 to 3 are there\n', ''))
+        status, said, told = self.of_log('history', '--epoch', '1')
+        self.assertEqual((status, said, told), (4, '', f'bully-member: {self.path}: epoch 1 is not there, but 2 to 3\n'))
+        self.assertEqual(self.of_log('prune', '--keep', '1'), (0, 'epoch 3 is there\n', ''))
+        for words in (['prune', '--keep', '0'], ['prune'], ['history', '--epoch', 'x'], ['resize']):
+            self.assertEqual(self.of_log(*words)[0], 2)
+
+    def test_old_and_new_configurations(self) -> None:
+        """A member may be started by any that the group has or had. Who is in none of the current epoch is refused."""
+        self.of_log('init', '--config', str(self.config))
+        new = self.folder / 'new.toml'
+        new.write_bytes(toml({**TOP, 'nodes': 2, 'names': ['c', 'd']}))
+        log = self.opened()
+        for path, node, told in ((new, 'd', 'the log is of another group: bully,1,3,6 of a, b, c'), (None, 'd', 'the group has no node d')):
+            words = ['run', '--log', f'sqlite:{self.path}', *(['--config', str(path)] if path else []), '--node', node, '--', 'true']
+            status, _, said = self.call(*words)
+            self.assertEqual(status, 3)
+            self.assertIn(told, said)
+        self.of_log('resize', '--config', str(new))
+        log.prune(2)
+        for path, name in ((self.config, 'c'), (new, 'd')):
+            member = Member(self.opened(), name, print, print, settings=command.settings_of(str(path)))
+            self.assertEqual(member.node, ('c', 'd').index(name) + 1)
+        words = ['run', '--log', f'sqlite:{self.path}', '--config', str(self.config), '--node', 'a', '--', 'true']
+        self.assertEqual(self.call(*words), (3, '', 'bully-member: the group has no node a in epoch 2, but c, d\n'))
 
     def test_refused(self) -> None:
         config, log = str(self.config), f'sqlite:{self.path}'
@@ -904,7 +1307,7 @@ class Commands(InFolder):
     def test_odd_names(self) -> None:
         self.config.write_bytes(toml({**TOP, 'names': ['a\x1b[2J\nb', 'c\u202ed', '\u00e4 z']}))
         self.of_log('init', '--config', str(self.config))
-        status, said, _ = self.of_log('status', '--config', str(self.config))
+        status, said, _ = self.of_log('status')
         self.assertEqual(status, 0)
         self.assertEqual([line.split('  ')[0] for line in said.splitlines()[2:]], ['a?[2J?b', 'c?d', '\u00e4 z'])
         self.config.write_bytes(toml({**TOP, 'names': ['a\0', 'b', 'c']}))
@@ -941,14 +1344,34 @@ class Processes(InFolder):
         told = dict(line.split('=', 1) for line in (self.folder / 'env').read_text().splitlines() if line.startswith('BULLY_'))
         self.assertEqual([told[f'BULLY_{name}'] for name in ('NODE', 'COORDINATOR', 'PARTITIONS')], ['the only', 'the only', '0 1 2 3 4 5'])
         log = self.opened()
-        rows = list(log.read(0))
-        self.assertTrue(rows[int(told['BULLY_TOKEN'])].startswith('plan,1,'))
+        rows, token = list(log.read(0)), Token(int(told['BULLY_TOKEN']))
+        self.assertEqual(token.epoch, 1)
+        self.assertTrue(rows[token.events].startswith('plan,1,'))
         settings_told = {'names': ['the only'], 'weights': [3], 'partitions': 6, 'keep': False, 'ttl': 2.0, 'margin': 0.4}
         self.assertEqual(json.loads(told['BULLY_SETTINGS']), settings_told)
         member.terminate()
         self.assertEqual(member.wait(PATIENCE), 0)
         self.assertFalse(is_running(worker))
         self.assertEqual((log.read(0)[-1], log.present()), ('crash,1', set()))
+
+    def test_resized(self) -> None:
+        """Its node gets another number, and the worker other settings. What is old is taken away."""
+        member = self.begin(self.BEGINS)
+        worker = self.worker()
+        (self.folder / 'begun').unlink()
+        new = self.folder / 'new.toml'
+        new.write_bytes(toml({**TOP, 'nodes': 2, 'names': ['another', 'the only'], 'partitions': 3}))
+        self.assertEqual(command.main(['resize', '--config', str(new), '--log', f'sqlite:{self.path}']), 0)
+        self.assertEqual(command.main(['prune', '--keep', '1', '--log', f'sqlite:{self.path}']), 0)
+        self.assertNotEqual(self.worker(), worker)
+        self.assertFalse(is_running(worker))
+        told = dict(line.split('=', 1) for line in (self.folder / 'env').read_text().splitlines() if line.startswith('BULLY_'))
+        self.assertEqual([told[f'BULLY_{name}'] for name in ('NODE', 'COORDINATOR', 'PARTITIONS')], ['the only', 'the only', '0 1 2'])
+        self.assertEqual(json.loads(told['BULLY_SETTINGS'])['names'], ['another', 'the only'])
+        self.assertEqual(Token(int(told['BULLY_TOKEN'])).epoch, 2)
+        member.terminate()
+        self.assertEqual(member.wait(PATIENCE), 0)
+        self.assertEqual(current(self.opened()).read(0)[-1], 'crash,2')
 
     def test_a_busy_log(self) -> None:
         """It waits for the lock, also before it takes part."""

@@ -1,9 +1,9 @@
 """Members that break one rule, each as a core of its own."""
 from __future__ import annotations
 
-from typing import Dict, List, NamedTuple, Optional, Sequence, Type
+from typing import Dict, NamedTuple, Optional, Sequence, Type
 
-from bully import Status
+from bully.epochs import FIRST, Token, cut_end
 from bully.member import Append, Assignment, Core, Step
 
 
@@ -86,10 +86,10 @@ class OverlooksCrash(Core):
     def _owns(self, work: Assignment) -> bool:
         return self._is_down(self.node) or super()._owns(work)
 
-    def _wish(self) -> Append:
+    def _due(self, now: float) -> Append:
         if self._has_begun and self._is_down(self.node):
             return self._of_rows(self._recovery())
-        return super()._wish()
+        return super()._due(now)
 
 
 class OverlooksOtherLife(Core):
@@ -130,13 +130,49 @@ class BeginsEarly(Core):
         return True
 
 
+class ForgetsEpoch(Core):
+    """Its tokens count the events of the epoch alone."""
+
+    def _token(self) -> Optional[Token]:
+        token = super()._token()
+        return None if token is None else Token.of(FIRST, token.events)
+
+
+class OverlooksEnd(Core):
+    """It goes on behind the end of its epoch."""
+
+    _is_behind = False
+
+    def read(self, now: float, rows: Optional[Sequence[str]]) -> None:
+        if rows is not None:
+            rows, is_past = cut_end(rows)
+            self._place += is_past
+            self._is_behind |= is_past
+        super().read(now, rows)
+
+    def finished(self, now: float, answer: Optional[bool]) -> None:
+        super().finished(now, answer and None)
+
+    def _is_closing(self) -> bool:
+        return not self._is_behind and super()._is_closing()
+
+
+class EndsEarly(Core):
+    """It ends the epoch once its own node is Down."""
+
+    def _may_finish(self) -> bool:
+        return self._is_closing() and self._is_down(self.node)
+
+
 class Bug(NamedTuple):
-    """Rules, whether the guard's clock stops in a pause, and whether the store renews a presence behind a gap; and the first seed that
-    shows it, if one does."""
+    """Rules, whether the guard's clock stops in a pause, whether the store renews a presence behind a gap, and whether it opens an epoch
+    that is open; whether it takes changes of the epoch, and then the first seed that shows it, if one does."""
 
     rules: Type[Core] = Core
     clock_sleeps: bool = False
     closes_gaps: bool = False
+    opens_twice: bool = False
+    has_epochs: bool = False
     seed: Optional[int] = None
 
 
@@ -148,6 +184,10 @@ BUGS: Dict[str, Bug] = {
     'closes-gaps': Bug(closes_gaps=True, seed=25),
     'leaves-first': Bug(LeavesFirst, seed=104),
     'no-absent-remembers': Bug(NoAbsentRemembers, seed=219),
+    'forgets-epoch': Bug(ForgetsEpoch, has_epochs=True, seed=1),
+    'overlooks-end': Bug(OverlooksEnd, has_epochs=True, seed=1),
+    'ends-early': Bug(EndsEarly, has_epochs=True, seed=44),
+    'opens-twice': Bug(opens_twice=True, has_epochs=True, seed=8),
     # Harmless, as README.md says:
     'no-absent': Bug(NoAbsent),
     'overlooks-crash': Bug(OverlooksCrash),

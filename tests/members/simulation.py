@@ -3,20 +3,27 @@
 Each member is a `bully.member.Core`. Its requests and their answers take their time, are slow or lost, or come once the member
 waits for them no more; it dies, leaves, is paused at any step, and comes back, also beside an old life of its node. What it works on
 is units: each takes a time below the margin, and is done at its end, if the resource doesn't refuse its token.
+
+With changes of the epoch a log is full after some rows, the group is given other nodes and partitions, and old epochs are taken away,
+at any time. A node is then known by its name.
 """
 from __future__ import annotations
 
 import heapq
 import random
 from dataclasses import dataclass, field
-from typing import Callable, Dict, FrozenSet, List, Optional, Sequence, Tuple, Type, TypeVar
+from typing import Callable, Dict, FrozenSet, List, Optional, Sequence, Tuple, TypeVar
 
+from bugs import Bug
 from bully import NotLearned, Replica, Setup, Status, check
-from bully.logs import MemoryLog
+from bully.epochs import Opening, Token, cut_end
+from bully.logs import MemoryLog, NoEpoch, current
 from bully.member import (
-    Append, Assignment, Begin, Core, End, Ending, Look, Pace, Read, Release, Renew, Rest, Step, Stop, Take, Wait,
+    Append, Assignment, Begin, End, Ending, Finish, Follow, Look, Pace, Read, Release, Renew, Rest, Step, Stop, Take, Wait,
 )  # fmt: skip
-from trouble import TTL, Trouble, trouble_of
+from bully.resizing import has_ended
+from bully.settings import Settings
+from trouble import NAMES, TTL, Changes, Trouble, changes_of, trouble_of
 
 PARTITIONS = 12
 PATIENCE_TO_REST = 80 * TTL  # how long a group may take to come to rest
@@ -34,7 +41,7 @@ class Wrong(Exception):
 class Unit:
     """A unit of work that a worker does."""
 
-    token: int
+    token: Token
     partitions: Tuple[int, ...]
     lease: float  # when the presence may end, as it was known at its begin
     was_paused: bool = False
@@ -45,7 +52,7 @@ class Resource:
     """What the members work on: it refuses a token below the highest that it has seen on a partition."""
 
     highest: Dict[int, int] = field(default_factory=dict)
-    users: Dict[Tuple[int, int], Member] = field(default_factory=dict)
+    users: Dict[int, Member] = field(default_factory=dict)  # by that token
     done: int = 0
     refused: int = 0
     overlaps: int = 0  # of members that were paused inside their margin
@@ -69,8 +76,9 @@ class Resource:
             if unit.token < self.highest.get(partition, 0):
                 self.refuse(worker, unit)
                 continue
-            self.highest[partition] = unit.token
-            user = self.users.setdefault((partition, unit.token), worker.member)
+            if unit.token > self.highest.get(partition, 0):
+                self.highest[partition], self.users[partition] = unit.token, worker.member
+            user = self.users[partition]
             if user is not worker.member:
                 raise Wrong(f'{worker.member} and {user} used partition {partition} by token {unit.token}')
             self.done += 1
@@ -81,18 +89,25 @@ class Resource:
             raise Wrong(f'{worker.member} was not paused, and works by the old token {unit.token}')
 
 
+Waiting = Tuple['Store', int, FrozenSet[int], Optional[str]]  # for a row at a place, or other presences, or another wish
+
+
 class Store(MemoryLog):
     """The log in memory, whose presences end late at most by so much, and who waits for what comes."""
 
-    def __init__(self, simulation: Simulation, header: str) -> None:
-        super().__init__([header], clock=lambda: simulation.now)
+    def __init__(self, simulation: Simulation, opening: Opening) -> None:
+        super().__init__([opening.header], lambda: simulation.now, opening)
         self.simulation = simulation
-        self.waiting: Dict[Member, Tuple[int, FrozenSet[int]]] = {}
-        self.last_append = 0.0
+        self.waiting: Dict[Member, Waiting] = {}
+
+    def at(self, epoch: int) -> Store:
+        seen = super().at(epoch)
+        assert isinstance(seen, Store)
+        return seen
 
     def hold(self, node: int, life: str, ttl: float, renews: bool) -> bool:
         late = self.simulation.choice.uniform(0, self.simulation.trouble.late)
-        renews = renews and not (self.simulation.closes_gaps and node not in self._present())
+        renews = renews and not (self.simulation.bug.closes_gaps and node not in self._present())
         done = super().hold(node, life, ttl + late, renews)
         if done:
             self.simulation.after(ttl + late + 1e-6, self.tell)
@@ -105,36 +120,57 @@ class Store(MemoryLog):
         self.tell()
         return True
 
-    def seen(self) -> FrozenSet[int]:
-        """Who is present. Nobody waits for what this tells."""
-        return self._present()
+    def seen(self) -> Tuple[FrozenSet[int], Optional[str]]:
+        """Who is present, and what is wished for. Nobody waits for what this tells."""
+        return self._present(), self._here().wish
 
     def append(self, place: int, rows: Sequence[str], absent: Optional[int] = None) -> bool:
         done = super().append(place, rows, absent)
         if done:
-            self.last_append = self.clock()
+            self.simulation.last_append = self.clock()
             self.tell()
         return done
 
+    def ask(self, wish: str) -> bool:
+        done = super().ask(wish)
+        self.tell()
+        return done
+
+    def end(self, place: int, wish: Optional[str], opening: Opening) -> bool:
+        if self.simulation.bug.opens_twice and self.epoch < self.epochs()[-1]:
+            self._openings[opening.epoch] = self._epochs[opening.epoch].opening = opening
+            self._epochs[opening.epoch].rows[0] = opening.header
+            return True
+        done = super().end(place, self._here().wish if self.simulation.bug.opens_twice else wish, opening)
+        if done:
+            self.simulation.last_append = self.clock()
+            self.tell()
+        return done
+
+    def wait(self, place: int, seconds: float) -> None:
+        """Nobody waits by this."""
+
     def tell(self) -> None:
         """Wakes the members for which something is new."""
-        if not self.waiting:
-            return
-        count, present = len(self.rows), self._present()
-        for member, (place, known) in list(self.waiting.items()):
-            if count > place or present != known:
+        for member, (log, place, present, wish) in list(self.waiting.items()):
+            if log.has_news(place, present, wish):
                 del self.waiting[member]
                 member.wake()
+
+    def has_news(self, place: int, present: FrozenSet[int], wish: Optional[str]) -> bool:
+        return self.epoch not in self._epochs or len(self.rows) > place or self.seen() != (present, wish)
 
 
 class Member:
     """A process that acts for a node, and its worker."""
 
-    def __init__(self, simulation: Simulation, node: int, number: int) -> None:
+    def __init__(self, simulation: Simulation, name: str, number: int) -> None:
         self.simulation = simulation
-        self.node = node
+        self.name = name
         self.number = number
-        self.core = simulation.rules(simulation.header, node, f'{number}', Pace(TTL))
+        self.log = simulation.current()
+        opening = self.log.opening()
+        self.core = simulation.bug.rules(opening, opening.settings.number(name), f'{number}', Pace(TTL))
         self.is_dead = False
         self.paused_until = 0.0
         self.cut_until = 0.0  # no request reaches the store, and no answer the member
@@ -144,7 +180,7 @@ class Member:
         self.worker = Worker(self)
 
     def __repr__(self) -> str:
-        return f'process {self.number} of node {self.node}'
+        return f'process {self.number} of node {self.name}'
 
     @property
     def is_gone(self) -> bool:
@@ -185,9 +221,13 @@ class Member:
         elif isinstance(step, Read):
             self.read(step)
         elif isinstance(step, Look):
-            self.ask(self.simulation.store.seen, self.looked)
+            self.ask(self.log.seen, self.looked)
         elif isinstance(step, Append):
             self.append(step)
+        elif isinstance(step, Finish):
+            self.finish(step)
+        elif isinstance(step, Follow):
+            self.ask(self.simulation.current, self.followed)
         else:
             self.take_own_step(step)
 
@@ -200,7 +240,7 @@ class Member:
             self.worker.hear_stop()
             self.go()
         elif isinstance(step, Wait):
-            self.simulation.store.waiting[self] = step.place, self.core.present
+            self.simulation.store.waiting[self] = self.log, step.place, self.core.present, self.core.wish
             self.later(step.seconds, self.wake)
             self.simulation.store.tell()
         elif isinstance(step, Rest):
@@ -232,8 +272,17 @@ class Member:
                 tell(begun, told)
                 self.go()
 
+        def is_gone() -> None:
+            if turn == self.turn:
+                self.core.passed()
+                self.go()
+
         def done() -> None:
-            told = call()
+            try:
+                told = call()
+            except NoEpoch:
+                self.soon(self.simulation.trip_time(), is_gone)
+                return
             if not self.is_cut() and not self.simulation.happens(trouble.unanswered):
                 is_slow = self.simulation.happens(slow)
                 back = self.simulation.choice.uniform(0, trouble.patience) if is_slow else self.simulation.trip_time()
@@ -249,7 +298,8 @@ class Member:
     def hold(self, life: str, renews: bool) -> None:
         if self.simulation.happens(self.simulation.trouble.renewal_pauses):
             self.pause()
-        self.ask(lambda: self.simulation.store.hold(self.node, life, TTL, renews), self.held, self.simulation.trouble.slow_renewals)
+        log, node = self.log, self.core.node
+        self.ask(lambda: log.hold(node, life, TTL, renews), self.held, self.simulation.trouble.slow_renewals)
 
     def held(self, begun: float, answer: Optional[bool]) -> None:
         self.core.held(begun, self.simulation.now, answer)
@@ -258,29 +308,50 @@ class Member:
             self.pause()
 
     def release(self, step: Release) -> None:
-        self.ask(lambda: self.simulation.store.give_back(self.node, step.life), self.released)
+        log, node = self.log, self.core.node
+        self.ask(lambda: log.give_back(node, step.life), self.released)
 
     def released(self, begun: float, answer: Optional[bool]) -> None:
         self.core.released(self.simulation.now, answer is not None)
 
     def read(self, step: Read) -> None:
-        self.ask(lambda: self.simulation.store.read(step.place), self.has_read)
+        log = self.log
+        self.ask(lambda: log.read(step.place), self.has_read)
 
     def has_read(self, begun: float, rows: Optional[List[str]]) -> None:
         self.core.read(self.simulation.now, rows)
 
-    def looked(self, begun: float, present: Optional[FrozenSet[int]]) -> None:
-        self.core.looked(begun, self.simulation.now, present)
+    def looked(self, begun: float, seen: Optional[Tuple[FrozenSet[int], Optional[str]]]) -> None:
+        self.core.looked(begun, self.simulation.now, *(seen or (None, None)))
 
     def append(self, step: Append) -> None:
         if self.simulation.happens(self.simulation.trouble.append_pauses):
             self.pause()
-        self.ask(lambda: self.simulation.store.append(step.place, step.rows, step.absent), self.appended)
+        log = self.log
+        self.ask(lambda: log.append(step.place, step.rows, step.absent), self.appended)
 
     def appended(self, begun: float, answer: Optional[bool]) -> None:
         self.core.appended(self.simulation.now, answer)
         if self.simulation.happens(self.simulation.trouble.append_pauses):
             self.pause()
+
+    def finish(self, step: Finish) -> None:
+        if self.simulation.happens(self.simulation.trouble.append_pauses):
+            self.pause()
+        log = self.log
+        self.ask(lambda: log.end(step.place, step.wish, step.opening), self.finished)
+
+    def finished(self, begun: float, answer: Optional[bool]) -> None:
+        self.core.finished(self.simulation.now, answer)
+        if self.simulation.happens(self.simulation.trouble.append_pauses):
+            self.pause()
+
+    def followed(self, begun: float, log: Optional[Store]) -> None:
+        """It goes on in another epoch."""
+        opening = None if log is None else log.opening()
+        self.core.followed(self.simulation.now, opening)
+        if log is not None and self.core.opening is opening:
+            self.log = log
 
     # What happens to it.
 
@@ -320,7 +391,7 @@ class Member:
             self.go()
 
     def end(self, cause: Ending) -> None:
-        if cause is not Ending.LEFT:
+        if cause not in (Ending.LEFT, Ending.NOT_THERE):
             raise Wrong(f'{self} ended: {cause.value}: {self.core.fault}')
         if self.worker.works_on is not None:
             raise Wrong(f'{self} ended, and works on')
@@ -351,7 +422,7 @@ class Worker:
             action()
 
     def clock(self) -> float:
-        return self.simulation.now - (self.slept if self.simulation.clock_sleeps else 0.0)
+        return self.simulation.now - (self.slept if self.simulation.bug.clock_sleeps else 0.0)
 
     def hear_until(self, sure_until: float) -> None:
         """The guard is told until when its member is sure."""
@@ -425,35 +496,53 @@ class Worker:
 class Simulation:
     """A group, its store, and what happens to both."""
 
-    def __init__(self, seed: int, rules: Type[Core] = Core, clock_sleeps: bool = False, closes_gaps: bool = False) -> None:
-        """The seed's, by these rules. As bugs the guards' clocks may stop in a pause, and the store may renew a presence behind a gap."""
+    def __init__(
+        self, seed: int, bug: Bug = Bug(), trouble: Optional[Trouble] = None, changes: Optional[Changes] = None
+    ) -> None:  # fmt: skip
+        """The seed's, with this bug, and with its own trouble and changes of the epoch, if there are no others."""
         self.choice = random.Random(seed)
-        self.trouble = trouble_of(self.choice)
-        self.rules = rules
-        self.clock_sleeps = clock_sleeps
-        self.closes_gaps = closes_gaps
+        self.changing = random.Random(f'{seed} changes')
+        own = trouble_of(self.choice)
+        self.trouble = trouble or own
+        self.changes = changes or changes_of(self.changing, bug.has_epochs)
+        self.bug = bug
         self.now = 0.0
         self.is_calm = False  # for good
         self.is_stormy = False
         self.events: List[Tuple[float, int, Action]] = []
         self.count = 0
-        self.header = Setup(self.trouble.nodes, PARTITIONS).header()
-        self.store = Store(self, self.header)
+        self.last_append = 0.0
+        names = NAMES[: self.trouble.nodes]
+        self.store = Store(self, Opening.first(Setup(len(names), PARTITIONS).header(), names, self.changes.limit))
         self.resource = Resource()
         self.members: List[Member] = []
-        self.number = 0
+        self.number = self.rows = self.epochs = 0
 
     def run(self) -> None:
         """All of it. Raises Wrong, if something is."""
-        for node in range(1, self.trouble.nodes + 1):
-            self.after(self.choice.uniform(0, 0.5), self.beginning(node))
-        self.after(self.choice.expovariate(self.trouble.events), self.disturb)
-        self.cut_off()
-        self.change_weather()
+        self.begin()
         self.live(self.trouble.length)
         self.calm()
         self.rest()
-        self.judge()
+        self.judge(self.store.epochs())
+
+    def begin(self) -> None:
+        """The members begin, and so does the trouble."""
+        for name in NAMES[: self.trouble.nodes]:
+            self.after(self.choice.uniform(0, 0.5), self.beginning(name))
+        self.after(self.choice.expovariate(self.trouble.events), self.disturb)
+        self.cut_off()
+        self.change_weather()
+        if self.changes.resizes:
+            self.after(self.changing.expovariate(self.changes.resizes), self.resize)
+        if self.changes.prunes:
+            self.after(self.changing.expovariate(self.changes.prunes), self.prune)
+
+    def current(self) -> Store:
+        """The log in the current epoch."""
+        log = current(self.store)
+        assert isinstance(log, Store)
+        return log
 
     def live(self, until: float) -> None:
         """What happens up to then happens."""
@@ -488,12 +577,16 @@ class Simulation:
 
     # What happens to members.
 
-    def beginning(self, node: int) -> Action:
-        """A new process for the node."""
+    def beginning(self, name: str) -> Action:
+        """A new process for the node of this name. While the group has none, it is tried again."""
 
         def begin() -> None:
+            if name not in self.current().opening().names:
+                if name in self.next_names():
+                    self.after(TTL / 2, begin)
+                return
             self.number += 1
-            member = Member(self, node, self.number)
+            member = Member(self, name, self.number)
             self.members.append(member)
             member.go()
 
@@ -532,14 +625,66 @@ class Simulation:
         """Another process begins for its node, beside it."""
         if self.choice.random() < 0.5:
             member.pause()
-        self.beginning(member.node)()
+        self.beginning(member.name)()
 
     def freeze(self, member: Member) -> None:
         member.pause()
 
     def replace(self, member: Member) -> None:
         if self.choice.random() >= self.trouble.stays:
-            self.after(self.choice.choice([0.0, 0.3, 1.0, 3.0]) * self.choice.random() * TTL, self.beginning(member.node))
+            self.after(self.choice.choice([0.0, 0.3, 1.0, 3.0]) * self.choice.random() * TTL, self.beginning(member.name))
+
+    # What happens to epochs.
+
+    def next_names(self) -> Tuple[str, ...]:
+        """The names of the next epoch, if another group is wished for; else of this one."""
+        log = self.current()
+        wish = log._here().wish
+        return Opening.parse(wish).names if wish is not None else log.opening().names
+
+    def resize(self) -> None:
+        """Other nodes and partitions are wished for, and members begin for the new nodes. Sometimes the wish is changed at once."""
+        if self.is_calm:
+            return
+        self.after(self.changing.expovariate(self.changes.resizes), self.resize)
+        for _ in range(self.changing.choice([1, 1, 2])):
+            self.after(self.changing.uniform(0, 0.1) * TTL, self.wish)
+
+    def wish(self) -> None:
+        if self.is_calm:
+            return
+        log, choice = self.current(), self.changing
+        names = tuple(choice.sample(NAMES, choice.randint(2, len(NAMES))))
+        settings = Settings(Setup(len(names), choice.choice([len(NAMES), PARTITIONS, 20])), names)
+        log.ask(log.opening().wish(settings).text())
+        there = {member.name for member in self.members if not member.is_dead}
+        for name in names:
+            if name not in there:
+                self.after(choice.random() * TTL, self.beginning(name))
+        self.end_epoch(log)
+
+    def end_epoch(self, log: Store) -> None:
+        """Whoever wished sees to it that the epoch ends, step by step."""
+        with Replica(log.opening().header) as replica:
+            try:
+                is_past = has_ended(log, replica, log.opening())
+            except NoEpoch:
+                is_past = True
+            except NotLearned as refused:
+                raise Wrong(f'who wished reads on: {refused}') from refused
+        if not is_past:
+            self.after(self.changing.uniform(0, 0.5) * TTL, lambda: self.end_epoch(log))
+
+    def prune(self) -> None:
+        """Old epochs are taken away, once they were judged."""
+        if self.is_calm:
+            return
+        self.after(self.changing.expovariate(self.changes.prunes), self.prune)
+        there = self.store.epochs()
+        first = max(there[0], there[-1] - self.changing.choice([0, 0, 1]))
+        self.judge(range(there[0], first))
+        self.store.prune(first)
+        self.store.tell()
 
     # Its end.
 
@@ -553,24 +698,28 @@ class Simulation:
             member.paused_until = min(member.paused_until, self.now)
             member.cut_until = min(member.cut_until, self.now)
             member.worker.wake()
-        if all(member.is_dead or member.is_leaving for member in self.members):
-            self.after(0.0, self.beginning(1))
+        names = self.next_names()
+        if all(member.is_dead or member.is_leaving or member.name not in names for member in self.members):
+            self.after(0.0, self.beginning(names[0]))
 
     def rest(self) -> None:
         """The group comes to rest."""
         end = self.now + PATIENCE_TO_REST
         while self.now < end:
             self.live(self.now + TTL / 4)
-            if self.now > self.store.last_append + QUIET and self.unrest() is None:
+            if self.now > self.last_append + QUIET and self.unrest() is None:
                 return
         raise Wrong(f'no rest: {self.unrest()}')
 
     def unrest(self) -> Optional[str]:
         """What isn't as it has to be of a group at rest, if something isn't."""
-        present = self.store._present()
-        with Replica(self.header) as replica:
+        log = self.current()
+        present, wish = log.seen()
+        if wish is not None:
+            return 'what was wished for has not come'
+        with Replica(log.opening().header) as replica:
             try:
-                replica.learn(self.store.rows[1:])
+                replica.learn(log.rows[1:])
             except NotLearned as refused:
                 return str(refused)
             if not present:
@@ -583,16 +732,25 @@ class Simulation:
                     return f'node {node} is {state.status.name} under {state.coordinator}, of {sorted(present)}'
             if set(replica.last_table or ()) != present:
                 return f'the table is {replica.last_table}, of {sorted(present)}'
-            return self.idle_owner(replica.token or 0, present)
+            return self.idle_owner(Token.of(log.epoch, replica.token or 0), present)
 
-    def idle_owner(self, token: int, present: FrozenSet[int]) -> Optional[str]:
+    def idle_owner(self, token: Token, present: FrozenSet[int]) -> Optional[str]:
         """Who is present doesn't work by this token."""
         workers = [worker for worker in self.workers() if worker.works_on is not None and worker.works_on.token == token]
-        working = {worker.member.node for worker in workers}
+        working = {worker.member.core.node for worker in workers}
         return None if working == present else f'{sorted(working)} work, of {sorted(present)}'
 
-    def judge(self) -> None:
-        """The log is lawful."""
-        verdict = check('\n'.join([*self.store.rows, '']).encode())
-        if not verdict.is_lawful:
-            raise Wrong(f'the log is {verdict}')
+    def judge(self, epochs: range) -> None:
+        """The logs of these epochs are lawful, and each but the last one has its end, which names the header of the next."""
+        for epoch in epochs:
+            log = self.store.at(epoch)
+            rows, has_ended = cut_end(log.rows)
+            verdict = check('\n'.join([*rows, '']).encode())
+            if not verdict.is_lawful:
+                raise Wrong(f'the log of epoch {epoch} is {verdict}')
+            if has_ended and log.rows[-1] != self.store.at(epoch + 1).opening().end:
+                raise Wrong(f'epoch {epoch} ended by {log.rows[-1]}, and the next one began otherwise')
+            if has_ended != (epoch < self.store.epochs()[-1]):
+                raise Wrong(f'epoch {epoch} has {"an" if has_ended else "no"} end')
+            self.rows += len(rows) - 1
+            self.epochs += 1

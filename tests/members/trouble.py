@@ -4,7 +4,26 @@ from __future__ import annotations
 import random
 from dataclasses import dataclass
 
+from bully import EVENTS_MAX
+
 TTL = 1.0
+NAMES = tuple('abcdefg')
+
+
+@dataclass(frozen=True)
+class Changes:
+    """How epochs change: from how many rows on they end, and how often in a second the group is resized, and old epochs are taken away."""
+
+    limit: int = EVENTS_MAX
+    resizes: float = 0.0
+    prunes: float = 0.0
+
+
+def changes_of(choice: random.Random, has_epochs: bool) -> Changes:
+    """The changes of a seed, if its epochs change."""
+    if not has_epochs:
+        return Changes()
+    return Changes(choice.choice([150, 250, 400, EVENTS_MAX]), choice.choice([0, 0.2, 0.5]), choice.choice([0, 0.3, 1]))
 
 
 @dataclass(frozen=True)

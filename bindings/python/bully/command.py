@@ -1,13 +1,16 @@
 """The command `bully-member`: a member of a group for a worker in any language.
 
     bully-member init --config group.toml --log sqlite:group.db
-    bully-member run --config group.toml --node b --log sqlite:group.db [--ttl 5] [--listen 127.0.0.1:8081] -- WORKER ARGS..
-    bully-member status --log sqlite:group.db [--config group.toml] [--json]
-    bully-member history --log sqlite:group.db | bully check
+    bully-member run --node b --log sqlite:group.db [--config group.toml] [--ttl 5] [--listen 127.0.0.1:8081] -- WORKER ARGS..
+    bully-member status --log sqlite:group.db [--json]
+    bully-member history --log sqlite:group.db [--epoch 1] | bully check
+    bully-member resize --config new.toml --log sqlite:group.db [--seconds 60]
+    bully-member prune --keep 3 --log sqlite:group.db
 
 `run` starts the worker while its node owns partitions, with BULLY_NODE, BULLY_TOKEN, BULLY_PARTITIONS, BULLY_COORDINATOR and
-BULLY_SETTINGS in its environment, and ends it before anything is appended by which the node owns them no more. `docs/MEMBERS.md`
-has all of it.
+BULLY_SETTINGS in its environment, and ends it before anything is appended by which the node owns them no more. The settings of the
+group, names too, stand in its log; a configuration that is given has to be of the same group, also if it was resized since. `resize`
+gives the group other settings, in a new epoch, and `prune` takes old epochs away. `docs/MEMBERS.md` has all of it.
 """
 from __future__ import annotations
 
@@ -20,12 +23,15 @@ import sys
 import time
 from typing import Callable, List, Optional, Tuple, Type, TypeVar
 
+from .epochs import Opening, cut_end
 from .faults import BullyError
-from .logs import Log, LogError, SqliteLog, Unanswered
+from .logs import LogError, SqliteLog, Unanswered
 from .member import Assignment
 from .page import Page
-from .running import Member, OtherGroup
-from .settings import ConfigFault, Settings, read_settings
+from .resizing import NotEnded, resize
+from .running import Member, NotInGroup, OtherGroup
+from .settings import ConfigFault, Settings, read_settings, shown_name
+from .stores import BadStore, Store, add_words, store_of
 from .view import GroupView, LogView
 from .worker import GuardLost, WorkerEnded, Workers
 
@@ -47,11 +53,13 @@ def parser() -> argparse.ArgumentParser:
     init = commands.add_parser('init', help='make the log of a group')
     run = commands.add_parser('run', help='take part for a node, and run a worker')
     status = commands.add_parser('status', help='tell how the group stands')
-    history = commands.add_parser('history', help='write the log as a trace')
-    for command in (init, run, status, history):
-        command.add_argument('--log', required=True, metavar='sqlite:FILE')
-        if command is not history:
-            command.add_argument('--config', required=command is not status, metavar='FILE')
+    history = commands.add_parser('history', help='write the log of an epoch as a trace')
+    resize = commands.add_parser('resize', help='give the group other settings, in a new epoch')
+    prune = commands.add_parser('prune', help='take old epochs away')
+    for command in (init, run, status, history, resize, prune):
+        add_words(command)
+    for command in (init, run, resize):
+        command.add_argument('--config', required=command is not run, metavar='FILE')
     run.add_argument('--node', required=True, metavar='NAME')
     run.add_argument('--ttl', type=seconds, default=5.0, metavar='SECONDS', help='how long the node stays present without a renewal')
     run.add_argument('--stop-seconds', type=seconds, default=10.0, metavar='SECONDS', help='from SIGTERM to SIGKILL of the worker')
@@ -59,6 +67,9 @@ def parser() -> argparse.ArgumentParser:
     run.add_argument('--quiet', action='store_true', help='say nothing of what happens')
     run.add_argument('worker', nargs='+', metavar='WORKER ARGS', help='the command of the worker, behind --')
     status.add_argument('--json', action='store_true')
+    history.add_argument('--epoch', type=count, metavar='NUMBER', help='which one; else the current one')
+    resize.add_argument('--seconds', type=seconds, default=60.0, metavar='SECONDS', help='how long to wait until the new epoch has begun')
+    prune.add_argument('--keep', type=count, required=True, metavar='COUNT', help='how many epochs stay, the current one too')
     return words
 
 
@@ -70,21 +81,24 @@ def seconds(word: str) -> float:
     return number
 
 
-def file_of(words: str) -> str:
-    """The file of a log."""
-    kind, colon, path = words.partition(':')
-    if kind != 'sqlite' or not path:
-        raise BadWords(f'--log is {words}, and has to be sqlite:FILE')
-    return path
+def count(word: str) -> int:
+    """A number from 1 on."""
+    number = int(word)
+    if number < 1:
+        raise argparse.ArgumentTypeError('it has to be 1 or more')
+    return number
 
 
 def settings_of(path: str) -> Settings:
     """The settings in this file."""
     try:
         with open(path, 'rb') as file:
-            return read_settings(file.read())
+            settings = read_settings(file.read())
     except OSError as error:
         raise LogError(f'{path}: {error.strerror}') from error
+    if any('\0' in name for name in settings.names):
+        raise ConfigFault('a name has a zero character, which no environment holds')
+    return settings
 
 
 # ---- The commands
@@ -93,29 +107,47 @@ def settings_of(path: str) -> Settings:
 def init(options: argparse.Namespace) -> int:
     """Makes the log."""
     settings = settings_of(options.config)
-    SqliteLog.create(file_of(options.log), settings.setup.header()).close()
+    store_of(options).create(Opening.first(settings.setup.header(), settings.names)).close()
     return OK
 
 
 def history(options: argparse.Namespace) -> int:
-    """Writes the log as a trace."""
-    with contextlib.closing(SqliteLog(file_of(options.log), reads=True)) as log:
-        sys.stdout.write(log.read(0).text)
+    """Writes the log of an epoch as a trace."""
+    with contextlib.closing(store_of(options).open(reads=True)) as log:
+        rows, _ = cut_end(log.at(options.epoch or log.epoch).read(0))
+        sys.stdout.writelines(f'{row}\n' for row in rows)
+    return OK
+
+
+def change(options: argparse.Namespace) -> int:
+    """Gives the group other settings."""
+    settings = settings_of(options.config)
+    with contextlib.closing(store_of(options).open()) as log:
+        opening = resize(log, settings, options.seconds)
+    print(f'epoch {opening.epoch}: {settings.setup.nodes} nodes, {settings.setup.partitions} partitions')
+    return OK
+
+
+def prune(options: argparse.Namespace) -> int:
+    """Takes old epochs away."""
+    with contextlib.closing(store_of(options).open()) as log:
+        log.prune(log.epochs()[-1] + 1 - options.keep)
+        there = log.epochs()
+    print(f'epochs {there[0]} to {there[-1]} are there' if len(there) > 1 else f'epoch {there[0]} is there')
     return OK
 
 
 def status(options: argparse.Namespace) -> int:
     """Tells how the group stands."""
-    settings = settings_of(options.config) if options.config else None
-    with contextlib.closing(SqliteLog(file_of(options.log), reads=True)) as log:
-        shown = LogView(log, settings).show()
+    with contextlib.closing(store_of(options).open(reads=True)) as log:
+        shown = LogView(log).show()
     print(json.dumps(shown.told(), ensure_ascii=False) if options.json else text_of(shown))
     return OK
 
 
 def text_of(group: GroupView) -> str:
     """The group, for people."""
-    lines = [f'events {group.events}, token {group.token or "-"}, coordinator {shown_name(group.coordinator)}']
+    lines = [f'epoch {group.epoch}, events {group.events}, token {group.token or "-"}, coordinator {shown_name(group.coordinator)}']
     rows = [('node', 'status', 'present', 'coordinator', 'partitions')]
     for node in group.nodes:
         present, partitions = 'yes' if node.is_present else 'no', ' '.join(map(str, node.partitions)) or '-'
@@ -126,20 +158,13 @@ def text_of(group: GroupView) -> str:
     return '\n'.join(lines)
 
 
-def shown_name(name: Optional[str]) -> str:
-    """A name for a terminal: what can't be printed, and marks of direction, are shown as `?`."""
-    return ''.join(each if each.isprintable() else '?' for each in name or '-')
-
-
 class Run:
     """A member with its worker."""
 
-    def __init__(self, options: argparse.Namespace, settings: Settings, log: SqliteLog) -> None:
-        self.settings = settings
-        number = number_of(settings, options.node)
-        self.member = Member(log, number, self.start, self.stop, options.ttl, settings.setup.header(), sure=self.hear_until)
-        told = {'BULLY_NODE': options.node, 'BULLY_SETTINGS': settings.text(options.ttl, self.member.core.pace.margin)}
-        self.workers = Workers(options.worker, told, options.stop_seconds, self.member.end_with)
+    def __init__(self, options: argparse.Namespace, settings: Optional[Settings], log: Store) -> None:
+        self.member = Member(log, options.node, self.start, self.stop, options.ttl, settings, sure=self.hear_until)
+        self.pace = self.member.core.pace
+        self.workers = Workers(options.worker, {'BULLY_NODE': options.node}, options.stop_seconds, self.member.end_with)
 
     def run(self) -> None:
         """Takes part, until a signal tells it to leave."""
@@ -149,7 +174,7 @@ class Run:
             self.member.run()
 
     def start(self, assignment: Assignment) -> None:
-        self.workers.start(assignment, self.settings.name(assignment.coordinator))
+        self.workers.start(assignment, assignment.settings.text(self.pace.ttl, self.pace.margin))
 
     def stop(self, assignment: Assignment) -> None:
         self.workers.stop()
@@ -158,12 +183,10 @@ class Run:
         self.workers.hear_until(until)
 
 
-def number_of(settings: Settings, name: str) -> int:
-    """The node of this name."""
-    try:
-        return settings.number(name)
-    except KeyError:
-        raise BadWords(f'--node is {shown_name(name)}, and the configuration has {", ".join(map(shown_name, settings.names))}') from None
+def check_name(settings: Settings, name: str) -> None:
+    """Raises BadWords, if no node has this name."""
+    if name not in settings.names:
+        raise BadWords(f'--node is {name}, and the configuration has {", ".join(settings.names)}')
 
 
 def address_of(words: str) -> Tuple[str, int]:
@@ -188,37 +211,38 @@ def run(options: argparse.Namespace) -> int:
     """Takes part with a worker, until a signal tells it to leave."""
     if not options.quiet:
         logging.basicConfig(level=logging.INFO, format='%(asctime)s bully-member: %(message)s')
-    settings, path = settings_of(options.config), file_of(options.log)
-    if any('\0' in name for name in settings.names):
-        raise ConfigFault('a name has a zero character, which no environment holds')
+    settings, store = settings_of(options.config) if options.config else None, store_of(options)
+    if settings is not None:
+        check_name(settings, options.node)
     address = address_of(options.listen) if options.listen else None
     with contextlib.ExitStack() as closing:
-        log = answered(lambda: SqliteLog(path, patience=min(1.0, options.ttl / 5)))
+        log = answered(lambda: store.open(patience=min(1.0, options.ttl / 5)))
         closing.callback(log.close)
         member = answered(lambda: Run(options, settings, log))
         if address is not None:
-            view = answered(lambda: LogView(SqliteLog(path, reads=True), settings))
+            view = answered(lambda: LogView(store.open(reads=True)))
             closing.callback(view.close)
-            page = Page(address, view, member.member, options.node, settings)
+            page = Page(address, view, member.member)
             closing.callback(page.close)
             page.start()
-        log.watch(options.ttl)
+        if isinstance(log, SqliteLog):
+            log.watch(options.ttl)
         member.run()
     return OK
 
 
-COMMANDS = {'init': init, 'run': run, 'status': status, 'history': history}
+COMMANDS = {'init': init, 'run': run, 'status': status, 'history': history, 'resize': change, 'prune': prune}
 
 # What ends a command, and its status.
 STATUSES: Tuple[Tuple[Type[Exception], int], ...] = (
-    (BadWords, BAD_WORDS), (ConfigFault, BAD_INPUT), (OtherGroup, BAD_INPUT), (BullyError, BAD_INPUT), (LogError, NO_STORE),
-    (OSError, NO_STORE), (WorkerEnded, FAILED), (GuardLost, FAILED),
+    (BadWords, BAD_WORDS), (BadStore, BAD_WORDS), (ConfigFault, BAD_INPUT), (OtherGroup, BAD_INPUT), (NotInGroup, BAD_INPUT),
+    (BullyError, BAD_INPUT), (LogError, NO_STORE), (OSError, NO_STORE), (WorkerEnded, FAILED), (GuardLost, FAILED), (NotEnded, FAILED),
 )  # fmt: skip
 
 
 def main(words: Optional[List[str]] = None) -> int:
-    """Runs the command by these words. Its status: 0; 1, if the worker ended by itself or its guard did; 2 of bad words; 3 of a fault of
-    the configuration, or a log of another group; 4, if the log or a file can't be used."""
+    """Runs the command by these words. Its status: 0; 1, if the worker ended by itself or its guard did, or the epoch didn't end; 2 of bad
+    words; 3 of a fault of the configuration, or a log of another group or without that node; 4, if the log or a file can't be used."""
     options = parser().parse_args(words)
     try:
         return COMMANDS[options.command](options)
@@ -227,7 +251,7 @@ def main(words: Optional[List[str]] = None) -> int:
         if status is None:
             raise
         said = f'config: {fault}' if isinstance(fault, ConfigFault) else str(fault)
-        print(f'bully-member: {said}', file=sys.stderr)
+        print(f'bully-member: {shown_name(said)}', file=sys.stderr)
         return status
 
 

@@ -1,13 +1,15 @@
 """The store of a shared log: rows in one order, and who is present.
 
-A log is the whole trace: its header stands at place 0, and the rows behind it from place 1 on. A node's *presence* is a lease: a
-process takes it for a *life* of the node, a name that no other try has, and renews it. `Log` says what a store does. `SqliteLog`
-is a file of one machine, and `MemoryLog` the memory of one process, for tests. `docs/MEMBERS.md` says what members do with it.
+The log of an epoch is a whole trace: its header stands at place 0, and the rows behind it from place 1 on. A node's *presence* in an
+epoch is a lease: a process takes it for a *life* of the node, a name that no other try has, and renews it. `Log` says what a store
+does. `SqliteLog` is a file of one machine, and `MemoryLog` the memory of one process, for tests. `docs/MEMBERS.md` says what members
+do with it, and `bully.epochs` has epochs.
 
 A call that fails raises an exception below LogError: below Unanswered if it may be tried again, since what it found may pass.
 """
 from __future__ import annotations
 
+import copy
 import os
 import sqlite3
 import stat
@@ -16,15 +18,17 @@ import sys
 import threading
 import time
 from contextlib import contextmanager, suppress
+from dataclasses import dataclass, field
 from pathlib import Path
 from typing import Callable, ContextManager, Dict, FrozenSet, Iterator, List, NamedTuple, NoReturn, Optional, Protocol, Sequence, Tuple
 from urllib.parse import quote
 
+from .epochs import FIRST, Opening
 from .values import Rows
 from .watchdog import is_stopped, writer_of
 
 APPLICATION = 0x62756C79  # of a file with a log: `buly`
-FORM = 1  # of its tables
+FORM = 2  # of its tables
 SHORTEST_SLEEP, LONGEST_SLEEP = 0.001, 0.1  # seconds between two looks at a file
 
 
@@ -48,6 +52,10 @@ class DamagedLog(LogError):
     """The file was a log, and can't be read as one any more."""
 
 
+class NoEpoch(LogError):
+    """The epoch isn't there: it was taken away, or hasn't begun."""
+
+
 class ReadOnlyLog(LogError):
     """The log can't be written."""
 
@@ -65,7 +73,35 @@ class DiskFull(Unanswered):
 
 
 class Log(Protocol):
-    """A store that keeps one order. Each call is done at one moment, or not at all; one call at a time."""
+    """A store that keeps one order in each epoch, as seen in one of them: its calls are about the rows and the presences of that one.
+    Each call is done at one moment, or not at all; one call at a time. Each but `at`, `epochs`, `release` and `close` may raise
+    NoEpoch, if the epoch isn't there."""
+
+    @property
+    def epoch(self) -> int:
+        """The epoch in which it is seen."""
+
+    def at(self, epoch: int) -> 'Log':
+        """The same store, seen in this epoch. Who closes one of them closes all."""
+
+    def epochs(self) -> range:
+        """The epochs that there are. The last one is the current one: behind the others' traces stands their end."""
+
+    def opening(self) -> Opening:
+        """What the epoch began with, also if it was taken away since."""
+
+    def wish(self) -> Optional[str]:
+        """What the next epoch is to begin with, if something is wished for: the text of an Opening."""
+
+    def ask(self, wish: str) -> bool:
+        """That is wished for from now on, and nothing else, if the epoch is the current one. Else nothing changes. Whether it is."""
+
+    def end(self, place: int, wish: Optional[str], opening: Opening) -> bool:
+        """The epoch has ended from now on, with its end at this place, and the next one has begun with this opening, if it was the
+        current one, its log had exactly `place` rows, and `wish` is what is wished for. Else nothing changes. Whether they have."""
+
+    def prune(self, first: int) -> None:
+        """The epochs before this one are taken away, but for what they began with. The current one stays."""
 
     def read(self, place: int) -> Sequence[str]:
         """The rows from that place on, in order, without a hole, and without their line ends."""
@@ -85,19 +121,16 @@ class Log(Protocol):
         """The nodes that hold a presence."""
 
     def wait(self, place: int, seconds: float) -> None:
-        """Returns once a row stands there, or once others are present than `present` told last, or once the time is over."""
+        """Returns once a row stands there, or once others are present than `present` told last, or something else is wished for than
+        `wish` told last, or once the time is over."""
 
     def close(self) -> None:
         """The log isn't used any more. Presences stay until they end."""
 
 
-def cut_header(rows: Sequence[str]) -> Tuple[str, Sequence[str]]:
-    """The header of a log, and the rows behind it. Raises DamagedLog, if there is none."""
-    if not rows:
-        raise DamagedLog('the log has no header')
-    if isinstance(rows, Rows):
-        return rows.text[: rows.text.index('\n')], rows.behind(1)
-    return rows[0], rows[1:]
+def current(log: Log) -> Log:
+    """The log, seen in the current epoch."""
+    return log.at(log.epochs()[-1])
 
 
 class Lease(NamedTuple):
@@ -107,15 +140,85 @@ class Lease(NamedTuple):
     until: float
 
 
+@dataclass
+class MemoryEpoch:
+    """An epoch in memory."""
+
+    opening: Opening
+    rows: List[str]
+    leases: Dict[int, Lease] = field(default_factory=dict)
+    wish: Optional[str] = None
+
+
 class MemoryLog:
     """A log in memory. Threads may share it."""
 
-    def __init__(self, rows: Sequence[str] = (), clock: Callable[[], float] = time.monotonic) -> None:
-        self.rows: List[str] = list(rows)
+    def __init__(self, rows: Sequence[str], clock: Callable[[], float] = time.monotonic, opening: Optional[Opening] = None) -> None:
+        """The log of a first epoch with these rows, the header first, or as the opening has it."""
+        first = opening or Opening.first(rows[0])
         self.clock = clock
-        self.leases: Dict[int, Lease] = {}
-        self._told: FrozenSet[int] = frozenset()
+        self._openings = {first.epoch: first}
+        self._epochs = {first.epoch: MemoryEpoch(first, list(rows) or [first.header])}
         self._changed = threading.Condition()
+        self._see(first.epoch)
+
+    def _see(self, epoch: int) -> None:
+        self.epoch = epoch
+        self._told: FrozenSet[int] = frozenset()
+        self._told_wish: Optional[str] = None
+
+    @property
+    def rows(self) -> List[str]:
+        return self._here().rows
+
+    @property
+    def leases(self) -> Dict[int, Lease]:
+        return self._here().leases
+
+    def at(self, epoch: int) -> MemoryLog:
+        seen = copy.copy(self)
+        seen._see(epoch)
+        return seen
+
+    def epochs(self) -> range:
+        with self._changed:
+            return range(min(self._epochs), max(self._epochs) + 1)
+
+    def opening(self) -> Opening:
+        with self._changed:
+            if self.epoch not in self._openings:
+                raise NoEpoch(told_epochs('the log', self.epoch, self.epochs()))
+            return self._openings[self.epoch]
+
+    def wish(self) -> Optional[str]:
+        with self._changed:
+            self._told_wish = self._here().wish
+            return self._told_wish
+
+    def ask(self, wish: str) -> bool:
+        with self._changed:
+            if self.epoch != max(self._epochs):
+                return False
+            self._here().wish = wish
+            self._changed.notify_all()
+            return True
+
+    def end(self, place: int, wish: Optional[str], opening: Opening) -> bool:
+        with self._changed:
+            here = self._here()
+            if place != len(here.rows) or wish != here.wish or self.epoch != max(self._epochs):
+                return False
+            here.rows.append(opening.end)
+            self._openings[opening.epoch] = opening
+            self._epochs[opening.epoch] = MemoryEpoch(opening, [opening.header])
+            self._changed.notify_all()
+            return True
+
+    def prune(self, first: int) -> None:
+        with self._changed:
+            for epoch in range(min(self._epochs), min(first, max(self._epochs))):
+                del self._epochs[epoch]
+            self._changed.notify_all()
 
     def read(self, place: int) -> List[str]:
         with self._changed:
@@ -125,7 +228,7 @@ class MemoryLog:
         with self._changed:
             if place != len(self.rows) or (absent is not None and absent in self._present()):
                 return False
-            self.rows += rows
+            self.rows.extend(rows)
             self._changed.notify_all()
             return True
 
@@ -140,8 +243,9 @@ class MemoryLog:
 
     def release(self, node: int, life: str) -> None:
         with self._changed:
-            if node in self.leases and self.leases[node].life == life:
-                del self.leases[node]
+            leases = self.leases if self.epoch in self._epochs else {}
+            if node in leases and leases[node].life == life:
+                del leases[node]
                 self._changed.notify_all()
 
     def present(self) -> FrozenSet[int]:
@@ -152,11 +256,19 @@ class MemoryLog:
     def wait(self, place: int, seconds: float) -> None:
         end = self.clock() + seconds
         with self._changed:
-            while len(self.rows) <= place and self._present() == self._told and self.clock() < end:
+            while not self._is_news(place) and self.clock() < end:
                 self._changed.wait(max(0.0, min([end, *self._ends()]) - self.clock()))
 
     def close(self) -> None:
         pass
+
+    def _here(self) -> MemoryEpoch:
+        if self.epoch not in self._epochs:
+            raise NoEpoch(told_epochs('the log', self.epoch, self.epochs()))
+        return self._epochs[self.epoch]
+
+    def _is_news(self, place: int) -> bool:
+        return len(self.rows) > place or self._present() != self._told or self._here().wish != self._told_wish
 
     def _present(self) -> FrozenSet[int]:
         now = self.clock()
@@ -166,6 +278,11 @@ class MemoryLog:
         """When the presences end that there are."""
         now = self.clock()
         return [lease.until for lease in self.leases.values() if now < lease.until]
+
+
+def told_epochs(where: str, epoch: int, there: range) -> str:
+    """That the epoch isn't there, and which are."""
+    return f'{where}: epoch {epoch} is not there, but ' + (f'{there[0]} to {there[-1]}' if len(there) > 1 else f'{there[0]}')
 
 
 def seconds_of_boot() -> float:
@@ -180,13 +297,15 @@ def boot_name() -> str:
 
 WATCHDOG = str(Path(__file__).with_name('watchdog.py'))
 PACK = 1000  # rows
+PRUNED_AT_ONCE = 50  # packs
 
-# The rows up to some place stand in packs, each row with its line end: pack k has those from place 1000 k on. The others stand in the log
-# by themselves: at least one, and no more than a pack.
+# In each epoch the rows up to some place stand in packs, each row with its line end: pack k has those from place 1000 k on. The others
+# stand in the log by themselves: at least one, and no more than a pack. Of an epoch that was taken away the opening is left.
 TABLES = """
-create table packs (number integer primary key, rows text not null);
-create table log (place integer primary key, row text not null);
-create table presence (node integer primary key, life text not null, boot text not null, until real not null);
+create table epochs (epoch integer primary key, opening text not null, wish text);
+create table packs (epoch integer, number integer, rows text not null, primary key (epoch, number));
+create table log (epoch integer, place integer, row text not null, primary key (epoch, place));
+create table presence (epoch integer, node integer, life text not null, boot text not null, until real not null, primary key (epoch, node));
 """
 
 # What SQLite says, and what that means. The first that is a part of its message counts.
@@ -209,18 +328,24 @@ def connection(path: str, patience: float, mode: str = 'rw') -> sqlite3.Connecti
     return sqlite3.connect(name, timeout=patience, isolation_level=None, check_same_thread=False, uri=True)
 
 
-def write_new(path: str, header: str) -> None:
-    """Writes a new file with a log of this header."""
+def write_new(path: str, opening: Opening) -> None:
+    """Writes a new file with a log that begins so."""
     file = None
     try:
         file = connection(path, 1.0, 'rwc')
         file.executescript(f'pragma journal_mode = wal; pragma application_id = {APPLICATION}; pragma user_version = {FORM}; {TABLES}')
-        file.execute('insert into log values (0, ?)', (header,))
+        open_epoch(file, opening)
     except sqlite3.Error as error:
         fail(path, error)
     finally:
         if file is not None:
             file.close()
+
+
+def open_epoch(file: sqlite3.Connection, opening: Opening) -> None:
+    """The epoch begins with this opening."""
+    file.execute('insert into epochs values (?, ?, null)', (opening.epoch, opening.text()))
+    file.execute('insert into log values (?, 0, ?)', (opening.epoch, opening.header))
 
 
 def remove_new(path: str) -> None:
@@ -262,17 +387,14 @@ class SqliteLog:
     no process that this one forks."""
 
     def __init__(self, path: 'os.PathLike[str] | str', patience: float = 1.0, reads: bool = False) -> None:
-        """The log of this file, which `create` made. Each call waits this many seconds for others at most. Who only reads waits for
-        nobody.
+        """The log of this file, which `create` made, as seen in its current epoch. Each call waits this many seconds for others at most.
+        Who only reads waits for nobody.
 
         Raises NoLog, ForeignLog, DamagedLog, ReadOnlyLog, Unanswered."""
         self.path = os.fspath(path)
         self._identity = identity(self.path)
         self._boot = boot_name()
-        self._told: FrozenSet[int] = frozenset()
-        self._version = -1
-        self._earliest = 0.0  # before then no presence ends
-        self._sleep = SHORTEST_SLEEP
+        self._see(FIRST)
         self._watchdog: Optional['subprocess.Popen[bytes]'] = None
         try:
             self._file = connection(self.path, patience)
@@ -284,13 +406,21 @@ class SqliteLog:
             self._file.close()
             raise
 
+    def _see(self, epoch: int) -> None:
+        self.epoch = epoch
+        self._told: FrozenSet[int] = frozenset()
+        self._told_wish: Optional[str] = None
+        self._version = -1
+        self._earliest = 0.0  # before then no presence ends
+        self._sleep = SHORTEST_SLEEP
+
     @staticmethod
-    def create(path: 'os.PathLike[str] | str', header: str) -> 'SqliteLog':
-        """Makes the file, with a log that has this header alone. The log. Raises LogExists, ReadOnlyLog, DiskFull, Unanswered."""
+    def create(path: 'os.PathLike[str] | str', opening: Opening) -> 'SqliteLog':
+        """Makes the file, with a log that begins so. The log. Raises LogExists, ReadOnlyLog, DiskFull, Unanswered."""
         name = os.fspath(path)
         room = f'{name}.{os.getpid()}.new'
         try:
-            write_new(room, header)
+            write_new(room, opening)
             os.link(room, name)
         except FileExistsError:
             raise LogExists(f'{name}: something is there already') from None
@@ -304,30 +434,94 @@ class SqliteLog:
         with self._calls():
             if not self._one('select count(*) from sqlite_master'):
                 raise ForeignLog(f'{self.path}: an empty file')
-            if (self._one('pragma application_id'), self._one('pragma user_version')) != (APPLICATION, FORM):
-                raise ForeignLog(f'{self.path}: another kind of file, or a log of another form')
+            if self._one('pragma application_id') != APPLICATION:
+                raise ForeignLog(f'{self.path}: another kind of file')
+            form = self._one('pragma user_version')
+            if form != FORM:
+                which = 'an older' if form < FORM else 'another'
+                raise ForeignLog(f'{self.path}: a log of form {form}, by {which} version, and not of form {FORM}')
             self._file.execute('pragma journal_mode = wal')
             self._file.execute('pragma synchronous = full')
             with self._transaction(kind):
-                if self._count() == 0:
+                there = self._there()
+                if not there:
                     raise DamagedLog(f'{self.path}: the log has no header')
+                self._see(there[-1])
+
+    def at(self, epoch: int) -> 'SqliteLog':
+        seen = copy.copy(self)
+        seen._see(epoch)
+        return seen
+
+    def epochs(self) -> range:
+        with self._calls():
+            return self._there()
+
+    def opening(self) -> Opening:
+        with self._calls():
+            found = self._file.execute('select opening from epochs where epoch = ?', (self.epoch,)).fetchone()
+            if found is None:
+                raise self._no_epoch()
+        try:
+            return Opening.parse(found[0])
+        except (ValueError, KeyError, TypeError) as fault:
+            raise DamagedLog(f'{self.path}: epoch {self.epoch} has no opening: {fault}') from fault
+
+    def wish(self) -> Optional[str]:
+        with self._calls():
+            self._told_wish = self._wished()
+        return self._told_wish
+
+    def ask(self, wish: str) -> bool:
+        with self._calls(), self._writing():
+            if self.epoch != self._there()[-1]:
+                return False
+            self._file.execute('update epochs set wish = ? where epoch = ?', (wish, self.epoch))
+        return True
+
+    def end(self, place: int, wish: Optional[str], opening: Opening) -> bool:
+        with self._calls(), self._writing():
+            if self._count() != place or self._wished() != wish or self.epoch != self._there()[-1]:
+                return False
+            self._file.execute('insert into log values (?, ?, ?)', (self.epoch, place, opening.end))
+            open_epoch(self._file, opening)
+        return True
+
+    def prune(self, first: int) -> None:
+        """A part at a time, so that nobody waits for long. With its last rows an epoch is gone."""
+        with self._calls():
+            with self._writing():
+                first = min(first, self._there()[-1])
+                for table in ('log', 'presence'):
+                    self._file.execute(f'delete from {table} where epoch < ?', (first,))
+            asked = 'delete from packs where rowid in (select rowid from packs where epoch < ? limit ?)'
+            while self._file.execute(asked, (first, PRUNED_AT_ONCE)).rowcount:
+                time.sleep(SHORTEST_SLEEP)  # others have their turn
 
     def read(self, place: int) -> Rows:
         with self._calls(), self._transaction('deferred'):
+            count = self._count()
+            if count == 0:
+                raise self._no_epoch()
             first = self._first()
             begin = place if place >= first else place - place % PACK
-            packs = self._column('select rows from packs where number >= ? order by number', begin // PACK) if begin < first else []
-            rows = self._column('select row from log where place >= ? order by place', place)
+            asked = 'select rows from packs where epoch = ? and number >= ? order by number'
+            packs = self._column(asked, begin // PACK) if begin < first else []
+            rows = self._column('select row from log where epoch = ? and place >= ? order by place', place)
             text = ''.join([*packs, *(f'{row}\n' for row in rows)])
-            if text.count('\n') != max(self._count() - begin, 0):
+            if text.count('\n') != max(count - begin, 0):
                 raise DamagedLog(f'{self.path}: rows are missing behind place {place}')
         return Rows(text).behind(place - begin)
 
     def append(self, place: int, rows: Sequence[str], absent: Optional[int] = None) -> bool:
         with self._calls(), self._writing():
-            if self._count() != place or (absent is not None and absent in self._present()):
+            count = self._count()
+            if count == 0:
+                raise self._no_epoch()
+            if count != place or (absent is not None and absent in self._present()):
                 return False
-            self._file.executemany('insert into log values (?, ?)', enumerate(rows, place))
+            more = ((self.epoch, number, row) for number, row in enumerate(rows, place))
+            self._file.executemany('insert into log values (?, ?, ?)', more)
             self._pack(place + len(rows))
         return True
 
@@ -338,12 +532,13 @@ class SqliteLog:
             now = seconds_of_boot()
             if self._holder(node, now) != (life if renews else None):
                 return False
-            self._file.execute('insert or replace into presence values (?, ?, ?, ?)', (node, life, self._boot, now + ttl))
+            held = self.epoch, node, life, self._boot, now + ttl
+            self._file.execute('insert or replace into presence values (?, ?, ?, ?, ?)', held)
         return True
 
     def release(self, node: int, life: str) -> None:
         with self._calls(), self._writing():
-            self._file.execute('delete from presence where node = ? and life = ?', (node, life))
+            self._file.execute('delete from presence where epoch = ? and node = ? and life = ?', (self.epoch, node, life))
 
     def present(self) -> FrozenSet[int]:
         with self._calls():
@@ -373,45 +568,61 @@ class SqliteLog:
             self._watchdog.wait()
 
     def _is_news(self, place: int) -> bool:
-        """Whether a row stands there, or others are present. Nothing but a commit and a presence's end can bring it."""
+        """Whether what `wait` waits for has come, or the epoch is gone. Nothing but a commit and a presence's end can bring it."""
         with self._calls():
             version = self._one('pragma data_version')
             if version == self._version and seconds_of_boot() < self._earliest:
                 return False
             self._version = version
-            ends = self._file.execute('select min(until) from presence where boot = ? and until > ?', (self._boot, seconds_of_boot()))
+            asked = 'select min(until) from presence where epoch = ? and boot = ? and until > ?'
+            ends = self._file.execute(asked, (self.epoch, self._boot, seconds_of_boot()))
             self._earliest = ends.fetchone()[0] or float('inf')
-            return self._count() > place or self._present() != self._told
+            count = self._count()
+            return count > place or count == 0 or self._present() != self._told or self._wished() != self._told_wish
 
     def _pack(self, count: int) -> None:
         """Packs what there is more than a pack of, in a log of so many rows."""
         for first in range(self._first(), count - PACK, PACK):
-            rows = self._column('select row from log where place < ? order by place', first + PACK)
-            self._file.execute('insert into packs values (?, ?)', (first // PACK, ''.join(f'{row}\n' for row in rows)))
-            self._file.execute('delete from log where place < ?', (first + PACK,))
+            rows = self._column('select row from log where epoch = ? and place < ? order by place', first + PACK)
+            pack = ''.join(f'{row}\n' for row in rows)
+            self._file.execute('insert into packs values (?, ?, ?)', (self.epoch, first // PACK, pack))
+            self._file.execute('delete from log where epoch = ? and place < ?', (self.epoch, first + PACK))
+
+    def _there(self) -> range:
+        """The epochs that there are."""
+        first, last = self._file.execute('select coalesce(min(epoch), 0), coalesce(max(epoch), -1) from log').fetchone()
+        return range(first, last + 1)
+
+    def _no_epoch(self) -> NoEpoch:
+        return NoEpoch(told_epochs(self.path, self.epoch, self._there()))
+
+    def _wished(self) -> Optional[str]:
+        found = self._file.execute('select wish from epochs where epoch = ?', (self.epoch,)).fetchone()
+        return found[0] if found else None
 
     def _first(self) -> int:
         """The place behind all packs."""
-        return PACK * int(self._one('select coalesce(max(number) + 1, 0) from packs'))
+        return PACK * self._one('select coalesce(max(number) + 1, 0) from packs where epoch = ?', self.epoch)
 
     def _column(self, asked: str, argument: int) -> List[str]:
-        return [row for row, in self._file.execute(asked, (argument,))]
+        return [row for row, in self._file.execute(asked, (self.epoch, argument))]
 
     def _count(self) -> int:
-        return int(self._one('select coalesce(max(place) + 1, 0) from log'))
+        """How many rows there are; none, if the epoch isn't there."""
+        return self._one('select coalesce(max(place) + 1, 0) from log where epoch = ?', self.epoch)
 
     def _present(self) -> FrozenSet[int]:
-        asked = self._file.execute('select node from presence where boot = ? and until > ?', (self._boot, seconds_of_boot()))
-        return frozenset(node for node, in asked)
+        asked = 'select node from presence where epoch = ? and boot = ? and until > ?'
+        return frozenset(node for node, in self._file.execute(asked, (self.epoch, self._boot, seconds_of_boot())))
 
     def _holder(self, node: int, now: float) -> Optional[str]:
         """The life that holds the presence of the node."""
-        asked = 'select life from presence where node = ? and boot = ? and until > ?'
-        found = self._file.execute(asked, (node, self._boot, now)).fetchone()
+        asked = 'select life from presence where epoch = ? and node = ? and boot = ? and until > ?'
+        found = self._file.execute(asked, (self.epoch, node, self._boot, now)).fetchone()
         return found[0] if found else None
 
-    def _one(self, asked: str) -> int:
-        return int(self._file.execute(asked).fetchone()[0])
+    def _one(self, asked: str, *arguments: int) -> int:
+        return int(self._file.execute(asked, arguments).fetchone()[0])
 
     @contextmanager
     def _calls(self) -> Iterator[None]:

@@ -17,7 +17,6 @@ from urllib.parse import parse_qs, urlsplit
 from .faults import BullyError
 from .logs import LogError, seconds_of_boot
 from .running import Member
-from .settings import Settings
 from .values import Status
 from .view import GroupView, LogView, NodeView
 
@@ -43,12 +42,13 @@ SCRIPT = """
 async function follow() {
   for (;;) {
     try {
-      const events = document.body.dataset.events;
-      await fetch('/group?after=' + events);
+      const seen = document.body.dataset;
+      await fetch('/group?after=' + seen.events + '&epoch=' + seen.epoch);
       const text = await (await fetch('/')).text();
       const body = new DOMParser().parseFromString(text, 'text/html').body;
       document.body.innerHTML = body.innerHTML;
       document.body.dataset.events = body.dataset.events;
+      document.body.dataset.epoch = body.dataset.epoch;
       document.body.style.opacity = 1;
     } catch (error) {
       document.body.style.opacity = 0.4;
@@ -70,9 +70,10 @@ def page_of(name: str, group: GroupView) -> str:
     return (
         f'<!doctype html><html lang="en"><meta charset="utf-8"><meta name="viewport" content="width=device-width"><title>{title}</title>'
         f'<noscript><meta http-equiv="refresh" content="3"></noscript><style>{STYLE}</style>'
-        f'<body data-events="{group.events}"><h1>Group, as {html.escape(name)} sees it</h1>'
+        f'<body data-events="{group.events}" data-epoch="{group.epoch}"><h1>Group, as {html.escape(name)} sees it</h1>'
         f'<p class="small">coordinator <b>{html.escape(group.coordinator or "none")}</b>, token <b>{group.token or "none"}</b>, '
-        f'{group.events} events, {sum(node.is_present for node in group.nodes)} of {len(group.nodes)} nodes present</p>'
+        f'{group.events} events in epoch {group.epoch}, '
+        f'{sum(node.is_present for node in group.nodes)} of {len(group.nodes)} nodes present</p>'
         f'<h2>Nodes</h2>{nodes_of(group)}<h2>Partitions</h2>{partitions_of(group)}<h2>Last events</h2>{last_of(group)}</body>'
         f'<script>{SCRIPT}</script></html>'
     )
@@ -121,10 +122,11 @@ def metrics_of(group: GroupView, name: str, sure_seconds: float) -> str:
 
     def tell(metric: str, kind: str, told: str, values: List[Tuple[str, float]]) -> None:
         lines.extend([f'# HELP {metric} {told}', f'# TYPE {metric} {kind}'])
-        lines.extend(f'{metric}{labels} {value:g}' for labels, value in values)
+        lines.extend(f'{metric}{labels} {value:{"d" if isinstance(value, int) else ".3f"}}' for labels, value in values)
 
     nodes = [(f'{{node={label(node.name)}}}', node) for node in group.nodes]
-    tell('bully_events_total', 'counter', 'Events of the group.', [('', group.events)])
+    tell('bully_epoch', 'gauge', 'The current epoch.', [('', group.epoch)])
+    tell('bully_events_total', 'counter', 'Events of the current epoch.', [('', group.events)])
     tell('bully_token', 'gauge', 'The token of the last plan; 0: there is none.', [('', group.token or 0)])
     tell('bully_sure_seconds', 'gauge', 'For how long what this member owns is sure.', [(f'{{node={label(name)}}}', sure_seconds)])
     tell('bully_node_present', 'gauge', 'Whether the node holds a presence.', [(labels, node.is_present) for labels, node in nodes])
@@ -133,6 +135,12 @@ def metrics_of(group: GroupView, name: str, sure_seconds: float) -> str:
     tell('bully_node_partitions', 'gauge', 'Partitions that the node owns.', [(labels, len(node.partitions)) for labels, node in nodes])
     tell('bully_partitions_free', 'gauge', 'Partitions that nobody may work on now.', [('', group.owners.count(None))])
     return '\n'.join(lines) + '\n'
+
+
+def number_of(asked: Dict[str, List[str]], name: str) -> Optional[int]:
+    """The number that a query has by this name, if it has one of less than 10 digits."""
+    word = asked.get(name, [''])[0]
+    return int(word) if word.isdecimal() and len(word) < 10 else None
 
 
 class Server(ThreadingHTTPServer):
@@ -154,12 +162,11 @@ class Server(ThreadingHTTPServer):
 class Page:
     """The server of a member."""
 
-    def __init__(self, address: Tuple[str, int], view: LogView, member: Member, name: str, settings: Settings) -> None:
+    def __init__(self, address: Tuple[str, int], view: LogView, member: Member) -> None:
         """It listens at this address from now on. An OSError tells that it can't."""
         self._view = view
         self._member = member
-        self._name = name
-        self._settings = settings
+        self._name = member.name
         self._is_closed = False
         self._requests = threading.BoundedSemaphore(REQUESTS_MAX)
         page = self
@@ -199,9 +206,10 @@ class Page:
 
     def _answer(self, target: str) -> Answer:
         parts = urlsplit(target)
-        after = parse_qs(parts.query).get('after', [''])[0]
-        if after.isdecimal() and len(after) < 10:
-            self._wait(int(after))
+        asked = parse_qs(parts.query)
+        events, epoch = number_of(asked, 'after'), number_of(asked, 'epoch')
+        if events is not None:
+            self._wait(events, epoch)
         group = self._view.show()
         if parts.path == '/':
             return 200, 'text/html', page_of(self._name, group)
@@ -215,11 +223,14 @@ class Page:
             return (200, 'text/plain', 'present\n') if self._sure_seconds() > 0 else (503, 'text/plain', 'not present\n')
         return 404, 'text/plain', 'there is no such page\n'
 
-    def _wait(self, events: int) -> None:
-        """Waits for more events than these."""
+    def _wait(self, events: int, epoch: Optional[int]) -> None:
+        """Waits for more events than these of this epoch, or else of the one that is current now. Those of another one are more."""
         end = seconds_of_boot() + POLL_SECONDS
-        while not self._is_closed and seconds_of_boot() < end and self._view.read_on() <= events:
+        seen, there = self._view.read_on()
+        epoch = seen if epoch is None else epoch
+        while not self._is_closed and seconds_of_boot() < end and seen == epoch and there <= events:
             time.sleep(POLL_PART)
+            seen, there = self._view.read_on()
 
     def _sure_seconds(self) -> float:
         return max(0.0, self._member.sure_until - seconds_of_boot())
@@ -227,9 +238,11 @@ class Page:
     def _assignment(self, group: GroupView) -> Dict[str, Any]:
         """What the member owns now."""
         owned = self._member.assignment()
-        told: Dict[str, Any] = {'node': self._name, 'events': group.events, 'token': None, 'coordinator': None, 'partitions': []}
+        told: Dict[str, Any] = {
+            'node': self._name, 'epoch': group.epoch, 'events': group.events, 'token': None, 'coordinator': None, 'partitions': [],
+        }  # fmt: skip
         if owned is not None:
-            coordinator = self._settings.name(owned.coordinator)
+            coordinator = owned.settings.name(owned.coordinator)
             told.update(token=owned.token, coordinator=coordinator, partitions=list(owned.partitions))
         return {**told, 'sure_seconds': round(self._sure_seconds(), 3) if owned else 0.0}
 

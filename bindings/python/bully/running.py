@@ -12,10 +12,12 @@ from functools import partial
 from types import TracebackType
 from typing import Callable, List, Optional, Tuple, Type, TypeVar, Union
 
-from .logs import Log, Unanswered, cut_header, seconds_of_boot
+from .epochs import FIRST, Opening
+from .logs import Log, NoEpoch, Unanswered, current, seconds_of_boot
 from .member import (
-    Append, Assignment, Begin, Core, End, Look, Pace, Read, Release, Renew, Rest, Step, Stop, Take, Wait,
+    Append, Assignment, Begin, Core, End, Ending, Finish, Follow, Look, Pace, Read, Release, Renew, Rest, Step, Stop, Take, Wait,
 )  # fmt: skip
+from .settings import Settings, shown_name
 
 SLICE = 0.2  # seconds after which a wait looks whether it has to end
 
@@ -26,12 +28,33 @@ _told = logging.getLogger('bully')
 
 
 class OtherGroup(Exception):
-    """The log is that of a group with another setup."""
+    """The log is that of a group with other settings."""
+
+
+class NotInGroup(Exception):
+    """The group has no node of this name now."""
+
+
+def is_known(log: Log, settings: Settings) -> bool:
+    """Whether the group has these settings, had them in an earlier epoch, or is wished to have them."""
+    wish = log.wish()
+    if wish is not None and Opening.parse(wish).is_of(settings):
+        return True
+    return any(log.at(epoch).opening().is_of(settings) for epoch in range(log.epoch, FIRST - 1, -1))
 
 
 def name_of_process() -> str:
     """A name that no other process ever has."""
     return f'{socket.gethostname()}-{os.getpid()}-{secrets.token_hex(6)}'
+
+
+def number_of(opening: Opening, node: Union[int, str]) -> int:
+    """The number of this node, by its name or its number. Raises NotInGroup, if none has that name."""
+    if isinstance(node, int):
+        return node
+    if node not in opening.names:
+        raise NotInGroup(f'the group has no node {node} in epoch {opening.epoch}, but {", ".join(opening.names)}')
+    return opening.names.index(node) + 1
 
 
 class Member:
@@ -47,20 +70,22 @@ class Member:
     """
 
     def __init__(
-        self, log: Log, node: int, start: Callback, stop: Callback, ttl: float = 5.0, header: Optional[str] = None,
+        self, log: Log, node: Union[int, str], start: Callback, stop: Callback, ttl: float = 5.0, settings: Optional[Settings] = None,
         sure: Optional[Callable[[float], None]] = None,
     ) -> None:  # fmt: skip
-        """A member of the log's group. With a `header` the log has to begin with that one; `sure` is told, behind each renewal, until
-        when what is owned is sure, by `logs.seconds_of_boot`.
+        """A member of the log's group, for the node of this name, or of this number in the current epoch. If the group's settings
+        change, it goes on by the name; `run` returns, if the group has no such node any more. With `settings`, which may be those of an
+        earlier epoch, the log has to be of that group. `sure` is told, behind each renewal, until when what is owned is sure, by
+        `logs.seconds_of_boot`.
 
-        Raises OtherGroup, BadHeader, BadNode, OutOfMemory, and what the log raises."""
-        found, rows = cut_header(log.read(0))
-        if header is not None and header != found:
-            raise OtherGroup(f'the log begins with {found}, and not with {header}')
-        self.log = log
-        self.node = node
-        self.core = Core(found, node, name_of_process(), Pace(ttl))
-        self.core.read(seconds_of_boot(), rows)
+        Raises OtherGroup, NotInGroup, BadHeader, BadNode, OutOfMemory, and what the log raises."""
+        self.log = current(log)
+        opening = self.log.opening()
+        if settings is not None and not is_known(self.log, settings):
+            raise OtherGroup(f'the log is of another group: {opening.header} of {", ".join(opening.names)}')
+        self.core = Core(opening, number_of(opening, node), name_of_process(), Pace(ttl))
+        self.core.read(seconds_of_boot(), self.log.read(1))
+        self.name = opening.names[self.core.node - 1]
         self.failure: Optional[BaseException] = None
         self._start_work, self._stop_work = start, stop
         self._sure = sure
@@ -79,6 +104,11 @@ class Member:
         """What the node owns, and until when that is sure; nothing, if that isn't sure now, or has to be stopped."""
         work, until = self._shown
         return dataclasses.replace(work, until=until) if work is not None and seconds_of_boot() < until else None
+
+    @property
+    def node(self) -> int:
+        """The number of its node in this epoch."""
+        return self.core.node
 
     @property
     def sure_until(self) -> float:
@@ -139,10 +169,14 @@ class Member:
                 self.core.stopped(seconds_of_boot())
             step = self.core.next(seconds_of_boot())
             if isinstance(step, End):
-                _told.info('node %d: %s', self.node, step.cause.value)
+                level = logging.WARNING if step.cause is Ending.NOT_THERE else logging.INFO
+                _told.log(level, 'node %s: %s', shown_name(self.name), step.cause.value)
                 self.failure = self.failure or self.core.fault
                 return
-            self._do(step)
+            try:
+                self._do(step)
+            except NoEpoch:
+                self.core.passed()
             self._show()
 
     def _show(self) -> None:
@@ -175,11 +209,26 @@ class Member:
             rows = self._answer(partial(log.read, step.place))
             core.read(seconds_of_boot(), rows)
         elif isinstance(step, Look):
-            present = self._answer(log.present)
-            core.looked(begun, seconds_of_boot(), present)
+            present, wish = self._answer(lambda: (log.present(), log.wish())) or (None, None)
+            core.looked(begun, seconds_of_boot(), present, wish)
         elif isinstance(step, Append):
             is_done = self._answer(partial(log.append, step.place, step.rows, step.absent))
             core.appended(seconds_of_boot(), is_done)
+        else:
+            self._change_epoch(step)
+
+    def _change_epoch(self, step: Step) -> None:
+        """Ends the epoch, or goes on in the current one."""
+        if isinstance(step, Finish):
+            is_ended = self._answer(partial(self.log.end, step.place, step.wish, step.opening))
+            self.core.finished(seconds_of_boot(), is_ended)
+        elif isinstance(step, Follow):
+            log = self._answer(lambda: current(self.log))
+            opening = None if log is None else self._answer(log.opening)
+            self.core.followed(seconds_of_boot(), opening)
+            if log is not None and opening is self.core.opening:
+                self.log = log
+                _told.info('node %s: goes on in epoch %d as number %d', shown_name(self.name), opening.epoch, self.node)
 
     def _release(self, life: str) -> bool:
         self.log.release(self.node, life)
@@ -189,7 +238,7 @@ class Member:
         is_held = self._answer(lambda: self.log.hold(self.node, step.life, self.core.pace.ttl, isinstance(step, Renew)))
         self.core.held(begun, seconds_of_boot(), is_held)
         if isinstance(step, Take) and is_held:
-            _told.info('node %d: present as %s', self.node, step.life)
+            _told.info('node %s: present as %s', shown_name(self.name), step.life)
         if is_held and self._sure is not None:
             self._sure(self.core.sure_until)
 
@@ -198,7 +247,7 @@ class Member:
         try:
             return call()
         except Unanswered as unanswered:
-            _told.warning('node %d: %s', self.node, unanswered)
+            _told.warning('node %s: %s', shown_name(self.name), unanswered)
             return None
 
     def _wait(self, step: Wait) -> None:
@@ -241,8 +290,9 @@ class Member:
     def _call(self, step: Call) -> None:
         is_stop = isinstance(step, Stop)
         words = 'stops' if is_stop else 'begins'
-        _told.info('node %d: %s partitions %s by token %d', self.node, words, list(step.assignment.partitions), step.assignment.token)
-        (self._stop_work if is_stop else self._start_work)(step.assignment)
+        owned = step.assignment
+        _told.info('node %s: %s partitions %s by token %d', shown_name(self.name), words, list(owned.partitions), owned.token)
+        (self._stop_work if is_stop else self._start_work)(owned)
 
     def _end_calls(self, caller: threading.Thread) -> None:
         """Whatever it ended by: the work stops, if that isn't under way already."""

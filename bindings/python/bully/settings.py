@@ -3,7 +3,7 @@ from __future__ import annotations
 
 import json
 from dataclasses import dataclass
-from typing import Any, Dict, List, Tuple
+from typing import Any, Dict, List, Optional, Tuple
 
 from .group import Setup
 
@@ -12,6 +12,11 @@ INTEGER_MAX = 2**63
 
 class ConfigFault(Exception):
     """A configuration's first fault."""
+
+
+def shown_name(name: Optional[str]) -> str:
+    """A name for a terminal: what can't be printed, and marks of direction, are shown as `?`."""
+    return ''.join(each if each.isprintable() else '?' for each in name or '-')
 
 
 @dataclass(frozen=True)

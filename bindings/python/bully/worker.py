@@ -75,7 +75,7 @@ class Workers:
     """Starts and stops the worker of a member."""
 
     def __init__(self, words: Sequence[str], environment: Dict[str, str], patience: float, fail: Callable[[BaseException], None]) -> None:
-        """The words of its command, and what its environment has beside the assignment. `fail` is told that a worker ended by
+        """The words of its command, and what its environment has beside what `start` adds. `fail` is told that a worker ended by
         itself, or that its guard died."""
         self._words = words
         self._environment = environment
@@ -86,10 +86,11 @@ class Workers:
         self._lost: Optional[GuardLost] = None
         self._until = 0.0
 
-    def start(self, assignment: Assignment, coordinator: str) -> None:
-        """Starts the worker for this assignment."""
+    def start(self, assignment: Assignment, settings: str) -> None:
+        """Starts the worker for this assignment, with the settings as JSON."""
         environment = {
-            **os.environ, **self._environment, 'BULLY_TOKEN': str(assignment.token), 'BULLY_COORDINATOR': coordinator,
+            **os.environ, **self._environment, 'BULLY_TOKEN': str(assignment.token), 'BULLY_SETTINGS': settings,
+            'BULLY_COORDINATOR': assignment.settings.name(assignment.coordinator),
             'BULLY_PARTITIONS': ' '.join(map(str, assignment.partitions)),
         }  # fmt: skip
         guarded = Guarded(self._words, environment, self._patience, self._until)

@@ -1,0 +1,459 @@
+"""What etcd is asked, 3.4 or later, over the JSON gateway of its servers, by the standard library alone."""
+from __future__ import annotations
+
+import http.client
+import json
+import re
+import select
+import socket
+import ssl
+from base64 import b64decode, b64encode
+from typing import Any, Dict, List, NamedTuple, NoReturn, Optional, Sequence, Tuple
+
+from .logs import ForeignLog, LogError, Unanswered, seconds_of_boot
+
+PORT = 2379
+LEAST_LIMIT = 0.01  # seconds that a request is given at least
+RECEIVED = 65_536  # bytes of a watch at once
+
+KV_RANGE, KV_TXN, WATCH, LOGIN = '/v3/kv/range', '/v3/kv/txn', '/v3/watch', '/v3/auth/authenticate'
+LEASE_GRANT, LEASE_KEEPALIVE = '/v3/lease/grant', '/v3/lease/keepalive'
+
+# Codes of gRPC, by which etcd says why it refuses.
+PERMISSION_DENIED, OUT_OF_RANGE, UNAUTHENTICATED = 7, 11, 16
+MAY_PASS = frozenset({1, 2, 4, 8, 10, 13, 14})  # whether it was done isn't known: also, if etcd is full
+
+TARGETS = {'version': 'VERSION', 'create_revision': 'CREATE', 'mod_revision': 'MOD'}  # of a condition, by the number
+
+Json = Dict[str, Any]
+
+
+class Denied(LogError):
+    """etcd and this process don't accept each other: user, password, certificate or permission."""
+
+
+# ---- Addresses
+
+
+class Endpoint(NamedTuple):
+    """Where a server of etcd listens."""
+
+    host: str
+    port: int
+
+    def __str__(self) -> str:
+        return f'[{self.host}]:{self.port}' if ':' in self.host else f'{self.host}:{self.port}'
+
+
+class Address(NamedTuple):
+    """Where a log is: the servers, what its keys begin with, and whether TLS is asked for."""
+
+    endpoints: Tuple[Endpoint, ...]
+    prefix: str
+    is_secure: bool
+
+
+def read_address(words: str) -> Address:
+    """The address `etcd://HOST:PORT,HOST:PORT/PREFIX`, or with `etcds`. The prefix is taken as it is spelled, without slashes at its end.
+
+    Raises ValueError."""
+    kind, mark, rest = words.partition('://')
+    servers, _, prefix = rest.partition('/')
+    prefix = prefix.rstrip('/')
+    if kind not in ('etcd', 'etcds') or not mark or not prefix:
+        raise ValueError(f'{words} has to be etcd://HOST:PORT,HOST:PORT/PREFIX')
+    if not {'log', 'presence'}.isdisjoint(prefix.split('/')):
+        raise ValueError(f'{words}: no part of a prefix may be `log` or `presence`, which stand below another one')
+    prefix.encode()
+    return Address(tuple(map(read_endpoint, servers.split(','))), prefix, kind == 'etcds')
+
+
+def read_endpoint(words: str) -> Endpoint:
+    """The endpoint HOST, HOST:PORT or [HOST]:PORT. Raises ValueError."""
+    found = re.fullmatch(r'(?:\[([^\[\]]+)\]|([^:\[\]]+))(?::([0-9]{1,5}))?', words)
+    if found is None or int(found[3] or PORT) > 65_535:
+        raise ValueError(f'{words or "an empty word"} has to be HOST:PORT')
+    return Endpoint(found[1] or found[2], int(found[3] or PORT))
+
+
+# ---- Keys, and what is asked of them
+
+
+class Pair(NamedTuple):
+    """A key with what is known of it."""
+
+    key: bytes
+    value: bytes
+    created: int
+    modified: int
+    lease: int
+
+
+def pair_of(told: Json) -> Pair:
+    """What is told of a key."""
+    created, modified, lease = (int(told.get(name, 0)) for name in ('create_revision', 'mod_revision', 'lease'))
+    return Pair(b64decode(told['key']), b64decode(told.get('value', '')), created, modified, lease)
+
+
+def pairs_of(found: Json) -> List[Pair]:
+    """What a range found."""
+    return [pair_of(told) for told in found.get('kvs', ())]
+
+
+def coded(text: bytes) -> str:
+    """A key or a value in JSON."""
+    return b64encode(text).decode()
+
+
+def behind(prefix: bytes) -> bytes:
+    """The first key behind all that begin so. (The last byte of a prefix is no highest one.)"""
+    return prefix[:-1] + bytes([prefix[-1] + 1])
+
+
+def one(key: bytes, **more: object) -> Json:
+    """The range of one key."""
+    return {'key': coded(key), **more}
+
+
+def below(prefix: bytes, **more: object) -> Json:
+    """The range of all keys that begin so."""
+    return {'key': coded(prefix), 'range_end': coded(behind(prefix)), **more}
+
+
+def number_is(key: bytes, name: str, number: int) -> Json:
+    """That a number of the key is this one."""
+    return {'key': coded(key), 'target': TARGETS[name], 'result': 'EQUAL', name: str(number)}
+
+
+def value_is(key: bytes, value: bytes) -> Json:
+    """That there is the key, with this value."""
+    return {'key': coded(key), 'target': 'VALUE', 'result': 'EQUAL', 'value': coded(value)}
+
+
+def number_behind(prefix: bytes, key: bytes) -> Optional[int]:
+    """The number behind the prefix, if the key is one of these."""
+    rest = key[len(prefix) :]
+    return int(rest) if key.startswith(prefix) and rest.isdigit() else None
+
+
+def ranges(*asked: Json) -> List[Json]:
+    """Ranges, as a transaction takes them."""
+    return [{'request_range': each} for each in asked]
+
+
+def put(key: bytes, value: str, **more: str) -> Json:
+    """A key is put."""
+    return {'request_put': {'key': coded(key), 'value': coded(value.encode()), **more}}
+
+
+def exists(key: bytes) -> Json:
+    """That there is the key."""
+    return {**number_is(key, 'version', 0), 'result': 'GREATER'}
+
+
+# ---- Requests and answers
+
+
+class Silent(Exception):
+    """A server didn't answer. Whether it may have done what was asked for, and whether it never will answer."""
+
+    def __init__(self, endpoint: Endpoint, why: str, may_be_done: bool, is_final: bool = False) -> None:
+        super().__init__(f'{endpoint}: {why}')
+        self.may_be_done = may_be_done
+        self.is_final = is_final
+
+
+class Refusal(Exception):
+    """A server answered that it doesn't do that."""
+
+    def __init__(self, code: int, said: str) -> None:
+        super().__init__(said)
+        self.code = code
+
+    @property
+    def is_of_token(self) -> bool:
+        """Whether another login may help."""
+        return self.code == UNAUTHENTICATED or 'auth token' in str(self) or 'auth store is old' in str(self)
+
+    @property
+    def denies(self) -> bool:
+        """Whether it is of the user."""
+        said = str(self)
+        return self.code in (PERMISSION_DENIED, UNAUTHENTICATED) or any(part in said for part in ('permission', 'auth', 'user name'))
+
+
+class Compacted(Exception):
+    """The revision that was asked for isn't kept any more."""
+
+
+def refusal_of(error: object) -> Refusal:
+    """What an error in an answer says: of 3.4 or later, in a stream or not."""
+    told = error if isinstance(error, dict) else {}
+    code = told.get('code', told.get('grpc_code', 0))
+    said = told.get('message') or told.get('error') or error
+    return Refusal(code if isinstance(code, int) else 0, str(said))
+
+
+def fail(endpoint: Endpoint, refusal: Refusal) -> NoReturn:
+    """Raises what a refusal means."""
+    said = f'{endpoint}: {refusal}'
+    if refusal.code == OUT_OF_RANGE and 'compacted' in said:
+        raise Compacted(said) from refusal
+    if refusal.code in MAY_PASS:
+        raise Silent(endpoint, str(refusal), may_be_done=True) from refusal
+    raise (Denied if refusal.denies else LogError)(said) from refusal
+
+
+def silent_of(endpoint: Endpoint, error: Exception, may_be_done: bool) -> Silent:
+    """What an error of a connection means."""
+    if isinstance(error, socket.timeout):
+        return Silent(endpoint, 'it did not answer in time', may_be_done)
+    is_of_tls = isinstance(error, ssl.SSLError)
+    is_final = is_of_tls and not isinstance(error, (ssl.SSLEOFError, ssl.SSLZeroReturnError, ssl.SSLSyscallError))
+    why = getattr(error, 'verify_message', '') or getattr(error, 'strerror', '') or str(error) or type(error).__name__
+    return Silent(endpoint, f'TLS: {why}' if is_of_tls else why, may_be_done, is_final)
+
+
+def alert_of(connection: http.client.HTTPConnection) -> Optional[ssl.SSLError]:
+    """What the other side said by TLS before it ended the connection, if it did."""
+    if isinstance(connection.sock, ssl.SSLSocket):
+        try:
+            connection.sock.settimeout(0)
+            connection.sock.recv(1)
+        except (ssl.SSLWantReadError, ssl.SSLWantWriteError):
+            return None
+        except ssl.SSLError as alert:
+            return alert
+        except (OSError, ValueError):
+            return None
+    return None
+
+
+def is_over(connection: http.client.HTTPConnection) -> bool:
+    """Whether the other side has ended a connection on which nothing is awaited."""
+    if connection.sock is None:
+        return True
+    poll = select.poll()
+    poll.register(connection.sock, select.POLLIN)
+    return bool(poll.poll(0))
+
+
+class Answer(NamedTuple):
+    """What a transaction came to: whether its conditions were so; what its ranges found; and the revision and the term of etcd."""
+
+    is_done: bool
+    ranges: Sequence[Json]
+    revision: int
+    term: int
+
+
+class Client:
+    """Asks the servers of an etcd, one request at a time, and the next server if one doesn't answer."""
+
+    def __init__(self, address: Address, patience: float, tls: Optional[ssl.SSLContext], user: str, password: str) -> None:
+        if tls is not None and not address.is_secure:
+            raise ValueError('TLS is for an address that begins with etcds://')
+        self._endpoints = address.endpoints
+        self._tls = tls or ssl.create_default_context() if address.is_secure else None
+        self._patience = patience
+        self._user, self._password = user, password
+        self._token = ''
+        self._turn = 0
+        self._end = 0.0
+        self._connection: Optional[http.client.HTTPConnection] = None
+        self._cluster: Optional[str] = None
+
+    @property
+    def endpoint(self) -> Endpoint:
+        """The server that is asked next."""
+        return self._endpoints[self._turn]
+
+    def begin(self) -> None:
+        """From now on counts the time that a call may take."""
+        self._end = seconds_of_boot() + self._patience
+
+    def transact(self, conditions: Sequence[Json], done: Sequence[Json], refused: Sequence[Json] = ()) -> Answer:
+        """One transaction: what is done if all conditions are so, and else the ranges that are told."""
+        told = {'compare': list(conditions), 'success': list(done), 'failure': ranges(*refused)}
+        changes = any('request_range' not in each for each in done)
+        answer = self.ask(KV_TXN, told, repeats=not changes)
+        found = [each['response_range'] for each in answer.get('responses', ()) if 'response_range' in each]
+        header = answer['header']
+        return Answer(bool(answer.get('succeeded')), found, int(header['revision']), int(header['raft_term']))
+
+    def ask(self, path: str, told: Json, repeats: bool = False) -> Json:
+        """What etcd answers. If a server doesn't answer, the next one is asked: also of what may have been done, if that `repeats`.
+
+        Raises Unanswered, Denied and other LogErrors, Compacted."""
+        causes: List[Silent] = []
+        for count in range(len(self._endpoints), 0, -1):
+            now = seconds_of_boot()
+            reached = now + (self._end - now) / count
+            try:
+                return self._ask_here(path, told, reached, reached if repeats else self._end)
+            except Silent as silent:
+                causes.append(silent)
+                self._move_on()
+                if silent.may_be_done and not repeats:
+                    break
+        said = '; '.join(map(str, causes))
+        raise (Denied if all(cause.is_final for cause in causes) else Unanswered)(said) from causes[-1]
+
+    def watch(self, told: Json) -> Watch:
+        """A watch at the server that is asked now. Raises Silent."""
+        self.begin()
+        connection = self._connect(self._end)
+        body = json.dumps({'create_request': told}).encode()
+        lines = [f'POST {WATCH} HTTP/1.0', f'Host: {self.endpoint}', f'Content-Length: {len(body)}', 'Grpc-Metadata-hasleader: true']
+        if self._token:
+            lines.append(f'Authorization: {self._token}')
+        try:
+            connection.sock.sendall('\r\n'.join([*lines, '', '']).encode() + body)
+        except OSError as error:
+            connection.close()
+            raise silent_of(self.endpoint, error, may_be_done=False) from error
+        return Watch(self.endpoint, connection)
+
+    def close(self) -> None:
+        if self._connection is not None:
+            self._connection.close()
+            self._connection = None
+
+    def _move_on(self) -> None:
+        """The next server is asked from now on."""
+        self.close()
+        self._turn = (self._turn + 1) % len(self._endpoints)
+
+    def _ask_here(self, path: str, told: Json, reached: float, end: float) -> Json:
+        """What this server answers up to the end, if it is reached up to then. If it doesn't know the user any more, that one logs in again,
+        once."""
+        try:
+            if self._user and not self._token:
+                self._log_in(reached, end)
+            try:
+                return self._exchange(path, told, reached, end)
+            except Refusal as refusal:
+                if not (self._user and refusal.is_of_token):
+                    raise
+                self._log_in(reached, end)
+                return self._exchange(path, told, reached, end)
+        except Refusal as refusal:
+            fail(self.endpoint, refusal)
+
+    def _log_in(self, reached: float, end: float) -> None:
+        self._token = ''
+        self._token = str(self._exchange(LOGIN, {'name': self._user, 'password': self._password}, reached, end)['token'])
+
+    def _exchange(self, path: str, told: Json, reached: float, end: float) -> Json:
+        """A request and its answer. Raises Silent, Refusal, ForeignLog, LogError."""
+        connection = self._connected(reached)
+        headers = {'Content-Type': 'application/json', **({'Authorization': self._token} if self._token else {})}
+        try:
+            limit(connection, end)
+            connection.request('POST', path, json.dumps(told).encode(), headers)
+            response = connection.getresponse()
+            limit(connection, end)
+            text = response.read()
+        except (OSError, http.client.HTTPException) as error:
+            cause = alert_of(connection) or error
+            self.close()
+            raise silent_of(self.endpoint, cause, may_be_done=True) from error
+        return self._checked(response.status, text)
+
+    def _connected(self, end: float) -> http.client.HTTPConnection:
+        """A connection to this server, on which nothing is under way. Raises Silent."""
+        if self._connection is None or is_over(self._connection):
+            self.close()
+            self._connection = self._connect(end)
+        return self._connection
+
+    def _connect(self, end: float) -> http.client.HTTPConnection:
+        """A new connection to this server. Raises Silent."""
+        (host, port), seconds = self.endpoint, max(LEAST_LIMIT, end - seconds_of_boot())
+        if self._tls is None:
+            connection = http.client.HTTPConnection(host, port, timeout=seconds)
+        else:
+            connection = http.client.HTTPSConnection(host, port, timeout=seconds, context=self._tls)
+        try:
+            connection.connect()
+        except OSError as error:
+            connection.close()
+            raise silent_of(self.endpoint, error, may_be_done=False) from error
+        return connection
+
+    def _checked(self, status: int, text: bytes) -> Json:
+        """What an answer says, if it is one of this etcd."""
+        try:
+            told = json.loads(text)
+        except ValueError:
+            told = None
+        if not isinstance(told, dict) and (status >= 500 or not text):
+            raise Silent(self.endpoint, f'status {status}', may_be_done=True)
+        if isinstance(told, dict) and ('error' in told or 'code' in told):
+            raise refusal_of(told['error'] if isinstance(told.get('error'), dict) else told)
+        answer: Json = told.get('result', told) if isinstance(told, dict) else {}
+        if status != 200 or 'raft_term' not in answer.get('header', {}):
+            raise LogError(f'{self.endpoint}: it does not answer as etcd 3.4 does, but with status {status}: {text[:80]!r}')
+        cluster = answer['header'].get('cluster_id')
+        if self._cluster not in (None, cluster):
+            raise ForeignLog(f'{self.endpoint}: it is a server of another etcd')
+        self._cluster = cluster
+        return answer
+
+
+class Watch:
+    """What a server tells of changes, as it comes, over a connection of its own. (In HTTP/1.0 an answer isn't cut into chunks.)"""
+
+    def __init__(self, endpoint: Endpoint, connection: http.client.HTTPConnection) -> None:
+        self.endpoint = endpoint
+        self._connection = connection
+        self._text = b''
+        self._has_begun = False
+
+    def events(self, seconds: float) -> List[Json]:
+        """The next events, for which it waits so long at most. Raises Silent, Denied."""
+        try:
+            self._connection.sock.settimeout(max(LEAST_LIMIT, seconds))
+            received = self._connection.sock.recv(RECEIVED)
+        except socket.timeout:
+            return []
+        except OSError as error:
+            raise silent_of(self.endpoint, error, may_be_done=False) from error
+        if not received:
+            raise Silent(self.endpoint, 'the watch was ended', may_be_done=False)
+        self._text += received
+        return [event for line in self._lines() for event in self._events_of(line)]
+
+    def close(self) -> None:
+        self._connection.close()
+
+    def _lines(self) -> List[bytes]:
+        """The whole lines that came, behind the head of the answer."""
+        if not self._has_begun:
+            head, end, text = self._text.partition(b'\r\n\r\n')
+            if not end:
+                return []
+            if head.split()[1:2] != [b'200']:
+                raise Silent(self.endpoint, f'no watch, but {head.splitlines()[0]!r}', may_be_done=False)
+            self._has_begun, self._text = True, text
+        *lines, self._text = self._text.split(b'\n')
+        return lines
+
+    def _events_of(self, line: bytes) -> List[Json]:
+        try:
+            told = json.loads(line)
+        except ValueError as error:
+            raise Silent(self.endpoint, f'no watch, but {line[:80]!r}', may_be_done=False) from error
+        result = told.get('result', {})
+        if 'error' in told or result.get('canceled'):
+            why = refusal_of(told['error']) if 'error' in told else Refusal(0, result.get('cancel_reason', 'compacted'))
+            said = f'the watch was ended: {why}'
+            raise Denied(f'{self.endpoint}: {said}') if 'permission' in said else Silent(self.endpoint, said, may_be_done=False)
+        events: List[Json] = result.get('events', [])
+        return events
+
+
+def limit(connection: http.client.HTTPConnection, end: float) -> None:
+    """What is done next over the connection takes no longer than up to then. (Who is told that it ends with an answer has no socket.)"""
+    if connection.sock is not None:
+        connection.sock.settimeout(max(LEAST_LIMIT, end - seconds_of_boot()))

@@ -1,0 +1,121 @@
+"""Which store a command is told to use: a file of SQLite, or etcd."""
+from __future__ import annotations
+
+import argparse
+import os
+import ssl
+from dataclasses import dataclass, field
+from typing import Optional, Union
+
+from .epochs import Opening
+from .etcd import EtcdLog
+from .gateway import read_address
+from .logs import LogError, SqliteLog
+
+PASSWORD = 'BULLY_ETCD_PASSWORD'  # of the environment
+KINDS = 'sqlite:FILE or etcd://HOST:PORT,HOST:PORT/PREFIX'
+
+# Words of a log in etcd alone.
+OF_ETCD = (
+    ('--cacert', 'FILE', 'who has to have signed the certificates of the servers, if not an authority of the machine'),
+    ('--cert', 'FILE', 'the certificate that is shown to the servers'), ('--key', 'FILE', 'its key'),
+    ('--user', 'NAME', f'the user of etcd, whose password is in {PASSWORD} of the environment, or in a file'),
+    ('--password-file', 'FILE', 'the file, whose first line it is'),
+)  # fmt: skip
+
+Store = Union[SqliteLog, EtcdLog]
+
+
+class BadStore(Exception):
+    """Words that name no store."""
+
+
+def add_words(command: argparse.ArgumentParser) -> None:
+    """The command takes the words that name a store."""
+    command.add_argument('--log', required=True, metavar='STORE', help=f'{KINDS}; over TLS etcds://..')
+    for word, kind, told in OF_ETCD:
+        command.add_argument(word, metavar=kind, help=told)
+
+
+@dataclass(frozen=True)
+class FileStore:
+    """A file of SQLite."""
+
+    path: str
+
+    def create(self, opening: Opening) -> Store:
+        """A new log."""
+        return SqliteLog.create(self.path, opening)
+
+    def open(self, patience: float = 1.0, reads: bool = False) -> Store:
+        """The log that is there."""
+        return SqliteLog(self.path, patience, reads)
+
+
+@dataclass(frozen=True)
+class EtcdStore:
+    """Keys of etcd."""
+
+    address: str
+    tls: Optional[ssl.SSLContext]
+    user: str
+    password: str = field(repr=False)
+
+    def create(self, opening: Opening) -> Store:
+        """A new log."""
+        return EtcdLog.create(self.address, opening, 1.0, self.tls, self.user, self.password)
+
+    def open(self, patience: float = 1.0, reads: bool = False) -> Store:
+        """The log that is there."""
+        return EtcdLog(self.address, patience, self.tls, self.user, self.password)
+
+
+def store_of(options: argparse.Namespace) -> 'FileStore | EtcdStore':
+    """The store that these words name. Raises BadStore, LogError."""
+    kind, _, path = options.log.partition(':')
+    words = [word for word, _, _ in OF_ETCD if getattr(options, word[2:].replace('-', '_'))]
+    if kind in ('etcd', 'etcds'):
+        return etcd_of(options)
+    if kind != 'sqlite' or not path:
+        raise BadStore(f'--log is {options.log}, and has to be {KINDS}')
+    if words:
+        raise BadStore(f'{words[0]} is for a log in etcd')
+    return FileStore(path)
+
+
+def etcd_of(options: argparse.Namespace) -> EtcdStore:
+    """The same, of words that name a store in etcd."""
+    try:
+        is_secure = read_address(options.log).is_secure
+    except ValueError as fault:
+        raise BadStore(f'--log is {fault}') from fault
+    if not is_secure and (options.cacert or options.cert or options.key):
+        raise BadStore(f'--log is {options.log}, and has to begin with etcds:// if it goes with certificates')
+    if bool(options.cert) != bool(options.key):
+        raise BadStore('--cert and --key go together')
+    if options.password_file and not options.user:
+        raise BadStore('--password-file goes with --user')
+    password = password_of(options.password_file) if options.user else ''
+    return EtcdStore(options.log, tls_of(options) if is_secure else None, options.user or '', password)
+
+
+def tls_of(options: argparse.Namespace) -> ssl.SSLContext:
+    """Whose certificates are taken, and which one is shown."""
+    try:
+        tls = ssl.create_default_context(cafile=options.cacert)
+        if options.cert:
+            tls.load_cert_chain(options.cert, options.key)
+    except OSError as error:  # which doesn't name the file
+        files = ', '.join(filter(None, (options.cacert, options.cert, options.key)))
+        raise LogError(f'{files}: {error.strerror or error}') from error
+    return tls
+
+
+def password_of(path: Optional[str]) -> str:
+    """The password in this file, or else in the environment, where it doesn't stay: a worker doesn't need it."""
+    if path is None and PASSWORD not in os.environ:
+        raise BadStore(f'--user goes with {PASSWORD} in the environment, or with --password-file')
+    if path is None:
+        return os.environ.pop(PASSWORD)
+    with open(path, encoding='utf-8') as file:
+        return file.readline().rstrip('\r\n')
