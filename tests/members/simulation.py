@@ -579,8 +579,11 @@ class Simulation:
         """Wakes the members for which something is new."""
         for member, (log, place, present, wish) in list(self.waiting.items()):
             if log.has_news(place, present, wish):
-                del self.waiting[member]
-                member.wake()
+                self.tell_news(member)
+
+    def tell_news(self, member: Member) -> None:
+        """Wakes a member for which something is new."""
+        member.wake()
 
     # Its time.
 
