@@ -173,6 +173,17 @@ class ReadsAlone(KeptLog):
     reads_alone = True
 
 
+class TrustsRenewals(KeptLog):
+    """A renewal counts if the server that was asked tells that the lease is renewed. Nothing is read behind it."""
+
+    def hold(self, node: int, life: str, ttl: float, renews: bool) -> bool:
+        held = self._held
+        self._client.begin()
+        if renews and held is not None and held.life == life and self._keep_alive(held) is not None:
+            return True
+        return super().hold(node, life, ttl, renews)
+
+
 class TakesStaleRenewals(KeptLog):
     """A renewal counts if the server that was asked was in the term of the grant, whatever came behind it."""
 
@@ -230,12 +241,13 @@ BUGS: Dict[str, Bug] = {
     'overlooks-end': Bug(OverlooksEnd, has_epochs=True, seed=1),
     'ends-early': Bug(EndsEarly, has_epochs=True, seed=44),
     'opens-twice': Bug(opens_twice=True, has_epochs=True, seed=8),
-    'reads-alone': Bug(log=ReadsAlone),
+    'reads-alone': Bug(log=ReadsAlone, seed=165),
+    'trusts-renewals': Bug(log=TrustsRenewals, seed=18),
+    'keeps-lease': Bug(log=KeepsLease, seed=68),
+    'repeats-appends': Bug(log=RepeatsAppends, seed=3),
+    'rounds-down': Bug(log=RoundsDown, seed=52),
+    # Harmless, as README.md says, or nearly so:
     'takes-stale-renewals': Bug(log=TakesStaleRenewals),
-    'keeps-lease': Bug(log=KeepsLease),
-    'repeats-appends': Bug(log=RepeatsAppends),
-    'rounds-down': Bug(log=RoundsDown),
-    # Harmless, as README.md says:
     'no-absent': Bug(NoAbsent),
     'overlooks-crash': Bug(OverlooksCrash),
     'overlooks-other-life': Bug(OverlooksOtherLife),
