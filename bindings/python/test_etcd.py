@@ -550,6 +550,23 @@ class Lost(InEtcd):
             self.log.hold(1, 'x', 60, True)
         self.assertTrue(self.log.hold(1, 'x', 60, True))
 
+    def test_lease_that_has_ended_already(self) -> None:
+        """Before the presence stands under it, as behind a pause. Then nothing is done, and it is tried again."""
+        ask = Client.ask
+
+        def end_at_once(client: Client, path: str, told: Json, repeats: bool = False) -> Json:
+            answer = ask(client, path, told, repeats)
+            if path == gateway.LEASE_GRANT:
+                self.server.ask('/v3/lease/revoke', {'ID': answer['ID']})
+            return answer
+
+        for renews, there in ((False, set()), (True, {1})):
+            with self.subTest(renews=renews):
+                with mock.patch.object(Client, 'ask', end_at_once), self.assertRaises(Unanswered):
+                    self.log.hold(1, 'x', 60, renews)
+                self.assertEqual(self.direct.present(), there)
+                self.assertTrue(self.log.hold(1, 'x', 50, renews))
+
     def test_release(self) -> None:
         for what in ('answer', 'request'):
             self.assertTrue(self.log.hold(1, what, 50, False))
