@@ -142,6 +142,7 @@ class Cluster:
         self.stale: Optional[Stale] = None
         self.awaiting: List[Tuple[str, Json, Reply]] = []  # a leader
         self.changed: Callable[[List[bytes]], None] = lambda keys: None
+        self.ends: Callable[[bytes, bytes], None] = lambda key, value: None  # told of what is gone with its lease
 
     # What is asked.
 
@@ -318,6 +319,7 @@ class Cluster:
         keys = sorted(self.leases.pop(lease).keys)
         if keys:
             for key in keys:
+                self.ends(key, self.keys.get(key).value or b'')
                 self.keys.remove(key, self.keys.revision + 1)
             self.keys.times.append(self.clock())
             self.changed(keys)

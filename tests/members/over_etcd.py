@@ -98,6 +98,10 @@ class EtcdMember(Member):
         assert isinstance(self.log, KeptLog)
         return self.log
 
+    def holds(self, key: bytes, life: str) -> bool:
+        """Whether it takes itself for the life whose presence has this key."""
+        return self.core._life == life and self.kept._keys.presence(self.core.node) == key
+
     def ask(self, call: Callable[[], Told], tell: Callable[[float, Optional[Told]], None], slow: float = 0.0) -> None:
         self.turn += 1
         Call(self, call, tell, slow).go_on()
@@ -113,7 +117,7 @@ class EtcdSimulation(Simulation):
         trouble = trouble_of(random.Random(seed))
         super().__init__(seed, bug, trouble=dataclasses.replace(trouble, trip=min(trouble.trip, LONGEST_TRIP)))
         self.ttl = self.weather.ttl
-        self.cluster.changed = self.see_change
+        self.cluster.changed, self.cluster.ends = self.see_change, self.see_end
 
     def new_store(self, opening: Opening) -> Store:
         return made(self.cluster, opening)
@@ -140,6 +144,13 @@ class EtcdSimulation(Simulation):
         if not self.happens(self.weather.watch_broken):
             turn = member.turn
             self.after(self.of_etcd.uniform(0, self.weather.watch_late), lambda: member.wake() if member.turn == turn else None)
+
+    def see_end(self, key: bytes, life: bytes) -> None:
+        """A presence has ended with its lease. Its member may not be sure of it any more."""
+        for member in self.members:
+            if isinstance(member, EtcdMember) and not member.is_dead and member.holds(key, life.decode()):
+                if self.now < member.core.sure_until:
+                    raise Wrong(f'the presence of {member} ended, and it is sure for {member.core.sure_until - self.now:.3f} s')
 
     def see_change(self, keys: List[bytes]) -> None:
         """Something has changed in etcd."""
