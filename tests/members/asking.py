@@ -111,12 +111,12 @@ class Asking(Client):
 
 def read_alone(told: Json) -> Json:
     """The same request, whose ranges a server may read by itself."""
-    both = {
-        part: [{'request_range': {**step['request_range'], 'serializable': True}} if 'request_range' in step else step for step in told[part]]
-        for part in ('success', 'failure')
-        if part in told
-    }
-    return {**told, **both}
+    return {**told, **{part: list(map(step_alone, told[part])) for part in ('success', 'failure') if part in told}}
+
+
+def step_alone(step: Json) -> Json:
+    """The same step of a transaction."""
+    return {'request_range': {**step['request_range'], 'serializable': True}} if 'request_range' in step else step
 
 
 class KeptLog(EtcdLog):
