@@ -1,12 +1,9 @@
 #!/usr/bin/env python3
 """Tests of logs in etcd, over servers of their own. `try` runs them; without the program `etcd` on the path they are skipped."""
 import contextlib
-import http.client
 import io
-import json
 import os
 import shutil
-import signal
 import socket
 import ssl
 import subprocess
@@ -15,7 +12,7 @@ import tempfile
 import threading
 import time
 import unittest
-from base64 import b64decode, b64encode
+from base64 import b64encode
 from pathlib import Path
 from typing import Any, Callable, Dict, List, Optional, Sequence, Tuple, Type
 from unittest import mock
@@ -27,175 +24,8 @@ from bully.gateway import Address, Client, Denied, Endpoint, read_address
 from bully.logs import DamagedLog, ForeignLog, Log, LogError, LogExists, NoLog, Unanswered
 from bully.running import Member
 from epoch_laws import OPENING, EpochLaws
+from etcd_servers import PROGRAM, QUICK, Json, Server, Servers, coded, decoded, free_ports
 from laws import HEADER, PATIENCE, Laws, Waits, wait_until
-
-PROGRAM = shutil.which('etcd')
-PACE = ['--heartbeat-interval', '50', '--election-timeout', '500']  # milliseconds; so the shortest lease is of 1 s
-
-Json = Dict[str, Any]
-
-
-def coded(word: str) -> str:
-    return b64encode(word.encode()).decode()
-
-
-def decoded(word: str) -> str:
-    return b64decode(word).decode()
-
-
-def free_ports(count: int) -> List[int]:
-    """Ports of the loopback on which nobody listens."""
-    found = [socket.create_server(('127.0.0.1', 0)) for _ in range(count)]
-    ports = [int(each.getsockname()[1]) for each in found]
-    for each in found:
-        each.close()
-    return ports
-
-
-class Server:
-    """A server of etcd, in a process of its own."""
-
-    def __init__(self, folder: Path, name: str, ports: Sequence[int], cluster: str, words: Sequence[str]) -> None:
-        self.name, (self.port, peer_port) = name, ports
-        self.folder = folder
-        kind = 'https' if '--cert-file' in words else 'http'
-        client, peer = f'{kind}://127.0.0.1:{self.port}', f'http://127.0.0.1:{peer_port}'
-        self.words = [
-            str(PROGRAM), '--name', name, '--data-dir', str(folder / name), '--listen-client-urls', client, '--advertise-client-urls', client,
-            '--listen-peer-urls', peer, '--initial-advertise-peer-urls', peer, '--initial-cluster', cluster, *PACE, *words,
-        ]  # fmt: skip
-        self.process: Optional['subprocess.Popen[bytes]'] = None
-
-    def start(self) -> None:
-        with open(self.folder / f'{self.name}.said', 'ab') as said:
-            self.process = subprocess.Popen(self.words, stdin=subprocess.DEVNULL, stdout=said, stderr=said)
-
-    def pause(self) -> None:
-        """It does nothing more."""
-        assert self.process is not None
-        self.process.send_signal(signal.SIGSTOP)
-        tasks = Path(f'/proc/{self.process.pid}/task')
-        wait_until(lambda: all(stat.read_text().rsplit(')', 1)[1].split()[0] == 'T' for stat in tasks.glob('*/stat')))
-
-    def resume(self) -> None:
-        assert self.process is not None
-        self.process.send_signal(signal.SIGCONT)
-
-    def kill(self) -> None:
-        if self.process is not None:
-            self.process.kill()
-            self.process.wait()
-
-    @property
-    def has_ended(self) -> bool:
-        return self.process is None or self.process.poll() is not None
-
-    def ask(self, path: str, told: Json, tls: Optional[ssl.SSLContext] = None, token: str = '') -> Json:
-        """What it answers. Raises OSError, HTTPException, ValueError."""
-        if tls is None:
-            connection = http.client.HTTPConnection('127.0.0.1', self.port, timeout=5.0)
-        else:
-            connection = http.client.HTTPSConnection('127.0.0.1', self.port, timeout=5.0, context=tls)
-        with contextlib.closing(connection):
-            connection.request('POST', path, json.dumps(told), {'Authorization': token} if token else {})
-            answer: Json = json.loads(connection.getresponse().read())
-        if 'error' in answer:
-            raise ValueError(answer['error'])
-        return answer
-
-    def is_up(self, tls: Optional[ssl.SSLContext] = None) -> bool:
-        """Whether it answers what needs a quorum; also that it doesn't know who asks."""
-        try:
-            self.ask('/v3/kv/range', {'key': coded('x')}, tls)
-        except ValueError as error:
-            return 'user name is empty' in str(error)
-        except (OSError, http.client.HTTPException):
-            return False
-        return True
-
-    def keys(self, prefix: str = '') -> Dict[str, Json]:
-        """What is known of the keys that begin so."""
-        found = self.ask('/v3/kv/range', {'key': coded(prefix or '\0'), 'range_end': coded(prefix + '\x7f')})
-        return {decoded(pair['key']): pair for pair in found.get('kvs', ())}
-
-    def delete(self, key: str, end: str = '') -> None:
-        self.ask('/v3/kv/deleterange', {'key': coded(key), **({'range_end': coded(end)} if end else {})})
-
-    def put(self, key: str, value: str) -> None:
-        self.ask('/v3/kv/put', {'key': coded(key), 'value': coded(value)})
-
-    def compact(self) -> None:
-        """Only the newest revision is kept."""
-        revision = self.ask('/v3/kv/range', {'key': coded('x')})['header']['revision']
-        self.ask('/v3/kv/compaction', {'revision': revision, 'physical': True})
-
-
-class Servers:
-    """Servers that are one etcd."""
-
-    def __init__(self, count: int = 1, words: Sequence[str] = (), tls: Optional[ssl.SSLContext] = None) -> None:
-        self._folder = tempfile.TemporaryDirectory()
-        self._tls = tls
-        self.each: List[Server] = []
-        try:
-            for _ in range(5):  # others may take a port before its server does
-                self.each = self._begun(count, words)
-                wait_until(lambda: self.have_ended() or self.are_up())
-                if not self.have_ended():
-                    return
-                self._kill()
-            said = '\n'.join(path.read_text()[-1000:] for path in Path(self._folder.name).glob('*.said'))
-            raise AssertionError(f'etcd does not start: {said}')
-        except BaseException:
-            self.close()
-            raise
-
-    def have_ended(self) -> bool:
-        """Whether one has."""
-        return any(server.has_ended for server in self.each)
-
-    def _begun(self, count: int, words: Sequence[str]) -> List[Server]:
-        ports = free_ports(2 * count)
-        places = [(f's{number}', ports[2 * number : 2 * number + 2]) for number in range(count)]
-        cluster = ','.join(f'{name}=http://127.0.0.1:{peer}' for name, (_, peer) in places)
-        shutil.rmtree(self._folder.name)
-        os.mkdir(self._folder.name)
-        servers = [Server(Path(self._folder.name), name, each, cluster, words) for name, each in places]
-        for server in servers:
-            server.start()
-        return servers
-
-    def are_up(self) -> bool:
-        return all(server.is_up(self._tls) for server in self.each)
-
-    def leader(self) -> Server:
-        """The one that is known as the leader to a server that answers."""
-        found: List[Server] = []
-
-        def is_found() -> bool:
-            found[:] = [server for server in self.each if self._leads(server)]
-            return len(found) == 1
-
-        wait_until(is_found)
-        return found[0]
-
-    def _leads(self, server: Server) -> bool:
-        try:
-            told = server.ask('/v3/maintenance/status', {})
-        except (OSError, http.client.HTTPException, ValueError):
-            return False
-        return bool(told.get('leader') == told['header']['member_id'] and server.is_up())
-
-    def address(self, prefix: str, *servers: Server, kind: str = 'etcd') -> str:
-        return f'{kind}://{",".join(f"127.0.0.1:{server.port}" for server in servers or self.each)}/{prefix}'
-
-    def _kill(self) -> None:
-        for server in self.each:
-            server.kill()
-
-    def close(self) -> None:
-        self._kill()
-        self._folder.cleanup()
 
 
 class Proxy:
@@ -307,7 +137,7 @@ class InEtcd(unittest.TestCase):
 
     def begun(self, count: int = 1, words: Sequence[str] = (), tls: Optional[ssl.SSLContext] = None) -> Servers:
         """Servers of the test's own."""
-        servers = Servers(count, words, tls)
+        servers = Servers(count, [*QUICK, *words], tls)
         self.addCleanup(servers.close)
         return servers
 
@@ -720,6 +550,23 @@ class Lost(InEtcd):
             self.log.hold(1, 'x', 60, True)
         self.assertTrue(self.log.hold(1, 'x', 60, True))
 
+    def test_lease_that_has_ended_already(self) -> None:
+        """Before the presence stands under it, as behind a pause. Then nothing is done, and it is tried again."""
+        ask = Client.ask
+
+        def end_at_once(client: Client, path: str, told: Json, repeats: bool = False) -> Json:
+            answer = ask(client, path, told, repeats)
+            if path == gateway.LEASE_GRANT:
+                self.server.ask('/v3/lease/revoke', {'ID': answer['ID']})
+            return answer
+
+        for renews, there in ((False, set()), (True, {1})):
+            with self.subTest(renews=renews):
+                with mock.patch.object(Client, 'ask', end_at_once), self.assertRaises(Unanswered):
+                    self.log.hold(1, 'x', 60, renews)
+                self.assertEqual(self.direct.present(), there)
+                self.assertTrue(self.log.hold(1, 'x', 50, renews))
+
     def test_release(self) -> None:
         for what in ('answer', 'request'):
             self.assertTrue(self.log.hold(1, what, 50, False))
@@ -996,7 +843,7 @@ class Killed(InEtcd):
             other = self.opened(servers.address('x', *others), 1.0)
             self.assertTrue(log.hold(1, 'x', 4.0, False))
             leader.pause()
-            wait_until(lambda: any(servers._leads(server) for server in others))
+            wait_until(lambda: any(servers.leads(server) for server in others))
             time.sleep(1.5)
             leader.resume()
             begun = time.monotonic()

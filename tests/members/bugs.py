@@ -1,9 +1,12 @@
-"""Members that break one rule, each as a core of its own."""
+"""Members that break one rule, each as a core of its own, and logs in etcd that break one, each as a log of its own."""
 from __future__ import annotations
 
 from typing import Dict, NamedTuple, Optional, Sequence, Type
 
+from asking import KeptLog
 from bully.epochs import FIRST, Token, cut_end
+from bully.etcd import Held
+from bully.logs import Unanswered
 from bully.member import Append, Assignment, Core, Step
 
 
@@ -164,14 +167,64 @@ class EndsEarly(Core):
         return self._is_closing() and self._is_down(self.node)
 
 
+class ReadsAlone(KeptLog):
+    """Its reads are `serializable`: each server tells what it knows by itself, also one that was cut off."""
+
+    reads_alone = True
+
+
+class TrustsRenewals(KeptLog):
+    """A renewal counts if the server that was asked tells that the lease is renewed. Nothing is read behind it."""
+
+    def hold(self, node: int, life: str, ttl: float, renews: bool) -> bool:
+        held = self._held
+        self._client.begin()
+        if renews and held is not None and held.life == life and self._keep_alive(held) is not None:
+            return True
+        return super().hold(node, life, ttl, renews)
+
+
+class TakesStaleRenewals(KeptLog):
+    """A renewal counts if the server that was asked was in the term of the grant, whatever came behind it."""
+
+    def _counts(self, held: Held, before: Optional[int], behind: int) -> bool:
+        return held.term == before
+
+
+class KeepsLease(KeptLog):
+    """It keeps its lease under another leader than that of the grant."""
+
+    def _counts(self, held: Held, before: Optional[int], behind: int) -> bool:
+        return before == behind
+
+
+class RepeatsAppends(KeptLog):
+    """An append that wasn't answered is repeated at the next place."""
+
+    def append(self, place: int, rows: Sequence[str], absent: Optional[int] = None) -> bool:
+        try:
+            return super().append(place, rows, absent)
+        except Unanswered:
+            return super().append(place + len(rows), rows, absent)
+
+
+class RoundsDown(KeptLog):
+    """Its leases have the whole seconds below the ttl."""
+
+    def hold(self, node: int, life: str, ttl: float, renews: bool) -> bool:
+        return super().hold(node, life, int(ttl), renews)
+
+
 class Bug(NamedTuple):
     """Rules, whether the guard's clock stops in a pause, whether the store renews a presence behind a gap, and whether it opens an epoch
-    that is open; whether it takes changes of the epoch, and then the first seed that shows it, if one does."""
+    that is open; a log in etcd, if it takes one; whether it takes changes of the epoch, and then the first seed that shows it, if one
+    does."""
 
     rules: Type[Core] = Core
     clock_sleeps: bool = False
     closes_gaps: bool = False
     opens_twice: bool = False
+    log: Optional[Type[KeptLog]] = None
     has_epochs: bool = False
     seed: Optional[int] = None
 
@@ -188,7 +241,13 @@ BUGS: Dict[str, Bug] = {
     'overlooks-end': Bug(OverlooksEnd, has_epochs=True, seed=1),
     'ends-early': Bug(EndsEarly, has_epochs=True, seed=44),
     'opens-twice': Bug(opens_twice=True, has_epochs=True, seed=8),
-    # Harmless, as README.md says:
+    'reads-alone': Bug(log=ReadsAlone, seed=165),
+    'trusts-renewals': Bug(log=TrustsRenewals, seed=7),
+    'keeps-lease': Bug(log=KeepsLease, seed=7),
+    'repeats-appends': Bug(log=RepeatsAppends, seed=3),
+    'rounds-down': Bug(log=RoundsDown, seed=6),
+    # Harmless, as README.md says, or nearly so:
+    'takes-stale-renewals': Bug(log=TakesStaleRenewals),
     'no-absent': Bug(NoAbsent),
     'overlooks-crash': Bug(OverlooksCrash),
     'overlooks-other-life': Bug(OverlooksOtherLife),

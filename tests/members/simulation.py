@@ -12,12 +12,12 @@ from __future__ import annotations
 import heapq
 import random
 from dataclasses import dataclass, field
-from typing import Callable, Dict, FrozenSet, List, Optional, Sequence, Tuple, TypeVar
+from typing import Callable, Dict, FrozenSet, List, Optional, Protocol, Sequence, Tuple, TypeVar
 
 from bugs import Bug
 from bully import NotLearned, Replica, Setup, Status, check
 from bully.epochs import Opening, Token, cut_end
-from bully.logs import MemoryLog, NoEpoch, current
+from bully.logs import Log, MemoryLog, NoEpoch
 from bully.member import (
     Append, Assignment, Begin, End, Ending, Finish, Follow, Look, Pace, Read, Release, Renew, Rest, Step, Stop, Take, Wait,
 )  # fmt: skip
@@ -89,20 +89,45 @@ class Resource:
             raise Wrong(f'{worker.member} was not paused, and works by the old token {unit.token}')
 
 
+Seen = Tuple[FrozenSet[int], Optional[str]]  # who is present, and what is wished for
 Waiting = Tuple['Store', int, FrozenSet[int], Optional[str]]  # for a row at a place, or other presences, or another wish
 
 
-class Store(MemoryLog):
-    """The log in memory, whose presences end late at most by so much, and who waits for what comes."""
+class Store(Log, Protocol):
+    """A log as a simulation needs it."""
+
+    @property
+    def rows(self) -> List[str]:
+        """All of the epoch."""
+
+    def at(self, epoch: int) -> Store:
+        """The same, seen in this epoch."""
+
+    def give_back(self, node: int, life: str) -> bool:
+        """A release, which is answered."""
+
+    def seen(self) -> Seen:
+        """Who is present, and what is wished for. Nobody waits for what this tells."""
+
+    def has_news(self, place: int, present: FrozenSet[int], wish: Optional[str]) -> bool:
+        """Whether a row stands there, or others are present, or something else is wished for, or the epoch is gone."""
+
+
+def latest(log: Store) -> Store:
+    """The log, seen in the current epoch."""
+    return log.at(log.epochs()[-1])
+
+
+class MemoryStore(MemoryLog):
+    """The log in memory, whose presences end late at most by so much."""
 
     def __init__(self, simulation: Simulation, opening: Opening) -> None:
         super().__init__([opening.header], lambda: simulation.now, opening)
         self.simulation = simulation
-        self.waiting: Dict[Member, Waiting] = {}
 
-    def at(self, epoch: int) -> Store:
+    def at(self, epoch: int) -> MemoryStore:
         seen = super().at(epoch)
-        assert isinstance(seen, Store)
+        assert isinstance(seen, MemoryStore)
         return seen
 
     def hold(self, node: int, life: str, ttl: float, renews: bool) -> bool:
@@ -110,30 +135,28 @@ class Store(MemoryLog):
         renews = renews and not (self.simulation.bug.closes_gaps and node not in self._present())
         done = super().hold(node, life, ttl + late, renews)
         if done:
-            self.simulation.after(ttl + late + 1e-6, self.tell)
-        self.tell()
+            self.simulation.after(ttl + late + 1e-6, self.simulation.tell)
+        self.simulation.tell()
         return done
 
     def give_back(self, node: int, life: str) -> bool:
-        """A release, which is answered."""
         self.release(node, life)
-        self.tell()
+        self.simulation.tell()
         return True
 
-    def seen(self) -> Tuple[FrozenSet[int], Optional[str]]:
-        """Who is present, and what is wished for. Nobody waits for what this tells."""
+    def seen(self) -> Seen:
         return self._present(), self._here().wish
 
     def append(self, place: int, rows: Sequence[str], absent: Optional[int] = None) -> bool:
         done = super().append(place, rows, absent)
         if done:
             self.simulation.last_append = self.clock()
-            self.tell()
+            self.simulation.tell()
         return done
 
     def ask(self, wish: str) -> bool:
         done = super().ask(wish)
-        self.tell()
+        self.simulation.tell()
         return done
 
     def end(self, place: int, wish: Optional[str], opening: Opening) -> bool:
@@ -144,18 +167,11 @@ class Store(MemoryLog):
         done = super().end(place, self._here().wish if self.simulation.bug.opens_twice else wish, opening)
         if done:
             self.simulation.last_append = self.clock()
-            self.tell()
+            self.simulation.tell()
         return done
 
     def wait(self, place: int, seconds: float) -> None:
         """Nobody waits by this."""
-
-    def tell(self) -> None:
-        """Wakes the members for which something is new."""
-        for member, (log, place, present, wish) in list(self.waiting.items()):
-            if log.has_news(place, present, wish):
-                del self.waiting[member]
-                member.wake()
 
     def has_news(self, place: int, present: FrozenSet[int], wish: Optional[str]) -> bool:
         return self.epoch not in self._epochs or len(self.rows) > place or self.seen() != (present, wish)
@@ -168,9 +184,9 @@ class Member:
         self.simulation = simulation
         self.name = name
         self.number = number
-        self.log = simulation.current()
+        self.log = simulation.opened(number)
         opening = self.log.opening()
-        self.core = simulation.bug.rules(opening, opening.settings.number(name), f'{number}', Pace(TTL))
+        self.core = simulation.bug.rules(opening, opening.settings.number(name), f'{number}', Pace(simulation.ttl))
         self.is_dead = False
         self.paused_until = 0.0
         self.cut_until = 0.0  # no request reaches the store, and no answer the member
@@ -227,7 +243,7 @@ class Member:
         elif isinstance(step, Finish):
             self.finish(step)
         elif isinstance(step, Follow):
-            self.ask(self.simulation.current, self.followed)
+            self.ask(lambda: latest(self.log), self.followed)
         else:
             self.take_own_step(step)
 
@@ -240,9 +256,9 @@ class Member:
             self.worker.hear_stop()
             self.go()
         elif isinstance(step, Wait):
-            self.simulation.store.waiting[self] = self.log, step.place, self.core.present, self.core.wish
+            self.simulation.waiting[self] = self.log, step.place, self.core.present, self.core.wish
             self.later(step.seconds, self.wake)
-            self.simulation.store.tell()
+            self.simulation.tell()
         elif isinstance(step, Rest):
             self.later(step.seconds, self.go)
             self.is_resting = True
@@ -251,7 +267,7 @@ class Member:
 
     def wake(self) -> None:
         """A Wait is over."""
-        self.simulation.store.waiting.pop(self, None)
+        self.simulation.waiting.pop(self, None)
         self.later(self.simulation.trip_time(), self.woke)
 
     def woke(self) -> None:
@@ -299,7 +315,7 @@ class Member:
         if self.simulation.happens(self.simulation.trouble.renewal_pauses):
             self.pause()
         log, node = self.log, self.core.node
-        self.ask(lambda: log.hold(node, life, TTL, renews), self.held, self.simulation.trouble.slow_renewals)
+        self.ask(lambda: log.hold(node, life, self.core.pace.ttl, renews), self.held, self.simulation.trouble.slow_renewals)
 
     def held(self, begun: float, answer: Optional[bool]) -> None:
         self.core.held(begun, self.simulation.now, answer)
@@ -318,10 +334,10 @@ class Member:
         log = self.log
         self.ask(lambda: log.read(step.place), self.has_read)
 
-    def has_read(self, begun: float, rows: Optional[List[str]]) -> None:
+    def has_read(self, begun: float, rows: Optional[Sequence[str]]) -> None:
         self.core.read(self.simulation.now, rows)
 
-    def looked(self, begun: float, seen: Optional[Tuple[FrozenSet[int], Optional[str]]]) -> None:
+    def looked(self, begun: float, seen: Optional[Seen]) -> None:
         self.core.looked(begun, self.simulation.now, *(seen or (None, None)))
 
     def append(self, step: Append) -> None:
@@ -367,7 +383,7 @@ class Member:
     def die(self) -> None:
         """It dies. Its worker dies with it, or goes on until its guard ends it."""
         self.is_dead = True
-        self.simulation.store.waiting.pop(self, None)
+        self.simulation.waiting.pop(self, None)
         if self.simulation.choice.random() < 0.5:
             self.worker.die()
 
@@ -381,7 +397,7 @@ class Member:
     def leave(self) -> None:
         self.is_leaving = True
         self.core.leave()
-        if self in self.simulation.store.waiting:
+        if self in self.simulation.waiting:
             self.wake()
         self.nudge()
 
@@ -513,7 +529,8 @@ class Simulation:
         self.count = 0
         self.last_append = 0.0
         names = NAMES[: self.trouble.nodes]
-        self.store = Store(self, Opening.first(Setup(len(names), PARTITIONS).header(), names, self.changes.limit))
+        self.waiting: Dict[Member, Waiting] = {}
+        self.store = self.new_store(Opening.first(Setup(len(names), PARTITIONS).header(), names, self.changes.limit))
         self.resource = Resource()
         self.members: List[Member] = []
         self.number = self.rows = self.epochs = 0
@@ -538,11 +555,37 @@ class Simulation:
         if self.changes.prunes:
             self.after(self.changing.expovariate(self.changes.prunes), self.prune)
 
+    # Its store, which another simulation has another one of.
+
+    ttl = TTL
+
+    def new_store(self, opening: Opening) -> Store:
+        """A log that begins so."""
+        return MemoryStore(self, opening)
+
+    def opened(self, number: int) -> Store:
+        """The log, as the process of this number opens it in the current epoch."""
+        return self.current()
+
+    def new_member(self, name: str) -> Member:
+        """One more process, for the node of this name."""
+        return Member(self, name, self.number)
+
     def current(self) -> Store:
-        """The log in the current epoch."""
-        log = current(self.store)
-        assert isinstance(log, Store)
-        return log
+        """The log in the current epoch, as it is."""
+        return latest(self.store)
+
+    def tell(self) -> None:
+        """Wakes the members for which something is new."""
+        for member, (log, place, present, wish) in list(self.waiting.items()):
+            if log.has_news(place, present, wish):
+                self.tell_news(member)
+
+    def tell_news(self, member: Member) -> None:
+        """Wakes a member for which something is new."""
+        member.wake()
+
+    # Its time.
 
     def live(self, until: float) -> None:
         """What happens up to then happens."""
@@ -586,7 +629,7 @@ class Simulation:
                     self.after(TTL / 2, begin)
                 return
             self.number += 1
-            member = Member(self, name, self.number)
+            member = self.new_member(name)
             self.members.append(member)
             member.go()
 
@@ -639,7 +682,7 @@ class Simulation:
     def next_names(self) -> Tuple[str, ...]:
         """The names of the next epoch, if another group is wished for; else of this one."""
         log = self.current()
-        wish = log._here().wish
+        _, wish = log.seen()
         return Opening.parse(wish).names if wish is not None else log.opening().names
 
     def resize(self) -> None:
@@ -684,7 +727,7 @@ class Simulation:
         first = max(there[0], there[-1] - self.changing.choice([0, 0, 1]))
         self.judge(range(there[0], first))
         self.store.prune(first)
-        self.store.tell()
+        self.tell()
 
     # Its end.
 

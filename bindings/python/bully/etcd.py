@@ -249,7 +249,7 @@ class EtcdLog:
         found = pairs_of(answer.ranges[0])
         if [pair.value for pair in found] != ([life.encode()] if renews else []):
             return False
-        if held is not None and held.lease == found[0].lease and held.term == term == answer.term:
+        if held is not None and held.lease == found[0].lease and self._counts(held, term, answer.term):
             return True
         return self._hold_anew(node, found, Held(life, 0, seconds, answer.term))
 
@@ -345,6 +345,10 @@ class EtcdLog:
         """Renews a lease. The term of etcd before that; nothing, if there is no such lease."""
         answer = self._client.ask(LEASE_KEEPALIVE, {'ID': str(held.lease)}, repeats=True)
         return int(answer['header']['raft_term']) if int(answer.get('TTL', 0)) > 0 else None
+
+    def _counts(self, held: Held, before: Optional[int], behind: int) -> bool:
+        """Whether a renewal counts, with etcd's terms before and behind it: no other leader than that of the grant has done it."""
+        return held.term == before == behind
 
     def _hold_anew(self, node: int, found: Sequence[Pair], held: Held) -> bool:
         """Puts a presence under a new lease, if nothing has changed since it was found."""

@@ -21,7 +21,7 @@ LEASE_GRANT, LEASE_KEEPALIVE = '/v3/lease/grant', '/v3/lease/keepalive'
 
 # Codes of gRPC, by which etcd says why it refuses.
 PERMISSION_DENIED, OUT_OF_RANGE, UNAUTHENTICATED = 7, 11, 16
-MAY_PASS = frozenset({1, 2, 4, 8, 10, 13, 14})  # whether it was done isn't known: also, if etcd is full
+MAY_PASS = frozenset({1, 2, 4, 5, 8, 10, 13, 14})  # whether it was done isn't known: also, if etcd is full, or a lease has ended already
 
 TARGETS = {'version': 'VERSION', 'create_revision': 'CREATE', 'mod_revision': 'MOD'}  # of a condition, by the number
 
@@ -270,7 +270,11 @@ class Client:
 
     def begin(self) -> None:
         """From now on counts the time that a call may take."""
-        self._end = seconds_of_boot() + self._patience
+        self._end = self._now() + self._patience
+
+    def _now(self) -> float:
+        """The clock by which a call ends."""
+        return seconds_of_boot()
 
     def transact(self, conditions: Sequence[Json], done: Sequence[Json], refused: Sequence[Json] = ()) -> Answer:
         """One transaction: what is done if all conditions are so, and else the ranges that are told."""
@@ -287,7 +291,7 @@ class Client:
         Raises Unanswered, Denied and other LogErrors, Compacted."""
         causes: List[Silent] = []
         for count in range(len(self._endpoints), 0, -1):
-            now = seconds_of_boot()
+            now = self._now()
             reached = now + (self._end - now) / count
             try:
                 return self._ask_here(path, told, reached, reached if repeats else self._end)

@@ -1,0 +1,203 @@
+"""Servers of etcd in processes of their own, for the tests of logs and of members."""
+from __future__ import annotations
+
+import contextlib
+import http.client
+import json
+import os
+import shutil
+import signal
+import socket
+import ssl
+import subprocess
+import tempfile
+from base64 import b64decode, b64encode
+from pathlib import Path
+from typing import Any, Dict, List, NamedTuple, Optional, Sequence, Tuple
+
+from bully.gateway import Endpoint
+from laws import wait_until
+
+PROGRAM = shutil.which('etcd')
+QUICK = ('--heartbeat-interval', '50', '--election-timeout', '500')  # milliseconds; so the shortest lease is of 1 s
+
+Json = Dict[str, Any]
+
+
+def coded(word: str) -> str:
+    return b64encode(word.encode()).decode()
+
+
+def decoded(word: str) -> str:
+    return b64decode(word).decode()
+
+
+def free_ports(count: int) -> List[int]:
+    """Ports of the loopback on which nobody listens."""
+    found = [socket.create_server(('127.0.0.1', 0)) for _ in range(count)]
+    ports = [int(each.getsockname()[1]) for each in found]
+    for each in found:
+        each.close()
+    return ports
+
+
+class Place(NamedTuple):
+    """Where a server listens: for clients, and for the other servers; and the words by which a process is begun there."""
+
+    client: Endpoint
+    peer: Endpoint
+    within: Tuple[str, ...] = ()
+
+
+def free_places(count: int) -> List[Place]:
+    """Places on the loopback."""
+    found = [Endpoint('127.0.0.1', port) for port in free_ports(2 * count)]
+    return [Place(client, peer) for client, peer in zip(found[::2], found[1::2])]
+
+
+class Server:
+    """A server of etcd, in a process of its own."""
+
+    def __init__(self, folder: Path, name: str, place: Place, cluster: str, words: Sequence[str]) -> None:
+        self.name, self.place, self.port = name, place, place.client.port
+        self.folder = folder
+        client, peer = f'{"https" if "--cert-file" in words else "http"}://{place.client}', f'http://{place.peer}'
+        self.words = [
+            *place.within, str(PROGRAM), '--name', name, '--data-dir', str(folder / name), '--listen-client-urls', client,
+            '--advertise-client-urls', client, '--listen-peer-urls', peer, '--initial-advertise-peer-urls', peer,
+            '--initial-cluster', cluster, *words,
+        ]  # fmt: skip
+        self.process: Optional['subprocess.Popen[bytes]'] = None
+
+    def start(self) -> None:
+        with open(self.folder / f'{self.name}.said', 'ab') as said:
+            self.process = subprocess.Popen(self.words, stdin=subprocess.DEVNULL, stdout=said, stderr=said)
+
+    def pause(self) -> None:
+        """It does nothing more."""
+        assert self.process is not None
+        self.process.send_signal(signal.SIGSTOP)
+        tasks = Path(f'/proc/{self.process.pid}/task')
+        wait_until(lambda: all(stat.read_text().rsplit(')', 1)[1].split()[0] == 'T' for stat in tasks.glob('*/stat')))
+
+    def resume(self) -> None:
+        assert self.process is not None
+        self.process.send_signal(signal.SIGCONT)
+
+    def kill(self) -> None:
+        if self.process is not None:
+            self.process.kill()
+            self.process.wait()
+
+    @property
+    def has_ended(self) -> bool:
+        return self.process is None or self.process.poll() is not None
+
+    def ask(self, path: str, told: Json, tls: Optional[ssl.SSLContext] = None, token: str = '') -> Json:
+        """What it answers. Raises OSError, HTTPException, ValueError."""
+        if tls is None:
+            connection = http.client.HTTPConnection(*self.place.client, timeout=5.0)
+        else:
+            connection = http.client.HTTPSConnection(*self.place.client, timeout=5.0, context=tls)
+        with contextlib.closing(connection):
+            connection.request('POST', path, json.dumps(told), {'Authorization': token} if token else {})
+            answer: Json = json.loads(connection.getresponse().read())
+        if 'error' in answer:
+            raise ValueError(answer['error'])
+        return answer
+
+    def is_up(self, tls: Optional[ssl.SSLContext] = None) -> bool:
+        """Whether it answers what needs a quorum; also that it doesn't know who asks."""
+        try:
+            self.ask('/v3/kv/range', {'key': coded('x')}, tls)
+        except ValueError as error:
+            return 'user name is empty' in str(error)
+        except (OSError, http.client.HTTPException):
+            return False
+        return True
+
+    def keys(self, prefix: str = '') -> Dict[str, Json]:
+        """What is known of the keys that begin so."""
+        found = self.ask('/v3/kv/range', {'key': coded(prefix or '\0'), 'range_end': coded(prefix + '\x7f')})
+        return {decoded(pair['key']): pair for pair in found.get('kvs', ())}
+
+    def delete(self, key: str, end: str = '') -> None:
+        self.ask('/v3/kv/deleterange', {'key': coded(key), **({'range_end': coded(end)} if end else {})})
+
+    def put(self, key: str, value: str) -> None:
+        self.ask('/v3/kv/put', {'key': coded(key), 'value': coded(value)})
+
+    def compact(self) -> None:
+        """Only the newest revision is kept."""
+        revision = self.ask('/v3/kv/range', {'key': coded('x')})['header']['revision']
+        self.ask('/v3/kv/compaction', {'revision': revision, 'physical': True})
+
+
+class Servers:
+    """Servers that are one etcd."""
+
+    def __init__(
+        self, count: int = 1, words: Sequence[str] = QUICK, tls: Optional[ssl.SSLContext] = None, places: Sequence[Place] = ()
+    ) -> None:  # fmt: skip
+        """As many servers as there are places, or else so many on the loopback."""
+        self._folder = tempfile.TemporaryDirectory()
+        self._tls = tls
+        self.each: List[Server] = []
+        try:
+            for _ in range(5):  # others may take a port before its server does
+                self.each = self._begun(places or free_places(count), words)
+                wait_until(lambda: self.have_ended() or self.are_up())
+                if not self.have_ended():
+                    return
+                self._kill()
+            said = '\n'.join(path.read_text()[-1000:] for path in Path(self._folder.name).glob('*.said'))
+            raise AssertionError(f'etcd does not start: {said}')
+        except BaseException:
+            self.close()
+            raise
+
+    def have_ended(self) -> bool:
+        """Whether one has."""
+        return any(server.has_ended for server in self.each)
+
+    def _begun(self, places: Sequence[Place], words: Sequence[str]) -> List[Server]:
+        named = [(f's{number}', place) for number, place in enumerate(places)]
+        cluster = ','.join(f'{name}=http://{place.peer}' for name, place in named)
+        shutil.rmtree(self._folder.name)
+        os.mkdir(self._folder.name)
+        servers = [Server(Path(self._folder.name), name, place, cluster, words) for name, place in named]
+        for server in servers:
+            server.start()
+        return servers
+
+    def are_up(self) -> bool:
+        return all(server.is_up(self._tls) for server in self.each)
+
+    def leader(self) -> Server:
+        """The one that is known as the leader to a server that answers."""
+        found: List[Server] = []
+
+        def is_found() -> bool:
+            found[:] = [server for server in self.each if self.leads(server)]
+            return len(found) == 1
+
+        wait_until(is_found)
+        return found[0]
+
+    def leads(self, server: Server) -> bool:
+        try:
+            told = server.ask('/v3/maintenance/status', {})
+        except (OSError, http.client.HTTPException, ValueError):
+            return False
+        return bool(told.get('leader') == told['header']['member_id'] and server.is_up())
+
+    def address(self, prefix: str, *servers: Server, kind: str = 'etcd') -> str:
+        return f'{kind}://{",".join(str(server.place.client) for server in servers or self.each)}/{prefix}'
+
+    def _kill(self) -> None:
+        for server in self.each:
+            server.kill()
+
+    def close(self) -> None:
+        self._kill()
+        self._folder.cleanup()

@@ -1,0 +1,173 @@
+"""Logs of `bully.etcd` over a simulated etcd: their calls are done request by request, in simulated time.
+
+A call begins anew with each answer: all that was answered before is told to it again, and it stops at the first request that has no
+answer yet. So it may not change what it begins with before its last answer, and none does.
+"""
+from __future__ import annotations
+
+from typing import Callable, FrozenSet, List, NamedTuple, Optional, TypeVar, Union
+from unittest import mock
+
+from bully import etcd
+from bully.epochs import Opening
+from bully.etcd import EtcdLog
+from bully.gateway import Address, Client, Json, Refusal, Silent
+from cluster import SERVERS, Cluster, Outcome
+
+ADDRESS = f'etcd://{",".join(map(str, SERVERS))}/group'
+
+Told = TypeVar('Told')
+
+
+class Request(NamedTuple):
+    """What a server is asked, and until when an answer is waited for."""
+
+    server: int
+    path: str
+    told: Json
+    reached: float  # when it has to be connected
+    end: float
+
+
+class Pending(BaseException):
+    """A request that has no answer yet."""
+
+    def __init__(self, request: Request) -> None:
+        super().__init__(request)
+        self.request = request
+
+
+class Journal:
+    """What a call has seen up to now: moments, and what became of its requests."""
+
+    def __init__(self, clock: Callable[[], float], turn: int) -> None:
+        self.turn = turn  # the server that was asked first
+        self._clock = clock
+        self._seen: List[Union[float, Outcome]] = []
+        self._place = 0
+
+    def rewind(self) -> None:
+        self._place = 0
+
+    def add(self, outcome: Outcome) -> None:
+        self._seen.append(outcome)
+
+    def clock(self) -> float:
+        if self._place == len(self._seen):
+            self._seen.append(self._clock())
+        moment = self._next()
+        assert isinstance(moment, float)
+        return moment
+
+    def outcome(self, request: Request) -> Outcome:
+        if self._place == len(self._seen):
+            raise Pending(request)
+        outcome = self._next()
+        assert not isinstance(outcome, float)
+        return outcome
+
+    def _next(self) -> Union[float, Outcome]:
+        self._place += 1
+        return self._seen[self._place - 1]
+
+
+class Asking(Client):
+    """Asks a simulated etcd: by a journal, or else at once, of its leader, whatever its weather is."""
+
+    def __init__(self, cluster: Cluster, address: Address, patience: float, first: int) -> None:
+        super().__init__(address, patience, None, '', '')
+        self.cluster = cluster
+        self.journal: Optional[Journal] = None
+        self.reads_alone = False  # servers may tell by themselves what is read
+        self._turn = first
+
+    def _now(self) -> float:
+        return self.cluster.clock() if self.journal is None else self.journal.clock()
+
+    def begun(self) -> Journal:
+        """The journal of a call that begins now."""
+        return Journal(self.cluster.clock, self._turn)
+
+    def attempt(self, journal: Journal, call: Callable[[], Told]) -> Told:
+        """What comes of the call, as far as the journal goes. Raises Pending, and what the call raises."""
+        journal.rewind()
+        self.journal, self._turn = journal, journal.turn
+        try:
+            return call()
+        finally:
+            self.journal = None
+
+    def _exchange(self, path: str, told: Json, reached: float, end: float) -> Json:
+        if self.reads_alone:
+            told = read_alone(told)
+        if self.journal is None:
+            outcome = self.cluster.do(path, told)
+        else:
+            outcome = self.journal.outcome(Request(self._turn, path, told, reached, end))
+        if isinstance(outcome, (Refusal, Silent)):
+            raise outcome
+        return outcome
+
+
+def read_alone(told: Json) -> Json:
+    """The same request, whose ranges a server may read by itself."""
+    return {**told, **{part: list(map(step_alone, told[part])) for part in ('success', 'failure') if part in told}}
+
+
+def step_alone(step: Json) -> Json:
+    """The same step of a transaction."""
+    return {'request_range': {**step['request_range'], 'serializable': True}} if 'request_range' in step else step
+
+
+class KeptLog(EtcdLog):
+    """A log in a simulated etcd."""
+
+    reads_alone = False
+
+    @property
+    def client(self) -> Asking:
+        assert isinstance(self._client, Asking)
+        return self._client
+
+    @property
+    def rows(self) -> List[str]:
+        return list(self.read(0))
+
+    def at(self, epoch: int) -> KeptLog:
+        seen = super().at(epoch)
+        assert isinstance(seen, KeptLog)
+        return seen
+
+    def give_back(self, node: int, life: str) -> bool:
+        self.release(node, life)
+        return True
+
+    def seen(self) -> 'tuple[FrozenSet[int], Optional[str]]':
+        return self.present(), self.wish()
+
+    def wait(self, place: int, seconds: float) -> None:
+        """Nobody waits by this."""
+
+    def has_news(self, place: int, present: FrozenSet[int], wish: Optional[str]) -> bool:
+        """Of etcd as it is, whatever a server knows."""
+        keys, there = self._keys, self.client.cluster.keys
+        if there.get(keys.header).value is None or there.get(keys.row(place)).value is not None:
+            return True
+        wished = there.get(keys.wish).value
+        nodes = frozenset(int(key[len(keys.presences) :]) for key, _ in there.found(keys.presences, keys.presences[:-1] + b'0'))
+        return (nodes, wished) != (present, None if wish is None else wish.encode())
+
+
+def opened(cluster: Cluster, kind: 'type[KeptLog]', patience: float, first: int) -> KeptLog:
+    """The log of the cluster, by a client that asks this server first."""
+    with mock.patch.object(etcd, 'Client', lambda address, *_: Asking(cluster, address, patience, first)):
+        log = kind(ADDRESS)
+    log.client.reads_alone = kind.reads_alone
+    return log
+
+
+def made(cluster: Cluster, opening: Opening) -> KeptLog:
+    """A new log of the cluster, which is asked as it is."""
+    with mock.patch.object(etcd, 'Client', lambda address, *_: Asking(cluster, address, 1.0, 0)):
+        EtcdLog.create(ADDRESS, opening).close()
+    return opened(cluster, KeptLog, 1.0, 0)

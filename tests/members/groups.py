@@ -1,0 +1,346 @@
+"""A group of members in processes of their own, over a store, which are killed and paused; and what came of them."""
+from __future__ import annotations
+
+import os
+import signal
+import statistics
+import subprocess
+import sys
+import time
+from dataclasses import dataclass, field
+from pathlib import Path
+from typing import Callable, Dict, List, Optional, Sequence
+
+from bully import Status, check
+from bully.command import parser
+from bully.epochs import cut_end
+from bully.logs import Log, Unanswered
+from bully.stores import Store, store_of
+from bully.view import GroupView, LogView
+from processes import children, processor_seconds, send_all, worker_descriptors
+from tables import kept, most_kept, owners_by_name
+
+ROOT = Path(__file__).resolve().parents[2]
+HERE = Path(__file__).resolve().parent
+NAMES = 'abcde'
+PARTITIONS = 20
+CONFIG = """
+nodes = %d
+partitions = %d
+events = 1000
+turns = 1
+names = %s
+"""
+PATIENCE = 120.0  # seconds that anything may take
+ROW = 64  # bytes that a row of a worker has at most
+
+
+@dataclass
+class Times:
+    """How long a group took to come to rest behind changes of one kind, and until all partitions were worked on; and how many rows."""
+
+    to_rest: List[float] = field(default_factory=list)
+    to_work: List[float] = field(default_factory=list)
+    rows: List[int] = field(default_factory=list)
+
+    def __str__(self) -> str:
+        rest, work, rows = self.to_rest, self.to_work, self.rows
+        return (f'{len(rest)} times, to rest in {statistics.median(rest):.2f} s, at most {max(rest):.2f} s, and {statistics.median(rows):.0f} '
+                f'rows, at most {max(rows)}; to work in {statistics.median(work):.2f} s, at most {max(work):.2f} s')
+
+
+class Work:
+    """What the workers did: a file for each partition, with a row for each unit, and one of their faults."""
+
+    def __init__(self, folder: Path, partitions: int) -> None:
+        self.folder, self.partitions = folder, partitions
+        folder.mkdir()
+
+    def sizes(self) -> List[int]:
+        """How much was done on each partition."""
+        files = [self.folder / str(partition) for partition in range(self.partitions)]
+        return [file.stat().st_size if file.exists() else 0 for file in files]
+
+    def last_tokens(self) -> List[int]:
+        """The token of the last unit on each partition."""
+        return [self._last_token(partition) for partition in range(self.partitions)]
+
+    def _last_token(self, partition: int) -> int:
+        if not (self.folder / str(partition)).exists():
+            return 0
+        with open(self.folder / str(partition), 'rb') as file:
+            file.seek(max(0, file.seek(0, os.SEEK_END) - 2 * ROW))
+            rows = file.read().split(b'\n')[-2:-1]  # of the whole ones
+        return int(rows[0].split()[0]) if rows else 0
+
+    def units(self, partition: int) -> List[List[str]]:
+        """The units on a partition: token and node of each."""
+        return [row.split() for row in (self.folder / str(partition)).read_text().splitlines()]
+
+    def faults(self, kind: str) -> List[str]:
+        """What workers told of faults of this kind."""
+        file = self.folder / 'faults'
+        rows = file.read_text().splitlines() if file.exists() else []
+        return [row for row in rows if row.startswith(f'{kind} ')]
+
+
+class Group:
+    """Members, and what came of them."""
+
+    def __init__(
+        self, folder: Path, stores: Dict[str, str], ttl: float, within: Callable[[str], Sequence[str]] = lambda _: (),
+        names: Sequence[str] = NAMES, partitions: int = PARTITIONS,
+    ) -> None:  # fmt: skip
+        """A new group. The store is told for each member, and for who looks at them (''). `within` has the words by which a process is
+        begun where a member is."""
+        self.folder, self.ttl = folder, ttl
+        self.stores, self.within = stores, within
+        self.config = self.configured(names, partitions)
+        self.work = Work(folder / 'work', partitions)
+        self.members: Dict[str, 'subprocess.Popen[bytes]'] = {}
+        self.passed = self.failed = 0
+        self.times: Dict[str, Times] = {}
+        self.count(self.command('init', '--config', str(self.config)).wait(PATIENCE) == 0, 'no log can be made')
+        self.view = LogView(self.opened())
+
+    def configured(self, names: Sequence[str], partitions: int) -> Path:
+        """A file with settings."""
+        file = self.folder / f'{"".join(names)}.toml'
+        file.write_text(CONFIG % (len(names), partitions, list(names)))
+        return file
+
+    def opened(self) -> Store:
+        """The log."""
+        return store_of(parser().parse_args(['status', '--log', self.stores['']])).open()
+
+    def command(self, name: str, *more: str, member: str = '') -> 'subprocess.Popen[bytes]':
+        """Starts `bully-member`, where the member is, if one is named."""
+        environment = {**os.environ, 'PYTHONPATH': str(ROOT / 'bindings' / 'python')}
+        within = self.within(member) if member else ()
+        words = [*within, sys.executable, '-W', 'error', '-m', 'bully.command', name, '--log', self.stores[member], *more]
+        with open(self.folder / f'{member or name}.said', 'ab') as said:
+            return subprocess.Popen(words, env=environment, stdout=said, stderr=said)
+
+    def begin(self, name: str) -> None:
+        """A process for the node."""
+        worker = [sys.executable, str(HERE / 'worker.py'), str(self.work.folder)]
+        more = ['--config', str(self.config), '--node', name, '--ttl', str(self.ttl), '--', *worker]
+        self.members[name] = self.command('run', *more, member=name)
+
+    def begin_all(self, names: Sequence[str] = NAMES) -> None:
+        for name in names:
+            self.begin(name)
+
+    def count(self, is_so: bool, what: str) -> None:
+        self.passed += is_so
+        self.failed += not is_so
+        if not is_so:
+            print(f'FAILED: {what}', flush=True)
+
+    # Rest.
+
+    def look(self) -> Optional[GroupView]:
+        """How the group stands; nothing, if the store doesn't answer."""
+        try:
+            return self.view.show()
+        except Unanswered:
+            return None
+
+    def show(self) -> GroupView:
+        """How the group stands."""
+        end = time.monotonic() + PATIENCE
+        while time.monotonic() < end:
+            shown = self.look()
+            if shown is not None:
+                return shown
+        raise TimeoutError('the store does not answer')
+
+    def is_at_rest(self, shown: GroupView) -> bool:
+        """Whether all that have a process work, under the highest, and own all that there is; and no others are up."""
+        alive = [node.name for node in shown.nodes if node.name in self.members]
+        up = [node.name for node in shown.nodes if node.status is not Status.DOWN]
+        normal = [node.name for node in shown.nodes if node.status is Status.NORMAL]
+        return up == normal == alive and shown.coordinator == alive[-1] and set(shown.owners) == set(alive)
+
+    def rest(self, settles: float, end: float) -> Optional[float]:
+        """Waits for a rest that lasts for so many seconds at least. When it began; nothing, if it didn't up to the end."""
+        since, rows = 0.0, -1
+        while time.monotonic() < end:
+            shown, now = self.look(), time.monotonic()
+            if shown is None or not self.is_at_rest(shown):
+                rows = -1
+            elif shown.rows != rows:
+                since, rows = now, shown.rows
+            if rows >= 0 and now >= since + settles:
+                return since
+            time.sleep(0.01)
+        return None
+
+    def goes_on(self, end: float) -> Optional[float]:
+        """Waits until one more unit is done on each partition, by the token of the table. When that was."""
+        before = self.work.sizes()
+        while time.monotonic() < end:
+            shown = self.look()
+            are_done = all(size > earlier for size, earlier in zip(self.work.sizes(), before))
+            if shown is not None and are_done and set(self.work.last_tokens()) == {shown.token}:
+                return time.monotonic()
+            time.sleep(0.01)
+        return None
+
+    def come_to_rest(self, what: str, change: Callable[[], object], settles: float = 0.0) -> None:
+        """Makes a change, and waits until the group is at rest behind it, and works: how long that took, and how many rows."""
+        before, begun = self.show(), time.monotonic()
+        change()
+        rested = self.rest(settles, begun + PATIENCE)
+        worked = self.goes_on(begun + PATIENCE) if rested is not None else None
+        self.count(rested is not None, f'{what}: no rest')
+        self.count(worked is not None, f'{what}: no work')
+        self.see_processes(what)
+        if rested is not None and worked is not None:
+            times, after = self.times.setdefault(what, Times()), self.show()
+            times.to_rest.append(rested - begun)
+            times.to_work.append(max(rested, worked - settles) - begun)
+            times.rows.append(after.rows - (before.rows if after.epoch == before.epoch else 0))
+
+    def see_processes(self, what: str) -> None:
+        """No member has ended by itself."""
+        for name, member in self.members.items():
+            self.count(member.poll() is None, f'{what}: {name} ended by itself, with status {member.returncode}')
+
+    # Changes.
+
+    def resize(self, what: str, names: Sequence[str], partitions: int) -> Path:
+        """The group gets these settings while its members work. The file that has them."""
+        epoch, file = self.show().epoch, self.configured(names, partitions)
+
+        def change() -> None:
+            status = self.command('resize', '--config', str(file)).wait(PATIENCE)
+            self.count(status == 0, f'{what} ends with status {status}')
+            self.work.partitions = partitions
+
+        self.come_to_rest(what, change)
+        self.count(self.show().epoch == epoch + 1, 'another epoch')
+        return file
+
+    def kill(self, name: str) -> None:
+        """The member is killed, and then another process comes for its node."""
+        member = self.members.pop(name)
+        self.come_to_rest('a death', member.kill)
+        member.wait()
+        self.come_to_rest('a return', lambda: self.begin(name))
+
+    def pause(self, name: str, seconds: float, whom: str) -> None:
+        """The member, its worker or both are stopped for so long; a member for more than the ttl until the others are at rest."""
+        paused = self.members[name]
+        workers = [] if whom == 'member' else worker_descriptors(paused.pid)
+
+        def send(number: int) -> None:
+            if whom != 'worker':
+                paused.send_signal(number)
+            send_all(workers, number)
+
+        try:
+            if whom == 'worker' or seconds < self.ttl:
+                send(signal.SIGSTOP)
+                time.sleep(seconds)
+                self.come_to_rest(f'the end of a pause of a {whom} for {seconds:g} s', lambda: send(signal.SIGCONT))
+            else:
+                self.pause_for_long(name, whom, send)
+        finally:
+            for worker in workers:
+                os.close(worker)
+
+    def pause_for_long(self, name: str, whom: str, send: Callable[[int], None]) -> None:
+        """The member is stopped until the others are at rest without it."""
+        paused = self.members.pop(name)
+        self.come_to_rest(f'the begin of a pause of a {whom}', lambda: send(signal.SIGSTOP))
+        if paused.poll() is None:
+            self.members[name] = paused
+            self.come_to_rest(f'the end of a pause of a {whom}', lambda: send(signal.SIGCONT))
+        else:
+            print(f'{name} was stopped in the middle of a write, and was killed')
+            self.come_to_rest('a return', lambda: self.begin(name))
+
+    # At rest, and in the end.
+
+    def idle(self, seconds: float) -> None:
+        """What members cost that have nothing to do."""
+        processes = {name: [member.pid, *children(member.pid)] for name, member in self.members.items()}
+        before, rows, begun = cost(processes), self.show().rows, time.monotonic()
+        time.sleep(seconds)
+        length = time.monotonic() - begun
+        shares = sorted(100 * (after - earlier) / length for earlier, after in zip(before, cost(processes)))
+        self.count(self.show().rows == rows, 'an idle group has more rows')
+        self.count(shares[-1] < 1, f'an idle member took {shares[-1]:.2f} % of a processor')
+        print(f'idle for {length:.0f} s: no row, and {shares[0]:.2f} to {shares[-1]:.2f} % of a processor for a member')
+
+    def end(self, program: Optional[Path] = None) -> None:
+        """All leave in order, and what they left is judged; also with everything said, if there is the program `bully`."""
+        for member in self.members.values():
+            member.terminate()
+        for name, member in self.members.items():
+            self.count(member.wait(PATIENCE) == 0, f'{name} ended with status {member.returncode}')
+        shown = self.show()
+        self.count(not any(node.is_present for node in shown.nodes), 'a member is still present')
+        self.count(all(node.status is Status.DOWN for node in shown.nodes), 'a node is still up')
+        self.judge_log(program)
+        self.judge_work()
+
+    def judge_log(self, program: Optional[Path]) -> None:
+        log = self.opened()
+        self.judge_moves(log)
+        for epoch in log.epochs():
+            rows, _ = cut_end(log.at(epoch).read(0))
+            trace = '\n'.join([*rows, '']).encode()
+            self.judge_trace(trace, f'the log of epoch {epoch}')
+            if program is not None:
+                annotated = subprocess.run([program, 'annotate'], input=trace, stdout=subprocess.PIPE, check=False)
+                self.count(annotated.returncode == 0, f'`bully annotate` ends with status {annotated.returncode}')
+                self.judge_trace(annotated.stdout, f'the same with everything said, {annotated.stdout.count(10) - 1} rows')
+        log.close()
+
+    def judge_moves(self, log: Log) -> None:
+        """No partition moved at a change of the epoch that needn't."""
+        before: List[str] = []
+        for epoch in log.epochs():
+            first, last = owners_by_name(log.at(epoch))
+            stayed, could = kept(before, first), most_kept(before, first)
+            self.count(stayed == could, f'epoch {epoch}: {stayed} partitions stayed, and {could} could')
+            if before:
+                print(f'from epoch {epoch - 1} to {epoch}, {len(before)} to {len(first)} partitions: {stayed} stayed, as many as could')
+            before = last
+
+    def judge_trace(self, trace: bytes, what: str) -> None:
+        verdict = check(trace)
+        self.count(verdict.is_lawful, f'{what}: {verdict}')
+        print(f'{what}: {verdict}')
+
+    def judge_work(self) -> None:
+        """No overlap, and no token fell; one token is of one node."""
+        overlaps, units = self.work.faults('overlap'), 0
+        self.count(not overlaps, f'overlaps: {overlaps[:5]}')
+        for partition in range(self.work.partitions):
+            done = self.work.units(partition)
+            tokens = [int(token) for token, _ in done]
+            units += len(done)
+            self.count(tokens == sorted(tokens), f'a token fell on partition {partition}')
+            is_single = len(set(tokens)) == len({(token, node) for token, node in done})
+            self.count(is_single, f'partition {partition}: two nodes by one token')
+        print(f'{units} units of work, {len(self.work.faults("old"))} refused by their tokens, {len(overlaps)} overlaps')
+
+    def tell(self) -> None:
+        print(f'the ttl is {self.ttl:g} s')
+        for what, times in self.times.items():
+            print(f'{what}: {times}')
+
+    def close(self) -> None:
+        """Whatever is left is ended."""
+        for member in self.members.values():
+            member.kill()
+            member.wait()
+        self.view.close()
+
+
+def cost(processes: Dict[str, List[int]]) -> List[float]:
+    """How much processor time each member and its processes took."""
+    return [sum(map(processor_seconds, each)) for each in processes.values()]
