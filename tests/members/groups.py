@@ -263,15 +263,15 @@ class Group:
 
     # At rest, and in the end.
 
-    def idle(self, seconds: float) -> None:
-        """What members cost that have nothing to do."""
+    def idle(self, seconds: float, most: float) -> None:
+        """What members cost that have nothing to do: no row, and less than this percentage of a processor."""
         processes = {name: [member.pid, *children(member.pid)] for name, member in self.members.items()}
         before, rows, begun = cost(processes), self.show().rows, time.monotonic()
         time.sleep(seconds)
         length = time.monotonic() - begun
         shares = sorted(100 * (after - earlier) / length for earlier, after in zip(before, cost(processes)))
         self.count(self.show().rows == rows, 'an idle group has more rows')
-        self.count(shares[-1] < 1, f'an idle member took {shares[-1]:.2f} % of a processor')
+        self.count(shares[-1] < most, f'an idle member took {shares[-1]:.2f} % of a processor')
         print(f'idle for {length:.0f} s: no row, and {shares[0]:.2f} to {shares[-1]:.2f} % of a processor for a member')
 
     def end(self, program: Optional[Path] = None) -> None:
