@@ -1115,18 +1115,40 @@ class Commands(InEtcd):
     def test_run(self) -> None:
         config, log = ['--config', str(self.config)], ['--log', self.address]
         self.assertEqual(self.call('init', *config, *log)[0], 0)
-        worker = ['sh', '-c', f'echo $BULLY_PARTITIONS > {self.folder}/new; mv {self.folder}/new {self.folder}/begun; exec sleep 1000']
-        words = ['run', *config, *log, '--node', 'the only', '--ttl', '2', '--', *worker]
-        environment = {**os.environ, 'PYTHONPATH': str(Path(__file__).resolve().parent)}
-        with open(self.folder / 'said', 'wb') as said:
-            member = subprocess.Popen([sys.executable, '-W', 'error', '-m', 'bully.command', *words], env=environment, stderr=said)
-        self.addCleanup(member.kill)
+        member = self.member(*config, *log, said=self.folder / 'said')
         wait_until((self.folder / 'begun').exists)
         self.assertEqual((self.folder / 'begun').read_text(), '0 1 2\n')
         member.terminate()
         self.assertEqual(member.wait(PATIENCE), 0)
         log_after = self.opened()
         self.assertEqual((log_after.read(0)[-1], log_after.present()), ('crash,1', set()))
+
+    def test_run_unanswered(self) -> None:
+        """A member that is started while no server answers waits for one."""
+        servers = self.begun()
+        server, said = servers.each[0], self.folder / 'said'
+        config, log = ['--config', str(self.config)], ['--log', servers.address('x')]
+        self.assertEqual(self.call('init', *config, *log)[0], 0)
+        for stop, start in ((server.pause, server.resume), (server.kill, server.start)):
+            with self.subTest(stop=stop):
+                stop()
+                member = self.member(*config, *log, said=said)
+                wait_until(lambda: said.read_text().count('bully-member: 127.0.0.1:') >= 2)
+                start()
+                wait_until((self.folder / 'begun').exists)
+                (self.folder / 'begun').unlink()
+                member.terminate()
+                self.assertEqual(member.wait(PATIENCE), 0)
+
+    def member(self, *words: str, said: Path) -> 'subprocess.Popen[bytes]':
+        """A member of the only node, whose worker tells what it works on."""
+        worker = ['sh', '-c', f'echo $BULLY_PARTITIONS > {self.folder}/new; mv {self.folder}/new {self.folder}/begun; exec sleep 1000']
+        run = ['run', *words, '--node', 'the only', '--ttl', '2', '--', *worker]
+        environment = {**os.environ, 'PYTHONPATH': str(Path(__file__).resolve().parent)}
+        with open(said, 'wb') as output:
+            member = subprocess.Popen([sys.executable, '-W', 'error', '-m', 'bully.command', *run], env=environment, stderr=output)
+        self.addCleanup(member.kill)
+        return member
 
 
 class Members(InEtcd):

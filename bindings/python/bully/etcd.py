@@ -15,14 +15,14 @@ import math
 import ssl
 import time
 from base64 import b64decode
-from typing import FrozenSet, Iterator, List, NamedTuple, Optional, Sequence, Set
+from typing import FrozenSet, Iterator, List, NamedTuple, Optional, Sequence, Set, Tuple
 
 from .epochs import FIRST, Opening
 from .gateway import (
     KV_RANGE, LEASE_GRANT, LEASE_KEEPALIVE, Answer, Client, Compacted, Json, Pair, Silent, Watch, below, coded, exists, number_behind,
     number_is, one, pair_of, pairs_of, put, ranges, read_address, value_is,
 )  # fmt: skip
-from .logs import DamagedLog, ForeignLog, LogError, LogExists, NoEpoch, NoLog, Unanswered, seconds_of_boot, told_epochs
+from .logs import DamagedLog, ForeignLog, LogError, LogExists, NoEpoch, NoLog, Seen, Unanswered, seconds_of_boot, told_epochs
 from .values import Rows
 
 APPEND_MAX = 128  # rows: etcd takes no more in one transaction
@@ -219,12 +219,7 @@ class EtcdLog:
     # Rows and presences.
 
     def read(self, place: int) -> Rows:
-        for _ in range(READS):
-            try:
-                return Rows(''.join(self._pages(place)))
-            except Compacted as compacted:
-                cause = compacted
-        raise Unanswered(f'{self.address}: each revision was compacted while it was read: {cause}') from cause
+        return self._read_with(place)[0]
 
     def append(self, place: int, rows: Sequence[str], absent: Optional[int] = None) -> bool:
         if len(rows) > APPEND_MAX:
@@ -265,6 +260,14 @@ class EtcdLog:
         self._told = frozenset(self._news.present)
         return self._told
 
+    def look(self, place: int) -> Seen:
+        keys, news = self._keys, self._news
+        rows, answer = self._read_with(place, below(keys.presences, keys_only=True), one(keys.wish))
+        news.see_presences(answer.ranges[1], answer.revision)
+        news.see_wish(answer.ranges[2], answer.revision)
+        self._told, self._told_wish = frozenset(news.present), news.wish
+        return Seen(rows, self._told, self._told_wish)
+
     def wait(self, place: int, seconds: float) -> None:
         end = seconds_of_boot() + seconds
         while not self._hear(place, max(0.0, end - seconds_of_boot())):
@@ -304,22 +307,39 @@ class EtcdLog:
         if first[0].created != self._created:
             raise ForeignLog(f'{self.address}: another log is in its place')
 
-    def _pages(self, place: int) -> Iterator[str]:
-        """The rows from that place on, part by part, as they stand at one revision. Raises Compacted."""
-        keys, first = self._keys, place
+    def _read_with(self, place: int, *more: Json) -> Tuple[Rows, Answer]:
+        """The rows from that place on, and an answer whose ranges are that of the header, and what more was asked for at the same
+        revision."""
+        for _ in range(READS):
+            try:
+                answer = self._first_page(place, *more)
+                page, *beyond = answer.ranges[1 + len(more) :]
+                return Rows(''.join(self._pages(place, page, beyond, answer.revision))), answer
+            except Compacted as compacted:
+                cause = compacted
+        raise Unanswered(f'{self.address}: each revision was compacted while it was read: {cause}') from cause
+
+    def _first_page(self, place: int, *more: Json) -> Answer:
+        """The header, more that is asked for, the first part of the rows, and, unless there may be another part, what is behind it."""
+        keys = self._keys
         self._client.begin()
-        is_full, header = exists(keys.row(place + PAGE - 1)), one(keys.header, keys_only=True)
-        answer = self._look(header, keys.page(place), condition=is_full, otherwise=[header, keys.page(place), keys.beyond(place)])
+        asked = [one(keys.header, keys_only=True), *more, keys.page(place)]
+        answer = self._look(*asked, condition=exists(keys.row(place + PAGE - 1)), otherwise=[*asked, keys.beyond(place)])
         if not answer.ranges[0].get('kvs'):
             raise self._no_epoch()
-        found, beyond = answer.ranges[1], answer.ranges[2:]
+        return answer
+
+    def _pages(self, place: int, found: Json, beyond: Sequence[Json], revision: int) -> Iterator[str]:
+        """The rows from that place on, part by part, as they stand at one revision; the first part was found, and what is behind it, if
+        it is the last one. Raises Compacted."""
+        keys, first = self._keys, place
         while True:
             yield self._text(found, first)
             if len(found.get('kvs', ())) < PAGE:
                 break
             first += PAGE
-            found = self._more(keys.page(first), answer.revision)
-        if (beyond[0] if beyond else self._more(keys.beyond(first), answer.revision)).get('kvs'):
+            found = self._more(keys.page(first), revision)
+        if (beyond[0] if beyond else self._more(keys.beyond(first), revision)).get('kvs'):
             raise DamagedLog(f'{self.address}: rows are missing from place {first} on')
 
     def _more(self, asked: Json, revision: int) -> Json:

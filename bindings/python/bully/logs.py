@@ -72,6 +72,14 @@ class DiskFull(Unanswered):
     """The disk is full. Nothing was done."""
 
 
+class Seen(NamedTuple):
+    """What a look at a log finds: rows, who is present, and what is wished for."""
+
+    rows: Sequence[str]
+    present: FrozenSet[int]
+    wish: Optional[str]
+
+
 class Log(Protocol):
     """A store that keeps one order in each epoch, as seen in one of them: its calls are about the rows and the presences of that one.
     Each call is done at one moment, or not at all; one call at a time. Each but `at`, `epochs`, `release` and `close` may raise
@@ -119,6 +127,9 @@ class Log(Protocol):
 
     def present(self) -> FrozenSet[int]:
         """The nodes that hold a presence."""
+
+    def look(self, place: int) -> Seen:
+        """What `read` of this place, `present` and `wish` tell, one after the other or all of one moment."""
 
     def wait(self, place: int, seconds: float) -> None:
         """Returns once a row stands there, or once others are present than `present` told last, or something else is wished for than
@@ -252,6 +263,9 @@ class MemoryLog:
         with self._changed:
             self._told = self._present()
             return self._told
+
+    def look(self, place: int) -> Seen:
+        return Seen(self.read(place), self.present(), self.wish())
 
     def wait(self, place: int, seconds: float) -> None:
         end = self.clock() + seconds
@@ -544,6 +558,9 @@ class SqliteLog:
         with self._calls():
             self._told = self._present()
         return self._told
+
+    def look(self, place: int) -> Seen:
+        return Seen(self.read(place), self.present(), self.wish())
 
     def wait(self, place: int, seconds: float) -> None:
         end = seconds_of_boot() + seconds

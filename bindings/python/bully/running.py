@@ -215,8 +215,10 @@ class Member:
             is_answered = self._answer(partial(self._release, step.life))
             core.released(seconds_of_boot(), is_answered is not None)
         elif isinstance(step, Read):
-            rows = self._answer(partial(log.read, step.place))
-            core.read(seconds_of_boot(), rows)
+            seen = self._answer(partial(log.look, step.place))
+            core.read(seconds_of_boot(), None if seen is None else seen.rows)
+            if seen is not None:  # so it need not look behind that
+                core.looked(begun, seconds_of_boot(), seen.present, seen.wish)
         elif isinstance(step, Look):
             present, wish = self._answer(lambda: (log.present(), log.wish())) or (None, None)
             core.looked(begun, seconds_of_boot(), present, wish)
