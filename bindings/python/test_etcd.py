@@ -21,7 +21,7 @@ from bully import Setup, check, command, etcd, gateway, resizing, settings, stor
 from bully.epochs import Opening, cut_end
 from bully.etcd import EtcdLog
 from bully.gateway import Address, Client, Denied, Endpoint, read_address
-from bully.logs import DamagedLog, ForeignLog, Log, LogError, LogExists, NoLog, Unanswered
+from bully.logs import DamagedLog, ForeignLog, Log, LogError, LogExists, NoEpoch, NoLog, Unanswered
 from bully.running import Member
 from epoch_laws import OPENING, EpochLaws
 from etcd_servers import PROGRAM, QUICK, Json, Server, Servers, coded, decoded, free_ports
@@ -691,6 +691,68 @@ class Endpoints(InEtcd):
             while not request.endswith(b'}'):
                 request += connection.recv(1 << 20)
             connection.sendall(said)
+
+
+class Told(InEtcd):
+    """What a wait tells of what came by its watch."""
+
+    def setUp(self) -> None:
+        super().setUp()
+        self.log, self.other = self.created(), self.opened()
+        self.log.look(1)
+        self.assertIsNone(self.log.wait(1, 0.1))
+
+    def told(self, place: int) -> Tuple[List[str], List[int], Optional[str]]:
+        """What a wait tells."""
+        seen = self.log.wait(place, PATIENCE)
+        assert seen is not None
+        return list(seen.rows), sorted(seen.present), seen.wish
+
+    def test_all(self) -> None:
+        """Each wait tells what is new, without a request."""
+        wish = Opening(2, 'bully,1,2,4', ('a', 'b'), 500).text()
+        with mock.patch.object(self.log._client, 'ask', side_effect=AssertionError):
+            self.other.append(1, ['recover,1', 'start,1'])
+            self.assertEqual(self.told(1), (['recover,1', 'start,1'], [], None))
+            self.other.hold(2, 'x', 50, False)
+            self.assertEqual(self.told(3), ([], [2], None))
+            self.other.ask(wish)
+            self.assertEqual(self.told(3), ([], [2], wish))
+            self.other.release(2, 'x')
+            self.assertEqual(self.told(3), ([], [], wish))
+            self.assertIsNone(self.log.wait(3, 0.1))
+
+    def test_own_rows(self) -> None:
+        """Rows that stand behind some that weren't waited for."""
+        self.assertTrue(self.log.append(1, ['recover,1', 'recover,2']))
+        self.other.append(3, ['start,1'])
+        self.assertEqual(self.told(3)[0], ['start,1'])
+        self.assertTrue(self.log.append(4, ['start,2']))
+        self.other.append(5, ['größer,1', 'größer,2'])
+        self.assertEqual(self.told(5)[0], ['größer,1', 'größer,2'])
+
+    def test_the_end(self) -> None:
+        """Of an epoch, and of one that is taken away."""
+        after = Opening(2, 'bully,1,2,4', ('a', 'b'), 500)
+        self.assertTrue(self.other.end(1, None, after))
+        self.assertEqual(self.told(1)[0], [after.end])
+        self.other.prune(2)
+        self.assertIsNone(self.log.wait(2, PATIENCE))
+        with self.assertRaises(NoEpoch):
+            self.log.look(2)
+
+    def test_damage(self) -> None:
+        """Whatever isn't a row is left for a look to find."""
+        self.server.put(f'{self.prefix}/log/0000000001/0000000001', 'recover,1\nrecover,2')
+        self.assertIsNone(self.log.wait(1, PATIENCE))
+        with self.assertRaises(DamagedLog):
+            self.log.look(1)
+
+    def test_removed(self) -> None:
+        self.server.delete(f'{self.prefix}/', f'{self.prefix}0')
+        self.assertIsNone(self.log.wait(1, PATIENCE))
+        with self.assertRaisesRegex(DamagedLog, 'removed'):
+            self.log.look(1)
 
 
 class Killed(InEtcd):

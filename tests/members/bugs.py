@@ -173,6 +173,7 @@ class Bug(NamedTuple):
     closes_gaps: bool = False
     opens_twice: bool = False
     has_epochs: bool = False
+    waits_tell: bool = False  # no bug: whether a wait may tell what it found
     seed: Optional[int] = None
 
 

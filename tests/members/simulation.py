@@ -11,13 +11,14 @@ from __future__ import annotations
 
 import heapq
 import random
+from contextlib import suppress
 from dataclasses import dataclass, field
 from typing import Callable, Dict, FrozenSet, List, Optional, Sequence, Tuple, TypeVar
 
 from bugs import Bug
 from bully import NotLearned, Replica, Setup, Status, check
 from bully.epochs import Opening, Token, cut_end
-from bully.logs import MemoryLog, NoEpoch, current
+from bully.logs import MemoryLog, NoEpoch, Seen, current
 from bully.member import (
     Append, Assignment, Begin, End, Ending, Finish, Follow, Look, Pace, Read, Release, Renew, Rest, Step, Stop, Take, Wait,
 )  # fmt: skip
@@ -147,7 +148,7 @@ class Store(MemoryLog):
             self.tell()
         return done
 
-    def wait(self, place: int, seconds: float) -> None:
+    def wait(self, place: int, seconds: float) -> Optional[Seen]:
         """Nobody waits by this."""
 
     def tell(self) -> None:
@@ -176,6 +177,7 @@ class Member:
         self.cut_until = 0.0  # no request reaches the store, and no answer the member
         self.is_leaving = False
         self.is_resting = False
+        self.awaited = 0  # the place for whose row it waited last
         self.turn = 0  # counts what it does: what was meant for an earlier turn comes too late
         self.worker = Worker(self)
 
@@ -240,6 +242,7 @@ class Member:
             self.worker.hear_stop()
             self.go()
         elif isinstance(step, Wait):
+            self.awaited = step.place
             self.simulation.store.waiting[self] = self.log, step.place, self.core.present, self.core.wish
             self.later(step.seconds, self.wake)
             self.simulation.store.tell()
@@ -250,12 +253,19 @@ class Member:
             self.end(step.cause)
 
     def wake(self) -> None:
-        """A Wait is over."""
+        """A Wait is over. It may tell what is found then."""
         self.simulation.store.waiting.pop(self, None)
-        self.later(self.simulation.trip_time(), self.woke)
+        seen: Optional[Seen] = None
+        if self.simulation.bug.waits_tell and self.simulation.choice.random() < 0.8:
+            with suppress(NoEpoch):
+                seen = Seen(self.log.read(self.awaited), *self.log.seen())
+        self.later(self.simulation.trip_time(), lambda: self.woke(seen))
 
-    def woke(self) -> None:
+    def woke(self, seen: Optional[Seen]) -> None:
         self.core.woke()
+        if seen is not None:
+            self.core.read(self.simulation.now, seen.rows)
+            self.core.looked(self.simulation.now, self.simulation.now, seen.present, seen.wish)
         self.go()
 
     # What it asks of the store.

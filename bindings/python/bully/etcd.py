@@ -15,7 +15,8 @@ import math
 import ssl
 import time
 from base64 import b64decode
-from typing import FrozenSet, Iterator, List, NamedTuple, Optional, Sequence, Set, Tuple
+from contextlib import suppress
+from typing import Dict, FrozenSet, Iterator, List, NamedTuple, Optional, Sequence, Set, Tuple
 
 from .epochs import FIRST, Opening
 from .gateway import (
@@ -268,11 +269,17 @@ class EtcdLog:
         self._told, self._told_wish = frozenset(news.present), news.wish
         return Seen(rows, self._told, self._told_wish)
 
-    def wait(self, place: int, seconds: float) -> None:
+    def wait(self, place: int, seconds: float) -> Optional[Seen]:
+        """It tells what the watch has told."""
         end = seconds_of_boot() + seconds
         while not self._hear(place, max(0.0, end - seconds_of_boot())):
             if seconds_of_boot() >= end:
-                return
+                return None
+        rows = self._news.rows_from(place)
+        if rows is None:
+            return None
+        self._told, self._told_wish = frozenset(self._news.present), self._news.wish
+        return Seen(rows, self._told, self._told_wish)
 
     def close(self) -> None:
         self._client.close()
@@ -419,7 +426,7 @@ class EtcdLog:
         news.see_presences(answer.ranges[2], answer.revision)
         news.see_wish(answer.ranges[3], answer.revision)
         news.is_gone = not int(answer.ranges[1].get('count', 0))
-        news.place, news.count = place, place + int(answer.ranges[0].get('count', 0))
+        news.begin(place, place + int(answer.ranges[0].get('count', 0)))
         if self._is_news(place):
             return True
         try:
@@ -443,12 +450,24 @@ class News:
     def __init__(self, keys: Keys) -> None:
         self.place = 0
         self.count = 0  # behind the last row that was told
+        self._rows: Dict[int, str] = {}  # that were told, and may be asked for
         self.wish: Optional[str] = None
-        self.is_gone = False  # whether the epoch was taken away
+        self.is_gone = False  # whether the epoch, or the log, was taken away
         self._wished = 0  # the revision of the wish
         self.present: Set[int] = set()
         self._keys = keys
         self._revision = 0  # of the presences
+
+    def begin(self, place: int, count: int) -> None:
+        """Rows from that place on are told now, behind so many."""
+        self.place, self.count = place, count
+        self._rows.clear()
+
+    def rows_from(self, place: int) -> Optional[List[str]]:
+        """The rows from that place on, if all of them were told, and the epoch is there. The others aren't asked for any more."""
+        self._rows = {number: row for number, row in self._rows.items() if number >= place}
+        is_known = not self.is_gone and len(self._rows) == max(0, self.count - place)
+        return [self._rows[number] for number in sorted(self._rows)] if is_known else None
 
     def see_presences(self, found: Json, revision: int) -> None:
         """All presences, as they were found at this revision."""
@@ -469,11 +488,18 @@ class News:
         row, node = number_behind(self._keys.rows, pair.key), number_behind(self._keys.presences, pair.key)
         if row is not None and is_put:
             self.count = max(self.count, row + 1)
-        self.is_gone |= row == 0 and not is_put
+            self._see_row(row, pair.value)
+        self.is_gone |= row is not None and not is_put or pair.key == self._keys.first
         if pair.key == self._keys.wish and pair.modified > self._wished:
             self.wish, self._wished = pair.value.decode() if is_put else None, pair.modified
         if node is not None and pair.modified > self._revision:
             (self.present.add if is_put else self.present.discard)(node)
+
+    def _see_row(self, place: int, value: bytes) -> None:
+        """A row. What is none is left for a look to find."""
+        with suppress(ValueError):
+            if b'\n' not in value:
+                self._rows[place] = value.decode()
 
 
 def removed(asked: Json) -> Json:

@@ -263,13 +263,16 @@ class Member:
 
     def _wait(self, step: Wait) -> None:
         """Waits for what is new in the log, part by part, so that it sees soon that it has to leave, or that its work has ended."""
-        end = seconds_of_boot() + step.seconds
+        end, seen = seconds_of_boot() + step.seconds, None
         while not (self._is_leaving or self._lost):
             part_end = min(end, seconds_of_boot() + SLICE)
-            self._answer(lambda: self.log.wait(step.place, max(0.0, part_end - seconds_of_boot())))
-            if seconds_of_boot() < part_end or part_end == end:
+            seen = self._answer(lambda: self.log.wait(step.place, max(0.0, part_end - seconds_of_boot())))
+            if seen is not None or seconds_of_boot() < part_end or part_end == end:
                 break
         self.core.woke()
+        if seen is not None:  # so it need not look behind that
+            self.core.read(seconds_of_boot(), seen.rows)
+            self.core.looked(seconds_of_boot(), seconds_of_boot(), seen.present, seen.wish)
 
     def _rest(self, seconds: float) -> None:
         """Waits for the end of the work, part by part in the same way."""
