@@ -71,7 +71,7 @@ class EpochLaws(Tests):
         self.assertIsNone(log.wish())
         self.assertTrue(log.ask(one.text()))
         self.assertTrue(other.ask(two.text()))
-        self.assertEqual(log.wish(), two.text())
+        self.assertEqual((log.wish(), log.look(1).wish, other.look(0)[1:]), (two.text(), two.text(), (frozenset(), two.text())))
         self.assertFalse(log.end(1, None, one))
         self.assertFalse(log.end(1, one.text(), one))
         self.assertTrue(log.end(1, two.text(), two))

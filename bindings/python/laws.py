@@ -3,7 +3,7 @@ import random
 import threading
 import time
 import unittest
-from typing import TYPE_CHECKING, Callable, List, Tuple
+from typing import TYPE_CHECKING, Callable, FrozenSet, List, Optional, Tuple
 
 from bully.logs import Log, MemoryLog
 
@@ -33,6 +33,12 @@ class Clock:
 
     def __call__(self) -> float:
         return self.now
+
+
+def looked(log: Log, place: int) -> Tuple[List[str], FrozenSet[int], Optional[str]]:
+    """What a look from that place on finds."""
+    rows, present, wish = log.look(place)
+    return list(rows), present, wish
 
 
 class Laws(Tests):
@@ -78,7 +84,7 @@ class Laws(Tests):
             rows += more
             for place in {0, 1, len(rows) - 1, len(rows), len(rows) + 1, choice.randrange(len(rows)), len(rows) // self.PACK * self.PACK}:
                 self.assertEqual(list(log.read(place)), rows[place:])
-                self.assertEqual(len(log.read(place)), len(rows[place:]))
+                self.assertEqual(len(log.look(place).rows), len(rows[place:]))
         self.assertEqual(list(other.read(0)), rows)
 
     def test_absent(self) -> None:
@@ -127,7 +133,7 @@ class Laws(Tests):
                 (f'append {place} {rows} {absent}', lambda log: log.append(place, rows, absent)),
                 (f'hold {node} {life} {renews}', lambda log: log.hold(node, life, 100 * self.TTL, renews)),
                 (f'release {node} {life}', lambda log: log.release(node, life)), ('present', lambda log: log.present()),
-                (f'read {place}', lambda log: list(log.read(place))),
+                (f'read {place}', lambda log: list(log.read(place))), (f'look {place}', lambda log: looked(log, place)),
             ]  # fmt: skip
             name, ask = choice.choice(asked)
             self.assertEqual(ask(log), ask(memory), f'{number}: {name}')
@@ -150,7 +156,7 @@ class Waits(Tests):
         ]  # fmt: skip
         for number, act in enumerate(acts):
             with self.subTest(act=number):
-                log.present()
+                looked(log, 9) if number % 2 else log.present()
                 later = threading.Timer(0.05, act)
                 later.start()
                 begun = time.monotonic()

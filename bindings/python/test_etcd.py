@@ -21,7 +21,7 @@ from bully import Setup, check, command, etcd, gateway, resizing, settings, stor
 from bully.epochs import Opening, cut_end
 from bully.etcd import EtcdLog
 from bully.gateway import Address, Client, Denied, Endpoint, read_address
-from bully.logs import DamagedLog, ForeignLog, Log, LogError, LogExists, NoLog, Unanswered
+from bully.logs import DamagedLog, ForeignLog, Log, LogError, LogExists, NoEpoch, NoLog, Unanswered
 from bully.running import Member
 from epoch_laws import OPENING, EpochLaws
 from etcd_servers import PROGRAM, QUICK, Json, Server, Servers, coded, decoded, free_ports
@@ -710,6 +710,68 @@ class Endpoints(InEtcd):
             connection.sendall(said)
 
 
+class Told(InEtcd):
+    """What a wait tells of what came by its watch."""
+
+    def setUp(self) -> None:
+        super().setUp()
+        self.log, self.other = self.created(), self.opened()
+        self.log.look(1)
+        self.assertIsNone(self.log.wait(1, 0.1))
+
+    def told(self, place: int) -> Tuple[List[str], List[int], Optional[str]]:
+        """What a wait tells."""
+        seen = self.log.wait(place, PATIENCE)
+        assert seen is not None
+        return list(seen.rows), sorted(seen.present), seen.wish
+
+    def test_all(self) -> None:
+        """Each wait tells what is new, without a request."""
+        wish = Opening(2, 'bully,1,2,4', ('a', 'b'), 500).text()
+        with mock.patch.object(self.log._client, 'ask', side_effect=AssertionError):
+            self.other.append(1, ['recover,1', 'start,1'])
+            self.assertEqual(self.told(1), (['recover,1', 'start,1'], [], None))
+            self.other.hold(2, 'x', 50, False)
+            self.assertEqual(self.told(3), ([], [2], None))
+            self.other.ask(wish)
+            self.assertEqual(self.told(3), ([], [2], wish))
+            self.other.release(2, 'x')
+            self.assertEqual(self.told(3), ([], [], wish))
+            self.assertIsNone(self.log.wait(3, 0.1))
+
+    def test_own_rows(self) -> None:
+        """Rows that stand behind some that weren't waited for."""
+        self.assertTrue(self.log.append(1, ['recover,1', 'recover,2']))
+        self.other.append(3, ['start,1'])
+        self.assertEqual(self.told(3)[0], ['start,1'])
+        self.assertTrue(self.log.append(4, ['start,2']))
+        self.other.append(5, ['größer,1', 'größer,2'])
+        self.assertEqual(self.told(5)[0], ['größer,1', 'größer,2'])
+
+    def test_the_end(self) -> None:
+        """Of an epoch, and of one that is taken away."""
+        after = Opening(2, 'bully,1,2,4', ('a', 'b'), 500)
+        self.assertTrue(self.other.end(1, None, after))
+        self.assertEqual(self.told(1)[0], [after.end])
+        self.other.prune(2)
+        self.assertIsNone(self.log.wait(2, PATIENCE))
+        with self.assertRaises(NoEpoch):
+            self.log.look(2)
+
+    def test_damage(self) -> None:
+        """Whatever isn't a row is left for a look to find."""
+        self.server.put(f'{self.prefix}/log/0000000001/0000000001', 'recover,1\nrecover,2')
+        self.assertIsNone(self.log.wait(1, PATIENCE))
+        with self.assertRaises(DamagedLog):
+            self.log.look(1)
+
+    def test_removed(self) -> None:
+        self.server.delete(f'{self.prefix}/', f'{self.prefix}0')
+        self.assertIsNone(self.log.wait(1, PATIENCE))
+        with self.assertRaisesRegex(DamagedLog, 'removed'):
+            self.log.look(1)
+
+
 class Killed(InEtcd):
     """Servers that are killed and paused, and come back."""
 
@@ -1132,18 +1194,40 @@ class Commands(InEtcd):
     def test_run(self) -> None:
         config, log = ['--config', str(self.config)], ['--log', self.address]
         self.assertEqual(self.call('init', *config, *log)[0], 0)
-        worker = ['sh', '-c', f'echo $BULLY_PARTITIONS > {self.folder}/new; mv {self.folder}/new {self.folder}/begun; exec sleep 1000']
-        words = ['run', *config, *log, '--node', 'the only', '--ttl', '2', '--', *worker]
-        environment = {**os.environ, 'PYTHONPATH': str(Path(__file__).resolve().parent)}
-        with open(self.folder / 'said', 'wb') as said:
-            member = subprocess.Popen([sys.executable, '-W', 'error', '-m', 'bully.command', *words], env=environment, stderr=said)
-        self.addCleanup(member.kill)
+        member = self.member(*config, *log, said=self.folder / 'said')
         wait_until((self.folder / 'begun').exists)
         self.assertEqual((self.folder / 'begun').read_text(), '0 1 2\n')
         member.terminate()
         self.assertEqual(member.wait(PATIENCE), 0)
         log_after = self.opened()
         self.assertEqual((log_after.read(0)[-1], log_after.present()), ('crash,1', set()))
+
+    def test_run_unanswered(self) -> None:
+        """A member that is started while no server answers waits for one."""
+        servers = self.begun()
+        server, said = servers.each[0], self.folder / 'said'
+        config, log = ['--config', str(self.config)], ['--log', servers.address('x')]
+        self.assertEqual(self.call('init', *config, *log)[0], 0)
+        for stop, start in ((server.pause, server.resume), (server.kill, server.start)):
+            with self.subTest(stop=stop):
+                stop()
+                member = self.member(*config, *log, said=said)
+                wait_until(lambda: said.read_text().count('bully-member: 127.0.0.1:') >= 2)
+                start()
+                wait_until((self.folder / 'begun').exists)
+                (self.folder / 'begun').unlink()
+                member.terminate()
+                self.assertEqual(member.wait(PATIENCE), 0)
+
+    def member(self, *words: str, said: Path) -> 'subprocess.Popen[bytes]':
+        """A member of the only node, whose worker tells what it works on."""
+        worker = ['sh', '-c', f'echo $BULLY_PARTITIONS > {self.folder}/new; mv {self.folder}/new {self.folder}/begun; exec sleep 1000']
+        run = ['run', *words, '--node', 'the only', '--ttl', '2', '--', *worker]
+        environment = {**os.environ, 'PYTHONPATH': str(Path(__file__).resolve().parent)}
+        with open(said, 'wb') as output:
+            member = subprocess.Popen([sys.executable, '-W', 'error', '-m', 'bully.command', *run], env=environment, stderr=output)
+        self.addCleanup(member.kill)
+        return member
 
 
 class Members(InEtcd):

@@ -354,6 +354,17 @@ class Rules(unittest.TestCase):
         self.assertIsInstance(it.step(), Renew)
         self.assertIsInstance(it.steps(Begin)[-1], Begin)
 
+    def test_lost_work(self) -> None:
+        """Work that has ended outside is stopped, and begun again. What ended of an earlier Begin isn't it."""
+        it = Driven()
+        work = it.steps(Begin)[-1]
+        assert isinstance(work, Begin)
+        it.core.lost(work.assignment)
+        self.assertEqual(it.step(), Stop(work.assignment))
+        self.assertEqual(it.step(), work)
+        it.core.lost(work.assignment)
+        self.assertIsInstance(it.step(), Wait)
+
     def test_a_presence_that_ended(self) -> None:
         it = Driven()
         it.steps(Begin)
@@ -951,8 +962,9 @@ class Guards(InFolder):
 
     def begin(self, way: str, patience: float = PATIENCE, seconds: float = 1000.0) -> Workers:
         self.failures: List[BaseException] = []
+        self.lost: List[Assignment] = []
         words = [sys.executable, '-c', WORKER, str(self.folder), way]
-        workers = Workers(words, {'BULLY_NODE': 'x'}, patience, self.failures.append)
+        workers = Workers(words, {'BULLY_NODE': 'x'}, patience, self.failures.append, self.lost.append)
         workers.hear_until(logs.seconds_of_boot() + seconds)
         workers.start(self.assignment, '{}')
         wait_until((self.folder / 'begun').exists)
@@ -969,12 +981,12 @@ class Guards(InFolder):
                 self.assertEqual((self.folder / 'begun').read_text().split()[2:], ['40000002', '0', '5'])
                 workers.stop()
                 self.assertTrue(self.are_gone())
-                self.assertEqual(self.failures, [])
+                self.assertEqual((self.failures, self.lost), ([], []))
                 (self.folder / 'begun').unlink()
 
     def test_stop_at_once(self) -> None:
         """A worker that is stopped before it has begun hears it, too."""
-        workers = Workers(['sleep', '1000'], {}, 3600.0, self.fail)
+        workers = Workers(['sleep', '1000'], {}, 3600.0, self.fail, self.fail)
         workers.hear_until(logs.seconds_of_boot() + 3600)
         for _ in range(10):
             workers.start(self.assignment, '{}')
@@ -983,7 +995,7 @@ class Guards(InFolder):
             wait_until(lambda: not thread.is_alive())
 
     def test_until(self) -> None:
-        """It is killed at that moment, also while it is stopped, and with what it started."""
+        """It is killed at that moment, also while it is stopped, and with what it started. Whose worker it was is told then."""
         workers = self.begin('stubborn', seconds=3.0)
         os.kill(self.worker, signal.SIGSTOP)
         until = logs.seconds_of_boot() + 0.5
@@ -991,8 +1003,9 @@ class Guards(InFolder):
         workers.hear_until(until)
         wait_until(self.are_gone)
         self.assertGreaterEqual(logs.seconds_of_boot(), until)
+        wait_until(lambda: self.lost)
         workers.stop()
-        self.assertEqual(self.failures, [])
+        self.assertEqual((self.failures, self.lost), ([], [self.assignment]))
 
     def test_unread(self) -> None:
         """What a guard says at its end is heard, also if it didn't read all that it was told."""
@@ -1024,7 +1037,7 @@ class Guards(InFolder):
 
     def test_no_such_worker(self) -> None:
         failures: List[BaseException] = []
-        workers = Workers(['/nowhere/worker'], {}, 1.0, failures.append)
+        workers = Workers(['/nowhere/worker'], {}, 1.0, failures.append, self.fail)
         workers.hear_until(logs.seconds_of_boot() + 100)
         workers.start(self.assignment, '{}')
         wait_until(lambda: failures)
@@ -1385,6 +1398,22 @@ class Processes(InFolder):
         wait_until(lambda: 'database is locked' in (self.folder / 'said').read_text())
         others.close()
         self.worker()
+        member.terminate()
+        self.assertEqual(member.wait(PATIENCE), 0)
+
+    def test_a_late_renewal(self) -> None:
+        """A worker that its guard has killed, since it heard of renewals too late, is begun again."""
+        member = self.begin(self.BEGINS)
+        for _ in range(3):
+            worker = self.worker()
+            (self.folder / 'begun').unlink()
+            guard = int(Path(f'/proc/{worker}/stat').read_text().rsplit(')', 1)[1].split()[1])
+            os.kill(guard, signal.SIGSTOP)  # it hears of no renewal
+            begun = logs.seconds_of_boot()
+            wait_until(lambda: logs.seconds_of_boot() > begun + 2.0)
+            os.kill(guard, signal.SIGCONT)
+            self.assertNotEqual(self.worker(), worker)
+            self.assertFalse(is_running(worker))
         member.terminate()
         self.assertEqual(member.wait(PATIENCE), 0)
 

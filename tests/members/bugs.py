@@ -226,6 +226,7 @@ class Bug(NamedTuple):
     opens_twice: bool = False
     log: Optional[Type[KeptLog]] = None
     has_epochs: bool = False
+    waits_tell: bool = False  # no bug: whether a wait may tell what it found
     seed: Optional[int] = None
 
 

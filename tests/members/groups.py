@@ -37,7 +37,8 @@ ROW = 64  # bytes that a row of a worker has at most
 
 @dataclass
 class Times:
-    """How long a group took to come to rest behind changes of one kind, and until all partitions were worked on; and how many rows."""
+    """How long a group took to come to rest behind changes of one kind, and how many rows; and until all partitions were worked on, if
+    that was looked for at once."""
 
     to_rest: List[float] = field(default_factory=list)
     to_work: List[float] = field(default_factory=list)
@@ -45,8 +46,9 @@ class Times:
 
     def __str__(self) -> str:
         rest, work, rows = self.to_rest, self.to_work, self.rows
-        return (f'{len(rest)} times, to rest in {statistics.median(rest):.2f} s, at most {max(rest):.2f} s, and {statistics.median(rows):.0f} '
-                f'rows, at most {max(rows)}; to work in {statistics.median(work):.2f} s, at most {max(work):.2f} s')
+        told = (f'{len(rest)} times, to rest in {statistics.median(rest):.2f} s, at most {max(rest):.2f} s, and {statistics.median(rows):.0f} '
+                f'rows, at most {max(rows)}')
+        return f'{told}; to work in {statistics.median(work):.2f} s, at most {max(work):.2f} s' if work else told
 
 
 class Work:
@@ -102,6 +104,7 @@ class Group:
         self.times: Dict[str, Times] = {}
         self.count(self.command('init', '--config', str(self.config)).wait(PATIENCE) == 0, 'no log can be made')
         self.view = LogView(self.opened())
+        self.shown = self.view.show()  # as it was seen last
 
     def configured(self, names: Sequence[str], partitions: int) -> Path:
         """A file with settings."""
@@ -118,8 +121,12 @@ class Group:
         environment = {**os.environ, 'PYTHONPATH': str(ROOT / 'bindings' / 'python')}
         within = self.within(member) if member else ()
         words = [*within, sys.executable, '-W', 'error', '-m', 'bully.command', name, '--log', self.stores[member], *more]
-        with open(self.folder / f'{member or name}.said', 'ab') as said:
+        with open(self.said(member or name), 'ab') as said:
             return subprocess.Popen(words, env=environment, stdout=said, stderr=said)
+
+    def said(self, name: str) -> Path:
+        """The file of what a member, or another command, says."""
+        return self.folder / f'{name}.said'
 
     def begin(self, name: str) -> None:
         """A process for the node."""
@@ -142,9 +149,10 @@ class Group:
     def look(self) -> Optional[GroupView]:
         """How the group stands; nothing, if the store doesn't answer."""
         try:
-            return self.view.show()
+            self.shown = self.view.show()
         except Unanswered:
             return None
+        return self.shown
 
     def show(self) -> GroupView:
         """How the group stands."""
@@ -189,17 +197,17 @@ class Group:
 
     def come_to_rest(self, what: str, change: Callable[[], object], settles: float = 0.0) -> None:
         """Makes a change, and waits until the group is at rest behind it, and works: how long that took, and how many rows."""
-        before, begun = self.show(), time.monotonic()
+        before, begun = self.shown, time.monotonic()
         change()
         rested = self.rest(settles, begun + PATIENCE)
-        worked = self.goes_on(begun + PATIENCE) if rested is not None else None
+        worked = self.goes_on(time.monotonic() + PATIENCE) if rested is not None else None
         self.count(rested is not None, f'{what}: no rest')
         self.count(worked is not None, f'{what}: no work')
         self.see_processes(what)
         if rested is not None and worked is not None:
-            times, after = self.times.setdefault(what, Times()), self.show()
+            times, after = self.times.setdefault(what, Times()), self.shown
             times.to_rest.append(rested - begun)
-            times.to_work.append(max(rested, worked - settles) - begun)
+            times.to_work += [worked - begun] if settles == 0 else []
             times.rows.append(after.rows - (before.rows if after.epoch == before.epoch else 0))
 
     def see_processes(self, what: str) -> None:

@@ -11,13 +11,14 @@ from __future__ import annotations
 
 import heapq
 import random
+from contextlib import suppress
 from dataclasses import dataclass, field
 from typing import Callable, Dict, FrozenSet, List, Optional, Protocol, Sequence, Tuple, TypeVar
 
 from bugs import Bug
 from bully import NotLearned, Replica, Setup, Status, check
 from bully.epochs import Opening, Token, cut_end
-from bully.logs import Log, MemoryLog, NoEpoch
+from bully.logs import Log, MemoryLog, NoEpoch, Seen
 from bully.member import (
     Append, Assignment, Begin, End, Ending, Finish, Follow, Look, Pace, Read, Release, Renew, Rest, Step, Stop, Take, Wait,
 )  # fmt: skip
@@ -89,7 +90,7 @@ class Resource:
             raise Wrong(f'{worker.member} was not paused, and works by the old token {unit.token}')
 
 
-Seen = Tuple[FrozenSet[int], Optional[str]]  # who is present, and what is wished for
+Standing = Tuple[FrozenSet[int], Optional[str]]  # who is present, and what is wished for
 Waiting = Tuple['Store', int, FrozenSet[int], Optional[str]]  # for a row at a place, or other presences, or another wish
 
 
@@ -106,7 +107,7 @@ class Store(Log, Protocol):
     def give_back(self, node: int, life: str) -> bool:
         """A release, which is answered."""
 
-    def seen(self) -> Seen:
+    def seen(self) -> Standing:
         """Who is present, and what is wished for. Nobody waits for what this tells."""
 
     def has_news(self, place: int, present: FrozenSet[int], wish: Optional[str]) -> bool:
@@ -144,7 +145,7 @@ class MemoryStore(MemoryLog):
         self.simulation.tell()
         return True
 
-    def seen(self) -> Seen:
+    def seen(self) -> Standing:
         return self._present(), self._here().wish
 
     def append(self, place: int, rows: Sequence[str], absent: Optional[int] = None) -> bool:
@@ -170,7 +171,7 @@ class MemoryStore(MemoryLog):
             self.simulation.tell()
         return done
 
-    def wait(self, place: int, seconds: float) -> None:
+    def wait(self, place: int, seconds: float) -> Optional[Seen]:
         """Nobody waits by this."""
 
     def has_news(self, place: int, present: FrozenSet[int], wish: Optional[str]) -> bool:
@@ -192,6 +193,7 @@ class Member:
         self.cut_until = 0.0  # no request reaches the store, and no answer the member
         self.is_leaving = False
         self.is_resting = False
+        self.awaited = 0  # the place for whose row it waited last
         self.turn = 0  # counts what it does: what was meant for an earlier turn comes too late
         self.worker = Worker(self)
 
@@ -256,6 +258,7 @@ class Member:
             self.worker.hear_stop()
             self.go()
         elif isinstance(step, Wait):
+            self.awaited = step.place
             self.simulation.waiting[self] = self.log, step.place, self.core.present, self.core.wish
             self.later(step.seconds, self.wake)
             self.simulation.tell()
@@ -266,12 +269,19 @@ class Member:
             self.end(step.cause)
 
     def wake(self) -> None:
-        """A Wait is over."""
+        """A Wait is over. For a log in memory it may tell what is found then."""
         self.simulation.waiting.pop(self, None)
-        self.later(self.simulation.trip_time(), self.woke)
+        seen: Optional[Seen] = None
+        if self.simulation.bug.waits_tell and isinstance(self.log, MemoryLog) and self.simulation.choice.random() < 0.8:
+            with suppress(NoEpoch):
+                seen = Seen(self.log.read(self.awaited), *self.log.seen())
+        self.later(self.simulation.trip_time(), lambda: self.woke(seen))
 
-    def woke(self) -> None:
+    def woke(self, seen: Optional[Seen]) -> None:
         self.core.woke()
+        if seen is not None:
+            self.core.read(self.simulation.now, seen.rows)
+            self.core.looked(self.simulation.now, self.simulation.now, seen.present, seen.wish)
         self.go()
 
     # What it asks of the store.
@@ -337,7 +347,7 @@ class Member:
     def has_read(self, begun: float, rows: Optional[Sequence[str]]) -> None:
         self.core.read(self.simulation.now, rows)
 
-    def looked(self, begun: float, seen: Optional[Seen]) -> None:
+    def looked(self, begun: float, seen: Optional[Standing]) -> None:
         self.core.looked(begun, self.simulation.now, *(seen or (None, None)))
 
     def append(self, step: Append) -> None:

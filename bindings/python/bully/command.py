@@ -164,7 +164,8 @@ class Run:
     def __init__(self, options: argparse.Namespace, settings: Optional[Settings], log: Store) -> None:
         self.member = Member(log, options.node, self.start, self.stop, options.ttl, settings, sure=self.hear_until)
         self.pace = self.member.core.pace
-        self.workers = Workers(options.worker, {'BULLY_NODE': options.node}, options.stop_seconds, self.member.end_with)
+        environment = {'BULLY_NODE': options.node}
+        self.workers = Workers(options.worker, environment, options.stop_seconds, self.member.end_with, self.member.lose)
 
     def run(self) -> None:
         """Takes part, until a signal tells it to leave."""

@@ -15,14 +15,15 @@ import math
 import ssl
 import time
 from base64 import b64decode
-from typing import FrozenSet, Iterator, List, NamedTuple, Optional, Sequence, Set
+from contextlib import suppress
+from typing import Dict, FrozenSet, Iterator, List, NamedTuple, Optional, Sequence, Set, Tuple
 
 from .epochs import FIRST, Opening
 from .gateway import (
     KV_RANGE, LEASE_GRANT, LEASE_KEEPALIVE, Answer, Client, Compacted, Json, Pair, Silent, Watch, below, coded, exists, number_behind,
     number_is, one, pair_of, pairs_of, put, ranges, read_address, value_is,
 )  # fmt: skip
-from .logs import DamagedLog, ForeignLog, LogError, LogExists, NoEpoch, NoLog, Unanswered, seconds_of_boot, told_epochs
+from .logs import DamagedLog, ForeignLog, LogError, LogExists, NoEpoch, NoLog, Seen, Unanswered, seconds_of_boot, told_epochs
 from .values import Rows
 
 APPEND_MAX = 128  # rows: etcd takes no more in one transaction
@@ -219,12 +220,7 @@ class EtcdLog:
     # Rows and presences.
 
     def read(self, place: int) -> Rows:
-        for _ in range(READS):
-            try:
-                return Rows(''.join(self._pages(place)))
-            except Compacted as compacted:
-                cause = compacted
-        raise Unanswered(f'{self.address}: each revision was compacted while it was read: {cause}') from cause
+        return self._read_with(place)[0]
 
     def append(self, place: int, rows: Sequence[str], absent: Optional[int] = None) -> bool:
         if len(rows) > APPEND_MAX:
@@ -265,11 +261,25 @@ class EtcdLog:
         self._told = frozenset(self._news.present)
         return self._told
 
-    def wait(self, place: int, seconds: float) -> None:
+    def look(self, place: int) -> Seen:
+        keys, news = self._keys, self._news
+        rows, answer = self._read_with(place, below(keys.presences, keys_only=True), one(keys.wish))
+        news.see_presences(answer.ranges[1], answer.revision)
+        news.see_wish(answer.ranges[2], answer.revision)
+        self._told, self._told_wish = frozenset(news.present), news.wish
+        return Seen(rows, self._told, self._told_wish)
+
+    def wait(self, place: int, seconds: float) -> Optional[Seen]:
+        """It tells what the watch has told."""
         end = seconds_of_boot() + seconds
         while not self._hear(place, max(0.0, end - seconds_of_boot())):
             if seconds_of_boot() >= end:
-                return
+                return None
+        rows = self._news.rows_from(place)
+        if rows is None:
+            return None
+        self._told, self._told_wish = frozenset(self._news.present), self._news.wish
+        return Seen(rows, self._told, self._told_wish)
 
     def close(self) -> None:
         self._client.close()
@@ -304,22 +314,39 @@ class EtcdLog:
         if first[0].created != self._created:
             raise ForeignLog(f'{self.address}: another log is in its place')
 
-    def _pages(self, place: int) -> Iterator[str]:
-        """The rows from that place on, part by part, as they stand at one revision. Raises Compacted."""
-        keys, first = self._keys, place
+    def _read_with(self, place: int, *more: Json) -> Tuple[Rows, Answer]:
+        """The rows from that place on, and an answer whose ranges are that of the header, and what more was asked for at the same
+        revision."""
+        for _ in range(READS):
+            try:
+                answer = self._first_page(place, *more)
+                page, *beyond = answer.ranges[1 + len(more) :]
+                return Rows(''.join(self._pages(place, page, beyond, answer.revision))), answer
+            except Compacted as compacted:
+                cause = compacted
+        raise Unanswered(f'{self.address}: each revision was compacted while it was read: {cause}') from cause
+
+    def _first_page(self, place: int, *more: Json) -> Answer:
+        """The header, more that is asked for, the first part of the rows, and, unless there may be another part, what is behind it."""
+        keys = self._keys
         self._client.begin()
-        is_full, header = exists(keys.row(place + PAGE - 1)), one(keys.header, keys_only=True)
-        answer = self._look(header, keys.page(place), condition=is_full, otherwise=[header, keys.page(place), keys.beyond(place)])
+        asked = [one(keys.header, keys_only=True), *more, keys.page(place)]
+        answer = self._look(*asked, condition=exists(keys.row(place + PAGE - 1)), otherwise=[*asked, keys.beyond(place)])
         if not answer.ranges[0].get('kvs'):
             raise self._no_epoch()
-        found, beyond = answer.ranges[1], answer.ranges[2:]
+        return answer
+
+    def _pages(self, place: int, found: Json, beyond: Sequence[Json], revision: int) -> Iterator[str]:
+        """The rows from that place on, part by part, as they stand at one revision; the first part was found, and what is behind it, if
+        it is the last one. Raises Compacted."""
+        keys, first = self._keys, place
         while True:
             yield self._text(found, first)
             if len(found.get('kvs', ())) < PAGE:
                 break
             first += PAGE
-            found = self._more(keys.page(first), answer.revision)
-        if (beyond[0] if beyond else self._more(keys.beyond(first), answer.revision)).get('kvs'):
+            found = self._more(keys.page(first), revision)
+        if (beyond[0] if beyond else self._more(keys.beyond(first), revision)).get('kvs'):
             raise DamagedLog(f'{self.address}: rows are missing from place {first} on')
 
     def _more(self, asked: Json, revision: int) -> Json:
@@ -403,7 +430,7 @@ class EtcdLog:
         news.see_presences(answer.ranges[2], answer.revision)
         news.see_wish(answer.ranges[3], answer.revision)
         news.is_gone = not int(answer.ranges[1].get('count', 0))
-        news.place, news.count = place, place + int(answer.ranges[0].get('count', 0))
+        news.begin(place, place + int(answer.ranges[0].get('count', 0)))
         if self._is_news(place):
             return True
         try:
@@ -427,12 +454,24 @@ class News:
     def __init__(self, keys: Keys) -> None:
         self.place = 0
         self.count = 0  # behind the last row that was told
+        self._rows: Dict[int, str] = {}  # that were told, and may be asked for
         self.wish: Optional[str] = None
-        self.is_gone = False  # whether the epoch was taken away
+        self.is_gone = False  # whether the epoch, or the log, was taken away
         self._wished = 0  # the revision of the wish
         self.present: Set[int] = set()
         self._keys = keys
         self._revision = 0  # of the presences
+
+    def begin(self, place: int, count: int) -> None:
+        """Rows from that place on are told now, behind so many."""
+        self.place, self.count = place, count
+        self._rows.clear()
+
+    def rows_from(self, place: int) -> Optional[List[str]]:
+        """The rows from that place on, if all of them were told, and the epoch is there. The others aren't asked for any more."""
+        self._rows = {number: row for number, row in self._rows.items() if number >= place}
+        is_known = not self.is_gone and len(self._rows) == max(0, self.count - place)
+        return [self._rows[number] for number in sorted(self._rows)] if is_known else None
 
     def see_presences(self, found: Json, revision: int) -> None:
         """All presences, as they were found at this revision."""
@@ -453,11 +492,18 @@ class News:
         row, node = number_behind(self._keys.rows, pair.key), number_behind(self._keys.presences, pair.key)
         if row is not None and is_put:
             self.count = max(self.count, row + 1)
-        self.is_gone |= row == 0 and not is_put
+            self._see_row(row, pair.value)
+        self.is_gone |= row is not None and not is_put or pair.key == self._keys.first
         if pair.key == self._keys.wish and pair.modified > self._wished:
             self.wish, self._wished = pair.value.decode() if is_put else None, pair.modified
         if node is not None and pair.modified > self._revision:
             (self.present.add if is_put else self.present.discard)(node)
+
+    def _see_row(self, place: int, value: bytes) -> None:
+        """A row. What is none is left for a look to find."""
+        with suppress(ValueError):
+            if b'\n' not in value:
+                self._rows[place] = value.decode()
 
 
 def removed(asked: Json) -> Json:

@@ -72,6 +72,14 @@ class DiskFull(Unanswered):
     """The disk is full. Nothing was done."""
 
 
+class Seen(NamedTuple):
+    """What a look at a log finds: rows, who is present, and what is wished for."""
+
+    rows: Sequence[str]
+    present: FrozenSet[int]
+    wish: Optional[str]
+
+
 class Log(Protocol):
     """A store that keeps one order in each epoch, as seen in one of them: its calls are about the rows and the presences of that one.
     Each call is done at one moment, or not at all; one call at a time. Each but `at`, `epochs`, `release` and `close` may raise
@@ -120,9 +128,12 @@ class Log(Protocol):
     def present(self) -> FrozenSet[int]:
         """The nodes that hold a presence."""
 
-    def wait(self, place: int, seconds: float) -> None:
-        """Returns once a row stands there, or once others are present than `present` told last, or something else is wished for than
-        `wish` told last, or once the time is over."""
+    def look(self, place: int) -> Seen:
+        """What `read` of this place, `present` and `wish` tell, one after the other or all of one moment."""
+
+    def wait(self, place: int, seconds: float) -> Optional[Seen]:
+        """Returns once a row stands there, or once others are present than were told last, or something else is wished for than was told
+        last, or once the time is over. It may tell what a look found at some moment, of before too, but of none before what was told."""
 
     def close(self) -> None:
         """The log isn't used any more. Presences stay until they end."""
@@ -253,11 +264,15 @@ class MemoryLog:
             self._told = self._present()
             return self._told
 
-    def wait(self, place: int, seconds: float) -> None:
+    def look(self, place: int) -> Seen:
+        return Seen(self.read(place), self.present(), self.wish())
+
+    def wait(self, place: int, seconds: float) -> Optional[Seen]:
         end = self.clock() + seconds
         with self._changed:
             while not self._is_news(place) and self.clock() < end:
                 self._changed.wait(max(0.0, min([end, *self._ends()]) - self.clock()))
+        return None
 
     def close(self) -> None:
         pass
@@ -545,16 +560,20 @@ class SqliteLog:
             self._told = self._present()
         return self._told
 
-    def wait(self, place: int, seconds: float) -> None:
+    def look(self, place: int) -> Seen:
+        return Seen(self.read(place), self.present(), self.wish())
+
+    def wait(self, place: int, seconds: float) -> Optional[Seen]:
         end = seconds_of_boot() + seconds
         self._version = -1
         while not self._is_news(place):
             left = end - seconds_of_boot()
             if left <= 0:
-                return
+                return None
             time.sleep(min(self._sleep, left))
             self._sleep = min(2 * self._sleep, LONGEST_SLEEP)
         self._sleep = SHORTEST_SLEEP
+        return None
 
     def watch(self, seconds: float) -> None:
         """Has a small process kill this one if that is stopped in the middle of a write for so long: else nobody could write."""

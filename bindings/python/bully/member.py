@@ -179,6 +179,7 @@ class Core:
         self._tries = 0
         self._work: Optional[Assignment] = None
         self._is_stopping = False
+        self._is_lost = False  # whether the work has ended outside
         self._quiet = NEVER  # until when nothing is asked of the store
         self._is_leaving = False
         self._left_at = float('inf')  # when it leaves without more tries
@@ -327,6 +328,10 @@ class Core:
         self._must_read = True
         self._looked = NEVER
 
+    def lost(self, work: Assignment) -> None:
+        """What was begun by this Begin has ended outside: it is stopped, and begun again if the node still owns it."""
+        self._is_lost |= work is self._work
+
     def stopped(self, now: float) -> None:
         """Nothing is worked on any more."""
         self._work = None
@@ -341,7 +346,7 @@ class Core:
         if self._is_stopping:
             return self._next_while_stopping(now)
         is_at_end = self._is_leaving or self._ending is not None
-        if self._work is not None and (now >= self.sure_until or is_at_end or self._is_past):
+        if self._work is not None and (now >= self.sure_until or is_at_end or self._is_past or self._is_lost):
             return self._stop(self._work)
         if now < self._quiet:
             return self._rest(now, self._quiet)
@@ -413,6 +418,7 @@ class Core:
 
     def _stop(self, work: Assignment) -> Step:
         self._is_stopping = True
+        self._is_lost = False
         return Stop(work)
 
     def _rest(self, now: float, end: float) -> Step:

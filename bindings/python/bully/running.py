@@ -93,6 +93,7 @@ class Member:
         self._is_stuck = False  # whether work may go on for good
         self._to_call: 'queue.SimpleQueue[Optional[Call]]' = queue.SimpleQueue()
         self._stopped: List[Assignment] = []
+        self._lost: List[Assignment] = []
         self._wake = threading.Event()
         self._ended = threading.Event()
         self._ended.set()
@@ -128,6 +129,12 @@ class Member:
         """The same, if it isn't leaving already."""
         if not self._is_leaving:
             self.fail(failure)
+
+    def lose(self, assignment: Assignment) -> None:
+        """The work that was begun for this assignment has ended, though nobody told it to: it is stopped, and begun again if the node
+        still owns it."""
+        self._lost.append(assignment)
+        self._wake.set()
 
     # Its life.
 
@@ -167,6 +174,8 @@ class Member:
             while self._stopped:
                 self._stopped.pop()
                 self.core.stopped(seconds_of_boot())
+            while self._lost:
+                self.core.lost(self._lost.pop())
             step = self.core.next(seconds_of_boot())
             if isinstance(step, End):
                 level = logging.WARNING if step.cause is Ending.NOT_THERE else logging.INFO
@@ -206,8 +215,10 @@ class Member:
             is_answered = self._answer(partial(self._release, step.life))
             core.released(seconds_of_boot(), is_answered is not None)
         elif isinstance(step, Read):
-            rows = self._answer(partial(log.read, step.place))
-            core.read(seconds_of_boot(), rows)
+            seen = self._answer(partial(log.look, step.place))
+            core.read(seconds_of_boot(), None if seen is None else seen.rows)
+            if seen is not None:  # so it need not look behind that
+                core.looked(begun, seconds_of_boot(), seen.present, seen.wish)
         elif isinstance(step, Look):
             present, wish = self._answer(lambda: (log.present(), log.wish())) or (None, None)
             core.looked(begun, seconds_of_boot(), present, wish)
@@ -251,14 +262,17 @@ class Member:
             return None
 
     def _wait(self, step: Wait) -> None:
-        """Waits for what is new in the log, part by part, so that it sees soon that it has to leave."""
-        end = seconds_of_boot() + step.seconds
-        while not self._is_leaving:
+        """Waits for what is new in the log, part by part, so that it sees soon that it has to leave, or that its work has ended."""
+        end, seen = seconds_of_boot() + step.seconds, None
+        while not (self._is_leaving or self._lost):
             part_end = min(end, seconds_of_boot() + SLICE)
-            self._answer(lambda: self.log.wait(step.place, max(0.0, part_end - seconds_of_boot())))
-            if seconds_of_boot() < part_end or part_end == end:
+            seen = self._answer(lambda: self.log.wait(step.place, max(0.0, part_end - seconds_of_boot())))
+            if seen is not None or seconds_of_boot() < part_end or part_end == end:
                 break
         self.core.woke()
+        if seen is not None:  # so it need not look behind that
+            self.core.read(seconds_of_boot(), seen.rows)
+            self.core.looked(seconds_of_boot(), seconds_of_boot(), seen.present, seen.wish)
 
     def _rest(self, seconds: float) -> None:
         """Waits for the end of the work, part by part in the same way."""

@@ -62,6 +62,7 @@ class LogView:
         """Raises NotLearned, BadHeader, and what the log raises."""
         self._root = log
         self._last: Deque[Tuple[int, str]] = collections.deque(maxlen=LAST_ROWS)
+        self._present: FrozenSet[int] = frozenset()
         self._lock = threading.Lock()
         self._enter()
         self._read()
@@ -76,7 +77,7 @@ class LogView:
         """Reads on, and shows the group."""
         with self._lock:
             self._read()
-            return self._shown(self._log.present())
+            return self._shown(self._present)
 
     def close(self) -> None:
         with self._lock:
@@ -99,9 +100,11 @@ class LogView:
     def _has_ended(self) -> bool:
         """Reads on in this epoch. Whether it has ended."""
         try:
-            rows, has_ended = cut_end(self._log.read(self._replica.rows + 1))
+            seen = self._log.look(self._replica.rows + 1)
         except NoEpoch:  # it was taken away
             return True
+        rows, has_ended = cut_end(seen.rows)
+        self._present = seen.present
         self._replica.learn(rows)
         last = rows[-LAST_ROWS:]
         self._last.extend(enumerate(last, self._replica.rows + 2 - len(last)))

@@ -16,6 +16,7 @@ from pathlib import Path
 from typing import Optional
 
 WRITER_BYTE = '120'  # of the file, on which whoever writes has a lock
+TIMES = 5  # how often the locks are looked at: while others come and go, a line may be left out
 CLOCK_BOOTTIME = 7
 
 
@@ -23,10 +24,17 @@ def writer_of(file: str) -> Optional[int]:
     """The process that writes, if that can be told. (To open and close the file itself would lose the locks of this process on it.)"""
     with contextlib.suppress(OSError):
         inode = str(os.stat(file).st_ino)
-        for line in Path('/proc/locks').read_text(encoding='ascii').splitlines():
-            words = line.split()
-            if words[3:4] == ['WRITE'] and words[5].split(':')[-1] == inode and words[6] == WRITER_BYTE:
-                return int(words[4])
+        found = (writer_in(inode, Path('/proc/locks').read_text(encoding='ascii')) for _ in range(TIMES))
+        return next((process for process in found if process is not None), None)
+    return None
+
+
+def writer_in(inode: str, locks: str) -> Optional[int]:
+    """The same, by this list of the locks that processes have."""
+    for line in locks.splitlines():
+        words = line.split()
+        if words[3:4] == ['WRITE'] and words[5].split(':')[-1] == inode and words[6] == WRITER_BYTE:
+            return int(words[4])
     return None
 
 

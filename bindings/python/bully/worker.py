@@ -39,7 +39,7 @@ class Guarded:
             self._guard = subprocess.Popen(
                 command, env=environment, stdin=subprocess.DEVNULL, pass_fds=[given.fileno()], start_new_session=True
             )
-        self._said = threading.Lock()
+        self.is_stopping = False
 
     def hear_until(self, until: float) -> None:
         """The worker may go on until then."""
@@ -47,6 +47,7 @@ class Guarded:
 
     def stop(self) -> None:
         """The worker has to end."""
+        self.is_stopping = True
         self._tell('stop')
 
     def wait(self) -> Optional[int]:
@@ -74,13 +75,17 @@ class Guarded:
 class Workers:
     """Starts and stops the worker of a member."""
 
-    def __init__(self, words: Sequence[str], environment: Dict[str, str], patience: float, fail: Callable[[BaseException], None]) -> None:
+    def __init__(
+        self, words: Sequence[str], environment: Dict[str, str], patience: float, fail: Callable[[BaseException], None],
+        lose: Callable[[Assignment], None],
+    ) -> None:  # fmt: skip
         """The words of its command, and what its environment has beside what `start` adds. `fail` is told that a worker ended by
-        itself, or that its guard died."""
+        itself, or that its guard died; and `lose` whose worker its guard has killed, since its time was over."""
         self._words = words
         self._environment = environment
         self._patience = patience
         self._fail = fail
+        self._lose = lose
         self._guarded: Optional[Guarded] = None
         self._watcher: Optional[threading.Thread] = None
         self._lost: Optional[GuardLost] = None
@@ -96,7 +101,7 @@ class Workers:
         guarded = Guarded(self._words, environment, self._patience, self._until)
         self._guarded = guarded
         guarded.hear_until(self._until)
-        self._watcher = threading.Thread(target=self._watch, args=[guarded], daemon=True)
+        self._watcher = threading.Thread(target=self._watch, args=[guarded, assignment], daemon=True)
         self._watcher.start()
 
     def stop(self) -> None:
@@ -115,7 +120,7 @@ class Workers:
         if guarded is not None:
             guarded.hear_until(until)
 
-    def _watch(self, guarded: Guarded) -> None:
+    def _watch(self, guarded: Guarded, assignment: Assignment) -> None:
         """Waits for the end of the worker."""
         try:
             status = guarded.wait()
@@ -125,6 +130,8 @@ class Workers:
         else:
             if status is not None:
                 self._fail(WorkerEnded(status))
+            elif not guarded.is_stopping:
+                self._lose(assignment)
 
 
 def moment(seconds: float) -> str:
