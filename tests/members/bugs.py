@@ -242,7 +242,7 @@ BUGS: Dict[str, Bug] = {
     'overlooks-end': Bug(OverlooksEnd, has_epochs=True, seed=1),
     'ends-early': Bug(EndsEarly, has_epochs=True, seed=44),
     'opens-twice': Bug(opens_twice=True, has_epochs=True, seed=8),
-    'reads-alone': Bug(log=ReadsAlone, seed=165),
+    'reads-alone': Bug(log=ReadsAlone, seed=73),
     'trusts-renewals': Bug(log=TrustsRenewals, seed=7),
     'keeps-lease': Bug(log=KeepsLease, seed=7),
     'repeats-appends': Bug(log=RepeatsAppends, seed=3),
