@@ -212,7 +212,8 @@ def rows_bytes(rows: Sequence[Line]) -> bytes:
         text = rows.text if isinstance(rows, Rows) else '\n'.join(rows) + '\n' if rows else ''  # type: ignore[arg-type]
     except TypeError:
         text = '\r'  # of rows that aren't all str
-    if '\r' in text or text.count('\n') != len(rows) or '\n\n' in text or text[:1] == '\n':
+    has_others = not isinstance(rows, Rows) and text.count('\n') != len(rows)
+    if has_others or '\r' in text or '\n\n' in text or text[:1] == '\n':
         return b''.join(map(row_bytes, rows))
     return line_bytes(text)
 

@@ -523,10 +523,10 @@ class SqliteLog:
             asked = 'select rows from packs where epoch = ? and number >= ? order by number'
             packs = self._column(asked, begin // PACK) if begin < first else []
             rows = self._column('select row from log where epoch = ? and place >= ? order by place', place)
-            text = ''.join([*packs, *(f'{row}\n' for row in rows)])
-            if text.count('\n') != max(count - begin, 0):
+            found = Rows(''.join([*packs, *(f'{row}\n' for row in rows)]))
+            if len(found) != max(count - begin, 0):
                 raise DamagedLog(f'{self.path}: rows are missing behind place {place}')
-        return Rows(text).behind(place - begin)
+        return found.behind(place - begin)
 
     def append(self, place: int, rows: Sequence[str], absent: Optional[int] = None) -> bool:
         with self._calls(), self._writing():

@@ -21,10 +21,13 @@ class Rows(Sequence[str]):
     def __init__(self, text: str) -> None:
         """The rows of this text, each with its line end."""
         self.text = text
+        self._count: Optional[int] = None
         self._cut: Optional[List[str]] = None
 
     def __len__(self) -> int:
-        return self.text.count('\n')
+        if self._count is None:
+            self._count = self.text.count('\n')
+        return self._count
 
     @overload
     def __getitem__(self, index: int) -> str: ...
@@ -39,7 +42,9 @@ class Rows(Sequence[str]):
 
     def behind(self, count: int) -> 'Rows':
         """The rows behind the first ones, so many."""
-        return Rows(self.text.split('\n', count)[-1] if count else self.text)
+        behind = Rows(self.text.split('\n', count)[-1] if count else self.text)
+        behind._count = max(len(self) - count, 0)
+        return behind
 
     def __repr__(self) -> str:
         return f'<{len(self)} rows>'
