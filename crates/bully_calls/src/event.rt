@@ -1,3 +1,4 @@
+use crate::kind::{EventKind, NodeEventKind};
 use bully_base::{Node, OutOfMemory};
 use bully_table::Table;
 
@@ -49,7 +50,7 @@ pub enum Refused {
 
 impl Event {
     ghost use Rattle.std.specs.Prelude.{◌≡◌, ◌↔◌, IsTrue, IfOk};
-    ghost use Rattle.bully_calls.specs.Events.{node_of};
+    ghost use Rattle.bully_calls.specs.Events.{kind_of, node_of};
 
     /// The node that the event names.
     pub fn node(&self) -> Node
@@ -68,6 +69,27 @@ impl Event {
             | Event::Move(node)
             | Event::Plan(node, _) => *node,
         }
+    }
+
+    /// What the event is, but for its node and for the table of a plan.
+    #[inline(always)]
+    pub fn kind(&self) -> EventKind
+        ensures { result ≡ kind_of self.now }
+    {
+        let kind = match self {
+            Event::Recover(_) => NodeEventKind::Recover,
+            Event::Crash(_) => NodeEventKind::Crash,
+            Event::Check(_) => NodeEventKind::Check,
+            Event::Timeout(_) => NodeEventKind::Timeout,
+            Event::Start(_) => NodeEventKind::Start,
+            Event::Run(_) => NodeEventKind::Run,
+            Event::Lose(_) => NodeEventKind::Lose,
+            Event::Return(_) => NodeEventKind::Return,
+            Event::Drop(_) => NodeEventKind::Drop,
+            Event::Move(_) => NodeEventKind::Move,
+            Event::Plan(_, _) => return EventKind::Plan,
+        };
+        EventKind::Node(kind)
     }
 
     /// The same event. Only a plan takes memory, for its table; refused where an allocation fails.
