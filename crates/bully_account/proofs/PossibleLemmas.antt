@@ -13,16 +13,15 @@ use Rattle.bully_steps.specs.Prepared.{prepared_from}
 use Rattle.bully_steps.specs.ProcedureState.{IsPlannedOver, IsProcedureState, procedure_state}
 use Rattle.bully_calls.specs.declared.event.Event.{Event}
 use Rattle.bully_calls.specs.declared.event.Refused.{Refused}
-use Rattle.bully_calls.specs.Events.{node_of}
+use Rattle.bully_calls.specs.Events.{event_of_kind, every_event_kind, kind_of, node_of}
 use Rattle.bully_world.specs.State.{IsReached, WorldState, cause_in, node_state_of, state_at, world_of}
 use Rattle.bully_world.specs.Step.{Step}
 use Rattle.bully_world.specs.World.{NodeState, World, pending, point, vector, with_node_state}
 use Rattle.bully_world.proofs.CauseLemmas.{no_cause_if_step, step_if_no_cause}
 use Rattle.bully_world.proofs.WorldIn.{node_state-world_in}
 use Rattle.bully_world.proofs.TurnLemmas.{reached_fits}
-use Rattle.bully_rows.specs.declared.kind.EventKind.{EventKind}
-use Rattle.bully_rows.specs.Kinds.{event_kind_of, event_of_kind, every_event_kind}
-use Rattle.bully_rows.proofs.KindLemmas.{Names, names, same_event}
+use Rattle.bully_calls.specs.declared.kind.EventKind.{EventKind}
+use Rattle.bully_calls.proofs.KindLemmas.{Names, names, same_event}
 use Rattle.bully_account.specs.Possible.{ArePossible, IsPossible, TellsPossible, passes}
 
 -- ---- the table that is planned
@@ -61,7 +60,7 @@ none_if None e = refl
 none_if (Some why) e = absurd (cc e)
 
 -- what a plan that nothing refuses needs of its node, whatever its table
-plan_needs : (w : WorldState) (i : ℕ) (e : Event) → IsReached w → node_of e ≡ i → event_kind_of e ≡ EventKind.Plan → cause_in w e ≡ None
+plan_needs : (w : WorldState) (i : ℕ) (e : Event) → IsReached w → node_of e ≡ i → kind_of e ≡ EventKind.Plan → cause_in w e ≡ None
     → (w.events < w.setup.events_max) × (point (world_of w) i ≡ Point.Planning) × (pending (world_of w) i ≡ None)
 plan_needs w i (Event.Plan j table) reached at is free =
     let (room, w', a, step) = step_if_no_cause w.setup (world_of w) w.events (Event.Plan j table) (reached_fits w reached) free in
@@ -94,7 +93,7 @@ no-plan w i reached other = (
 -- ---- all kinds of event
 
 -- the only event of this kind has no cause exactly if the kind is possible
-plain : (w : WorldState) (i : ℕ) (event_kind : EventKind) (e : Event) → node_of e ≡ i → event_kind_of e ≡ event_kind → ((f : Event) → node_of f ≡ i → event_kind_of f ≡ event_kind → f ≡ e)
+plain : (w : WorldState) (i : ℕ) (event_kind : EventKind) (e : Event) → node_of e ≡ i → kind_of e ≡ event_kind → ((f : Event) → node_of f ≡ i → kind_of f ≡ event_kind → f ≡ e)
     → (is_none (cause_in w e) ≡ true) ↔ IsPossible w i event_kind
 plain w i event_kind e at is only = (
   λ passed. record { event = e; node = at; is = is; free = none_if (cause_in w e) passed },

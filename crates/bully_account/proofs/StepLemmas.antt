@@ -70,16 +70,7 @@ pub has-started : (setup : Setup) (rows : List Row) (number : ℕ) (e : Event) (
 has-started setup rows number (Event.Start i) w (row, taken, tells) =
     let (mid, fits, a, step) = step-behind setup taken.at.before row (Event.Start i) w taken.world tells in
     start-leaves setup mid w i a fits step
-has-started setup rows number (Event.Recover i) w at = tt
-has-started setup rows number (Event.Crash i) w at = tt
-has-started setup rows number (Event.Check i) w at = tt
-has-started setup rows number (Event.Timeout i) w at = tt
-has-started setup rows number (Event.Run i) w at = tt
-has-started setup rows number (Event.Lose i) w at = tt
-has-started setup rows number (Event.Return i) w at = tt
-has-started setup rows number (Event.Drop i) w at = tt
-has-started setup rows number (Event.Move i) w at = tt
-has-started setup rows number (Event.Plan i table) w at = tt
+has-started setup rows number e w at = tt
 
 -- what an event did to its node is noted
 pub noted-own : (setup : Setup) (rows : List Row) (i row : ℕ) (e : Event) (w : World) (call : Option Call) (what : What) (moved : Bool) → IsStepAt setup rows row e w → i ≡ node_of e

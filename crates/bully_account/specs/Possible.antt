@@ -2,16 +2,15 @@
 use Rattle.std.specs.Prelude.{◌≡◌, ◌↔◌, ℕ, Bool, true, List, None, filter, is_none}
 use Rattle.std.specs.Option.{option_map_or}
 use Rattle.bully_calls.specs.declared.event.Event.{Event}
-use Rattle.bully_calls.specs.Events.{node_of}
+use Rattle.bully_calls.specs.Events.{event_of_kind, every_event_kind, kind_of, node_of}
 use Rattle.bully_world.specs.State.{WorldState, cause_in}
-use Rattle.bully_rows.specs.declared.kind.EventKind.{EventKind}
-use Rattle.bully_rows.specs.Kinds.{event_kind_of, event_of_kind, every_event_kind}
+use Rattle.bully_calls.specs.declared.kind.EventKind.{EventKind}
 
 -- some event of node i is of this kind, and nothing refuses it there
 pub record IsPossible (w : WorldState) (i : ℕ) (event_kind : EventKind) : Type 0 where
   pub event : Event
   pub node : node_of event ≡ i
-  pub is : event_kind_of event ≡ event_kind
+  pub is : kind_of event ≡ event_kind
   pub free : cause_in w event ≡ None
 
 -- the test tells exactly which kinds of event of node i are possible

@@ -3,12 +3,12 @@ use Rattle.std.specs.Prelude.{◌≡◌, ◌≢◌, ℕ, ◌+◌, ◌≤◌, Lis
 use Rattle.bully_base.specs.Setup.{Setup}
 use Rattle.bully_calls.specs.declared.call.CallKind.{CallKind}
 use Rattle.bully_calls.specs.declared.event.Event.{Event}
-use Rattle.bully_calls.specs.Events.{node_of}
+use Rattle.bully_calls.specs.Events.{kind_of, node_of}
 use Rattle.bully_world.specs.World.{World, first_world}
-use Rattle.bully_rows.specs.declared.kind.EventKind.{EventKind}
+use Rattle.bully_calls.specs.declared.kind.EventKind.{EventKind}
+use Rattle.bully_calls.specs.declared.kind.NodeEventKind.{NodeEventKind}
 use Rattle.bully_rows.specs.declared.trace.Row.{Row}
 use Rattle.bully_rows.specs.EventsTold.{event_of_detailed}
-use Rattle.bully_rows.specs.Kinds.{event_kind_of}
 use Rattle.bully_trace.specs.declared.verdict.Verdict.{Verdict}
 use Rattle.bully_trace.specs.Details.{call_at}
 use Rattle.bully_trace.specs.Verdict.{IsJudged}
@@ -56,7 +56,7 @@ HasStarted w e = ⊤
 -- the event, behind which the world is this one, did this to node i: it is one of that node's, and no start; or it started the call
 -- that is in that node's slot; or it is the run of another node's call, which is a Halt of node i
 abbrev pub IsDoneBy : World → ℕ → Event → What → Type 0
-IsDoneBy w i e (What.Did kind) = (node_of e ≡ i) × (event_kind_of e ≡ kind) × (kind ≢ EventKind.Start)
+IsDoneBy w i e (What.Did kind) = (node_of e ≡ i) × (kind_of e ≡ kind) × (kind ≢ EventKind.Node NodeEventKind.Start)
 IsDoneBy w i e (What.Started call) = (e ≡ Event.Start i) × (call_at w i ≡ Some call)
 IsDoneBy w i e (What.HaltedBy caller) = (e ≡ Event.Run caller) × (call_at w caller ≡ Some (record { callee = i; kind = CallKind.Halt }))
 

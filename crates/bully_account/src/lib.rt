@@ -17,7 +17,7 @@ mod showing;
 mod telling;
 
 pub use account::{Account, Stop};
-pub use bully_rows::EventKind;
+pub use bully_calls::EventKind;
 pub use lines::{Lines, line_of};
 pub use memory::{Memory, Note, What};
 pub use possible::possible_now;

@@ -10,7 +10,7 @@ ghost use Rattle.bully_account.specs.RowsOf.{AreRemembered, HasStarted, IsDoneBy
 use crate::moving::is_idle;
 use crate::{EventKind, ROWS_KEPT};
 use bully_base::{Node, OutOfMemory, Setup};
-use bully_calls::{Call, CallKind};
+use bully_calls::{Call, CallKind, NodeEventKind};
 use bully_rows::Row;
 use bully_table::{Table, TableRoom};
 use bully_trace::call_at;
@@ -163,9 +163,9 @@ fn what_of(event: &Event, call: Option<Call>) -> What
     match event {
         Event::Start(_) => match call {
             Some(call) => What::Started(call),
-            None => What::Did(EventKind::Start),
+            None => What::Did(EventKind::Node(NodeEventKind::Start)),
         },
-        _ => What::Did(EventKind::of(event)),
+        _ => What::Did(event.kind()),
     }
 }
 

@@ -1,9 +1,9 @@
 ghost use Rattle.std.specs.Prelude.{◌≡◌, ◌↔◌, ◌≤◌, true, filter, IfOk};
-ghost use Rattle.bully_rows.specs.Kinds.{every_event_kind};
+ghost use Rattle.bully_calls.specs.Events.{every_event_kind};
 ghost use Rattle.bully_account.specs.Possible.{ArePossible, IsPossible, passes};
 
 use bully_base::{Node, OutOfMemory};
-use bully_rows::{EVERY_EVENT_KIND, EventKind};
+use bully_calls::{EVERY_EVENT_KIND, EventKind};
 use bully_trace::reached;
 use bully_world::{Event, World};
 use std::alloc::Global;

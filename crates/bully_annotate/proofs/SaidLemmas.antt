@@ -1,20 +1,28 @@
 -- What is said of an event that is possible is so, and what is shown behind it is true: so rows with everything said are as lawful.
-use Rattle.std.proofs.Common.{◌≡◌, ℕ, ◌+◌, ◌++◌, ◌&&◌, Bool, true, false, List, [], ◌∷◌, Option, Some, None, MatchOption, if◌then◌else◌, length, refl, sym, subst, arith}
+use Rattle.std.proofs.Common.{◌≡◌, ◌≢◌, ◌∙◌, ℕ, ◌+◌, ◌++◌, ◌&&◌, Bool, true, false, List, [], ◌∷◌, Option, Some, None, MatchOption, if◌then◌else◌, length, refl, sym, ap, subst, arith}
 use Rattle.std.specs.Prelude.{option_map, option_and_then}
 use Rattle.std.specs.Bool.{MatchBool}
+use Rattle.std.proofs.lemmas.Bool.{and_from}
 use Rattle.std.proofs.lemmas.Bool.Decides.{nat_tests}
 use Rattle.std.proofs.lemmas.List.{length-append}
 use Rattle.std.proofs.lemmas.Option.{same_Some}
 use Rattle.bully_base.specs.NodeSetEq.{same_set}
 use Rattle.bully_base.specs.Setup.{IsNode, Setup, is_node}
+use Rattle.bully_base.specs.declared.node.Status.TheVariants.{Down}
 use Rattle.bully_calls.specs.declared.call.Answer.{Answer}
 use Rattle.bully_calls.specs.declared.call.Call.{Call}
 use Rattle.bully_calls.specs.Pending.{Pending}
 use Rattle.bully_handlers.specs.Handler.{reply}
+use Rattle.bully_steps.specs.declared.point.Point.{Point}
 use Rattle.bully_steps.specs.declared.point.Want.{Want}
+use Rattle.bully_steps.specs.Point.{offered}
 use Rattle.bully_calls.specs.declared.event.Event.{Event}
 use Rattle.bully_calls.specs.declared.event.Refused.{Refused}
-use Rattle.bully_calls.specs.Events.{node_of}
+use Rattle.bully_calls.specs.declared.kind.EventKind.{EventKind}
+use Rattle.bully_calls.specs.declared.kind.NodeEventKind.{NodeEventKind}
+use Rattle.bully_calls.specs.declared.kind.Saying.{Saying}
+use Rattle.bully_calls.specs.Events.{event_at, kind_of, node_of}
+use Rattle.bully_calls.proofs.KindLemmas.{same_event}
 use Rattle.bully_world.specs.Cause.{cause}
 use Rattle.bully_world.specs.Lawful.{IsLawful}
 use Rattle.bully_world.specs.NodeInvariant.{SuitsPending, WorldInvariant}
@@ -32,12 +40,14 @@ use Rattle.bully_rows.specs.declared.detail.DetailedEvent.{DetailedEvent}
 use Rattle.bully_rows.specs.declared.trace.Claim.{Claim}
 use Rattle.bully_rows.specs.declared.trace.Row.{Row}
 use Rattle.bully_trace.specs.declared.verdict.Verdict.{Verdict}
-use Rattle.bully_rows.specs.EventsTold.{call_told, event_of_detailed}
-use Rattle.bully_trace.specs.Details.{brought, call_at, callee_or, has_answer, has_call, is_so, is_true, is_whole, offered_call, returned_of, said_of, same_status, same_task, says, unanswered_of}
+use Rattle.bully_rows.specs.EventsTold.{answered, event_of_detailed, unanswered}
+use Rattle.bully_rows.specs.Kinds.{node_saying}
+use Rattle.bully_rows.proofs.ToldRows.{found, made}
+use Rattle.bully_trace.specs.Details.{brought, call_at, callee_or, is_said, is_so, is_true, is_whole, offered_call, said_at, said_by, said_of, same_answers, same_call, same_status, same_task, says}
 use Rattle.bully_rows.specs.Trace.{Trace}
 use Rattle.bully_trace.specs.Verdict.{IsJudged, IsVerdict}
 use Rattle.bully_rows.specs.Whole.{Whole, whole_of}
-use Rattle.bully_trace.proofs.SameLemmas.{answer-itself, call-itself, is-node, node-itself, status-itself, task-itself}
+use Rattle.bully_trace.proofs.SameLemmas.{answers-itself, call-itself, is-node, node-itself, status-itself, task-itself}
 use Rattle.bully_annotate.specs.Annotated.{annotated, event_rows, place_of, rows_said, said_row, same_vector, shown_change, shown_row}
 
 -- ---- what is shown is true
@@ -64,17 +74,6 @@ callee-node setup w i c fits there = by_pending (pending w i) there (fits.fits i
 abbrev pub IsSaid : Setup → World → Event → DetailedEvent → Type 0
 IsSaid setup w e d = (event_of_detailed d ≡ e) × (is_so setup w d ≡ true)
 
--- of a call that is there, where what is said of it is so
-of-call : (setup : Setup) (w : World) (i : ℕ) (e : Event) (say : Call → Detail) (there : Option Call) (d : DetailedEvent)
-    → ((call : Call) → there ≡ Some call → IsSaid setup w e (record { node = i; detail = say call }))
-    → unanswered_of i say there ≡ Some d → IsSaid setup w e d
-of-call setup w i e say None d so is = absurd (cc is)
-of-call setup w i e say (Some call) d so is = subst (IsSaid setup w e) (same_Some _ d is) (so call refl)
-
--- the call in the slot of a node is told so
-call-there : (w : World) (i : ℕ) (call : Call) → call_at w i ≡ Some call → has_call (call_at w i) call ≡ true
-call-there w i call there = rw there (call-itself call)
-
 pub slot-node : (setup : Setup) (w : World) (i : ℕ) (call : Call) → WorldInvariant setup w → call_at w i ≡ Some call → IsNode setup call.callee
 slot-node setup w i call fits there = by_pending (pending w i) refl there
   where
@@ -82,73 +81,65 @@ slot-node setup w i call fits there = by_pending (pending w i) refl there
     by_pending None at is = absurd (cc is)
     by_pending (Some c) at is = subst (λ (k : Call). IsNode setup k.callee) (same_Some c.call call is) (callee-node setup w i c fits at)
 
-so-node : (setup : Setup) (w : World) (i : ℕ) (d : Detail) → IsNode setup i → IsNode setup (call_told d).callee → says setup w i d ≡ true
+so-node : (setup : Setup) (w : World) (i : ℕ) (d : Detail) → IsNode setup i → IsNode setup d.call.callee → says setup w i d ≡ true
     → is_so setup w (record { node = i; detail = d }) ≡ true
-so-node setup w i d node callee so = rw (is-node setup i node, is-node setup (call_told d).callee callee, so) refl
+so-node setup w i d node callee so = rw (is-node setup i node, is-node setup d.call.callee callee, so) refl
 
--- of a Start the call is offered
-start-said : (setup : Setup) (w : World) (i : ℕ) (w' : World) (a : Answer) (d : DetailedEvent) → WorldInvariant setup w → IsNode setup i
-    → Step setup w (Event.Start i) w' a → said_of setup w (Event.Start i) ≡ Some d → IsSaid setup w (Event.Start i) d
-start-said setup w i w' a d fits node (up, free, call, offers, after, done) is =
-    of-call setup w i (Event.Start i) (λ call. Detail.Start call) (offered_call (offer setup w i)) d
-    (λ call at. (refl, so-node setup w i (Detail.Start call) node (told-node call (offer setup w i) refl at) (rw at (call-itself call)))) is
+-- the call that a point offers is to a node
+offered-node : (setup : Setup) (w : World) (i : ℕ) (call : Call) → WorldInvariant setup w → offered_call (offer setup w i) ≡ Some call → IsNode setup call.callee
+offered-node setup w i call fits there = by_want (offer setup w i) refl there
   where
-    told-node : (k : Call) (want : Want) → offer setup w i ≡ want → offered_call want ≡ Some k → IsNode setup k.callee
-    told-node k (Want.Start c) offers at = subst (λ (k : Call). IsNode setup k.callee) (same_Some c k at) (start_fits setup i (node_state w i) c (fits.fits i) up offers).by_call.to_node
-    told-node k Want.Nothing offers at = absurd (cc at)
-    told-node k Want.Move offers at = absurd (cc at)
-    told-node k Want.Plan offers at = absurd (cc at)
-    told-node k Want.Await offers at = absurd (cc at)
+    up : (c : Call) → offer setup w i ≡ Want.Start c → (node_state w i).vector.status ≢ Down
+    up c offers down =
+        let idle : offered setup (node_state w i).vector.coordinator Point.Idle ≡ Want.Start c =
+            subst (λ p. offered setup (node_state w i).vector.coordinator p ≡ Want.Start c) ((fits.fits i).down_idle down) offers in
+        cc idle
 
--- of the others it is in the slot
-run-said : (setup : Setup) (w : World) (i : ℕ) (d : DetailedEvent) → WorldInvariant setup w → IsNode setup i
-    → said_of setup w (Event.Run i) ≡ Some d → IsSaid setup w (Event.Run i) d
-run-said setup w i d fits node is =
-    of-call setup w i (Event.Run i) (λ call. Detail.Run call (reply call.kind (vector w call.callee))) (call_at w i) d
-    (λ call at. (
-      refl,
-      so-node setup w i (Detail.Run call (reply call.kind (vector w call.callee))) node (slot-node setup w i call fits at)
-          (rw (call-there w i call at, answer-itself (reply call.kind (vector w call.callee))) refl),
-    )) is
+    by_want : (want : Want) → offer setup w i ≡ want → offered_call want ≡ Some call → IsNode setup call.callee
+    by_want (Want.Start c) offers at =
+        subst (λ (k : Call). IsNode setup k.callee) (same_Some c call at) (start_fits setup i (node_state w i) c (fits.fits i) (up c offers) offers).by_call.to_node
+    by_want Want.Nothing offers at = absurd (cc at)
+    by_want Want.Move offers at = absurd (cc at)
+    by_want Want.Plan offers at = absurd (cc at)
+    by_want Want.Await offers at = absurd (cc at)
 
-lose-said : (setup : Setup) (w : World) (i : ℕ) (d : DetailedEvent) → WorldInvariant setup w → IsNode setup i
-    → said_of setup w (Event.Lose i) ≡ Some d → IsSaid setup w (Event.Lose i) d
-lose-said setup w i d fits node is =
-    of-call setup w i (Event.Lose i) (λ call. Detail.Lose call) (call_at w i) d
-    (λ call at. (refl, so-node setup w i (Detail.Lose call) node (slot-node setup w i call fits at) (call-there w i call at))) is
+-- what there is to say of an event is of its kind, and of a call to a node
+abbrev IsOfKind : Setup → NodeEventKind → Detail → Type 0
+IsOfKind setup kind d = (d.kind ≡ kind) × IsNode setup d.call.callee
 
-drop-said : (setup : Setup) (w : World) (i : ℕ) (d : DetailedEvent) → WorldInvariant setup w → IsNode setup i
-    → said_of setup w (Event.Drop i) ≡ Some d → IsSaid setup w (Event.Drop i) d
-drop-said setup w i d fits node is =
-    of-call setup w i (Event.Drop i) (λ call. Detail.Drop call) (call_at w i) d
-    (λ call at. (refl, so-node setup w i (Detail.Drop call) node (slot-node setup w i call fits at) (call-there w i call at))) is
+said-of-kind : (setup : Setup) (w : World) (i : ℕ) (saying : Saying) (kind : NodeEventKind) (d : Detail) → WorldInvariant setup w → said_by saying kind setup w i ≡ Some d
+    → IsOfKind setup kind d
+said-of-kind setup w i Saying.Nothing kind d fits is = absurd (cc is)
+said-of-kind setup w i Saying.Offered kind d fits is =
+    let (call, at, same) = made (unanswered kind) (offered_call (offer setup w i)) d is in
+    subst (IsOfKind setup kind) same (refl, offered-node setup w i call fits at)
+said-of-kind setup w i Saying.Held kind d fits is =
+    let (call, at, same) = made (unanswered kind) (call_at w i) d is in
+    subst (IsOfKind setup kind) same (refl, slot-node setup w i call fits at)
+said-of-kind setup w i Saying.Replied kind d fits is =
+    let (call, at, same) = made (λ call. answered kind call (reply call.kind (vector w call.callee))) (call_at w i) d is in
+    subst (IsOfKind setup kind) same (refl, slot-node setup w i call fits at)
+said-of-kind setup w i Saying.Brought kind d fits is =
+    let (c, at, next) = found (λ (c : Pending). option_map (answered kind c.call) (brought c)) (pending w i) d is in
+    let (a, brings, same) = made (answered kind c.call) (brought c) d next in
+    subst (IsOfKind setup kind) same (refl, callee-node setup w i c fits at)
 
-return-said : (setup : Setup) (w : World) (i : ℕ) (d : DetailedEvent) → WorldInvariant setup w → IsNode setup i
-    → said_of setup w (Event.Return i) ≡ Some d → IsSaid setup w (Event.Return i) d
-return-said setup w i d fits node is = by_pending (pending w i) refl is
+said-itself : (d : Detail) → is_said (Some d) d ≡ true
+said-itself d = and_from (same_call d.call d.call) (same_answers d.answer d.answer) (call-itself d.call) (answers-itself d.answer)
+
+-- what there is to say of an event is of it, and is so
+pub said-so : (setup : Setup) (w : World) (e : Event) (d : DetailedEvent) → WorldInvariant setup w → IsNode setup (node_of e) → said_of setup w e ≡ Some d → IsSaid setup w e d
+said-so setup w e d fits node is = by_kind (kind_of e) refl is
   where
-    by_answer : (c : Pending) (o : Option Answer) → pending w i ≡ Some c → brought c ≡ o
-        → option_map (λ a. record { node = i; detail = Detail.Return c.call a }) o ≡ Some d → IsSaid setup w (Event.Return i) d
-    by_answer c None at brings is = absurd (cc is)
-    by_answer c (Some a) at brings is =
-        let there : call_at w i ≡ Some c.call = rw at refl in
-        let answered : has_answer (option_and_then brought (pending w i)) a ≡ true = rw (at, brings) (answer-itself a) in
-        subst (IsSaid setup w (Event.Return i)) (same_Some _ d is)
-        (refl, so-node setup w i (Detail.Return c.call a) node (callee-node setup w i c fits at) (rw (call-there w i c.call there, answered) refl))
-
-    by_pending : (q : Option Pending) → pending w i ≡ q → option_and_then (returned_of i) q ≡ Some d → IsSaid setup w (Event.Return i) d
-    by_pending None at is = absurd (cc is)
-    by_pending (Some c) at is = by_answer c (brought c) at refl is
-
--- of each event that is possible
-pub said-so : (setup : Setup) (w : World) (e : Event) (w' : World) (a : Answer) (d : DetailedEvent) → WorldInvariant setup w → IsNode setup (node_of e)
-    → Step setup w e w' a → said_of setup w e ≡ Some d → IsSaid setup w e d
-said-so setup w (Event.Start i) w' a d fits node step is = start-said setup w i w' a d fits node step is
-said-so setup w (Event.Run i) w' a d fits node step is = run-said setup w i d fits node is
-said-so setup w (Event.Lose i) w' a d fits node step is = lose-said setup w i d fits node is
-said-so setup w (Event.Return i) w' a d fits node step is = return-said setup w i d fits node is
-said-so setup w (Event.Drop i) w' a d fits node step is = drop-said setup w i d fits node is
-said-so setup w e w' a d fits node step is = absurd (cc is)
+    by_kind : (event_kind : EventKind) → kind_of e ≡ event_kind → said_at event_kind setup w (node_of e) ≡ Some d → IsSaid setup w e d
+    by_kind EventKind.Plan of is = absurd (cc is)
+    by_kind (EventKind.Node kind) of is =
+        let (said, there, same) = made {B = DetailedEvent} (λ x. record { node = node_of e; detail = x }) (said_by (node_saying kind) kind setup w (node_of e)) d is in
+        let (its, callee) = said-of-kind setup w (node_of e) (node_saying kind) kind said fits there in
+        let named : e ≡ event_at kind (node_of e) = same_event (node_of e) (EventKind.Node kind) e refl of in
+        let here : is_said (said_by (node_saying kind) kind setup w (node_of e)) said ≡ true = subst (λ o. is_said o said ≡ true) (sym there) (said-itself said) in
+        let so : says setup w (node_of e) said ≡ true = subst (λ k. is_said (said_by (node_saying k) k setup w (node_of e)) said ≡ true) (sym its) here in
+        subst (IsSaid setup w e) same (ap (λ k. event_at k (node_of e)) its ∙ sym named, so-node setup w (node_of e) said node callee so)
 
 -- ---- where an event takes place is a node
 
@@ -211,7 +202,7 @@ event-lawful setup w mid count e a rows after w' (events, answers, lawful, count
     let fits = lawful_fits setup events answers w lawful in
     let node = node_in_setup setup w count e none in
     behind-said setup w mid count e a (said_of setup w e) (shown_change w mid (place_of w e) ++ rows) after w' none step
-    (λ d is. said-so setup w e mid a d fits node step is)
+    (λ d is. said-so setup w e d fits node is)
     (behind-change setup w mid (count + 1) (place_of w e) rows after w' (place-node setup w e fits node) more)
 
 pub said-event : (setup : Setup) (w mid : World) (e : Event) (a : Answer) (rows : List Row) → Step setup w e mid a

@@ -15,7 +15,10 @@ use Rattle.bully_calls.specs.declared.call.CallKind.{CallKind}
 use Rattle.bully_calls.specs.declared.call.CallKind.TheVariants.{AreYouUp, AreYouNormal, Halt, NewCoordinator, Ready}
 use Rattle.bully_calls.specs.declared.event.Event.{Event}
 use Rattle.bully_calls.specs.declared.event.Refused.{Refused}
+use Rattle.bully_calls.specs.declared.kind.NodeEventKind.{NodeEventKind}
+use Rattle.bully_calls.specs.declared.kind.Saying.{Saying}
 use Rattle.bully_calls.specs.Events.{node_of}
+use Rattle.bully_calls.specs.Pending.{Pending}
 use Rattle.bully_handlers.specs.Handler.{reply}
 use Rattle.bully_handlers.specs.Vector.{Vector, is_normal}
 use Rattle.bully_rows.specs.declared.TheConstants.{ROWS_MAX}
@@ -24,23 +27,25 @@ use Rattle.bully_rows.specs.declared.detail.DetailedEvent.{DetailedEvent}
 use Rattle.bully_rows.specs.declared.header.Version.{Version}
 use Rattle.bully_rows.specs.declared.trace.Claim.{Claim}
 use Rattle.bully_rows.specs.declared.trace.Row.{Row}
-use Rattle.bully_rows.specs.EventsTold.{call_told, event_of_detailed}
-use Rattle.bully_rows.specs.ReadBack.{AreOwners, IsDetailTold, IsEventTold, IsNamed, IsReply, IsRowTold, IsTold}
+use Rattle.bully_rows.specs.EventsTold.{answered, event_of_detailed, unanswered}
+use Rattle.bully_rows.specs.Kinds.{node_saying}
+use Rattle.bully_rows.specs.ReadBack.{AreOwners, IsAnswerTold, IsDetailTold, IsEventTold, IsNamed, IsReply, IsRowTold, IsTold}
 use Rattle.bully_rows.specs.Rows.{IsTraceOf, OfTrace, records_of}
 use Rattle.bully_rows.specs.Trace.{Trace}
 use Rattle.bully_rows.specs.Whole.{Whole, whole_of}
 use Rattle.bully_rows.proofs.ReadBackLemmas.{written-means}
+use Rattle.bully_rows.proofs.ToldRows.{found, made}
 use Rattle.bully_rows.proofs.SetupTold.{event-told, node-named}
 use Rattle.bully_rows.proofs.ToldTraces.{reads-told}
 use Rattle.bully_trace.specs.declared.verdict.Verdict.{Verdict}
-use Rattle.bully_trace.specs.Details.{has_answer, has_call, is_so, is_true, is_whole, said_of, same_answer, says}
+use Rattle.bully_trace.specs.Details.{brought, call_at, is_said, is_so, is_true, is_whole, offered_call, said_by, said_of, same_answers, same_call, says}
 use Rattle.bully_trace.specs.Verdict.{IsJudged, IsVerdict, events_of}
 use Rattle.bully_trace.proofs.JudgeLemmas.{events-append}
-use Rattle.bully_trace.proofs.SameLemmas.{answer-is, node-within}
+use Rattle.bully_trace.proofs.SameLemmas.{answers-is, node-within}
 use Rattle.bully_world.specs.Cause.{cause}
 use Rattle.bully_world.specs.NodeInvariant.{WorldInvariant}
-use Rattle.bully_world.specs.Step.{Step}
-use Rattle.bully_world.specs.World.{World, first_world, vector}
+use Rattle.bully_world.specs.Step.{Step, offer}
+use Rattle.bully_world.specs.World.{World, first_world, pending, vector}
 use Rattle.bully_world.proofs.ApplyLemmas.{node_in_setup}
 use Rattle.bully_world.proofs.NamedLemmas.{AllNameNodes, IsEventOf, OwnedByNodes, lawful-names, step-event}
 use Rattle.bully_world.proofs.NodeInvariantLemmas.{lawful_fits}
@@ -95,21 +100,39 @@ reply-is Halt v = tt
 reply-is NewCoordinator v = tt
 reply-is Ready v = tt
 
-detail-told : (setup : Setup) (w : World) (i : ℕ) (d : Detail) → IsNamed Version.Three (call_told d).callee → says setup w i d ≡ true → IsDetailTold Version.Three d
-detail-told setup w i (Detail.Start call) callee so = callee
-detail-told setup w i (Detail.Run call a) callee so =
-    let (has, is) = and_parts _ (same_answer (reply call.kind (vector w call.callee)) a) so in
-    (callee, subst IsReply (answer-is (reply call.kind (vector w call.callee)) a is) (reply-is call.kind (vector w call.callee)))
-detail-told setup w i (Detail.Lose call) callee so = callee
-detail-told setup w i (Detail.Return call a) callee so = callee
-detail-told setup w i (Detail.Drop call) callee so = callee
+-- what there is to say has the answer that is told of its kind
+answer-there : (setup : Setup) (w : World) (i : ℕ) (saying : Saying) (kind : NodeEventKind) (there : Detail) → said_by saying kind setup w i ≡ Some there
+    → IsAnswerTold saying there.answer
+answer-there setup w i Saying.Nothing kind there is = absurd (cc is)
+answer-there setup w i Saying.Offered kind there is =
+    let (call, at, same) = made (unanswered kind) (offered_call (offer setup w i)) there is in
+    subst (λ (d : Detail). IsAnswerTold Saying.Offered d.answer) same tt
+answer-there setup w i Saying.Held kind there is =
+    let (call, at, same) = made (unanswered kind) (call_at w i) there is in
+    subst (λ (d : Detail). IsAnswerTold Saying.Held d.answer) same tt
+answer-there setup w i Saying.Replied kind there is =
+    let (call, at, same) = made (λ call. answered kind call (reply call.kind (vector w call.callee))) (call_at w i) there is in
+    subst (λ (d : Detail). IsAnswerTold Saying.Replied d.answer) same (reply-is call.kind (vector w call.callee))
+answer-there setup w i Saying.Brought kind there is =
+    let (c, at, next) = found (λ (c : Pending). option_map (answered kind c.call) (brought c)) (pending w i) there is in
+    let (a, brings, same) = made (answered kind c.call) (brought c) there next in
+    subst (λ (d : Detail). IsAnswerTold Saying.Brought d.answer) same tt
+
+detail-told : (setup : Setup) (w : World) (i : ℕ) (d : Detail) → IsNamed Version.Three d.call.callee → says setup w i d ≡ true → IsDetailTold Version.Three d
+detail-told setup w i d callee so = (callee, by_said (said_by (node_saying d.kind) d.kind setup w i) refl so)
+  where
+    by_said : (said : Option Detail) → said_by (node_saying d.kind) d.kind setup w i ≡ said → is_said said d ≡ true → IsAnswerTold (node_saying d.kind) d.answer
+    by_said None at is = absurd (cc is)
+    by_said (Some there) at is =
+        let same = and_parts (same_call there.call d.call) (same_answers there.answer d.answer) is in
+        subst (IsAnswerTold (node_saying d.kind)) (answers-is there.answer d.answer same.1) (answer-there setup w i (node_saying d.kind) d.kind there at)
 
 -- a row of nodes that the group has
 so-told : (setup : Setup) (w : World) (d : DetailedEvent) → IsSetup setup → is_so setup w d ≡ true → IsRowTold Version.Three setup (Row.Detailed d)
 so-told setup w d within so =
-    let (nodes, says_so) = and_parts (is_node setup d.node && is_node setup (call_told d.detail).callee) (says setup w d.node d.detail) so in
-    let (node, callee) = and_parts (is_node setup d.node) (is_node setup (call_told d.detail).callee) nodes in
-    let goes = named setup (call_told d.detail).callee within (node-within setup (call_told d.detail).callee callee) in
+    let (nodes, says_so) = and_parts (is_node setup d.node && is_node setup d.detail.call.callee) (says setup w d.node d.detail) so in
+    let (node, callee) = and_parts (is_node setup d.node) (is_node setup d.detail.call.callee) nodes in
+    let goes = named setup d.detail.call.callee within (node-within setup d.detail.call.callee callee) in
     (named setup d.node within (node-within setup d.node node), detail-told setup w d.node d.detail goes says_so)
 
 plan-owned : (setup : Setup) (e : Event) → IsEventOf setup e → (i : ℕ) (table : List ℕ) → e ≡ Event.Plan i table → AreOwners setup table
@@ -165,7 +188,7 @@ event-as setup w mid count e a events rows within reached none step more =
     let (before, answers, lawful, counted) = reached in
     let fits = lawful_fits setup before answers w lawful in
     let node = node_in_setup setup w count e none in
-    let so : (d : DetailedEvent) → said_of setup w e ≡ Some d → IsSaid setup w e d = λ d is. said-so setup w e mid a d fits node step is in
+    let so : (d : DetailedEvent) → said_of setup w e ≡ Some d → IsSaid setup w e d = λ d is. said-so setup w e d fits node is in
     let place = place-node setup w e fits node in
     let shown = shown-reached setup mid (count + 1) (place_of w e) within (reached-more setup w mid count e a none step reached) place in
     said-as setup w e (said_of setup w e) events (shown_change w mid (place_of w e) ++ rows)

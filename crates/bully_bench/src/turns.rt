@@ -2,8 +2,8 @@ ghost use Rattle.std.specs.Prelude.{◌≡◌, ◌+◌, None};
 
 use crate::team::Team;
 use bully_base::{EVENTS_MAX, Setup};
+use bully_calls::EventKind;
 use bully_group::{Group, Naming};
-use bully_rows::EventKind;
 use bully_table::Table;
 use bully_watch::Entry;
 use bully_world::Event;
@@ -71,9 +71,17 @@ fn taken_in(history: &[Entry]) -> Taken {
     }
 }
 
+// The place of the event's kind in the table of rows.
+fn kind_number(event: &Event) -> u64 {
+    match event.kind() {
+        EventKind::Node(kind) => kind as u64,
+        EventKind::Plan => 10,
+    }
+}
+
 fn with_entry(made: u64, entry: &Entry) -> u64 {
     let made = joined(made, u64::from(entry.actor));
-    let made = joined(made, EventKind::of(&entry.event) as u64);
+    let made = joined(made, kind_number(&entry.event));
     let made = joined(made, u64::from(entry.event.node().number()));
     let made = joined(made, entry.answer as u64);
     match &entry.event {

@@ -9,8 +9,10 @@ use Rattle.bully_agent.specs.Agent.{AgentState, IsRefused, IsTaken}
 use Rattle.bully_agent.specs.Calls.{IsFailed, IsReplyTo, IsRequested, IsReturned, IsServed, RefusesFailure, RefusesReply, RefusesRequest, TellsRun}
 use Rattle.bully_agent.specs.Part.{Always}
 use Rattle.bully_rows.specs.declared.detail.Detail.{Detail}
+use Rattle.bully_rows.specs.EventsTold.{answered, unanswered}
 use Rattle.bully_rows.specs.declared.trace.Row.{Row}
 use Rattle.bully_calls.specs.declared.event.Event.{Event}
+use Rattle.bully_calls.specs.declared.kind.NodeEventKind.{NodeEventKind}
 use Rattle.bully_calls.specs.declared.event.Refused.{Refused}
 use Rattle.bully_c.specs.declared.session.AgentSession.{AgentSession}
 use Rattle.bully_c.specs.declared.session.StepRows.{StepRows}
@@ -23,7 +25,7 @@ rows_told StepRows.Nothing = []
 rows_told (StepRows.Event e) = Row.Event e ∷ []
 rows_told (StepRows.Call event) = Row.Detailed event ∷ []
 rows_told (StepRows.Failure i call answer) =
-    Row.Detailed (record { node = i; detail = Detail.Lose call }) ∷ Row.Detailed (record { node = i; detail = Detail.Return call answer }) ∷ []
+    Row.Detailed (record { node = i; detail = unanswered NodeEventKind.Lose call }) ∷ Row.Detailed (record { node = i; detail = answered NodeEventKind.Return call answer }) ∷ []
 
 -- an event of a call of node i
 abbrev pub detail_told : ℕ → Option Detail → StepRows
@@ -53,17 +55,17 @@ TellsEvent event old new told = told ≡ StepRows.Event (event old.node)
 
 -- or the start of the call that is in the slot then
 abbrev pub TellsStart : AgentState → AgentState → StepRows → Type 0
-TellsStart old new told = told ≡ detail_told old.node (option_map Detail.Start (call_in new.node_state.slot))
+TellsStart old new told = told ≡ detail_told old.node (option_map (unanswered NodeEventKind.Start) (call_in new.node_state.slot))
 
 -- or that the call which was in the slot is dropped
 abbrev pub TellsDrop : AgentState → AgentState → StepRows → Type 0
-TellsDrop old new told = told ≡ detail_told old.node (option_map Detail.Drop (call_in old.node_state.slot))
+TellsDrop old new told = told ≡ detail_told old.node (option_map (unanswered NodeEventKind.Drop) (call_in old.node_state.slot))
 
 -- a request runs at the agent, and its run is told with the answer, or it is refused
 abbrev pub ServesRequest : Request → AgentSession → Result Reply Refused → AgentSession → Type 0
 ServesRequest request old (Ok reply) new =
     IsServed old.agent request new.agent (record { event = Event.Run request.caller; reply = reply }) × TellsRun old.agent request reply × IsReplyTo request reply
-    × (new.told ≡ StepRows.Call (record { node = request.caller; detail = Detail.Run request.call reply.answer }))
+    × (new.told ≡ StepRows.Call (record { node = request.caller; detail = answered NodeEventKind.Run request.call reply.answer }))
 ServesRequest request old (Err why) new =
     IsRefused (IsRequested old.agent.node request) old.agent (Event.Run request.caller) why
     × RefusesRequest old.agent.setup old.agent.node old.agent.events old.agent.node_state request why × (new ≡ old)
@@ -72,7 +74,7 @@ ServesRequest request old (Err why) new =
 abbrev pub TakesReply : Reply → AgentSession → Result Answer Refused → AgentSession → Type 0
 TakesReply reply old (Ok answer) new =
     IsReturned old.agent reply new.agent (record { event = Event.Return old.agent.node; answer = answer })
-    × (new.told ≡ detail_told old.agent.node (option_map (λ call. Detail.Return call answer) (call_in old.agent.node_state.slot)))
+    × (new.told ≡ detail_told old.agent.node (option_map (λ call. answered NodeEventKind.Return call answer) (call_in old.agent.node_state.slot)))
 TakesReply reply old (Err why) new = RefusesReply old.agent reply why × (new ≡ old)
 
 -- the agent's call failed, and its loss and return are told, or that is refused

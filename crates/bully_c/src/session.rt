@@ -8,7 +8,7 @@ ghost use Rattle.bully_c.specs.declared.session.StepRows.{StepRows as StepRowsSt
 
 use bully_agent::Agent;
 use bully_base::{Node, OutOfMemory};
-use bully_calls::{Answer, Call, Reply, Request};
+use bully_calls::{Answer, Call, NodeEventKind, Reply, Request};
 use bully_rows::{Detail, DetailedEvent, push_detailed, push_event};
 use bully_table::Table;
 use bully_world::{Event, Refused};
@@ -104,7 +104,10 @@ impl AgentSession {
     {
         let taken = self.agent.start()?;
         let call = self.agent.slot().call();
-        self.told = told_of(self.agent.node(), call.map(|call| Detail::Start(call)));
+        self.told = told_of(
+            self.agent.node(),
+            call.map(|call| Detail::unanswered(NodeEventKind::Start, call)),
+        );
         Ok(taken.answer)
     }
 
@@ -114,7 +117,10 @@ impl AgentSession {
     {
         let call = self.agent.slot().call();
         let taken = self.agent.drop_orphan()?;
-        self.told = told_of(self.agent.node(), call.map(|call| Detail::Drop(call)));
+        self.told = told_of(
+            self.agent.node(),
+            call.map(|call| Detail::unanswered(NodeEventKind::Drop, call)),
+        );
         Ok(taken.answer)
     }
 
@@ -124,7 +130,7 @@ impl AgentSession {
     {
         let served = self.agent.serve(request)?;
         let reply = served.reply;
-        let detail = Detail::Run(request.call, reply.answer);
+        let detail = Detail::answered(NodeEventKind::Run, request.call, reply.answer);
         self.told = told_of(request.caller, Some(detail));
         Ok(reply)
     }
@@ -137,7 +143,7 @@ impl AgentSession {
         let answer = self.agent.replied(reply)?.answer;
         self.told = told_of(
             self.agent.node(),
-            call.map(|call| Detail::Return(call, answer)),
+            call.map(|call| Detail::answered(NodeEventKind::Return, call, answer)),
         );
         Ok(answer)
     }
@@ -198,8 +204,12 @@ fn push_failure(
         callee: call.callee,
         kind: call.kind,
     };
-    push_detail(text, node, Detail::Lose(lost))?;
-    push_detail(text, node, Detail::Return(call, answer))
+    push_detail(text, node, Detail::unanswered(NodeEventKind::Lose, lost))?;
+    push_detail(
+        text,
+        node,
+        Detail::answered(NodeEventKind::Return, call, answer),
+    )
 }
 
 // Appends the row of an event of a call of this node.

@@ -5,7 +5,7 @@ use crate::sentences::push_no_node;
 use crate::sides::{push_heads, push_nodes, push_sets, push_tasks, push_words};
 use bully_account::{NodeSheet, NodeSummary};
 use bully_base::{Node, Setup};
-use bully_calls::Call;
+use bully_calls::{Call, Saying};
 use bully_rows::{Claim, Detail, DetailedEvent, WholeClaim, answer_word, call_word, status_word};
 use bully_table::Table;
 use bully_trace::said_of;
@@ -80,7 +80,7 @@ pub fn push_detailed(text: &mut Draft, world: &World, event: &DetailedEvent) {
         " isn't what the row says\n",
     );
     push_heads(text, "told");
-    push_calls(text, event.detail.call(), &shown);
+    push_calls(text, event.detail.call, &shown);
     push_answers(text, &event.detail, &shown);
 }
 
@@ -88,7 +88,7 @@ pub fn push_detailed(text: &mut Draft, world: &World, event: &DetailedEvent) {
 fn push_calls(text: &mut Draft, told: Call, shown: &Option<DetailedEvent>) {
     let (kind, callee) = match shown {
         Some(event) => {
-            let call = event.detail.call();
+            let call = event.detail.call;
             (call_word(call.kind), Some(call.callee))
         }
         None => ("-", None),
@@ -99,10 +99,10 @@ fn push_calls(text: &mut Draft, told: Call, shown: &Option<DetailedEvent>) {
 
 // Appends the answer or the outcome that is told and the one that the group has, where the event has one; a dash for none.
 fn push_answers(text: &mut Draft, told: &Detail, shown: &Option<DetailedEvent>) {
-    let part = match told {
-        Detail::Run(..) => "answer",
-        Detail::Return(..) => "outcome",
-        Detail::Start(_) | Detail::Lose(_) | Detail::Drop(_) => return,
+    let part = match told.kind.saying() {
+        Saying::Replied => "answer",
+        Saying::Brought => "outcome",
+        Saying::Nothing | Saying::Offered | Saying::Held => return,
     };
     let shown = match shown {
         Some(event) => answer_text(&event.detail),
@@ -113,8 +113,8 @@ fn push_answers(text: &mut Draft, told: &Detail, shown: &Option<DetailedEvent>) 
 
 // What is answered or brought, or a dash.
 fn answer_text(detail: &Detail) -> &'static str {
-    match detail {
-        Detail::Run(_, answer) | Detail::Return(_, answer) => answer_word(*answer),
-        Detail::Start(_) | Detail::Lose(_) | Detail::Drop(_) => "-",
+    match detail.answer {
+        Some(answer) => answer_word(answer),
+        None => "-",
     }
 }

@@ -1,9 +1,10 @@
 //! Where a row breaks its form.
 
 use bully_base::NODES_MAX;
+use bully_calls::{EventKind, Saying};
 use bully_rows::{
-    NodeEventKind, PLAN, RUN, SAW, Version, call_named, is_word, kind_named, number_within,
-    read_coordinator, read_node, read_set, read_weights, status_named,
+    SAW, Version, call_named, is_word, kind_named, number_within, read_coordinator, read_node,
+    read_set, read_weights, status_named,
 };
 use csv::ByteRecord;
 
@@ -71,7 +72,7 @@ pub fn misfit_of_row(version: Version, fields: &ByteRecord) -> Misfit {
         breaks_at(0, Expected::Fields(counts))
     } else if read_node(version, field_at(fields, 1)).is_none() {
         breaks_at(2, Expected::Node(version.nodes_max()))
-    } else if is_word(word, PLAN) {
+    } else if is_word(word, EventKind::Plan.word()) {
         breaks_at(3, Expected::Owners)
     } else if is_word(word, SAW) {
         misfit_of_claim(version, fields)
@@ -95,7 +96,7 @@ fn counts_wanted(version: Version, word: &[u8]) -> Option<FieldCounts> {
 fn fields_wanted(word: &[u8]) -> Option<usize> {
     if kind_named(word).is_some() {
         Some(2)
-    } else if is_word(word, PLAN) {
+    } else if is_word(word, EventKind::Plan.word()) {
         Some(3)
     } else if is_word(word, SAW) {
         Some(4)
@@ -107,10 +108,18 @@ fn fields_wanted(word: &[u8]) -> Option<usize> {
 // How many it has where it says more; none where it never does.
 fn more_wanted(word: &[u8]) -> Option<usize> {
     match kind_named(word) {
-        Some(NodeEventKind::Start | NodeEventKind::Lose | NodeEventKind::Drop) => Some(4),
-        Some(NodeEventKind::Run | NodeEventKind::Return) => Some(5),
+        Some(kind) => fields_saying(kind.saying()),
         None if is_word(word, SAW) => Some(7),
-        _ => None,
+        None => None,
+    }
+}
+
+// How many fields a row has that says this beside its event; none where it says nothing.
+fn fields_saying(saying: Saying) -> Option<usize> {
+    match saying {
+        Saying::Nothing => None,
+        Saying::Offered | Saying::Held => Some(4),
+        Saying::Replied | Saying::Brought => Some(5),
     }
 }
 
@@ -141,11 +150,16 @@ fn misfit_of_detail(version: Version, fields: &ByteRecord) -> Misfit {
         breaks_at(3, Expected::Call)
     } else if read_node(version, field_at(fields, 3)).is_none() {
         breaks_at(4, Expected::Node(version.nodes_max()))
-    } else if is_word(field_at(fields, 0), RUN) {
+    } else if is_replied(field_at(fields, 0)) {
         breaks_at(5, Expected::Answer)
     } else {
         breaks_at(5, Expected::Outcome)
     }
+}
+
+// Whether the event of this word says what its call is answered where it runs.
+fn is_replied(word: &[u8]) -> bool {
+    matches!(kind_named(word), Some(kind) if kind.saying() == Saying::Replied)
 }
 
 /// Where a first row, which is no header, breaks the form of one.

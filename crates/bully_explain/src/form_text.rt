@@ -3,7 +3,8 @@ use crate::form::{Expected, FieldCounts, Misfit, field_at, misfit_of_header, mis
 use crate::words::push_row_place;
 use bully_account::{Account, Lines, line_of};
 use bully_base::{OutOfMemory, Setup, WEIGHT_MAX};
-use bully_rows::{ROWS_MAX, RowReader, TraceCause, TraceFault, Version};
+use bully_calls::EVERY_EVENT_KIND;
+use bully_rows::{ROWS_MAX, RowReader, SAW, TraceCause, TraceFault, Version};
 use csv::ByteRecord;
 use std::alloc::Global;
 use std::io::Read;
@@ -133,6 +134,7 @@ fn push_misfit(text: &mut Draft, fields: &ByteRecord, misfit: Misfit, setup: Opt
 // Appends what may stand at a place of a row.
 fn push_expected(text: &mut Draft, expected: Expected, setup: Option<&Setup>) {
     match expected {
+        Expected::Word => push_row_words(text),
         Expected::Fields(counts) => push_counts(text, counts),
         Expected::Node(highest) => push_range(text, NODE, highest),
         Expected::Owners => push_owners(text, setup),
@@ -160,12 +162,21 @@ fn push_expected(text: &mut Draft, expected: Expected, setup: Option<&Setup>) {
     }
 }
 
-// Which words may stand at a place; none where it is no place for a word.
+// Appends the words that a row may begin with.
+fn push_row_words(text: &mut Draft) {
+    for (place, event_kind) in EVERY_EVENT_KIND.iter().enumerate() {
+        if place > 0 {
+            text.push_str(", ");
+        }
+        text.push_str(event_kind.word());
+    }
+    text.push_str(" or ");
+    text.push_str(SAW);
+}
+
+// Which other words may stand at a place; none where it is no place for a word.
 fn words_expected(expected: Expected) -> &'static str {
     match expected {
-        Expected::Word => {
-            "recover, crash, check, timeout, start, run, lose, return, drop, move, plan or saw"
-        }
         Expected::Status => "down, election, reorganization or normal",
         Expected::Call => "are-you-up, are-you-normal, halt, new-coordinator or ready",
         Expected::Answer => "done, yes or no",

@@ -7,7 +7,8 @@ use Rattle.bully_calls.specs.declared.call.Answer.{Answer}
 use Rattle.bully_calls.specs.Pending.{Pending}
 use Rattle.bully_calls.specs.declared.event.Event.{Event}
 use Rattle.bully_calls.specs.declared.event.Refused.{Refused}
-use Rattle.bully_calls.specs.Events.{node_of}
+use Rattle.bully_calls.specs.Events.{kind_of, node_of}
+use Rattle.bully_calls.proofs.KindLemmas.{kind-node}
 use Rattle.bully_world.specs.Cause.{cause}
 use Rattle.bully_world.specs.NodeInvariant.{WorldInvariant}
 use Rattle.bully_base.proofs.PlaceLemmas.{at_node_past}
@@ -20,15 +21,13 @@ use Rattle.bully_world.proofs.NodeInvariantLemmas.{first_fits, lawful_fits, step
 use Rattle.bully_world.proofs.RunInvariant.{ran_other}
 use Rattle.bully_world.proofs.StepOfLemmas.{computed_steps, step_is_computed, step_is_one}
 use Rattle.bully_rows.specs.declared.trace.Row.{Row}
-use Rattle.bully_rows.specs.declared.detail.Detail.{Detail}
 use Rattle.bully_rows.specs.declared.detail.DetailedEvent.{DetailedEvent}
-use Rattle.bully_rows.specs.EventsTold.{event_of_detailed, event_told}
+use Rattle.bully_rows.specs.EventsTold.{event_of_detailed}
 use Rattle.bully_trace.specs.declared.verdict.Verdict.{Verdict}
 use Rattle.bully_trace.specs.Details.{callee_or, is_so, is_true, is_whole}
 use Rattle.bully_trace.specs.Judging.{HasJudged, JudgeState}
 use Rattle.bully_trace.specs.Verdict.{IsJudged}
 use Rattle.bully_trace.proofs.JudgeLemmas.{judged-all}
-use Rattle.bully_rows.specs.Kinds.{event_kind_of}
 use Rattle.bully_film.specs.Film.{decided, deciding}
 use Rattle.bully_film.specs.Behind.{LeadsBehind, decides, next_count, next_world, stepped, taken, world_behind}
 use Rattle.bully_film.specs.Scene.{event_kind_in, node_in, place_at, seen_of, snapshot}
@@ -146,7 +145,7 @@ decided-told setup rows judge verdict w judged told = by_stop judge.stopped refl
 
 -- a run changes its caller and its callee alone
 run-stays : (setup : Setup) (w : World) (i : ℕ) (w' : World) (a : Answer) (j : ℕ) → WorldInvariant setup w → Step setup w (Event.Run i) w' a
-    → j ≢ i → j ≢ place_at w i (Some (event_kind_of (Event.Run i))) → node_state w' j ≡ node_state w j
+    → j ≢ i → j ≢ place_at w i (Some (kind_of (Event.Run i))) → node_state w' j ≡ node_state w j
 run-stays setup w i w' a j fits (c, at, sent, up, is, answered) apart other = rw is (ran_other setup w i c fits at up j apart callee)
   where
     callee : j ≢ c.call.callee
@@ -154,12 +153,12 @@ run-stays setup w i w' a j fits (c, at, sent, up, is, answered) apart other = rw
 
 -- an event leaves each node but its own and the one whose vector it may change
 pub event-stays : (setup : Setup) (w : World) (e : Event) (w' : World) (a : Answer) (j : ℕ) → WorldInvariant setup w → Step setup w e w' a
-    → j ≢ node_of e → j ≢ place_at w (node_of e) (Some (event_kind_of e)) → node_state w' j ≡ node_state w j
+    → j ≢ node_of e → j ≢ place_at w (node_of e) (Some (kind_of e)) → node_state w' j ≡ node_state w j
 event-stays setup w (Event.Run i) w' a j fits step apart other = run-stays setup w i w' a j fits step apart other
 event-stays setup w e w' a j fits step apart other = own_other setup w w' e a j (λ i same. absurd (cc same)) step apart
 
 -- the same of the world behind it, if it is possible
-stepped-stays : (setup : Setup) (w : World) (e : Event) (j : ℕ) → WorldInvariant setup w → j ≢ node_of e → j ≢ place_at w (node_of e) (Some (event_kind_of e))
+stepped-stays : (setup : Setup) (w : World) (e : Event) (j : ℕ) → WorldInvariant setup w → j ≢ node_of e → j ≢ place_at w (node_of e) (Some (kind_of e))
     → node_state (stepped setup w e) j ≡ node_state w j
 stepped-stays setup w e j fits apart other = by_step (step_of setup w e) refl
   where
@@ -182,20 +181,13 @@ next-fits setup w (Row.Whole whole) fits = fits
 
 -- the node that a row of version 3 names is its event's
 told-node : (d : DetailedEvent) → node_of (event_of_detailed d) ≡ d.node
-told-node d = by_detail d.detail
-  where
-    by_detail : (detail : Detail) → node_of (event_told detail d.node) ≡ d.node
-    by_detail (Detail.Start call) = refl
-    by_detail (Detail.Run call a) = refl
-    by_detail (Detail.Lose call) = refl
-    by_detail (Detail.Return call a) = refl
-    by_detail (Detail.Drop call) = refl
+told-node d = kind-node d.detail.kind d.node
 
 next-stays : (setup : Setup) (w : World) (row : Row) (j : ℕ) → WorldInvariant setup w → j ≢ node_in row → j ≢ place_at w (node_in row) (event_kind_in row)
     → node_state (next_world setup w row) j ≡ node_state w j
 next-stays setup w (Row.Event e) j fits apart other = stepped-stays setup w e j fits apart other
 next-stays setup w (Row.Detailed d) j fits apart other =
-    stepped-stays setup w (event_of_detailed d) j fits (λ e. apart (e ∙ told-node d)) (λ e. other (e ∙ ap (λ i. place_at w i (Some (event_kind_of (event_of_detailed d)))) (told-node d)))
+    stepped-stays setup w (event_of_detailed d) j fits (λ e. apart (e ∙ told-node d)) (λ e. other (e ∙ ap (λ i. place_at w i (Some (kind_of (event_of_detailed d)))) (told-node d)))
 next-stays setup w (Row.Claim claim) j fits apart other = refl
 next-stays setup w (Row.Whole whole) j fits apart other = refl
 

@@ -5,10 +5,10 @@ use Rattle.std.specs.Prelude.{is_none, is_some, min, nat_lt, nat_le, option_map,
 use Rattle.std.proofs.lemmas.Bool.Decides.{nat_tests}
 use Rattle.std.proofs.lemmas.List.{append_assoc, append-nil, length-append}
 use Rattle.bully_base.specs.Setup.{Setup}
-use Rattle.bully_rows.specs.declared.kind.NodeEventKind.{NodeEventKind}
+use Rattle.bully_calls.specs.declared.kind.NodeEventKind.{NodeEventKind}
 use Rattle.bully_rows.specs.declared.trace.Row.{Row}
-use Rattle.bully_rows.specs.Kinds.{event_at}
-use Rattle.bully_rows.proofs.KindLemmas.{kind-node}
+use Rattle.bully_calls.specs.Events.{event_at}
+use Rattle.bully_calls.proofs.KindLemmas.{kind-node}
 use Rattle.bully_trace.specs.declared.verdict.Verdict.{Verdict}
 use Rattle.bully_trace.specs.declared.verdict.Violation.{Violation}
 use Rattle.bully_trace.specs.OneRow.{IsTakenBy, verdict_at, violation_of}

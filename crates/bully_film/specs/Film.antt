@@ -16,7 +16,7 @@ use Rattle.bully_trace.specs.Verdict.{IsVerdict}
 use Rattle.bully_world.specs.State.{world_of}
 use Rattle.bully_world.specs.World.{World}
 use Rattle.bully_film.specs.declared.film.FinishedFilm.{FinishedFilm}
-use Rattle.bully_rows.specs.declared.kind.EventKind.{EventKind}
+use Rattle.bully_calls.specs.declared.kind.EventKind.{EventKind}
 use Rattle.bully_film.specs.declared.scene.SceneStart.{SceneStart}
 use Rattle.bully_film.specs.declared.scene.Scene.{Scene}
 use Rattle.bully_film.specs.declared.snapshot.NodeSnapshot.{NodeSnapshot}

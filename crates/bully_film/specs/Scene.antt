@@ -5,15 +5,15 @@ use Rattle.bully_base.specs.Setup.{Setup}
 use Rattle.bully_calls.specs.declared.call.Call.{Call}
 use Rattle.bully_calls.specs.Pending.{Pending}
 use Rattle.bully_handlers.specs.Vector.{is_normal}
-use Rattle.bully_calls.specs.Events.{node_of}
+use Rattle.bully_calls.specs.declared.kind.EventKind.{EventKind}
+use Rattle.bully_calls.specs.declared.kind.NodeEventKind.{NodeEventKind}
+use Rattle.bully_calls.specs.Events.{kind_of, node_of}
 use Rattle.bully_world.specs.Cause.{is_idle}
 use Rattle.bully_world.specs.State.{is_halt}
 use Rattle.bully_world.specs.World.{NodeState, World, node_state, point, vector}
 use Rattle.bully_rows.specs.declared.trace.Row.{Row}
 use Rattle.bully_rows.specs.EventsTold.{event_of_detailed}
 use Rattle.bully_trace.specs.Details.{call_at, callee_or}
-use Rattle.bully_rows.specs.declared.kind.EventKind.{EventKind}
-use Rattle.bully_rows.specs.Kinds.{event_kind_of}
 use Rattle.bully_film.specs.declared.TheConstants.{OWNERS_SHOWN}
 use Rattle.bully_film.specs.declared.scene.Change.{Change}
 use Rattle.bully_film.specs.declared.scene.SceneStart.{SceneStart}
@@ -50,13 +50,13 @@ node_in (Row.Whole whole) = whole.claim.node
 
 -- what the row's event is; none for a claim
 abbrev pub event_kind_in : Row → Option EventKind
-event_kind_in (Row.Event e) = Some (event_kind_of e)
-event_kind_in (Row.Detailed d) = Some (event_kind_of (event_of_detailed d))
+event_kind_in (Row.Event e) = Some (kind_of e)
+event_kind_in (Row.Detailed d) = Some (kind_of (event_of_detailed d))
 event_kind_in (Row.Claim claim) = None
 event_kind_in (Row.Whole whole) = None
 
 abbrev pub is_run : Option EventKind → Bool
-is_run (Some EventKind.Run) = true
+is_run (Some (EventKind.Node NodeEventKind.Run)) = true
 is_run _ = false
 
 -- the node whose vector a kind of event of node i may change: the callee of a Run, and else node i
@@ -83,12 +83,12 @@ pub record IsSceneStart (w : World) (i : ℕ) (event_kind : Option EventKind) (s
 -- a table is planned, or comes with a Ready to a node that is Normal by it
 abbrev pub gets_table : Option EventKind → NodeSnapshot → NodeSnapshot → Bool
 gets_table (Some EventKind.Plan) before after = true
-gets_table (Some EventKind.Run) before after = not (is_normal before.status) && is_normal after.status
+gets_table (Some (EventKind.Node NodeEventKind.Run)) before after = not (is_normal before.status) && is_normal after.status
 gets_table _ before after = false
 
 -- neither a second node may be changed by it, nor does a node get a table
 abbrev pub is_quiet : Option EventKind → Bool
-is_quiet (Some EventKind.Run) = false
+is_quiet (Some (EventKind.Node NodeEventKind.Run)) = false
 is_quiet (Some EventKind.Plan) = false
 is_quiet _ = true
 

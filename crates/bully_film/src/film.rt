@@ -7,7 +7,8 @@ use crate::scene::{
 use crate::snapshot::{NodeSnapshot, snapshots};
 use crate::window::Window;
 use bully_base::{Node, OutOfMemory, Setup};
-use bully_rows::{EventKind, Header, NodeEvent, NodeEventKind, Row, Version};
+use bully_calls::{EventKind, NodeEventKind};
+use bully_rows::{Header, NodeEvent, Row, Version};
 use bully_trace::{Judge, Verdict};
 use bully_world::World;
 use std::alloc::Global;
@@ -55,7 +56,7 @@ impl Film {
     ghost use Rattle.bully_trace.specs.Judging.{HasJudged};
     ghost use Rattle.bully_trace.specs.Verdict.{IsJudged};
     ghost use Rattle.bully_world.specs.World.{World as WorldOf, first_world};
-    ghost use Rattle.bully_rows.specs.Kinds.{event_at};
+    ghost use Rattle.bully_calls.specs.Events.{event_at};
     ghost use Rattle.bully_rows.specs.declared.trace.Row.{Row as RowState};
     ghost use Rattle.bully_world.specs.State.{world_of};
 

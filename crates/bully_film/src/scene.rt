@@ -1,8 +1,7 @@
 //! What a row of a trace shows.
 ghost use Rattle.std.specs.Prelude.{◌≡◌, ℕ, true, IfOk};
-ghost use Rattle.bully_rows.specs.Kinds.{event_kind_of};
 ghost use Rattle.bully_handlers.specs.Vector.{is_normal};
-ghost use Rattle.bully_rows.specs.Kinds.{event_at};
+ghost use Rattle.bully_calls.specs.Events.{event_at, kind_of};
 ghost use Rattle.bully_rows.specs.declared.trace.Row.{Row as RowState};
 ghost use Rattle.bully_trace.specs.Details.{call_at};
 ghost use Rattle.bully_film.specs.Scene.{IsSceneStart, cuts, event_kind_in, gets_table, is_halting, is_quiet, is_run, node_in, place_at, scene_of, snapshot, table_shown};
@@ -13,8 +12,8 @@ ghost use Rattle.bully_world.specs.World.{World as WorldOf, point, vector};
 use crate::OWNERS_SHOWN;
 use crate::snapshot::{NodeSnapshot, snapshot_beside, snapshot_of};
 use bully_base::{Node, OutOfMemory, Status};
-use bully_calls::CallKind;
-use bully_rows::{EventKind, NodeEvent, NodeEventKind, Row};
+use bully_calls::{CallKind, EventKind, NodeEventKind};
+use bully_rows::{NodeEvent, Row};
 use bully_steps::Point;
 use bully_table::Table;
 use bully_world::World;
@@ -156,7 +155,7 @@ pub fn is_quiet(scene_start: &SceneStart) -> bool
 {
     !matches!(
         scene_start.event_kind,
-        Some(EventKind::Run) | Some(EventKind::Plan)
+        Some(EventKind::Node(NodeEventKind::Run)) | Some(EventKind::Plan)
     )
 }
 
@@ -201,8 +200,8 @@ pub fn event_kind_in(row: &Row) -> Option<EventKind>
     ensures { result ≡ event_kind_in row.now }
 {
     match row {
-        Row::Event(event) => Some(EventKind::of(event)),
-        Row::Detailed(event) => Some(EventKind::of(&event.event())),
+        Row::Event(event) => Some(event.kind()),
+        Row::Detailed(event) => Some(event.event().kind()),
         Row::Claim(_) | Row::Whole(_) => None,
     }
 }
@@ -211,16 +210,16 @@ pub fn event_kind_in(row: &Row) -> Option<EventKind>
 // (inlined, as `open_on` is)
 #[inline(always)]
 pub fn event_kind_at(kind: NodeEventKind, node: Node) -> EventKind
-    ensures { result ≡ event_kind_of (event_at kind node) }
+    ensures { result ≡ kind_of (event_at kind node) }
 {
-    EventKind::of(&NodeEvent { kind, node }.event())
+    NodeEvent { kind, node }.event().kind()
 }
 
 // Whether it is a run.
 fn is_run(event_kind: Option<EventKind>) -> bool
     ensures { result ≡ is_run event_kind }
 {
-    matches!(event_kind, Some(EventKind::Run))
+    matches!(event_kind, Some(EventKind::Node(NodeEventKind::Run)))
 }
 
 // The node whose vector an event of this kind may change, if it is of the node of which this is seen.
@@ -283,7 +282,8 @@ fn gets_table(event_kind: Option<EventKind>, before: &NodeSnapshot, after: &Node
 {
     match event_kind {
         Some(EventKind::Plan) => true,
-        Some(EventKind::Run) => !is_normal(before.status) && is_normal(after.status),
+        Some(EventKind::Node(NodeEventKind::Run)) => !is_normal(before.status)
+            && is_normal(after.status),
         _ => false,
     }
 }

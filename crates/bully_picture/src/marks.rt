@@ -12,8 +12,8 @@ use crate::layout::{ASIDE, HALF, Layout, WORDS_MIN};
 use crate::paper::Paper;
 use crate::words::{decides, push_meaning, push_row_text};
 use bully_base::Node;
+use bully_calls::{EventKind, NodeEventKind};
 use bully_film::{FinishedFilm, NodeSnapshot, Scene, Stand};
-use bully_rows::EventKind;
 use bully_table::Table;
 
 // What is said of a table that is too long to be shown.
@@ -195,10 +195,10 @@ fn draw_marks(canvas: &mut Canvas, scene: &Scene, y: u32) {
     }
     let x = canvas.layout.x(scene.own.node);
     match scene.event_kind {
-        Some(EventKind::Recover) => draw_ring(canvas, x, y, 6, "#E69F00"),
-        Some(EventKind::Move) => draw_ring(canvas, x, y, 3, "#333"),
-        Some(EventKind::Crash) => draw_crash(canvas, x, y),
-        Some(EventKind::Return) => canvas.note_return(scene.number),
+        Some(EventKind::Node(NodeEventKind::Recover)) => draw_ring(canvas, x, y, 6, "#E69F00"),
+        Some(EventKind::Node(NodeEventKind::Move)) => draw_ring(canvas, x, y, 3, "#333"),
+        Some(EventKind::Node(NodeEventKind::Crash)) => draw_crash(canvas, x, y),
+        Some(EventKind::Node(NodeEventKind::Return)) => canvas.note_return(scene.number),
         event_kind => draw_word(canvas, x, y, "#777", word_of(event_kind)),
     }
 }
@@ -206,8 +206,8 @@ fn draw_marks(canvas: &mut Canvas, scene: &Scene, y: u32) {
 // The word beside the lane for a row that has no other mark.
 fn word_of(event_kind: Option<EventKind>) -> &'static str {
     match event_kind {
-        Some(EventKind::Check) => "check",
-        Some(EventKind::Timeout) => "timeout",
+        Some(EventKind::Node(NodeEventKind::Check)) => "check",
+        Some(EventKind::Node(NodeEventKind::Timeout)) => "timeout",
         None => "saw",
         _ => "",
     }

@@ -5,9 +5,9 @@ ghost use Rattle.bully_picture.specs.Written.{Extends};
 
 use crate::paper::Paper;
 use bully_base::{Node, Status};
-use bully_calls::CallKind;
+use bully_calls::{CallKind, EventKind, NodeEventKind};
 use bully_film::{NodeSnapshot, Scene, Stand};
-use bully_rows::{EventKind, SAW, status_word};
+use bully_rows::{SAW, status_word};
 use bully_trace::Verdict;
 
 /// The call as the profile names it.
@@ -84,10 +84,14 @@ pub fn push_meaning(paper: &mut Paper, scene: &Scene)
 // What the row does; nothing where its text alone says it.
 fn meaning(scene: &Scene) -> &'static str {
     match scene.event_kind {
-        Some(EventKind::Move) => move_meaning(&scene.own.before, &scene.own.after),
+        Some(EventKind::Node(NodeEventKind::Move)) => move_meaning(
+            &scene.own.before,
+            &scene.own.after,
+        ),
         Some(EventKind::Plan) => "shares the task out",
-        Some(EventKind::Drop) => "the orphan is given up",
-        Some(EventKind::Return) if is_orphan(&scene.own.before) => "an orphan: nothing comes of it",
+        Some(EventKind::Node(NodeEventKind::Drop)) => "the orphan is given up",
+        Some(EventKind::Node(NodeEventKind::Return)) if is_orphan(&scene.own.before) =>
+            "an orphan: nothing comes of it",
         _ => "",
     }
 }

@@ -14,15 +14,17 @@ use Rattle.bully_calls.specs.declared.call.CallKind.TheVariants.{AreYouUp, AreYo
 use Rattle.bully_calls.specs.declared.event.Event.{Event}
 use Rattle.bully_calls.specs.Events.{node_of}
 use Rattle.bully_table.specs.TableText.{owners_text}
-use Rattle.bully_rows.specs.declared.detail.Detail.{Detail}
+use Rattle.bully_calls.specs.declared.call.Call.{Call}
+use Rattle.bully_calls.specs.declared.kind.NodeEventKind.{NodeEventKind}
 use Rattle.bully_rows.specs.declared.header.Version.{Version}
 use Rattle.bully_rows.specs.declared.trace.Claim.{Claim}
 use Rattle.bully_rows.specs.declared.trace.Row.{Row}
 use Rattle.bully_rows.specs.Headers.{nodes_max}
-use Rattle.bully_rows.specs.ReadBack.{AreOwners, IsClaimTold, IsDetailTold, IsEventTold, IsNamed, IsRowTold, IsWholeTold}
+use Rattle.bully_rows.specs.ReadBack.{AreOwners, IsClaimTold, IsEventTold, IsNamed, IsRowTold, IsWholeTold}
 use Rattle.bully_rows.specs.TraceText.{claim_fields, event_fields, header_fields, node_text, row_fields, set_text, task_text}
 use Rattle.bully_rows.specs.Whole.{Whole}
 use Rattle.bully_rows.specs.Words.{answer_word, call_word, keeps_word, status_word}
+use Rattle.bully_rows.proofs.KindLemmas.{bare-word}
 use Rattle.bully_rows.proofs.LineTexts.{AreLines, IsBare, IsLine, bare-decimal, bare-numbers}
 use Rattle.bully_rows.proofs.ListTexts.{owners-small, turned-small, weights-small}
 use Rattle.bully_rows.proofs.NumberTexts.{named-small}
@@ -77,18 +79,12 @@ event-line version setup (Event.Plan i table) within told =
     (refl, (bare-named version i told.0, (bare-numbers table (owners-small setup table within told.1.1), tt)))
 event-line version setup e within told = (refl, (bare-named version (node_of e) told, tt))
 
-detail-line : (version : Version) (i : ℕ) (detail : Detail) → IsNamed version i → IsDetailTold version detail
-    → IsLine (row_fields (Row.Detailed (record { node = i; detail = detail })))
-detail-line version i (Detail.Start call) node told =
-    (refl, (bare-named version i node, (bare-kind call.kind, (bare-named version call.callee told, tt))))
-detail-line version i (Detail.Lose call) node told =
-    (refl, (bare-named version i node, (bare-kind call.kind, (bare-named version call.callee told, tt))))
-detail-line version i (Detail.Drop call) node told =
-    (refl, (bare-named version i node, (bare-kind call.kind, (bare-named version call.callee told, tt))))
-detail-line version i (Detail.Run call a) node told =
-    (refl, (bare-named version i node, (bare-kind call.kind, (bare-named version call.callee told.0, (bare-answer a, tt)))))
-detail-line version i (Detail.Return call a) node told =
-    (refl, (bare-named version i node, (bare-kind call.kind, (bare-named version call.callee told, (bare-answer a, tt)))))
+detail-line : (version : Version) (i : ℕ) (kind : NodeEventKind) (call : Call) (answer : Option Answer) → IsNamed version i → IsNamed version call.callee
+    → IsLine (row_fields (Row.Detailed (record { node = i; detail = record { kind = kind; call = call; answer = answer } })))
+detail-line version i kind call None node callee =
+    (bare-word kind, (bare-named version i node, (bare-kind call.kind, (bare-named version call.callee callee, tt))))
+detail-line version i kind call (Some a) node callee =
+    (bare-word kind, (bare-named version i node, (bare-kind call.kind, (bare-named version call.callee callee, (bare-answer a, tt)))))
 
 claim-line : (version : Version) (claim : Claim) → IsClaimTold version claim → IsLine (claim_fields claim)
 claim-line version claim told =
@@ -111,7 +107,7 @@ whole-line version setup whole within told = (
 
 row-line : (version : Version) (setup : Setup) (row : Row) → IsSetup setup → IsRowTold version setup row → IsLine (row_fields row)
 row-line version setup (Row.Event e) within told = event-line version setup e within told
-row-line version setup (Row.Detailed e) within told = detail-line version e.node e.detail told.0 told.1
+row-line version setup (Row.Detailed e) within told = detail-line version e.node e.detail.kind e.detail.call e.detail.answer told.0 told.1.0
 row-line version setup (Row.Claim claim) within told = claim-line version claim told
 row-line version setup (Row.Whole whole) within told = whole-line version setup whole within told
 

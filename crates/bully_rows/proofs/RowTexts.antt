@@ -1,5 +1,5 @@
 -- The fields of a row, read back.
-use Rattle.std.proofs.Common.{◌≡◌, ℕ, Bool, true, false, Some, refl, ap}
+use Rattle.std.proofs.Common.{◌≡◌, ℕ, Bool, true, false, Option, Some, None, refl, ap}
 use Rattle.std.specs.Prelude.{option_map}
 use Rattle.std.specs.Fmt.{decimal}
 use Rattle.bully_base.specs.declared.node.Status.{Status}
@@ -12,17 +12,20 @@ use Rattle.bully_calls.specs.declared.call.CallKind.{CallKind}
 use Rattle.bully_calls.specs.declared.call.CallKind.TheVariants.{AreYouUp, AreYouNormal, Halt, NewCoordinator, Ready}
 use Rattle.bully_calls.specs.declared.event.Event.{Event}
 use Rattle.bully_calls.specs.Events.{node_of}
-use Rattle.bully_rows.specs.declared.detail.Detail.{Detail}
+use Rattle.bully_calls.specs.declared.kind.NodeEventKind.{NodeEventKind}
+use Rattle.bully_calls.specs.declared.kind.Saying.{Saying}
 use Rattle.bully_rows.specs.declared.header.Version.{Version}
 use Rattle.bully_rows.specs.declared.trace.Claim.{Claim}
 use Rattle.bully_rows.specs.declared.trace.Row.{Row}
 use Rattle.bully_rows.specs.Headers.{says_more}
-use Rattle.bully_rows.specs.ReadBack.{IsClaimTold, IsDetailTold, IsEventTold, IsNamed, IsReply, IsRowTold, IsWholeTold}
-use Rattle.bully_rows.specs.Rows.{call_in, claim_in, row_of}
+use Rattle.bully_rows.specs.ReadBack.{IsAnswerTold, IsClaimTold, IsDetailTold, IsEventTold, IsNamed, IsReply, IsRowTold, IsWholeTold}
+use Rattle.bully_rows.specs.Kinds.{node_saying}
+use Rattle.bully_rows.specs.Rows.{answer_in, call_in, claim_in, is_unanswered, row_of}
 use Rattle.bully_rows.specs.Trace.{is_short}
 use Rattle.bully_rows.specs.TraceText.{claim_fields, event_fields, node_text, row_fields}
 use Rattle.bully_rows.specs.Whole.{Whole}
 use Rattle.bully_rows.specs.Words.{answer_word, call_named, call_word, outcome_named, reply_named, status_named, status_word}
+use Rattle.bully_rows.proofs.KindLemmas.{no-claim, word-read}
 use Rattle.bully_rows.proofs.ListTexts.{set-read, table-read, task-read}
 use Rattle.bully_rows.proofs.NumberTexts.{coordinator-read, node-read}
 
@@ -71,15 +74,29 @@ says-it : (more : Bool) → (more ≡ false → false ≡ true) → more ≡ tru
 says-it true less = refl
 says-it false less = less refl
 
-detail-read : (version : Version) (setup : Setup) (i : ℕ) (detail : Detail) → says_more version ≡ true → IsNamed version i → IsDetailTold version detail
-    → row_of version setup (row_fields (Row.Detailed (record { node = i; detail = detail }))) ≡ Some (Row.Detailed (record { node = i; detail = detail }))
-detail-read version setup i (Detail.Start call) more node told = rw (more, node-read version i node, call-read version call told) refl
-detail-read version setup i (Detail.Lose call) more node told = rw (more, node-read version i node, call-read version call told) refl
-detail-read version setup i (Detail.Drop call) more node told = rw (more, node-read version i node, call-read version call told) refl
-detail-read version setup i (Detail.Run call a) more node told =
-    rw (more, node-read version i node, call-read version call told.0, reply-read a told.1) refl
-detail-read version setup i (Detail.Return call a) more node told =
-    rw (more, node-read version i node, call-read version call told, outcome-read a) refl
+-- what is told with no answer is said so, and what is told with one is read
+alone : (saying : Saying) → IsAnswerTold saying None → is_unanswered saying ≡ true
+alone Saying.Nothing told = absurd told
+alone Saying.Offered told = refl
+alone Saying.Held told = refl
+alone Saying.Replied told = absurd told
+alone Saying.Brought told = absurd told
+
+answer-read : (saying : Saying) (a : Answer) → IsAnswerTold saying (Some a) → answer_in saying (answer_word a) ≡ Some a
+answer-read Saying.Nothing a told = absurd told
+answer-read Saying.Offered a told = absurd told
+answer-read Saying.Held a told = absurd told
+answer-read Saying.Replied a told = reply-read a told
+answer-read Saying.Brought a told = outcome-read a
+
+detail-read : (version : Version) (setup : Setup) (i : ℕ) (kind : NodeEventKind) (call : Call) (answer : Option Answer) → says_more version ≡ true → IsNamed version i
+    → IsDetailTold version (record { kind = kind; call = call; answer = answer })
+    → row_of version setup (row_fields (Row.Detailed (record { node = i; detail = record { kind = kind; call = call; answer = answer } })))
+    ≡ Some (Row.Detailed (record { node = i; detail = record { kind = kind; call = call; answer = answer } }))
+detail-read version setup i kind call None more node told =
+    rw (no-claim kind, more, node-read version i node, call-read version call told.0, word-read kind, alone (node_saying kind) told.1) refl
+detail-read version setup i kind call (Some a) more node told =
+    rw (more, node-read version i node, call-read version call told.0, word-read kind, answer-read (node_saying kind) a told.1) refl
 
 -- ---- claims
 
@@ -101,6 +118,6 @@ whole-read version setup whole within more told =
 pub row-read : (version : Version) (setup : Setup) (row : Row) → IsSetup setup → (says_more version ≡ false → is_short row ≡ true) → IsRowTold version setup row
     → row_of version setup (row_fields row) ≡ Some row
 row-read version setup (Row.Event e) within form told = event-read version setup e within told
-row-read version setup (Row.Detailed e) within form told = detail-read version setup e.node e.detail (says-it (says_more version) form) told.0 told.1
+row-read version setup (Row.Detailed e) within form told = detail-read version setup e.node e.detail.kind e.detail.call e.detail.answer (says-it (says_more version) form) told.0 told.1
 row-read version setup (Row.Claim claim) within form told = claim-row-read version setup claim told
 row-read version setup (Row.Whole whole) within form told = whole-read version setup whole within (says-it (says_more version) form) told

@@ -19,15 +19,19 @@ use Rattle.bully_table.specs.Numeral.{number_of}
 use Rattle.bully_table.specs.TableText.{is_no_number, names_nobody, owner_of, pieces_of, table_of_text}
 use Rattle.bully_table.specs.declared.table.TableFault.{TableFault}
 use Rattle.bully_calls.specs.declared.event.Event.{Event}
+use Rattle.bully_calls.specs.declared.kind.NodeEventKind.{NodeEventKind}
+use Rattle.bully_calls.specs.declared.kind.Saying.{Saying}
+use Rattle.bully_calls.specs.Events.{event_at}
 use Rattle.bully_rows.specs.declared.detail.Detail.{Detail}
 use Rattle.bully_rows.specs.declared.header.Version.{Version}
 use Rattle.bully_rows.specs.declared.trace.Claim.{Claim}
 use Rattle.bully_rows.specs.declared.trace.Row.{Row}
 use Rattle.bully_rows.specs.Headers.{Record, node_in, nodes_max, says_more}
-use Rattle.bully_rows.specs.ReadBack.{AreOwners, IsClaimTold, IsDetailTold, IsEventTold, IsNamed, IsReply, IsRowTold, IsWholeTold}
-use Rattle.bully_rows.specs.Rows.{answered_in, call_in, claim_in, coordinator_in, detail_word, detailed, is_above, plan_in, row_of, set_from, set_in, task_in, unanswered_in, unanswered_row, whole_of, whole_row}
-use Rattle.bully_rows.specs.Kinds.{event_named, event_word, plain_events, plan_word}
-use Rattle.bully_rows.specs.Words.{answer_word, call_named, first_named, outcome_named, reply_named, status_named}
+use Rattle.bully_rows.specs.ReadBack.{AreOwners, IsAnswerTold, IsClaimTold, IsDetailTold, IsEventTold, IsNamed, IsReply, IsRowTold, IsWholeTold}
+use Rattle.bully_rows.specs.Rows.{answer_in, answered_in, call_in, claim_in, coordinator_in, detailed, is_above, is_unanswered, plan_in, row_of, set_from, set_in, task_in, unanswered_in, unanswered_row, whole_of, whole_row}
+use Rattle.bully_rows.specs.EventsTold.{answered, unanswered}
+use Rattle.bully_rows.specs.Kinds.{event_named, kind_named, node_saying, plan_word}
+use Rattle.bully_rows.specs.Words.{answer_word, call_named, first_named, reply_named, status_named}
 use Rattle.bully_rows.proofs.HeaderLemmas.{told-within}
 
 -- ---- what stands behind a value that is there
@@ -139,12 +143,15 @@ set-told version text set e =
 
 -- ---- events
 
--- each event that names a node and no more is within the limits where its node is
-plain-each : (version : Version) (setup : Setup) (i : ℕ) → IsNamed version i → Each (IsEventTold version setup) (plain_events i)
-plain-each version setup i node = grind (arith, node)
+-- an event that names a node and no more is within the limits where its node is
+named-event : (version : Version) (setup : Setup) (kind : NodeEventKind) (i : ℕ) → IsNamed version i → IsEventTold version setup (event_at kind i)
+named-event version setup NodeEventKind.Recover i node = node
+named-event version setup kind i node = node
 
 event-told : (version : Version) (setup : Setup) (word : List ℕ) (i : ℕ) (e : Event) → IsNamed version i → event_named word i ≡ Some e → IsEventTold version setup e
-event-told version setup word i e node is = named (IsEventTold version setup) event_word word (plain_events i) e (plain-each version setup i node) is
+event-told version setup word i e node is =
+    let (kind, at, same) = made (λ kind. event_at kind i) (kind_named word) e is in
+    subst (IsEventTold version setup) same (named-event version setup kind i node)
 
 plan-told : (version : Version) (setup : Setup) (node owners : List ℕ) (row : Row) → plan_in version setup node owners ≡ Some row → IsRowTold version setup row
 plan-told version setup node owners row e =
@@ -160,27 +167,34 @@ call-told version kind callee call e =
     let (j, at_j, is) = made {B = Call} (λ j. record { callee = j; kind = k }) (node_in version callee) call next in
     subst (λ (c : Call). IsNamed version c.callee) is (node-told version callee j at_j)
 
+alone-told : (saying : Saying) → is_unanswered saying ≡ true → IsAnswerTold saying None
+alone-told Saying.Nothing e = absurd (cc e)
+alone-told Saying.Offered e = tt
+alone-told Saying.Held e = tt
+alone-told Saying.Replied e = absurd (cc e)
+alone-told Saying.Brought e = absurd (cc e)
+
 unanswered-told : (version : Version) (word : List ℕ) (call : Call) (detail : Detail) → IsNamed version call.callee → unanswered_in word call ≡ Some detail → IsDetailTold version detail
-unanswered-told version word call detail node e = named (IsDetailTold version) detail_word word (Detail.Start call ∷ Detail.Lose call ∷ Detail.Drop call ∷ []) detail (node, (node, (node, tt))) e
+unanswered-told version word call detail node e =
+    let (kind, at, next) = found (λ kind. if is_unanswered (node_saying kind) then Some (unanswered kind call) else None) (kind_named word) detail e in
+    let (alone, is) = tested (is_unanswered (node_saying kind)) (Some (unanswered kind call)) detail next in
+    subst (IsDetailTold version) (same_Some (unanswered kind call) detail is) (node, alone-told (node_saying kind) alone)
 
 reply-told : (word : List ℕ) (a : Answer) → reply_named word ≡ Some a → IsReply a
 reply-told word a e = named IsReply answer_word word (Done ∷ Yes ∷ No ∷ []) a (tt, (tt, (tt, tt))) e
 
+answer-told : (saying : Saying) (word : List ℕ) (a : Answer) → answer_in saying word ≡ Some a → IsAnswerTold saying (Some a)
+answer-told Saying.Nothing word a e = absurd (cc e)
+answer-told Saying.Offered word a e = absurd (cc e)
+answer-told Saying.Held word a e = absurd (cc e)
+answer-told Saying.Replied word a e = reply-told word a e
+answer-told Saying.Brought word a e = tt
+
 answered-told : (version : Version) (word answer : List ℕ) (call : Call) (detail : Detail) → IsNamed version call.callee → answered_in word answer call ≡ Some detail → IsDetailTold version detail
 answered-told version word answer call detail node e =
-    either (IsDetailTold version) (bytes_eq word (codes "run")) (option_map (λ a. Detail.Run call a) (reply_named answer))
-    (if bytes_eq word (codes "return") then option_map (λ a. Detail.Return call a) (outcome_named answer) else None) detail run return e
-  where
-    run : option_map (λ a. Detail.Run call a) (reply_named answer) ≡ Some detail → IsDetailTold version detail
-    run here =
-        let (a, at, is) = made (λ a. Detail.Run call a) (reply_named answer) detail here in
-        subst (IsDetailTold version) is (node, reply-told answer a at)
-
-    return : (if bytes_eq word (codes "return") then option_map (λ a. Detail.Return call a) (outcome_named answer) else None) ≡ Some detail → IsDetailTold version detail
-    return here =
-        let (test, more) = tested (bytes_eq word (codes "return")) (option_map (λ a. Detail.Return call a) (outcome_named answer)) detail here in
-        let (a, at, is) = made (λ a. Detail.Return call a) (outcome_named answer) detail more in
-        subst (IsDetailTold version) is node
+    let (kind, at, next) = found (λ kind. option_map (answered kind call) (answer_in (node_saying kind) answer)) (kind_named word) detail e in
+    let (a, read, is) = made (answered kind call) (answer_in (node_saying kind) answer) detail next in
+    subst (IsDetailTold version) is (node, answer-told (node_saying kind) answer a read)
 
 detailed-told : (version : Version) (setup : Setup) (node : List ℕ) (o : Option Detail) (row : Row) → ((detail : Detail) → o ≡ Some detail → IsDetailTold version detail)
     → detailed version node o ≡ Some row → IsRowTold version setup row

@@ -19,7 +19,6 @@ use Rattle.bully_rows.specs.declared.header.Version.{Version}
 use Rattle.bully_rows.specs.declared.trace.Claim.{Claim}
 use Rattle.bully_rows.specs.declared.trace.Row.{Row}
 use Rattle.bully_rows.specs.declared.trace.TraceFault.{TraceFault}
-use Rattle.bully_rows.specs.EventsTold.{call_told}
 use Rattle.bully_rows.specs.Headers.{Record, header_of, header_with, later_header, later_version, node_in, nodes_max, partitions_in, setup_in, weighted_in, weights_in}
 use Rattle.bully_rows.specs.ReadBack.{IsClaimTold, IsDetailTold, IsEventTold, IsNamed, IsRowTold, IsTold, ReadsTold}
 use Rattle.bully_rows.specs.Rows.{read_as, row_of, rows_from, trace_of}
@@ -178,8 +177,7 @@ module _ (old new : Version) (roomier : nodes_max old ≤ nodes_max new) where
   event-more setup e told = named-more (node_of e) told
 
   detail-more : (detail : Detail) → IsDetailTold old detail → IsDetailTold new detail
-  detail-more (Detail.Run call a) told = (named-more call.callee told.0, told.1)
-  detail-more detail told = named-more (call_told detail).callee told
+  detail-more detail told = (named-more detail.call.callee told.0, told.1)
 
   claim-more : (claim : Claim) → IsClaimTold old claim → IsClaimTold new claim
   claim-more claim told = (named-more claim.node told.0, node-more claim.coordinator told.1)

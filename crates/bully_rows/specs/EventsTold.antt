@@ -1,25 +1,19 @@
--- The event and the call of which a row of version 3 says more.
-use Rattle.std.specs.Prelude.{ℕ}
+-- The event of which a row of version 3 says more, and what it says.
+use Rattle.std.specs.Prelude.{Some, None}
+use Rattle.bully_calls.specs.declared.call.Answer.{Answer}
 use Rattle.bully_calls.specs.declared.call.Call.{Call}
 use Rattle.bully_calls.specs.declared.event.Event.{Event}
+use Rattle.bully_calls.specs.declared.kind.NodeEventKind.{NodeEventKind}
+use Rattle.bully_calls.specs.Events.{event_at}
 use Rattle.bully_rows.specs.declared.detail.Detail.{Detail}
 use Rattle.bully_rows.specs.declared.detail.DetailedEvent.{DetailedEvent}
 
--- the event of node i of which this is said
-abbrev pub event_told : Detail → ℕ → Event
-event_told (Detail.Start call) i = Event.Start i
-event_told (Detail.Run call a) i = Event.Run i
-event_told (Detail.Lose call) i = Event.Lose i
-event_told (Detail.Return call a) i = Event.Return i
-event_told (Detail.Drop call) i = Event.Drop i
-
 abbrev pub event_of_detailed : DetailedEvent → Event
-event_of_detailed e = event_told e.detail e.node
+event_of_detailed e = event_at e.detail.kind e.node
 
--- the call that is told
-abbrev pub call_told : Detail → Call
-call_told (Detail.Start call) = call
-call_told (Detail.Run call a) = call
-call_told (Detail.Lose call) = call
-call_told (Detail.Return call a) = call
-call_told (Detail.Drop call) = call
+-- what is said of an event of this kind and of this call, with no answer, and with one
+abbrev pub unanswered : NodeEventKind → Call → Detail
+unanswered k c = record { kind = k; call = c; answer = None }
+
+abbrev pub answered : NodeEventKind → Call → Answer → Detail
+answered k c a = record { kind = k; call = c; answer = Some a }

@@ -1,19 +1,20 @@
 -- Traces that a text can tell: what is written of one means that very trace.
-use Rattle.std.specs.Prelude.{◌≡◌, ℕ, ◌+◌, ◌<◌, ◌≤◌, ⊤, All, IfSome, List, Ok, length}
+use Rattle.std.specs.Prelude.{◌≡◌, ℕ, ◌+◌, ◌<◌, ◌≤◌, ⊤, All, IfSome, List, Ok, Option, Some, None, length}
 use Rattle.bully_base.specs.declared.TheConstants.{EVENTS_MAX}
 use Rattle.bully_base.specs.NodeSet.{IsFallingBelow}
 use Rattle.bully_base.specs.Setup.{IsNode, IsSetup, Setup}
 use Rattle.bully_calls.specs.declared.call.Answer.{Answer}
 use Rattle.bully_calls.specs.declared.call.Answer.TheVariants.{Done, Yes, No, Failed, Discarded}
 use Rattle.bully_calls.specs.declared.event.Event.{Event}
+use Rattle.bully_calls.specs.declared.kind.Saying.{Saying}
 use Rattle.bully_calls.specs.Events.{node_of}
 use Rattle.bully_rows.specs.declared.TheConstants.{ROWS_MAX}
 use Rattle.bully_rows.specs.declared.detail.Detail.{Detail}
 use Rattle.bully_rows.specs.declared.header.Version.{Version}
 use Rattle.bully_rows.specs.declared.trace.Claim.{Claim}
 use Rattle.bully_rows.specs.declared.trace.Row.{Row}
-use Rattle.bully_rows.specs.EventsTold.{call_told}
 use Rattle.bully_rows.specs.Headers.{IsVersionFor, Record, nodes_max}
+use Rattle.bully_rows.specs.Kinds.{node_saying}
 use Rattle.bully_rows.specs.Rows.{records_of, trace_of}
 use Rattle.bully_rows.specs.Trace.{AreRowsFor, Trace, upgraded}
 use Rattle.bully_rows.specs.TraceText.{trace_text}
@@ -39,9 +40,16 @@ abbrev pub IsEventTold : Version → Setup → Event → Type 0
 IsEventTold version setup (Event.Plan i table) = IsNamed version i × AreOwners setup table
 IsEventTold version setup e = IsNamed version (node_of e)
 
+-- the answer, or none, is what is told of events of which this is said
+abbrev pub IsAnswerTold : Saying → Option Answer → Type 0
+IsAnswerTold Saying.Offered None = ⊤
+IsAnswerTold Saying.Held None = ⊤
+IsAnswerTold Saying.Replied (Some a) = IsReply a
+IsAnswerTold Saying.Brought (Some a) = ⊤
+IsAnswerTold _ _ = ⊥
+
 abbrev pub IsDetailTold : Version → Detail → Type 0
-IsDetailTold version (Detail.Run call a) = IsNamed version call.callee × IsReply a
-IsDetailTold version detail = IsNamed version (call_told detail).callee
+IsDetailTold version detail = IsNamed version detail.call.callee × IsAnswerTold (node_saying detail.kind) detail.answer
 
 abbrev pub IsClaimTold : Version → Claim → Type 0
 IsClaimTold version claim = IsNamed version claim.node × IfSome claim.coordinator (IsNamed version)

@@ -6,8 +6,10 @@ use Rattle.csv.specs.Reading.{records, default_config, strip_bom}
 use Rattle.bully_base.specs.NodeSet.{with_node}
 use Rattle.bully_base.specs.Setup.{Setup}
 use Rattle.bully_table.specs.TableText.{pieces_of, table_of_text}
+use Rattle.bully_calls.specs.declared.call.Answer.{Answer}
 use Rattle.bully_calls.specs.declared.call.Call.{Call}
 use Rattle.bully_calls.specs.declared.event.Event.{Event}
+use Rattle.bully_calls.specs.declared.kind.Saying.{Saying}
 use Rattle.bully_rows.specs.declared.TheConstants.{ROWS_MAX}
 use Rattle.bully_rows.specs.declared.detail.Detail.{Detail}
 use Rattle.bully_rows.specs.declared.header.Header.{Header}
@@ -16,11 +18,11 @@ use Rattle.bully_rows.specs.declared.trace.Claim.{Claim}
 use Rattle.bully_rows.specs.declared.trace.Row.{Row}
 use Rattle.bully_rows.specs.declared.trace.TraceCause.{TraceCause}
 use Rattle.bully_rows.specs.declared.trace.TraceFault.{TraceFault}
-use Rattle.bully_rows.specs.EventsTold.{event_told}
+use Rattle.bully_rows.specs.EventsTold.{answered, unanswered}
 use Rattle.bully_rows.specs.Headers.{Record, header_of, node_in, says_more}
 use Rattle.bully_rows.specs.Trace.{Trace, headed}
-use Rattle.bully_rows.specs.Kinds.{event_named, event_word, plan_word}
-use Rattle.bully_rows.specs.Words.{call_named, first_named, outcome_named, reply_named, status_named}
+use Rattle.bully_rows.specs.Kinds.{event_named, kind_named, node_saying, plan_word}
+use Rattle.bully_rows.specs.Words.{call_named, outcome_named, reply_named, status_named}
 
 -- the number is above all members of the set
 abbrev pub is_above : ℕ → List ℕ → Bool
@@ -45,19 +47,29 @@ claim_in version node status coordinator =
 abbrev pub call_in : Version → List ℕ → List ℕ → Option Call
 call_in version kind callee = option_and_then (λ k. option_map (λ j. record { callee = j; kind = k }) (node_in version callee)) (call_named kind)
 
--- the word of the event of which this is said
-abbrev pub detail_word : Detail → List ℕ
-detail_word detail = event_word (event_told detail 0)
+-- a call is said, and no answer
+abbrev pub is_unanswered : Saying → Bool
+is_unanswered Saying.Nothing = false
+is_unanswered Saying.Offered = true
+is_unanswered Saying.Held = true
+is_unanswered Saying.Replied = false
+is_unanswered Saying.Brought = false
+
+-- the answer of this word, where one is said
+abbrev pub answer_in : Saying → List ℕ → Option Answer
+answer_in Saying.Nothing word = None
+answer_in Saying.Offered word = None
+answer_in Saying.Held word = None
+answer_in Saying.Replied word = reply_named word
+answer_in Saying.Brought word = outcome_named word
 
 -- what is said beside an event of this word, where no answer is told
 abbrev pub unanswered_in : List ℕ → Call → Option Detail
-unanswered_in word call = first_named detail_word word (Detail.Start call ∷ Detail.Lose call ∷ Detail.Drop call ∷ [])
+unanswered_in word call = option_and_then (λ kind. if is_unanswered (node_saying kind) then Some (unanswered kind call) else None) (kind_named word)
 
 -- the same, where one is told
 abbrev pub answered_in : List ℕ → List ℕ → Call → Option Detail
-answered_in word answer call =
-    if bytes_eq word (codes "run") then option_map (λ a. Detail.Run call a) (reply_named answer)
-    else if bytes_eq word (codes "return") then option_map (λ a. Detail.Return call a) (outcome_named answer) else None
+answered_in word answer call = option_and_then (λ kind. option_map (answered kind call) (answer_in (node_saying kind) answer)) (kind_named word)
 
 -- the row that says this of an event of the node, in a version that says it
 abbrev pub detailed : Version → List ℕ → Option Detail → Option Row

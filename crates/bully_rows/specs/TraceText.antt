@@ -4,17 +4,17 @@ use Rattle.std.specs.List.{join_with_byte}
 use Rattle.std.specs.Fmt.{decimal}
 use Rattle.bully_base.specs.Setup.{Setup}
 use Rattle.bully_table.specs.TableText.{owners_text}
+use Rattle.bully_calls.specs.declared.call.Answer.{Answer}
 use Rattle.bully_calls.specs.declared.call.Call.{Call}
 use Rattle.bully_calls.specs.declared.event.Event.{Event}
-use Rattle.bully_calls.specs.Events.{node_of}
-use Rattle.bully_rows.specs.declared.detail.Detail.{Detail}
+use Rattle.bully_calls.specs.Events.{kind_of, node_of, word_of}
+use Rattle.bully_rows.specs.declared.detail.DetailedEvent.{DetailedEvent}
 use Rattle.bully_rows.specs.declared.header.Version.{Version}
 use Rattle.bully_rows.specs.declared.trace.Claim.{Claim}
 use Rattle.bully_rows.specs.declared.trace.Row.{Row}
 use Rattle.bully_rows.specs.declared.trace.TraceCause.{TraceCause}
-use Rattle.bully_rows.specs.EventsTold.{event_of_detailed}
 use Rattle.bully_rows.specs.Trace.{Trace}
-use Rattle.bully_rows.specs.Kinds.{event_word, plan_word}
+use Rattle.bully_rows.specs.Kinds.{node_word, plan_word}
 use Rattle.bully_rows.specs.Words.{answer_word, call_word, keeps_word, status_word}
 
 -- the cause of a trace's fault as the program tells it
@@ -42,18 +42,18 @@ line_of fields = join_with_byte 44 fields ++ codes "\n"
 -- the owners of a Plan are parted by spaces
 abbrev pub event_fields : Event → List (List ℕ)
 event_fields (Event.Plan i table) = plan_word ∷ decimal i ∷ owners_text 32 table ∷ []
-event_fields e = event_word e ∷ decimal (node_of e) ∷ []
+event_fields e = word_of (kind_of e) ∷ decimal (node_of e) ∷ []
 
 -- what is said beside an event
 abbrev pub call_fields : Call → List (List ℕ)
 call_fields call = call_word call.kind ∷ decimal call.callee ∷ []
 
-abbrev pub detail_fields : Detail → List (List ℕ)
-detail_fields (Detail.Start call) = call_fields call
-detail_fields (Detail.Run call a) = call_fields call ++ answer_word a ∷ []
-detail_fields (Detail.Lose call) = call_fields call
-detail_fields (Detail.Return call a) = call_fields call ++ answer_word a ∷ []
-detail_fields (Detail.Drop call) = call_fields call
+abbrev pub answer_fields : Option Answer → List (List ℕ)
+answer_fields None = []
+answer_fields (Some a) = answer_word a ∷ []
+
+abbrev pub detailed_fields : DetailedEvent → List (List ℕ)
+detailed_fields e = node_word e.detail.kind ∷ decimal e.node ∷ (call_fields e.detail.call ++ answer_fields e.detail.answer)
 
 abbrev pub claim_fields : Claim → List (List ℕ)
 claim_fields claim = codes "saw" ∷ decimal claim.node ∷ status_word claim.status ∷ node_text claim.coordinator ∷ []
@@ -74,7 +74,7 @@ rest_text halter up task = codes "," ++ node_text halter ++ codes "," ++ set_tex
 
 abbrev pub row_fields : Row → List (List ℕ)
 row_fields (Row.Event e) = event_fields e
-row_fields (Row.Detailed e) = event_fields (event_of_detailed e) ++ detail_fields e.detail
+row_fields (Row.Detailed e) = detailed_fields e
 row_fields (Row.Claim claim) = claim_fields claim
 row_fields (Row.Whole whole) = claim_fields whole.claim ++ node_text whole.halter ∷ set_text whole.up ∷ task_text 32 whole.task ∷ []
 

@@ -1,18 +1,18 @@
 //! What a row of version 3 may say beside an event of a call.
 ghost use Rattle.std.specs.Prelude.{◌≡◌};
-ghost use Rattle.bully_rows.specs.EventsTold.{call_told, event_of_detailed, event_told};
+ghost use Rattle.bully_calls.specs.Events.{event_at};
+ghost use Rattle.bully_rows.specs.EventsTold.{answered, event_of_detailed, unanswered};
 
 use bully_base::Node;
-use bully_calls::{Answer, Call, Event};
+use bully_calls::{Answer, Call, Event, NodeEventKind};
 
-/// What is said beside an event of a call: which call it is; of a Run what it is answered, and of a Return what it brings.
+/// What is said beside an event of a call: of which kind the event is, which call it is, and the answer, where the table of events
+/// says that one is told. A row that says else than that table is no form, and so of no world.
 #[derive(Clone, Copy, Debug)]
-pub enum Detail {
-    Start(Call),
-    Run(Call, Answer),
-    Lose(Call),
-    Return(Call, Answer),
-    Drop(Call),
+pub struct Detail {
+    pub kind: NodeEventKind,
+    pub call: Call,
+    pub answer: Option<Answer>,
 }
 
 /// An event of a call of this node, and what is said beside it.
@@ -23,30 +23,33 @@ pub struct DetailedEvent {
 }
 
 impl Detail {
-    /// The event of this node of which it is said.
-    pub fn event(&self, node: Node) -> Event
-        ensures { result ≡ event_told self.now node }
+    /// The call, and no answer.
+    pub fn unanswered(kind: NodeEventKind, call: Call) -> Detail
+        ensures { result ≡ unanswered kind call }
     {
-        match self {
-            Detail::Start(_) => Event::Start(node),
-            Detail::Run(_, _) => Event::Run(node),
-            Detail::Lose(_) => Event::Lose(node),
-            Detail::Return(_, _) => Event::Return(node),
-            Detail::Drop(_) => Event::Drop(node),
+        Detail {
+            kind,
+            call,
+            answer: None,
         }
     }
 
-    /// The call that is told.
-    pub fn call(&self) -> Call
-        ensures { result ≡ call_told self.now }
+    /// The call and the answer.
+    pub fn answered(kind: NodeEventKind, call: Call, answer: Answer) -> Detail
+        ensures { result ≡ answered kind call answer }
     {
-        match self {
-            Detail::Start(call)
-            | Detail::Run(call, _)
-            | Detail::Lose(call)
-            | Detail::Return(call, _)
-            | Detail::Drop(call) => *call,
+        Detail {
+            kind,
+            call,
+            answer: Some(answer),
         }
+    }
+
+    /// The event of this node of which it is said.
+    pub fn event(&self, node: Node) -> Event
+        ensures { result ≡ event_at self.now.kind node }
+    {
+        self.kind.event(node)
     }
 }
 

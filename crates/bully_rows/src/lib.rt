@@ -11,7 +11,7 @@ ghost use Rattle.bully_rows.specs.ReadBack.{ReadsBack, ReadsTold};
 
 mod detail;
 mod header;
-mod kind;
+mod node_event;
 mod reading;
 mod row;
 mod row_reader;
@@ -23,10 +23,7 @@ mod writing;
 
 pub use detail::{Detail, DetailedEvent};
 pub use header::{Header, Version, read_weights, version_for};
-pub use kind::{
-    CHECK, CRASH, DROP, EVERY_EVENT_KIND, EventKind, LOSE, MOVE, NodeEvent, NodeEventKind, PLAN,
-    RECOVER, RETURN, RUN, START, TIMEOUT, kind_named,
-};
+pub use node_event::NodeEvent;
 pub use reading::read_trace;
 pub use row::{number_within, read_coordinator, read_node};
 pub use row_reader::{RowReader, no_header};
@@ -36,8 +33,8 @@ pub use text::{
 };
 pub use trace::{Claim, Row, Rows, Trace, TraceCause, TraceFault, WholeClaim};
 pub use words::{
-    SAW, answer_word, call_named, call_word, cause_word, is_word, outcome_named, reply_named,
-    status_named, status_word,
+    SAW, answer_word, call_named, call_word, cause_word, is_word, kind_named, outcome_named,
+    reply_named, status_named, status_word,
 };
 pub use writing::{not_written, write_trace};
 

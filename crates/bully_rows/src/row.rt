@@ -5,16 +5,16 @@ ghost use Rattle.bully_base.specs.Setup.{Setup as SetupState};
 ghost use Rattle.bully_table.specs.Numeral.{number_of};
 ghost use Rattle.bully_rows.specs.declared.trace.Row.{Row};
 ghost use Rattle.bully_rows.specs.Headers.{node_in, within};
-ghost use Rattle.bully_rows.specs.Kinds.{event_at};
+ghost use Rattle.bully_calls.specs.Events.{event_at};
 ghost use Rattle.bully_rows.specs.Rows.{claim_in, coordinator_in, row_of};
 
 use crate::header::Version;
-use crate::kind::{NodeEvent, PLAN, kind_named};
+use crate::node_event::NodeEvent;
 use crate::saying::{answered_row, unanswered_row, whole_row};
 use crate::trace::{Claim, Row};
-use crate::words::{SAW, is_word, status_named};
+use crate::words::{SAW, is_word, kind_named, status_named};
 use bully_base::{Node, OutOfMemory, Setup};
-use bully_calls::Event;
+use bully_calls::{Event, EventKind};
 use bully_table::{Table, TableFault, read_number};
 use csv::ByteRecord;
 use std::alloc::{AllocError, Global};
@@ -108,7 +108,7 @@ fn plan_row(
 ) -> Result<Option<Row>, OutOfMemory>
     ensures { IfOk result (λ row. row ≡ row_of version setup.now (word.now ∷ node.now ∷ owners.now ∷ [])) }
 {
-    if !is_word(word, PLAN) {
+    if !is_word(word, EventKind::Plan.word()) {
         return Ok(None);
     }
     let Some(node) = read_node(version, node) else {

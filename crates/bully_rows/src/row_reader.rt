@@ -2,7 +2,7 @@ ghost use Rattle.std.specs.Prelude.{◌≡◌, ◌≢◌, ◌⊎◌, ◌+◌, �
 ghost use Rattle.csv.specs.Records.{fields_of};
 ghost use Rattle.bully_base.specs.Setup.{Setup as SetupState};
 ghost use Rattle.bully_rows.specs.Headers.{header_of};
-ghost use Rattle.bully_rows.specs.Kinds.{event_at};
+ghost use Rattle.bully_calls.specs.Events.{event_at};
 ghost use Rattle.bully_rows.specs.Rows.{fault_at, row_of};
 ghost use Rattle.bully_rows.specs.declared.TheConstants.{ROWS_MAX};
 ghost use Rattle.bully_rows.specs.declared.header.Header.{Header as HeaderState};
@@ -11,7 +11,7 @@ ghost use Rattle.bully_rows.specs.RecordsLeft.{EndsReading, HasRead, IsOutside, 
 
 use crate::ROWS_MAX;
 use crate::header::{Header, Version, read_header};
-use crate::kind::NodeEvent;
+use crate::node_event::NodeEvent;
 use crate::row::{read_longer_row, read_node_event};
 use crate::trace::{Row, TraceCause, TraceFault};
 use bully_base::{OutOfMemory, Setup};

@@ -1,15 +1,14 @@
 //! The rows of version 3 that say more than an event, or than a status and a coordinator.
 ghost use Rattle.std.specs.Prelude.{◌≡◌, IfOk};
-ghost use Rattle.bully_rows.specs.Rows.{answered_in, answered_row, call_in, detailed, is_above, set_in, task_in, unanswered_in, unanswered_row, whole_of};
+ghost use Rattle.bully_rows.specs.Rows.{answer_in, answered_in, answered_row, call_in, detailed, is_above, set_in, task_in, unanswered_in, unanswered_row, whole_of};
 
 use crate::detail::{Detail, DetailedEvent};
 use crate::header::Version;
-use crate::kind::{DROP, LOSE, RETURN, RUN, START};
 use crate::row::{read_coordinator, read_node};
 use crate::trace::{Claim, Row, WholeClaim};
-use crate::words::{call_named, is_word, outcome_named, reply_named};
+use crate::words::{call_named, is_word, kind_named, outcome_named, reply_named};
 use bully_base::{Node, NodeSet, OutOfMemory, Setup};
-use bully_calls::Call;
+use bully_calls::{Answer, Call, Saying};
 use bully_table::{Pieces, Table, TableFault};
 use std::alloc::{AllocError, Global};
 
@@ -67,14 +66,10 @@ fn read_call(version: Version, kind: &[u8], callee: &[u8]) -> Option<Call>
 fn unanswered(word: &[u8], call: Call) -> Option<Detail>
     ensures { result ≡ unanswered_in word.now call }
 {
-    if is_word(word, START) {
-        Some(Detail::Start(call))
-    } else if is_word(word, LOSE) {
-        Some(Detail::Lose(call))
-    } else if is_word(word, DROP) {
-        Some(Detail::Drop(call))
-    } else {
-        None
+    let kind = kind_named(word)?;
+    match kind.saying() {
+        Saying::Offered | Saying::Held => Some(Detail::unanswered(kind, call)),
+        Saying::Nothing | Saying::Replied | Saying::Brought => None,
     }
 }
 
@@ -82,12 +77,19 @@ fn unanswered(word: &[u8], call: Call) -> Option<Detail>
 fn answered(word: &[u8], answer: &[u8], call: Call) -> Option<Detail>
     ensures { result ≡ answered_in word.now answer.now call }
 {
-    if is_word(word, RUN) {
-        Some(Detail::Run(call, reply_named(answer)?))
-    } else if is_word(word, RETURN) {
-        Some(Detail::Return(call, outcome_named(answer)?))
-    } else {
-        None
+    let kind = kind_named(word)?;
+    let answer = read_answer(kind.saying(), answer)?;
+    Some(Detail::answered(kind, call, answer))
+}
+
+// The answer of this word, where one is told of events of which this is said.
+fn read_answer(saying: Saying, word: &[u8]) -> Option<Answer>
+    ensures { result ≡ answer_in saying word.now }
+{
+    match saying {
+        Saying::Replied => reply_named(word),
+        Saying::Brought => outcome_named(word),
+        Saying::Nothing | Saying::Offered | Saying::Held => None,
     }
 }
 

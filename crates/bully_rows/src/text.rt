@@ -10,11 +10,10 @@ ghost use Rattle.bully_rows.specs.TraceText.{call_fields, claim_fields, event_fi
 ghost use Rattle.bully_rows.specs.Whole.{whole_of};
 ghost use Rattle.bully_rows.specs.Words.{answer_word};
 
-use crate::kind::{DROP, EventKind, LOSE, PLAN, RETURN, RUN, START};
 use crate::words::{answer_word, call_word, keeps_word, status_word};
-use crate::{Claim, Detail, DetailedEvent, Row, Version, WholeClaim};
+use crate::{Claim, DetailedEvent, Row, Version, WholeClaim};
 use bully_base::{Node, NodeSet, OutOfMemory, Setup};
-use bully_calls::{Answer, Call, Event};
+use bully_calls::{Answer, Call, Event, EventKind};
 use bully_handlers::Vector;
 use bully_table::{Table, push_owners};
 
@@ -113,7 +112,7 @@ pub fn push_event(text: &mut String, event: &Event) -> Result<(), OutOfMemory>
 {
     match event {
         Event::Plan(node, table) => push_plan(text, *node, table),
-        _ => push_named(text, EventKind::of(event).word(), event.node()),
+        _ => push_named(text, event.kind().word(), event.node()),
     }
 }
 
@@ -129,7 +128,7 @@ fn push_named(text: &mut String, word: &str, node: Node) -> Result<(), OutOfMemo
 fn push_plan(text: &mut String, node: Node, table: &Table) -> Result<(), OutOfMemory>
     ensures { OnOk result (string_bytes text.new ≡ string_bytes text.old ++ line_of (event_fields (Event.Plan node table.now))) }
 {
-    let word = PLAN;
+    let word = EventKind::Plan.word();
     let number = node.number();
     write!(text, "{word},{number},")?;
     push_owners(text, table, ' ')?;
@@ -141,12 +140,11 @@ pub fn push_detailed(text: &mut String, event: &DetailedEvent) -> Result<(), Out
     ensures { OnOk result (string_bytes text.new ≡ string_bytes text.old ++ line_of (row_fields (Row.Detailed event.now))) }
 {
     let node = event.node;
-    match event.detail {
-        Detail::Start(call) => push_unanswered(text, START, node, call),
-        Detail::Run(call, answer) => push_answered(text, RUN, node, call, answer),
-        Detail::Lose(call) => push_unanswered(text, LOSE, node, call),
-        Detail::Return(call, answer) => push_answered(text, RETURN, node, call, answer),
-        Detail::Drop(call) => push_unanswered(text, DROP, node, call),
+    let detail = event.detail;
+    let word = detail.kind.word();
+    match detail.answer {
+        None => push_unanswered(text, word, node, detail.call),
+        Some(answer) => push_answered(text, word, node, detail.call, answer),
     }
 }
 

@@ -1,10 +1,11 @@
-//! The words of a trace and of a verdict, each once: for reading and for writing. Those of events stand in `kind`.
+//! The words of a trace and of a verdict, each once: for reading and for writing. Those of events stand in bully_calls, and are read here.
 ghost use Rattle.std.specs.Prelude.{◌≡◌};
 ghost use Rattle.std.specs.Str.{bytes_eq};
+ghost use Rattle.bully_rows.specs.Kinds.{kind_named};
 ghost use Rattle.bully_rows.specs.Words.{answer_word, call_named, call_word, cause_word, keeps_named, keeps_word, outcome_named, reply_named, status_named, status_word};
 
 use bully_base::Status;
-use bully_calls::{Answer, CallKind, Refused};
+use bully_calls::{Answer, CallKind, NodeEventKind, Refused};
 
 /// The word of a claim.
 pub const SAW: &str = "saw";
@@ -135,6 +136,37 @@ pub fn outcome_named(word: &[u8]) -> Option<Answer>
         Some(Answer::Discarded)
     } else {
         reply_named(word)
+    }
+}
+
+/// The kind of this word, of those that name a node and no more.
+// (the words that come most are tried first; inlined as `row::read_node_event` is)
+#[inline(always)]
+pub fn kind_named(word: &[u8]) -> Option<NodeEventKind>
+    ensures { result ≡ kind_named word.now }
+{
+    if is_word(word, NodeEventKind::Start.word()) {
+        Some(NodeEventKind::Start)
+    } else if is_word(word, NodeEventKind::Run.word()) {
+        Some(NodeEventKind::Run)
+    } else if is_word(word, NodeEventKind::Return.word()) {
+        Some(NodeEventKind::Return)
+    } else if is_word(word, NodeEventKind::Check.word()) {
+        Some(NodeEventKind::Check)
+    } else if is_word(word, NodeEventKind::Timeout.word()) {
+        Some(NodeEventKind::Timeout)
+    } else if is_word(word, NodeEventKind::Move.word()) {
+        Some(NodeEventKind::Move)
+    } else if is_word(word, NodeEventKind::Lose.word()) {
+        Some(NodeEventKind::Lose)
+    } else if is_word(word, NodeEventKind::Drop.word()) {
+        Some(NodeEventKind::Drop)
+    } else if is_word(word, NodeEventKind::Crash.word()) {
+        Some(NodeEventKind::Crash)
+    } else if is_word(word, NodeEventKind::Recover.word()) {
+        Some(NodeEventKind::Recover)
+    } else {
+        None
     }
 }
 

@@ -2,7 +2,7 @@ use crate::agents::{answer_of, asked, failed, new_agent, place_of, started};
 use crate::random::Random;
 use bully_agent::Agent;
 use bully_base::{Node, Setup, Status};
-use bully_calls::{Answer, Call, Reply, Request};
+use bully_calls::{Answer, Call, NodeEventKind, Reply, Request};
 use bully_rows::{Claim, Detail, DetailedEvent, Row, WholeClaim};
 use bully_steps::Want;
 use bully_world::{Event, Refused, TakenStep};
@@ -221,7 +221,7 @@ impl Network {
         let node = agent.node();
         let request = started(agent)?;
         self.send(Mail::Ask(request))?;
-        self.log_call(node, Detail::Start(call))
+        self.log_call(node, Detail::unanswered(NodeEventKind::Start, call))
     }
 
     // An orphan is dropped at times. Whether it was.
@@ -252,7 +252,7 @@ impl Network {
         let node = agent.node();
         answer_of(agent.drop_orphan()).ok()?;
         self.forget(node);
-        self.log_call(node, Detail::Drop(call))
+        self.log_call(node, Detail::unanswered(NodeEventKind::Drop, call))
     }
 
     // Something that is on its way comes; where nothing is, a node goes on.
@@ -293,7 +293,10 @@ impl Network {
         let callee = self.agents.get_mut(place_of(request.call.callee))?;
         let reply = asked(callee, request)?;
         self.requests = self.requests.wrapping_add(1);
-        self.log_call(request.caller, Detail::Run(request.call, reply.answer))?;
+        self.log_call(
+            request.caller,
+            Detail::answered(NodeEventKind::Run, request.call, reply.answer),
+        )?;
         self.send(Mail::Tell(reply, request.call))
     }
 
@@ -310,8 +313,14 @@ impl Network {
     // The call failed, and returned with this answer.
     fn log_failure(&mut self, caller: Node, call: Call, answer: Answer) -> Option<()> {
         let Call { callee, kind } = call;
-        self.log_call(caller, Detail::Lose(Call { callee, kind }))?;
-        self.log_call(caller, Detail::Return(Call { callee, kind }, answer))
+        self.log_call(
+            caller,
+            Detail::unanswered(NodeEventKind::Lose, Call { callee, kind }),
+        )?;
+        self.log_call(
+            caller,
+            Detail::answered(NodeEventKind::Return, Call { callee, kind }, answer),
+        )
     }
 
     // A reply comes to its caller, which lets it go where that call is over; it is lost where its callee is Down.
@@ -322,7 +331,10 @@ impl Network {
         }
         let agent = self.agents.get_mut(place_of(caller))?;
         match answer_of(agent.replied(reply)) {
-            Ok(answer) => self.log_call(caller, Detail::Return(call, answer)),
+            Ok(answer) => self.log_call(
+                caller,
+                Detail::answered(NodeEventKind::Return, call, answer),
+            ),
             Err(Refused::NoCall) => Some(()),
             Err(_) => None,
         }

@@ -12,7 +12,7 @@ use Rattle.bully_calls.specs.declared.call.Call.{Call}
 use Rattle.bully_calls.specs.declared.call.CallKind.{CallKind}
 use Rattle.bully_calls.specs.declared.call.CallKind.TheVariants as kind
 use Rattle.bully_world.specs.Turn.{same_node}
-use Rattle.bully_trace.specs.Details.{same_answer, same_call, same_kind, same_status, same_task}
+use Rattle.bully_trace.specs.Details.{same_answer, same_answers, same_call, same_kind, same_status, same_task}
 
 pub status-is : (a b : Status) → same_status a b ≡ true → a ≡ b
 status-is Down Down e = refl
@@ -88,6 +88,16 @@ answer-itself answer.Yes = refl
 answer-itself answer.No = refl
 answer-itself answer.Failed = refl
 answer-itself answer.Discarded = refl
+
+pub answers-is : (a b : Option Answer) → same_answers a b ≡ true → a ≡ b
+answers-is None None e = refl
+answers-is None (Some b) e = absurd (cc e)
+answers-is (Some a) None e = absurd (cc e)
+answers-is (Some a) (Some b) e = ap Some (answer-is a b e)
+
+pub answers-itself : (a : Option Answer) → same_answers a a ≡ true
+answers-itself None = refl
+answers-itself (Some a) = answer-itself a
 
 pub is-node : (setup : Setup) (i : ℕ) → IsNode setup i → is_node setup i ≡ true
 is-node setup i node = grind (arith, nat_tests, node.0, node.1)

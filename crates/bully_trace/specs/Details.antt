@@ -10,6 +10,10 @@ use Rattle.bully_calls.specs.declared.call.Answer.TheVariants.{Done, Yes, No, Fa
 use Rattle.bully_calls.specs.declared.call.Call.{Call}
 use Rattle.bully_calls.specs.declared.call.CallKind.{CallKind}
 use Rattle.bully_calls.specs.declared.call.CallKind.TheVariants.{AreYouUp, AreYouNormal, Halt, NewCoordinator, Ready}
+use Rattle.bully_calls.specs.declared.kind.EventKind.{EventKind}
+use Rattle.bully_calls.specs.declared.kind.NodeEventKind.{NodeEventKind}
+use Rattle.bully_calls.specs.declared.kind.Saying.{Saying}
+use Rattle.bully_calls.specs.Events.{kind_of, node_of}
 use Rattle.bully_calls.specs.Pending.{Pending, answer_of, outcome_of}
 use Rattle.bully_handlers.specs.Handler.{reply}
 use Rattle.bully_handlers.specs.Vector.{is_down, is_election, is_reorganization, is_normal}
@@ -21,7 +25,8 @@ use Rattle.bully_world.specs.World.{World, pending, vector}
 use Rattle.bully_rows.specs.declared.detail.Detail.{Detail}
 use Rattle.bully_rows.specs.declared.detail.DetailedEvent.{DetailedEvent}
 use Rattle.bully_rows.specs.declared.trace.Claim.{Claim}
-use Rattle.bully_rows.specs.EventsTold.{call_told}
+use Rattle.bully_rows.specs.EventsTold.{answered, unanswered}
+use Rattle.bully_rows.specs.Kinds.{node_saying}
 use Rattle.bully_rows.specs.Whole.{Whole}
 
 abbrev pub same_kind : CallKind → CallKind → Bool
@@ -43,14 +48,11 @@ same_answer Failed Failed = true
 same_answer Discarded Discarded = true
 same_answer _ _ = false
 
--- the call is there, and is this one
-abbrev pub has_call : Option Call → Call → Bool
-has_call None call = false
-has_call (Some there) call = same_call there call
-
-abbrev pub has_answer : Option Answer → Answer → Bool
-has_answer None a = false
-has_answer (Some there) a = same_answer there a
+abbrev pub same_answers : Option Answer → Option Answer → Bool
+same_answers None None = true
+same_answers None (Some b) = false
+same_answers (Some a) None = false
+same_answers (Some a) (Some b) = same_answer a b
 
 -- the call that is offered
 abbrev pub offered_call : Want → Option Call
@@ -70,33 +72,34 @@ callee_or i (Some call) = call.callee
 abbrev pub brought : Pending → Option Answer
 brought c = option_map (λ o. if c.is_live then answer_of o else Discarded) (outcome_of c.phase)
 
--- what is said of an event of node i is so in the world before it: of a Start the call is the one that the node's point
--- offers, of the others the one in its slot; of a Run the answer is what the callee answers, of a Return what the call brings
+-- what there is to say of an event of node i of this kind in the world before it, by what its rows say; none where there is no such call
+abbrev pub said_by : Saying → NodeEventKind → Setup → World → ℕ → Option Detail
+said_by Saying.Nothing kind setup w i = None
+said_by Saying.Offered kind setup w i = option_map (unanswered kind) (offered_call (offer setup w i))
+said_by Saying.Held kind setup w i = option_map (unanswered kind) (call_at w i)
+said_by Saying.Replied kind setup w i = option_map (λ call. answered kind call (reply call.kind (vector w call.callee))) (call_at w i)
+said_by Saying.Brought kind setup w i = option_and_then (λ c. option_map (answered kind c.call) (brought c)) (pending w i)
+
+-- this is what there is to say, of an event of one kind
+abbrev pub is_said : Option Detail → Detail → Bool
+is_said None detail = false
+is_said (Some there) detail = same_call there.call detail.call && same_answers there.answer detail.answer
+
+-- what is said of an event of node i is so in the world before it
 abbrev pub says : Setup → World → ℕ → Detail → Bool
-says setup w i (Detail.Start call) = has_call (offered_call (offer setup w i)) call
-says setup w i (Detail.Run call a) = has_call (call_at w i) call && same_answer (reply call.kind (vector w call.callee)) a
-says setup w i (Detail.Lose call) = has_call (call_at w i) call
-says setup w i (Detail.Return call a) = has_call (call_at w i) call && has_answer (option_and_then brought (pending w i)) a
-says setup w i (Detail.Drop call) = has_call (call_at w i) call
+says setup w i detail = is_said (said_by (node_saying detail.kind) detail.kind setup w i) detail
 
 -- the same, of nodes that the group has
 abbrev pub is_so : Setup → World → DetailedEvent → Bool
-is_so setup w e = is_node setup e.node && is_node setup (call_told e.detail).callee && says setup w e.node e.detail
+is_so setup w e = is_node setup e.node && is_node setup e.detail.call.callee && says setup w e.node e.detail
 
--- what there is to say of an event of a call in the world before it; none where there is no such call, and of another event
-abbrev pub unanswered_of : ℕ → (Call → Detail) → Option Call → Option DetailedEvent
-unanswered_of i say call = option_map (λ c. record { node = i; detail = say c }) call
-
-abbrev pub returned_of : ℕ → Pending → Option DetailedEvent
-returned_of i c = option_map (λ a. record { node = i; detail = Detail.Return c.call a }) (brought c)
+-- what there is to say of an event in the world before it
+abbrev pub said_at : EventKind → Setup → World → ℕ → Option DetailedEvent
+said_at (EventKind.Node kind) setup w i = option_map (λ d. record { node = i; detail = d }) (said_by (node_saying kind) kind setup w i)
+said_at EventKind.Plan setup w i = None
 
 abbrev pub said_of : Setup → World → Event → Option DetailedEvent
-said_of setup w (Event.Start i) = unanswered_of i (λ call. Detail.Start call) (offered_call (offer setup w i))
-said_of setup w (Event.Run i) = unanswered_of i (λ call. Detail.Run call (reply call.kind (vector w call.callee))) (call_at w i)
-said_of setup w (Event.Lose i) = unanswered_of i (λ call. Detail.Lose call) (call_at w i)
-said_of setup w (Event.Return i) = option_and_then (returned_of i) (pending w i)
-said_of setup w (Event.Drop i) = unanswered_of i (λ call. Detail.Drop call) (call_at w i)
-said_of setup w _ = None
+said_of setup w e = said_at (kind_of e) setup w (node_of e)
 
 abbrev pub same_status : Status → Status → Bool
 same_status Down s = is_down s

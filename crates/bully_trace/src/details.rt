@@ -5,14 +5,15 @@ ghost use Rattle.bully_calls.specs.Slot.{pending_in};
 ghost use Rattle.bully_handlers.specs.Handler.{reply};
 ghost use Rattle.bully_handlers.specs.Vector.{is_normal};
 ghost use Rattle.bully_steps.specs.Point.{offered};
-ghost use Rattle.bully_rows.specs.EventsTold.{call_told};
-ghost use Rattle.bully_trace.specs.Details.{brought, call_at, has_answer, has_call, is_so, is_true, is_whole, offered_call, said_of, same_task, says};
+ghost use Rattle.bully_rows.specs.EventsTold.{answered};
+ghost use Rattle.bully_rows.specs.Kinds.{node_saying};
+ghost use Rattle.bully_trace.specs.Details.{brought, call_at, is_so, is_true, is_whole, offered_call, said_by, said_of, same_answers, same_task, says};
 ghost use Rattle.bully_calls.specs.Events.{node_of};
 ghost use Rattle.bully_world.specs.State.{IsReached, state_at, world_of};
 ghost use Rattle.bully_world.specs.World.{pending, vector};
 
 use bully_base::{Node, Status};
-use bully_calls::{Answer, Call, CallKind, Phase, Slot};
+use bully_calls::{Answer, Call, CallKind, EventKind, NodeEventKind, Phase, Saying, Slot};
 use bully_rows::{Claim, Detail, DetailedEvent, WholeClaim};
 use bully_steps::Want;
 use bully_table::Table;
@@ -59,27 +60,31 @@ pub fn is_so(world: &World, event: &DetailedEvent) -> bool
     ensures { result ≡ is_so world.now.setup (world_of world.now) event.now }
 {
     let nodes = world.setup().nodes();
-    let callee = event.detail.call().callee;
+    let detail = &event.detail;
     event.node.number() <= nodes
-        && callee.number() <= nodes
-        && says(world, event.node, &event.detail)
+        && detail.call.callee.number() <= nodes
+        && says(world, event.node, detail)
 }
 
-// The same of nodes that the group has.
+// The same of a node that the group has.
 fn says(world: &World, node: Node, detail: &Detail) -> bool
-    requires node { node ≤ world.now.setup.nodes }
-    requires callee { (call_told detail.now).callee ≤ world.now.setup.nodes }
+    requires { node ≤ world.now.setup.nodes }
     ensures says { result ≡ says world.now.setup (world_of world.now) node detail.now }
 {
-    match detail {
-        Detail::Start(call) => offers_call(offer_of(world, node), *call),
-        Detail::Run(call, answer) => {
-            has_call(world, node, *call) && reply_of(world, call) == *answer
-        }
-        Detail::Lose(call) | Detail::Drop(call) => has_call(world, node, *call),
-        Detail::Return(call, answer) => {
-            has_call(world, node, *call) && brings(world, node, *answer)
-        }
+    match said_by(world, node, detail.kind) {
+        Some(there) => { there.call == detail.call && same_answers(there.answer, detail.answer) }
+        None => false,
+    }
+}
+
+// Whether the two are the same answer, or none.
+fn same_answers(one: Option<Answer>, other: Option<Answer>) -> bool
+    ensures { result ≡ same_answers one other }
+{
+    match (one, other) {
+        (None, None) => true,
+        (Some(one), Some(other)) => one == other,
+        _ => false,
     }
 }
 
@@ -103,33 +108,45 @@ pub fn said_of(world: &World, event: &Event) -> Option<DetailedEvent>
     ensures { result ≡ said_of world.now.setup (world_of world.now) event.now }
 {
     let node = event.node();
-    let detail = match event {
-        Event::Start(_) => Detail::Start(offered_call(offer_of(world, node))?),
-        Event::Run(_) => ran(world, &call_at(world, node)?),
-        Event::Lose(_) => Detail::Lose(call_at(world, node)?),
-        Event::Return(_) => returned(world, node)?,
-        Event::Drop(_) => Detail::Drop(call_at(world, node)?),
-        _ => return None,
-    };
-    Some(DetailedEvent { node, detail })
+    match event.kind() {
+        EventKind::Node(kind) => {
+            let detail = said_by(world, node, kind)?;
+            Some(DetailedEvent { node, detail })
+        }
+        EventKind::Plan => None,
+    }
+}
+
+// What there is to say of an event of the node of this kind, as the table of events has it: the call, and the answer, if one is told.
+fn said_by(world: &World, node: Node, kind: NodeEventKind) -> Option<Detail>
+    requires { node ≤ world.now.setup.nodes }
+    ensures { result ≡ said_by (node_saying kind) kind world.now.setup (world_of world.now) node }
+{
+    match kind.saying() {
+        Saying::Nothing => None,
+        Saying::Offered => Some(Detail::unanswered(kind, offered_call(offer_of(world, node))?)),
+        Saying::Held => Some(Detail::unanswered(kind, call_at(world, node)?)),
+        Saying::Replied => Some(replied(world, kind, call_at(world, node)?)),
+        Saying::Brought => returned(world, node, kind),
+    }
 }
 
 // That the call runs, and what it is answered.
-fn ran(world: &World, call: &Call) -> Detail
-    ensures { result ≡ Detail.Run call.now (reply call.now.kind (vector (world_of world.now) call.now.callee)) }
+fn replied(world: &World, kind: NodeEventKind, call: Call) -> Detail
+    ensures { result ≡ answered kind call (reply call.kind (vector (world_of world.now) call.callee)) }
 {
-    Detail::Run(*call, reply_of(world, call))
+    Detail::answered(kind, call, reply_of(world, &call))
 }
 
 // That the call in the slot of the node returns, and what it brings; none where it can't return yet.
-fn returned(world: &World, node: Node) -> Option<Detail>
+fn returned(world: &World, node: Node, kind: NodeEventKind) -> Option<Detail>
     requires { node ≤ world.now.setup.nodes }
-    ensures { result ≡ option_and_then (λ c. option_map (λ a. Detail.Return c.call a) (brought c)) (pending (world_of world.now) node) }
+    ensures { result ≡ option_and_then (λ c. option_map (answered kind c.call) (brought c)) (pending (world_of world.now) node) }
 {
     let slot = world.slot(node);
     let call = slot.call()?;
     let answer = brought(slot, world.generation(node))?;
-    Some(Detail::Return(call, answer))
+    Some(Detail::answered(kind, call, answer))
 }
 
 // The call that is offered.
@@ -142,33 +159,12 @@ fn offered_call(want: Want) -> Option<Call>
     }
 }
 
-// Whether this call is offered.
-fn offers_call(want: Want, call: Call) -> bool
-    ensures { result ≡ has_call (offered_call want) call }
-{
-    match offered_call(want) {
-        Some(offered) => offered == call,
-        None => false,
-    }
-}
-
 /// The call in the slot of the node, which is at most the setup's last.
 pub fn call_at(world: &World, node: Node) -> Option<Call>
     requires { node ≤ world.now.setup.nodes }
     ensures { result ≡ call_at (world_of world.now) node }
 {
     world.slot(node).call()
-}
-
-// Whether this call is in the slot of the node.
-fn has_call(world: &World, node: Node, call: Call) -> bool
-    requires { node ≤ world.now.setup.nodes }
-    ensures { result ≡ has_call (call_at (world_of world.now) node) call }
-{
-    match call_at(world, node) {
-        Some(there) => there == call,
-        None => false,
-    }
 }
 
 // What the callee answers to the call.
@@ -186,17 +182,6 @@ fn is_normal(world: &World, node: Node) -> bool
     ensures { result ≡ is_normal (vector (world_of world.now) node).status }
 {
     node.number() <= world.setup().nodes() && world.vector(node).status() == Status::Normal
-}
-
-// Whether the call in the slot of the node brings this, where it returns.
-fn brings(world: &World, node: Node, answer: Answer) -> bool
-    requires { node ≤ world.now.setup.nodes }
-    ensures { result ≡ has_answer (option_and_then brought (pending (world_of world.now) node)) answer }
-{
-    match brought(world.slot(node), world.generation(node)) {
-        Some(there) => there == answer,
-        None => false,
-    }
 }
 
 // What the call in the slot of a caller of this generation brings, where it returns; none where it can't yet.

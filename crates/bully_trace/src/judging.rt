@@ -4,7 +4,7 @@ ghost use Rattle.bully_base.specs.Setup.{Setup as SetupState};
 ghost use Rattle.bully_rows.specs.declared.trace.Row.{Row as RowState};
 ghost use Rattle.bully_trace.specs.Judging.{HasJudged};
 ghost use Rattle.bully_trace.specs.OneRow.{IsRowTaken, IsTakenBy, verdict_at, violation_in, violation_of};
-ghost use Rattle.bully_rows.specs.Kinds.{event_at};
+ghost use Rattle.bully_calls.specs.Events.{event_at};
 ghost use Rattle.bully_trace.specs.Verdict.{IsJudged};
 ghost use Rattle.bully_world.specs.State.{IsApplied, cause_in, first_state, world_of};
 ghost use Rattle.bully_world.specs.World.{first_world};
@@ -13,10 +13,8 @@ use crate::details::{holds, is_so, is_whole};
 use crate::{Verdict, Violation};
 use bully_agree::Walk;
 use bully_base::OutOfMemory;
-use bully_calls::Answer;
-use bully_rows::{
-    Claim, DetailedEvent, Header, NodeEvent, NodeEventKind, Row, Version, WholeClaim,
-};
+use bully_calls::{Answer, NodeEventKind};
+use bully_rows::{Claim, DetailedEvent, Header, NodeEvent, Row, Version, WholeClaim};
 use bully_world::{Event, Refused, World};
 use std::alloc::Global;
 use std::marker::Model;

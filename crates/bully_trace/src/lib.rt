@@ -22,9 +22,8 @@ mod verdict;
 mod verdict_text;
 
 pub use bully_rows::{
-    CHECK, CRASH, Claim, DROP, Detail, DetailedEvent, FIRST_NODES_MAX, FIRST_PARTITIONS_MAX,
-    Header, LOSE, MOVE, NodeEvent, NodeEventKind, PLAN, RECOVER, RETURN, ROWS_MAX, RUN, Row, Rows,
-    SAW, START, TIMEOUT, Trace, TraceCause, TraceFault, Version, WholeClaim, answer_word,
+    Claim, Detail, DetailedEvent, FIRST_NODES_MAX, FIRST_PARTITIONS_MAX, Header, NodeEvent,
+    ROWS_MAX, Row, Rows, SAW, Trace, TraceCause, TraceFault, Version, WholeClaim, answer_word,
     call_named, call_word, cause_word, is_word, kind_named, limits, number_within, outcome_named,
     push_detailed, push_event, push_header, push_node, push_row, push_set, push_task, push_vector,
     read_coordinator, read_node, read_set, read_trace, read_weights, reply_named, status_named,

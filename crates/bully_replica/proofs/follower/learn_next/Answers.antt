@@ -1,4 +1,4 @@
-use Rattle.bully_rows.specs.Kinds.{event_at}
+use Rattle.bully_calls.specs.Events.{event_at}
 use Rattle.bully_rows.specs.declared.trace.Row.{Row}
 use Rattle.bully_replica.proofs.follower.learn_next.Goals as goal
 

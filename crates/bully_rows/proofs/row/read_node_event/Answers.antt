@@ -1,9 +1,9 @@
 use Rattle.std.proofs.Common.{◌≡◌, sym, subst, rules, List, ℕ}
 use Rattle.std.specs.Option.{option_map}
 use Rattle.csv.specs.Records.{fields_of}
-use Rattle.bully_rows.specs.declared.kind.NodeEvent.{NodeEvent}
+use Rattle.bully_rows.specs.declared.node_event.NodeEvent.{NodeEvent}
 use Rattle.bully_rows.specs.declared.trace.Row.{Row}
-use Rattle.bully_rows.specs.Kinds.{event_at}
+use Rattle.bully_calls.specs.Events.{event_at}
 use Rattle.bully_rows.specs.Rows.{row_of}
 use Rattle.bully_rows.proofs.FieldLemmas.{fields-two, some-mapped}
 use Rattle.bully_rows.proofs.row.read_node_event.Goals as goal

@@ -1,5 +1,5 @@
 use Rattle.bully_rows.specs.declared.trace.Row.{Row}
-use Rattle.bully_rows.specs.Kinds.{event_at}
+use Rattle.bully_calls.specs.Events.{event_at}
 use Rattle.bully_trace.proofs.checking.take_row.Goals as goal
 
 pub returns-in-Some-clause-taken : goal.returns-in-Some-clause-taken

@@ -1,7 +1,7 @@
 -- A row that tells an event of a node and no more is filmed as any other one.
 use Rattle.std.proofs.Common.{rules}
 use Rattle.bully_rows.specs.declared.trace.Row.{Row}
-use Rattle.bully_rows.specs.Kinds.{event_at}
+use Rattle.bully_calls.specs.Events.{event_at}
 use Rattle.bully_film.specs.Film.{IsLook}
 use Rattle.bully_film.specs.Scene.{event_kind_in, node_in}
 use Rattle.bully_film.proofs.FilmLemmas.{filmed-on, filmed-over, going-is, node-told}

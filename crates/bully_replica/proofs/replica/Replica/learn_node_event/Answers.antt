@@ -4,7 +4,7 @@ use Rattle.bully_base.specs.Setup.{Setup}
 use Rattle.bully_replica.specs.Replica.{Learns, ReplicaState, plan_behind}
 use Rattle.bully_rows.specs.declared.trace.Row.{Row}
 use Rattle.bully_trace.specs.OneRow.{IsRowTaken, violation_of}
-use Rattle.bully_rows.specs.Kinds.{event_at}
+use Rattle.bully_calls.specs.Events.{event_at}
 use Rattle.bully_replica.proofs.LogLemmas.{learns, no_plan_named, replica_more, taken_setup}
 use Rattle.bully_replica.proofs.replica.Replica.learn_node_event.Goals as goal
 use Rattle.bully_replica.proofs.replica.Replica.learn_node_event.Goals.{In_default}

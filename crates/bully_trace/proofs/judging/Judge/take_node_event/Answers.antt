@@ -1,6 +1,6 @@
 -- Each kind of event is judged as the row that tells it.
 use Rattle.std.proofs.Common.{rules}
-use Rattle.bully_rows.specs.Kinds.{event_at}
+use Rattle.bully_calls.specs.Events.{event_at}
 use Rattle.bully_rows.specs.declared.trace.Row.{Row}
 use Rattle.bully_trace.proofs.OneRowLemmas.{taken_judged}
 use Rattle.bully_trace.proofs.judging.Judge.take_node_event.Goals as goal

@@ -1,5 +1,5 @@
 use Rattle.std.proofs.Common.{◌≡◌, ap, sym, ◌∙◌}
-use Rattle.bully_rows.specs.Kinds.{event_at}
+use Rattle.bully_calls.specs.Events.{event_at}
 use Rattle.bully_rows.specs.declared.trace.Row.{Row}
 use Rattle.bully_trace.specs.OneRow.{violation_of}
 use Rattle.bully_trace.specs.Judging.{JudgeState}
