@@ -1,4 +1,4 @@
-ghost use Rattle.std.specs.Prelude.{◌≡◌, ◌≢◌, ◌+◌, ◌≤◌, ◌<◌, ◌==◌, ◌&&◌, ℕ, length, not, Some, None, IfSome, if◌then◌else◌};
+ghost use Rattle.std.specs.Prelude.{◌≡◌, ◌≢◌, ◌+◌, ◌≤◌, ◌<◌, ◌==◌, ◌&&◌, ℕ, length, not, true, false, Some, None, IfSome, if◌then◌else◌};
 ghost use Rattle.bully_base.specs.NodeSet.{with_node, IsFallingBelow};
 ghost use Rattle.bully_table.specs.Balance.{is_balanced};
 ghost use Rattle.bully_calls.specs.Pending.{is_sent, is_failed};
@@ -22,6 +22,17 @@ pub fn place_of(node: Node) -> usize
     usize::from(node.number() - 1)
 }
 
+/// Whether there is no room for so many events more, one at least, behind so many.
+// (inlined, as `World::cause` is)
+#[inline(always)]
+pub fn is_full_for(setup: &Setup, events: u32, count: u32) -> bool
+    requires { 0 < count }
+    ensures full { result ≡ true → setup.now.events_max < events + count }
+    ensures room { result ≡ false → events + count ≤ setup.now.events_max }
+{
+    setup.events_max().saturating_sub(events) < count
+}
+
 /// Why the event is refused with so many events applied, the first that holds; none where it isn't.
 // (inlined, as `World::cause` is)
 #[inline(always)]
@@ -29,7 +40,7 @@ pub fn cause_of(setup: &Setup, events: u32, states: &[NodeState], event: &Event)
     requires { WorldInvariant setup.now (world_in states.now) }
     ensures { result ≡ cause setup.now (world_in states.now) events event.now }
 {
-    if events >= setup.events_max() {
+    if is_full_for(setup, events, 1) {
         return Some(Refused::Full);
     }
     let node = event.node();

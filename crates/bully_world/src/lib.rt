@@ -14,7 +14,7 @@ mod turn;
 mod world;
 
 pub use bully_calls::{Event, Refused};
-pub use causes::own_cause;
+pub use causes::{is_full_for, own_cause};
 pub use node_state::NodeState;
 pub use take::TakenStep;
 pub use turn::{Next, StepKind};

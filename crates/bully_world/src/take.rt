@@ -44,7 +44,7 @@ impl World {
         ensures refused { IfErr result (λ why. (why ≡ Refused.Full) × IsFull self.old) }
         ensures unchanged { IfErr result (λ _. (self.new ≡ self.old) × (procedure.new ≡ procedure.old)) }
     {
-        if self.events() >= self.setup().events_max() {
+        if self.is_full() {
             return Err(Refused::Full);
         }
         let event = take_event(kind, procedure);

@@ -1,9 +1,9 @@
-ghost use Rattle.std.specs.Prelude.{◌≡◌, ◌↔◌, ◌≤◌, ℕ, IfOk, IfErr, IfSome, IfNone, IsOk, length, true, false, None, Some, if◌then◌else◌};
-ghost use Rattle.bully_world.specs.State.{state_at, world_of, cause_in, waits_for, first_state, new_states, node_state_of, IsApplied, NobodyWaits, NobodyWaitsBelow, IsKept, IsReached};
+ghost use Rattle.std.specs.Prelude.{◌≡◌, ◌↔◌, ◌≤◌, ◌<◌, ℕ, IfOk, IfErr, IfSome, IfNone, IsOk, length, true, false, None, Some, if◌then◌else◌};
+ghost use Rattle.bully_world.specs.State.{state_at, world_of, cause_in, waits_for, first_state, new_states, node_state_of, IsApplied, IsFull, NobodyWaits, NobodyWaitsBelow, IsKept, IsReached};
 ghost use Rattle.bully_world.specs.NodeInvariant.{NodeInvariant};
 ghost use Rattle.bully_world.specs.World.{first_world};
 
-use crate::causes::{cause_of, place_of};
+use crate::causes::{cause_of, is_full_for, place_of};
 use crate::node_state::NodeState;
 use crate::steps::apply_event;
 use bully_base::{Node, OutOfMemory, Setup};
@@ -61,6 +61,15 @@ impl World {
         ensures reached { IsReached self.now }
     {
         self.events
+    }
+
+    /// Whether as many events as the setup bounds were applied, so that every event is refused as Full.
+    pub fn is_full(&self) -> bool
+        ensures full { result ≡ true → IsFull self.now }
+        ensures room { result ≡ false → self.now.events < self.now.setup.events_max }
+        ensures reached { IsReached self.now }
+    {
+        is_full_for(&self.setup, self.events, 1)
     }
 
     /// Why `apply` would refuse the event, the first refusal that holds; none where it wouldn't.

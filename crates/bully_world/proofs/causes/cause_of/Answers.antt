@@ -9,7 +9,7 @@ use Rattle.bully_world.proofs.causes.cause_of.Goals as goal
 
 pub returns-in-Recover : goal.returns-in-Recover
 returns-in-Recover c =
-    let room : c.args.events < c.args.setup.now.events_max = omega (arith, c.if-events-events_max.false, c.events_max.ensures.events_max) in
+    let room : c.args.events < c.args.setup.now.events_max = omega (arith, c.is_full_for.ensures.room c.if-is_full_for.false) in
     let node : IsNode c.args.setup.now (node_of c.args.event.now) = grind (arith, c.if-number-nodes.false, c.number.ensures.number, c.number.ensures.within, c.nodes.ensures.nodes, c.node-node.ensures) in
     let place = c.place_of.ensures ∙ c.node-node.ensures in
     let here = node_state-place c.args.states.now c.place_of.result (node_of c.args.event.now) c.index-states-place_of.result place (place-within c.args.setup.now c.args.states.now c.place_of.result (node_of c.args.event.now) c.requires place node.1) c.index-states-place_of.is in
@@ -30,7 +30,7 @@ later_cause-requires-clause-named c =
 
 pub returns-in_default : goal.returns-in_default
 returns-in_default c =
-    let room : c.args.events < c.args.setup.now.events_max = omega (arith, c.if-events-events_max.false, c.events_max.ensures.events_max) in
+    let room : c.args.events < c.args.setup.now.events_max = omega (arith, c.is_full_for.ensures.room c.if-is_full_for.false) in
     let node : IsNode c.args.setup.now (node_of c.args.event.now) = grind (arith, c.if-number-nodes.false, c.number.ensures.number, c.number.ensures.within, c.nodes.ensures.nodes, c.node-node.ensures) in
     let place = c.place_of.ensures ∙ c.node-node.ensures in
     let here = node_state-place c.args.states.now c.place_of.result (node_of c.args.event.now) c.index-states-place_of.result place (place-within c.args.setup.now c.args.states.now c.place_of.result (node_of c.args.event.now) c.requires place node.1) c.index-states-place_of.is in
@@ -40,7 +40,7 @@ returns-in_default c =
 
 pub returns-in_default-2 : goal.returns-in_default-2
 returns-in_default-2 c =
-    let room : c.args.events < c.args.setup.now.events_max = omega (arith, c.if-events-events_max.false, c.events_max.ensures.events_max) in
+    let room : c.args.events < c.args.setup.now.events_max = omega (arith, c.is_full_for.ensures.room c.if-is_full_for.false) in
     let node : IsNode c.args.setup.now (node_of c.args.event.now) = grind (arith, c.if-number-nodes.false, c.number.ensures.number, c.number.ensures.within, c.nodes.ensures.nodes, c.node-node.ensures) in
     let place = c.place_of.ensures ∙ c.node-node.ensures in
     let here = node_state-place c.args.states.now c.place_of.result (node_of c.args.event.now) c.index-states-place_of.result place (place-within c.args.setup.now c.args.states.now c.place_of.result (node_of c.args.event.now) c.requires place node.1) c.index-states-place_of.is in

@@ -13,14 +13,14 @@ take_event-event-requires c e = table_if_planned c.args.self.now (state_of c.arg
 
 pub apply_allowed-answer-requires : goal.apply_allowed-answer-requires
 apply_allowed-answer-requires c =
-    let room : c.args.self.now.events < c.args.self.now.setup.events_max = grind (arith, nat_tests, c.if-events-events_max.false, c.events.ensures.events, c.events_max.ensures.events_max, c.setup.ensures.setup) in
+    let room = c.is_full.ensures.room c.if-is_full.false in
     let free : cause_in c.args.self.now (step_event c.args.kind (state_of c.args.procedure.now)) ≡ None =
-    free_if_offered c.args.self.now (state_of c.args.procedure.now) c.args.kind c.events.ensures.reached c.take_event-event.ensures.state c.requires.setup c.requires.offered room in
+    free_if_offered c.args.self.now (state_of c.args.procedure.now) c.args.kind c.is_full.ensures.reached c.take_event-event.ensures.state c.requires.setup c.requires.offered room in
     ap (cause_in c.args.self.now) c.take_event-event.ensures.event ∙ free
 
 pub advance_after-requires : goal.advance_after-requires
 advance_after-requires c = can_go_on c.args.kind c.apply_allowed-answer.result (state_of c.args.procedure.now) (state_of c.take_event-event.new.procedure) c.take_event-event.ensures.left
-    (applied_goes_on c.args.self.now c.apply_allowed-answer.new.self (state_of c.args.procedure.now) c.args.kind c.take_event-event.result c.apply_allowed-answer.result c.events.ensures.reached c.requires.setup c.requires.offered c.take_event-event.ensures.event c.apply_allowed-answer.ensures.applied.setup c.apply_allowed-answer.ensures.applied.step c.apply_allowed-answer.ensures.applied.generations).1
+    (applied_goes_on c.args.self.now c.apply_allowed-answer.new.self (state_of c.args.procedure.now) c.args.kind c.take_event-event.result c.apply_allowed-answer.result c.is_full.ensures.reached c.requires.setup c.requires.offered c.take_event-event.ensures.event c.apply_allowed-answer.ensures.applied.setup c.apply_allowed-answer.ensures.applied.step c.apply_allowed-answer.ensures.applied.generations).1
 
 pub returns-clause-procedure : goal.returns-clause-procedure
 returns-clause-procedure c = c.advance_after.ensures ∙ gone_on c.args.kind c.apply_allowed-answer.result (state_of c.args.procedure.now) (state_of c.take_event-event.new.procedure) c.take_event-event.ensures.left
@@ -29,7 +29,7 @@ pub returns-clause-in_step : goal.returns-clause-in_step
 returns-clause-in_step c =
     let goes = c.advance_after.ensures ∙ gone_on c.args.kind c.apply_allowed-answer.result (state_of c.args.procedure.now) (state_of c.take_event-event.new.procedure) c.take_event-event.ensures.left in
     ap (is_in_step c.apply_allowed-answer.new.self) goes
-    ∙ (applied_goes_on c.args.self.now c.apply_allowed-answer.new.self (state_of c.args.procedure.now) c.args.kind c.take_event-event.result c.apply_allowed-answer.result c.events.ensures.reached c.requires.setup c.requires.offered c.take_event-event.ensures.event c.apply_allowed-answer.ensures.applied.setup c.apply_allowed-answer.ensures.applied.step c.apply_allowed-answer.ensures.applied.generations).0
+    ∙ (applied_goes_on c.args.self.now c.apply_allowed-answer.new.self (state_of c.args.procedure.now) c.args.kind c.take_event-event.result c.apply_allowed-answer.result c.is_full.ensures.reached c.requires.setup c.requires.offered c.take_event-event.ensures.event c.apply_allowed-answer.ensures.applied.setup c.apply_allowed-answer.ensures.applied.step c.apply_allowed-answer.ensures.applied.generations).0
 
 pub returns-clause-same_node : goal.returns-clause-same_node
 returns-clause-same_node c =
