@@ -6,7 +6,7 @@ ghost use Rattle.bully_handlers.specs.Handler.{callee_after, reply};
 ghost use Rattle.bully_handlers.specs.Vector.{empty_vector, kept_task};
 
 use bully_base::{Node, NodeSet, OutOfMemory, Setup, Status};
-use bully_calls::Answer;
+use bully_calls::{Answer, CallKind};
 use bully_table::{Table, TableRoom};
 use std::alloc::Global;
 use std::marker::Model;
@@ -82,12 +82,25 @@ impl Vector {
         self.task.table()
     }
 
+    /// What a node of this vector, which may be Down, answers to a call of this kind where it runs.
+    pub fn reply(&self, kind: CallKind) -> Answer
+        ensures { result ≡ reply kind self.now.vector }
+    {
+        match kind {
+            CallKind::AreYouNormal => match self.status {
+                Status::Normal => Answer::Yes,
+                _ => Answer::No,
+            },
+            _ => Answer::Yes,
+        }
+    }
+
     /// AreYouUp runs at this node, which isn't Down.
     pub fn are_you_up(&self) -> Answer
         requires { self.now.vector.status ≢ Status.Down }
         ensures { result ≡ reply AreYouUp self.now.vector }
     {
-        Answer::Yes
+        self.reply(CallKind::AreYouUp)
     }
 
     /// AreYouNormal runs at this node, which isn't Down.
@@ -95,10 +108,7 @@ impl Vector {
         requires { self.now.vector.status ≢ Status.Down }
         ensures { result ≡ reply AreYouNormal self.now.vector }
     {
-        match self.status {
-            Status::Normal => Answer::Yes,
-            _ => Answer::No,
-        }
+        self.reply(CallKind::AreYouNormal)
     }
 
     /// A Halt from the caller runs at this node, which isn't Down. To stop its procedure is the world's part.
@@ -107,9 +117,10 @@ impl Vector {
         ensures after { self.new ≡ record self.old { vector = callee_after caller Halt None self.old.vector } }
         ensures answer { result ≡ reply Halt self.old.vector }
     {
+        let answer = self.reply(CallKind::Halt);
         self.status = Status::Election;
         self.halter = Some(caller);
-        Answer::Yes
+        answer
     }
 
     /// A NewCoordinator from the caller runs at this node, which isn't Down. It takes effect where the caller
@@ -119,11 +130,12 @@ impl Vector {
         ensures after { self.new ≡ record self.old { vector = callee_after caller NewCoordinator None self.old.vector } }
         ensures answer { result ≡ reply NewCoordinator self.old.vector }
     {
+        let answer = self.reply(CallKind::NewCoordinator);
         if self.halter == Some(caller) && self.status == Status::Election {
             self.coordinator = Some(caller);
             self.status = Status::Reorganization;
         }
-        Answer::Yes
+        answer
     }
 
     /// A Ready from the caller runs at this node, which isn't Down. It takes effect where the caller is the
@@ -134,11 +146,12 @@ impl Vector {
         ensures after { self.new ≡ record self.old { vector = callee_after caller Ready (Some table.now) self.old.vector } }
         ensures answer { result ≡ reply Ready self.old.vector }
     {
+        let answer = self.reply(CallKind::Ready);
         if self.coordinator == Some(caller) && self.status == Status::Reorganization {
             self.task.put(table);
             self.status = Status::Normal;
         }
-        Answer::Yes
+        answer
     }
 
     /// The node crashed: its vector is empty, but for the task, where `keeps`.
