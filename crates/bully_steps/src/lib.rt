@@ -7,6 +7,7 @@
 
 mod driver;
 mod plan_taking;
+mod planning;
 mod point;
 mod point_kind;
 mod procedure;
@@ -14,6 +15,7 @@ mod states;
 mod stored_point;
 
 pub use driver::{Choice, Driver};
+pub use planning::planned_table;
 pub use point::{Point, Want, begin_check, begin_recovery, begin_timeout};
 pub use point_kind::PointKind;
 pub use procedure::Procedure;

@@ -5,12 +5,13 @@ ghost use Rattle.bully_steps.specs.declared.point.Point.{Point};
 ghost use Rattle.bully_steps.specs.Procedure.{state_of};
 ghost use Rattle.bully_steps.specs.ProcedureState.{IsPlannedOver, procedure_state};
 ghost use Rattle.bully_steps.specs.States.{planning, planned};
-ghost use Rattle.bully_table.specs.Planning.{planned as planned_table};
+ghost use Rattle.bully_table.specs.Planning.{planned as planned_over};
 
 use crate::Procedure;
+use crate::planning::planned_table;
 use crate::states::Identity;
 use bully_base::NodeSet;
-use bully_table::{PlanFault, Table, TablePlan, plan_in};
+use bully_table::{PlanFault, Table};
 use std::alloc::Global;
 use std::marker::Model;
 
@@ -75,7 +76,7 @@ impl Planning {
         old: Option<&Table>,
     ) -> Result<Planned, (Planning, PlanFault)>
         requires { IfSome (option_copied old) (λ t. length t ≡ self.identity.setup.partitions) }
-        ensures prepared { IfOk result (λ p. planned p ≡ record (planning self) { table = Some (planned_table self.identity.setup (option_copied old.entry) (with_node self.identity.node self.up)) }) }
+        ensures prepared { IfOk result (λ p. planned p ≡ record (planning self) { table = Some (planned_over self.identity.setup (option_copied old.entry) (with_node self.identity.node self.up)) }) }
         ensures same { IfErr result (λ back. back.0 ≡ self) }
         ensures fault { IfErr result (λ back. back.1 ≡ PlanFault.OutOfMemory) }
     {
@@ -96,15 +97,16 @@ impl Planning {
         old: Option<&Table>,
     ) -> Result<Table, PlanFault>
         requires { IfSome (option_copied old) (λ t. length t ≡ self.now.identity.setup.partitions) }
-        ensures planned { IfOk result (λ table. table ≡ planned_table self.now.identity.setup (option_copied old.entry) (with_node self.now.identity.node self.now.up)) }
+        ensures planned { IfOk result (λ table. table ≡ planned_over self.now.identity.setup (option_copied old.entry) (with_node self.now.identity.node self.now.up)) }
         ensures balanced { IfOk result (IsPlannedOver self.now.identity.setup self.now.identity.node self.now.up) }
         ensures fault { IfErr result (λ fault. fault ≡ PlanFault.OutOfMemory) }
     {
-        let mut members = self.up;
-        members.insert(self.identity.node);
-        match plan_in(alloc, &self.identity.setup, &members, old) {
-            Ok(TablePlan { table, .. }) => Ok(table),
-            Err(fault) => Err(fault),
-        }
+        planned_table(
+            alloc,
+            &self.identity.setup,
+            self.identity.node,
+            &self.up,
+            old,
+        )
     }
 }
