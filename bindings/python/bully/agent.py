@@ -2,7 +2,7 @@
 from __future__ import annotations
 
 import ctypes
-from typing import List, Optional, Sequence, Tuple
+from typing import Callable, List, Optional, Sequence, Tuple
 
 from .faults import expect_ok
 from .group import Setup, setup_parts
@@ -39,44 +39,48 @@ class Agent(Opened):
 
     # What the node does by itself. Each is one event.
 
+    def _take(self, call: Callable[..., int], *told: object) -> None:
+        """The event that this call of the library is for, and what the call is told of it."""
+        expect_ok(call(self._held, *told))
+
     def recover(self) -> None:
         """The node recovers, and stands for election. Raises Closed, Full, IsUp."""
-        expect_ok(self._library.bully_agent_recover(self._held))
+        self._take(self._library.bully_agent_recover)
 
     def crash(self) -> None:
         """The node crashes, or has to stop. Raises Closed, Full, IsDown."""
-        expect_ok(self._library.bully_agent_crash(self._held))
+        self._take(self._library.bully_agent_crash)
 
     def check(self) -> None:
         """The idle node begins to check the others, where it is their coordinator. Raises Closed, Full, IsDown, Busy."""
-        expect_ok(self._library.bully_agent_check(self._held))
+        self._take(self._library.bully_agent_check)
 
     def timeout(self) -> None:
         """The idle node heard nothing for too long. Raises Closed, Full, IsDown, Busy."""
-        expect_ok(self._library.bully_agent_timeout(self._held))
+        self._take(self._library.bully_agent_timeout)
 
     def start(self) -> None:
         """The node starts the call that it wants to start; `request` then has what is to be sent.
 
         Raises Closed, Full, IsDown, NoStep, SlotBusy."""
-        expect_ok(self._library.bully_agent_start(self._held))
+        self._take(self._library.bully_agent_start)
 
     def advance(self) -> None:
         """The node moves on without a call. Raises Closed, Full, IsDown, NoStep, SlotBusy."""
-        expect_ok(self._library.bully_agent_advance(self._held))
+        self._take(self._library.bully_agent_advance)
 
     def plan(self, owners: Sequence[int]) -> None:
         """The node has planned this table, as `prepare` makes one.
 
         Raises Closed, TableLength, TableOwner, OutOfMemory, Full, IsDown, NoStep, SlotBusy, BadTable."""
         told = numbers_of('an owner', owners)
-        expect_ok(self._library.bully_agent_plan(self._held, told, len(told)))
+        self._take(self._library.bully_agent_plan, told, len(told))
 
     def drop_orphan(self) -> None:
         """The node's call, an orphan, is given up. Raises Closed, Full, IsDown, NoCall, NotOrphan.
 
         Premise: its request won't run any more."""
-        expect_ok(self._library.bully_agent_drop_orphan(self._held))
+        self._take(self._library.bully_agent_drop_orphan)
 
     def prepare(self, old: Optional[Sequence[int]] = None) -> Tuple[int, ...]:
         """The table that the node should plan, from this old one, mostly its `task`. No event.
