@@ -20,7 +20,7 @@ use Rattle.bully_world.specs.declared.turn.StepKind.{StepKind}
 use Rattle.bully_world.specs.Cause.{is_live_in}
 use Rattle.bully_world.specs.NodeInvariant.{WorldInvariant, SuitsPhase}
 use Rattle.bully_world.specs.Step.{Step, IsUp, Returns, sent, emptied}
-use Rattle.bully_world.specs.Turn.{step_event, outcome_after, procedure_after}
+use Rattle.bully_world.specs.Turn.{event_with, kind_of_step, step_event, outcome_after, procedure_after}
 use Rattle.bully_world.specs.World.{World, NodeState, node_state, vector, point, pending, with_node_state}
 use Rattle.bully_world.proofs.AgreeLemmas.{Agrees, resumed_agrees}
 use Rattle.bully_world.proofs.NodeStateLemmas.{node_state_here, node_of_up, node_of_pending, call_of_pending}
@@ -145,9 +145,6 @@ module _ (setup : Setup) (w : World) (i g : ℕ) (h : ProcedureState) (all : Wor
       let there : node_state w' i ≡ m = ap (λ x. node_state x i) becomes ∙ here m (node_of_pending setup w i c all is).0 in
       subst (λ x. Agrees h (shown setup i g x)) (sym there) (stays m refl refl (sym orphan ∙ ap is_live_in (sym is)))
 
-  drop_on : (w' : World) (answer : Answer) → Step setup w (Event.Drop i) w' answer → GoesOn StepKind.Drop w' answer
-  drop_on w' answer s = (orphan_out s.0 w' s.1 s.2 s.3, tt)
-
   return_by : (c : Pending) (o : Outcome) (w' : World) (answer : Answer) → pending w i ≡ Some c → outcome_of c.phase ≡ Some o → (b : Bool) → c.is_live ≡ b → Returns setup w i b o w' answer → GoesOn StepKind.Return w' answer
   return_by c o w' answer is done true live r =
       let m : NodeState = record { vector = next_vector i (point w i) o (vector w i); point = r.0.0; pending = None } in
@@ -163,13 +160,14 @@ module _ (setup : Setup) (w : World) (i g : ℕ) (h : ProcedureState) (all : Wor
       let after : outcome_after StepKind.Return answer ≡ None = ap (outcome_after StepKind.Return) r.1 in
       (subst (λ q. Agrees (option_map_or (resumed h) q h) (shown setup i g (node_state w' i))) (sym after) (orphan_out c w' is live r.0), subst (λ q. IfSome q (CanResume h)) (sym after) tt)
 
+  kind_on : (kind : StepKind) (w' : World) (answer : Answer) → Step setup w (event_with (kind_of_step kind) i h.table) w' answer → GoesOn kind w' answer
+  kind_on StepKind.Start w' answer s = start_on w' answer s
+  kind_on StepKind.Move w' answer s = move_on w' answer s
+  kind_on StepKind.Plan w' answer s = plan_on (unwrap_or h.table []) w' answer s
+  kind_on StepKind.Lose w' answer s = lose_on w' answer s
+  kind_on StepKind.Drop w' answer s = (orphan_out s.0 w' s.1 s.2 s.3, tt)
+  kind_on StepKind.Return w' answer s = return_by s.0 s.1 w' answer s.2 s.3 s.0.is_live refl s.4
+
   -- after each step of the turn rule
   pub step_on : (kind : StepKind) (w' : World) (answer : Answer) → Step setup w (step_event kind h) w' answer → GoesOn kind w' answer
-  step_on StepKind.Start w' answer s = start_on w' answer (subst (λ k. Step setup w (Event.Start k) w' answer) ne s)
-  step_on StepKind.Move w' answer s = move_on w' answer (subst (λ k. Step setup w (Event.Move k) w' answer) ne s)
-  step_on StepKind.Plan w' answer s = plan_on (unwrap_or h.table []) w' answer (subst (λ k. Step setup w (Event.Plan k (unwrap_or h.table [])) w' answer) ne s)
-  step_on StepKind.Lose w' answer s = lose_on w' answer (subst (λ k. Step setup w (Event.Lose k) w' answer) ne s)
-  step_on StepKind.Drop w' answer s = drop_on w' answer (subst (λ k. Step setup w (Event.Drop k) w' answer) ne s)
-  step_on StepKind.Return w' answer s =
-      let r : Step setup w (Event.Return i) w' answer = subst (λ k. Step setup w (Event.Return k) w' answer) ne s in
-      return_by r.0 r.1 w' answer r.2 r.3 r.0.is_live refl r.4
+  step_on kind w' answer s = kind_on kind w' answer (subst (λ k. Step setup w (event_with (kind_of_step kind) k h.table) w' answer) ne s)

@@ -1,5 +1,5 @@
 -- A step that the turn rule offers is possible, and the procedure that goes on by it is in step again.
-use Rattle.std.proofs.Common.{◌≡◌, ◌≢◌, ℕ, zero, suc, ◌<◌, ◌⊎◌, inl, inr, Bool, true, false, List, [], ◌∷◌, length, Option, Some, None, arith, refl, sym, ◌∙◌, ap, subst}
+use Rattle.std.proofs.Common.{◌≡◌, ◌≢◌, ℕ, zero, suc, ◌<◌, Bool, true, false, List, [], ◌∷◌, length, Option, Some, None, arith, refl, sym, ◌∙◌, ap, subst}
 use Rattle.std.specs.Prelude.{IfSome, unwrap_or}
 use Rattle.std.specs.Option.{option_map_or}
 use Rattle.std.proofs.lemmas.Bool.Decides.{nat_tests}
@@ -21,7 +21,7 @@ use Rattle.bully_world.specs.declared.turn.StepKind.{StepKind}
 use Rattle.bully_world.specs.Cause.{cause, is_call, is_down_at, is_live_in}
 use Rattle.bully_world.specs.NodeInvariant.{NodeInvariant, WorldInvariant}
 use Rattle.bully_world.specs.Step.{IsUp, offer}
-use Rattle.bully_world.specs.Turn.{turn_of_call, turn_of_want, turn_in_step, has_table, step_event}
+use Rattle.bully_world.specs.Turn.{turn_of_call, turn_of_want, turn_in_step, event_with, has_table, kind_of_step, step_event}
 use Rattle.bully_world.specs.World.{World, NodeState, node_state, vector, pending}
 use Rattle.bully_world.proofs.AgreeLemmas.{Agrees}
 use Rattle.bully_world.proofs.NodeStateLemmas.{node_of_up, node_of_pending}
@@ -33,50 +33,13 @@ shown setup i g m = procedure_state setup i g m.point m.vector.up m.vector.coord
 
 -- What the turn rule offers.
 
-call_wanted : (b : Bool) (q : Want) → turn_of_want b q ≡ Next.Take StepKind.Start → is_call q ≡ true
-call_wanted b q t = grind (arith, t)
+same_kind : (k j : StepKind) → Next.Take k ≡ Next.Take j → k ≡ j
+same_kind k j t = grind (arith, t)
 
-move_wanted : (b : Bool) (q : Want) → turn_of_want b q ≡ Next.Take StepKind.Move → q ≡ Want.Move
-move_wanted b q t = grind (arith, t)
-
-plan_wanted : (b : Bool) (q : Want) → turn_of_want b q ≡ Next.Take StepKind.Plan → (q ≡ Want.Plan) × (b ≡ true)
-plan_wanted b q t = (grind (arith, t), grind (arith, t))
-
-pub start_offered : (w : World) (q : Option Pending) (h : ProcedureState) → turn_in_step w q h ≡ Next.Take StepKind.Start → (q ≡ None) × (is_call (want_of h) ≡ true)
-start_offered w None h t = (refl, call_wanted (has_table h) (want_of h) t)
-start_offered w (Some c) h t = absurd (grind (arith, t))
-
-pub move_offered : (w : World) (q : Option Pending) (h : ProcedureState) → turn_in_step w q h ≡ Next.Take StepKind.Move → (q ≡ None) × (want_of h ≡ Want.Move)
-move_offered w None h t = (refl, move_wanted (has_table h) (want_of h) t)
-move_offered w (Some c) h t = absurd (grind (arith, t))
-
-pub plan_offered : (w : World) (q : Option Pending) (h : ProcedureState) → turn_in_step w q h ≡ Next.Take StepKind.Plan → (q ≡ None) × (want_of h ≡ Want.Plan) × (has_table h ≡ true)
-plan_offered w None h t = (refl, (plan_wanted (has_table h) (want_of h) t).0, (plan_wanted (has_table h) (want_of h) t).1)
+-- a plan only at an empty slot, and with its table
+pub plan_offered : (w : World) (q : Option Pending) (h : ProcedureState) → turn_in_step w q h ≡ Next.Take StepKind.Plan → has_table h ≡ true
+plan_offered w None h t = grind (arith, t)
 plan_offered w (Some c) h t = absurd (grind (arith, t))
-
-never_full : (b : Bool) (q : Want) (kind : StepKind) → (kind ≡ StepKind.Lose) ⊎ ((kind ≡ StepKind.Return) ⊎ (kind ≡ StepKind.Drop)) → turn_of_want b q ≡ Next.Take kind → ⊥
-never_full b q kind full t = grind (arith, full, t)
-
-lost : (b live : Bool) (f : Phase) → turn_of_call b live f ≡ Next.Take StepKind.Lose → (f ≡ Phase.Sent) × (b ≡ true)
-lost b live f t = (grind (arith, t), grind (arith, t))
-
-come : (b live : Bool) (f : Phase) → turn_of_call b live f ≡ Next.Take StepKind.Return → is_sent f ≡ false
-come b live f t = grind (arith, t)
-
-dropped : (b live : Bool) (f : Phase) → turn_of_call b live f ≡ Next.Take StepKind.Drop → live ≡ false
-dropped b live f t = grind (arith, t)
-
-pub lose_offered : (w : World) (q : Option Pending) (h : ProcedureState) → turn_in_step w q h ≡ Next.Take StepKind.Lose → (c : Pending) × (q ≡ Some c) × (c.phase ≡ Phase.Sent) × (is_down_at w c.call.callee ≡ true)
-lose_offered w None h t = absurd (never_full (has_table h) (want_of h) StepKind.Lose (inl refl) t)
-lose_offered w (Some c) h t = (c, refl, (lost (is_down_at w c.call.callee) c.is_live c.phase t).0, (lost (is_down_at w c.call.callee) c.is_live c.phase t).1)
-
-pub return_offered : (w : World) (q : Option Pending) (h : ProcedureState) → turn_in_step w q h ≡ Next.Take StepKind.Return → (c : Pending) × (q ≡ Some c) × (is_sent c.phase ≡ false)
-return_offered w None h t = absurd (never_full (has_table h) (want_of h) StepKind.Return (inr (inl refl)) t)
-return_offered w (Some c) h t = (c, refl, come (is_down_at w c.call.callee) c.is_live c.phase t)
-
-pub drop_offered : (w : World) (q : Option Pending) (h : ProcedureState) → turn_in_step w q h ≡ Next.Take StepKind.Drop → (c : Pending) × (q ≡ Some c) × (c.is_live ≡ false)
-drop_offered w None h t = absurd (never_full (has_table h) (want_of h) StepKind.Drop (inr (inr refl)) t)
-drop_offered w (Some c) h t = (c, refl, dropped (is_down_at w c.call.callee) c.is_live c.phase t)
 
 -- What it needs.
 
@@ -128,45 +91,54 @@ planned_suits h is there = by_table h.table is.plan there
     by_table None suits there = absurd (grind (arith, there))
     by_table (Some table) suits there = suits
 
--- a step that the turn rule offers is refused only where the bound is reached
-pub offered_possible : (setup : Setup) (w : World) (count i g : ℕ) (h : ProcedureState) (kind : StepKind) → WorldInvariant setup w → IsProcedureState h → h.setup ≡ setup → h.node ≡ i → Agrees h (shown setup i g (node_state w i))
-    → turn_in_step w (pending w i) h ≡ Next.Take kind → count < setup.events_max → cause setup w count (step_event kind h) ≡ None
-offered_possible setup w count i g h StepKind.Start all is se ne a t room =
-    let free = start_offered w (pending w i) h t in
-    let offers : is_call (offer setup w i) ≡ true = ap is_call (sym (wants setup i g (node_state w i) h se a free.0)) ∙ free.1 in
-    let up : IsUp w i = up_if setup i (node_state w i) (all.fits i) (λ e. grind (arith, e, offers)) in
-    subst (λ k. cause setup w count (Event.Start k) ≡ None) (sym ne) (start_possible setup w count i room (node_of_up setup w i all up) up free.0 offers)
-offered_possible setup w count i g h StepKind.Move all is se ne a t room =
-    let free = move_offered w (pending w i) h t in
-    let offers : offer setup w i ≡ Want.Move = sym (wants setup i g (node_state w i) h se a free.0) ∙ free.1 in
-    let up : IsUp w i = up_if setup i (node_state w i) (all.fits i) (λ e. grind (arith, e, offers)) in
-    subst (λ k. cause setup w count (Event.Move k) ≡ None) (sym ne) (move_possible setup w count i room (node_of_up setup w i all up) up free.0 offers)
-offered_possible setup w count i g h StepKind.Plan all is se ne a t room =
-    let free = plan_offered w (pending w i) h t in
-    let offers : offer setup w i ≡ Want.Plan = sym (wants setup i g (node_state w i) h se a free.0) ∙ free.1 in
-    let up : IsUp w i = up_if setup i (node_state w i) (all.fits i) (λ e. grind (arith, e, offers)) in
-    let plan = planned_suits h is free.2 in
-    let over : IsPlannedOver setup i (vector w i).up (unwrap_or h.table []) = grind (arith, se, ne, plan, a.up, a.point) in
-    subst (λ k. cause setup w count (Event.Plan k (unwrap_or h.table [])) ≡ None) (sym ne)
-    (plan_possible setup w count i (unwrap_or h.table []) room (node_of_up setup w i all up) up free.0 offers over.partitions ((is_balanced_decides setup (unwrap_or h.table []) (with_node i (vector w i).up)).1 over.balanced))
-offered_possible setup w count i g h StepKind.Lose all is se ne a t room =
-    let full = lose_offered w (pending w i) h t in
-    let there = node_of_pending setup w i full.0 all full.1 in
-    subst (λ k. cause setup w count (Event.Lose k) ≡ None) (sym ne) (lose_possible setup w count i full.0 room there.0 there.1 full.1 full.2 full.3)
-offered_possible setup w count i g h StepKind.Return all is se ne a t room =
-    let full = return_offered w (pending w i) h t in
-    let there = node_of_pending setup w i full.0 all full.1 in
-    subst (λ k. cause setup w count (Event.Return k) ≡ None) (sym ne) (return_possible setup w count i full.0 room there.0 there.1 full.1 full.2)
-offered_possible setup w count i g h StepKind.Drop all is se ne a t room =
-    let full = drop_offered w (pending w i) h t in
-    let there = node_of_pending setup w i full.0 all full.1 in
-    subst (λ k. cause setup w count (Event.Drop k) ≡ None) (sym ne) (drop_possible setup w count i full.0 room there.0 there.1 full.1 full.2)
+module _ (setup : Setup) (w : World) (count i g : ℕ) (h : ProcedureState) (kind : StepKind) (all : WorldInvariant setup w) (is : IsProcedureState h) (se : h.setup ≡ setup) (ne : h.node ≡ i) (a : Agrees h (shown setup i g (node_state w i))) (room : count < setup.events_max) where
+  abbrev Possible : StepKind → Type 0
+  Possible k = cause setup w count (event_with (kind_of_step k) i h.table) ≡ None
+
+  -- where the slot is empty, what is wanted
+  want_possible : (b : Bool) (q : Want) → pending w i ≡ None → has_table h ≡ b → want_of h ≡ q → turn_of_want b q ≡ Next.Take kind → Possible kind
+  want_possible b (Want.Start call) free has is_wanted t =
+      let offers : is_call (offer setup w i) ≡ true = ap is_call (sym (wants setup i g (node_state w i) h se a free) ∙ is_wanted) in
+      let up : IsUp w i = up_if setup i (node_state w i) (all.fits i) (λ e. grind (arith, e, offers)) in
+      subst Possible (same_kind StepKind.Start kind t) (start_possible setup w count i room (node_of_up setup w i all up) up free offers)
+  want_possible b Want.Move free has is_wanted t =
+      let offers : offer setup w i ≡ Want.Move = sym (wants setup i g (node_state w i) h se a free) ∙ is_wanted in
+      let up : IsUp w i = up_if setup i (node_state w i) (all.fits i) (λ e. grind (arith, e, offers)) in
+      subst Possible (same_kind StepKind.Move kind t) (move_possible setup w count i room (node_of_up setup w i all up) up free offers)
+  want_possible true Want.Plan free has is_wanted t =
+      let offers : offer setup w i ≡ Want.Plan = sym (wants setup i g (node_state w i) h se a free) ∙ is_wanted in
+      let up : IsUp w i = up_if setup i (node_state w i) (all.fits i) (λ e. grind (arith, e, offers)) in
+      let plan = planned_suits h is has in
+      let over : IsPlannedOver setup i (vector w i).up (unwrap_or h.table []) = grind (arith, se, ne, plan, a.up, a.point) in
+      let balanced = (is_balanced_decides setup (unwrap_or h.table []) (with_node i (vector w i).up)).1 over.balanced in
+      subst Possible (same_kind StepKind.Plan kind t) (plan_possible setup w count i (unwrap_or h.table []) room (node_of_up setup w i all up) up free offers over.partitions balanced)
+  want_possible b q free has is_wanted t = absurd (grind (arith, t))
+
+  -- where it holds a call, what that one's phase and callee say
+  call_possible : (c : Pending) (down live : Bool) (f : Phase) → pending w i ≡ Some c → is_down_at w c.call.callee ≡ down → c.is_live ≡ live → c.phase ≡ f → turn_of_call down live f ≡ Next.Take kind → Possible kind
+  call_possible c true live Phase.Sent there down lives at t =
+      let node = node_of_pending setup w i c all there in
+      subst Possible (same_kind StepKind.Lose kind t) (lose_possible setup w count i c room node.0 node.1 there at down)
+  call_possible c false false Phase.Sent there down lives at t =
+      let node = node_of_pending setup w i c all there in
+      subst Possible (same_kind StepKind.Drop kind t) (drop_possible setup w count i c room node.0 node.1 there lives)
+  call_possible c false true Phase.Sent there down lives at t = absurd (grind (arith, t))
+  call_possible c b live (Phase.Ran answer) there down lives at t =
+      let node = node_of_pending setup w i c all there in
+      subst Possible (same_kind StepKind.Return kind t) (return_possible setup w count i c room node.0 node.1 there (ap is_sent at))
+  call_possible c b live Phase.Failed there down lives at t =
+      let node = node_of_pending setup w i c all there in
+      subst Possible (same_kind StepKind.Return kind t) (return_possible setup w count i c room node.0 node.1 there (ap is_sent at))
+
+  slot_possible : (q : Option Pending) → pending w i ≡ q → turn_in_step w q h ≡ Next.Take kind → Possible kind
+  slot_possible None free t = want_possible (has_table h) (want_of h) free refl refl t
+  slot_possible (Some c) there t = call_possible c (is_down_at w c.call.callee) c.is_live c.phase there refl refl refl t
+
+  -- a step that the turn rule offers is refused only where the bound is reached
+  pub offered_possible : turn_in_step w (pending w i) h ≡ Next.Take kind → cause setup w count (step_event kind h) ≡ None
+  offered_possible t = subst (λ k. cause setup w count (event_with (kind_of_step kind) k h.table) ≡ None) (sym ne) (slot_possible (pending w i) refl t)
 
 -- a turn's event is its node's own
 pub turn_own : (kind : StepKind) (h : ProcedureState) → IsNodesOwn h.node (step_event kind h)
 turn_own StepKind.Start h = refl
-turn_own StepKind.Lose h = refl
-turn_own StepKind.Return h = refl
-turn_own StepKind.Drop h = refl
-turn_own StepKind.Move h = refl
-turn_own StepKind.Plan h = refl
+turn_own kind h = refl

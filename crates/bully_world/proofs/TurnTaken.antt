@@ -37,10 +37,10 @@ taken_in_step w h kind t = by_test (is_in_step w h) refl t
 pub free_if_offered : (w : WorldState) (h : ProcedureState) (kind : StepKind) → IsReached w → IsProcedureState h → h.setup ≡ w.setup → turn w h ≡ Next.Take kind → w.events < w.setup.events_max → cause_in w (step_event kind h) ≡ None
 free_if_offered w h kind reached is se t room =
     let taken = taken_in_step w h kind t in
-    offered_possible w.setup (world_of w) w.events h.node (state_at w h.node).generation h kind (reached_fits w reached) is se refl taken.0 taken.1 room
+    offered_possible w.setup (world_of w) w.events h.node (state_at w h.node).generation h kind (reached_fits w reached) is se refl taken.0 room taken.1
 
 pub table_if_planned : (w : WorldState) (h : ProcedureState) (kind : StepKind) → turn w h ≡ Next.Take kind → kind ≡ StepKind.Plan → has_table h ≡ true
-table_if_planned w h kind t e = (plan_offered (world_of w) (pending (world_of w) h.node) h ((taken_in_step w h kind t).1 ∙ ap Next.Take e)).2
+table_if_planned w h kind t e = plan_offered (world_of w) (pending (world_of w) h.node) h ((taken_in_step w h kind t).1 ∙ ap Next.Take e)
 
 -- the procedure goes on by the step, and is in step with the world after it
 pub goes_on_taken : (w w' : WorldState) (h : ProcedureState) (kind : StepKind) (answer : Answer) → IsReached w → h.setup ≡ w.setup → turn w h ≡ Next.Take kind → w'.setup ≡ w.setup

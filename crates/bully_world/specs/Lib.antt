@@ -1,4 +1,5 @@
 pub mod World
+pub mod Place
 pub mod Step
 pub mod Lawful
 pub mod Cause

@@ -109,13 +109,17 @@ tag_of_call p = p.tag
 abbrev pub tag_in : StoredNode → Option Tag
 tag_in m = option_map tag_of_call m.slot.content
 
--- the event fills or empties node j's slot: it is j's own Start, Return, Drop or Crash
+-- the event empties node j's slot: it is j's own Return, Drop or Crash
+abbrev pub empties_slot : Event → ℕ → Bool
+empties_slot (Event.Return i) j = i == j
+empties_slot (Event.Drop i) j = i == j
+empties_slot (Event.Crash i) j = i == j
+empties_slot e j = false
+
+-- it fills or empties it
 abbrev pub changes_slot : Event → ℕ → Bool
 changes_slot (Event.Start i) j = i == j
-changes_slot (Event.Return i) j = i == j
-changes_slot (Event.Drop i) j = i == j
-changes_slot (Event.Crash i) j = i == j
-changes_slot e j = false
+changes_slot e j = empties_slot e j
 
 -- the event is one step, from the world that is stood for before to the one after
 abbrev pub StepsTo : WorldState → Event → WorldState → Answer → Type 0

@@ -12,6 +12,9 @@ use Rattle.bully_steps.specs.declared.point.Point.TheVariants.{Idle, Asking, Hal
 use Rattle.bully_steps.specs.declared.point.Want.{Want}
 use Rattle.bully_steps.specs.ProcedureState.{ProcedureState, procedure_state, want_of, resumed}
 use Rattle.bully_calls.specs.declared.event.Event.{Event}
+use Rattle.bully_calls.specs.declared.kind.EventKind.{EventKind}
+use Rattle.bully_calls.specs.declared.kind.NodeEventKind.{NodeEventKind}
+use Rattle.bully_calls.specs.Events.{event_at}
 use Rattle.bully_world.specs.declared.turn.Next.{Next}
 use Rattle.bully_world.specs.declared.turn.Next.TheVariants.{Resync, Rest, Take}
 use Rattle.bully_world.specs.declared.turn.StepKind.{StepKind}
@@ -91,30 +94,38 @@ turn_in_step w (Some c) h = turn_of_call (is_down_at w c.call.callee) c.is_live 
 abbrev pub turn : WorldState → ProcedureState → Next
 turn w h = if is_in_step w h then turn_in_step (world_of w) (node_state_of (state_at w h.node)).pending h else Resync
 
--- the event of a step of node i; a plan has the table
-abbrev pub event_at : StepKind → ℕ → Option (List ℕ) → Event
-event_at Start i table = Event.Start i
-event_at Lose i table = Event.Lose i
-event_at Return i table = Event.Return i
-event_at Drop i table = Event.Drop i
-event_at Move i table = Event.Move i
-event_at Plan i table = Event.Plan i (unwrap_or table [])
+-- what the event of such a step is
+abbrev pub kind_of_step : StepKind → EventKind
+kind_of_step Start = EventKind.Node NodeEventKind.Start
+kind_of_step Lose = EventKind.Node NodeEventKind.Lose
+kind_of_step Return = EventKind.Node NodeEventKind.Return
+kind_of_step Drop = EventKind.Node NodeEventKind.Drop
+kind_of_step Move = EventKind.Node NodeEventKind.Move
+kind_of_step Plan = EventKind.Plan
+
+-- the event of this kind at node i; a plan has the table
+abbrev pub event_with : EventKind → ℕ → Option (List ℕ) → Event
+event_with (EventKind.Node kind) i table = event_at kind i
+event_with EventKind.Plan i table = Event.Plan i (unwrap_or table [])
 
 -- the event of a step of the procedure; a plan has the procedure's table
 abbrev pub step_event : StepKind → ProcedureState → Event
-step_event kind h = event_at kind h.node h.table
+step_event kind h = event_with (kind_of_step kind) h.node h.table
 
--- the outcome by which the procedure goes on; none at a loss, and none where an orphan returned or was dropped
+-- what a call that is answered so brings; nothing where it is discarded
+abbrev pub outcome_brought : Answer → Option Outcome
+outcome_brought Answer.Yes = Some Outcome.Yes
+outcome_brought Answer.No = Some Outcome.No
+outcome_brought Answer.Failed = Some Outcome.Failed
+outcome_brought answer = None
+
+-- the outcome by which the procedure goes on; none where its node's call is given up
 abbrev pub outcome_after : StepKind → Answer → Option Outcome
 outcome_after Start answer = Some Outcome.Started
-outcome_after Lose answer = None
-outcome_after Return Answer.Yes = Some Outcome.Yes
-outcome_after Return Answer.No = Some Outcome.No
-outcome_after Return Answer.Failed = Some Outcome.Failed
-outcome_after Return answer = None
-outcome_after Drop answer = None
+outcome_after Return answer = outcome_brought answer
 outcome_after Move answer = Some Outcome.Moved
 outcome_after Plan answer = Some Outcome.Planned
+outcome_after kind answer = None
 
 -- the procedure after its step with this answer
 abbrev pub procedure_after : StepKind → Answer → ProcedureState → ProcedureState
@@ -124,17 +135,9 @@ procedure_after kind answer h = option_map_or (resumed h) (outcome_after kind an
 
 -- a plan takes the table, and the procedure goes on by that
 abbrev pub procedure_left : StepKind → ProcedureState → ProcedureState
-procedure_left Start h = h
-procedure_left Lose h = h
-procedure_left Return h = h
-procedure_left Drop h = h
-procedure_left Move h = h
 procedure_left Plan h = resumed h Outcome.Planned
+procedure_left kind h = h
 
 abbrev pub outcome_left : StepKind → Answer → Option Outcome
-outcome_left Start answer = outcome_after Start answer
-outcome_left Lose answer = None
-outcome_left Return answer = outcome_after Return answer
-outcome_left Drop answer = None
-outcome_left Move answer = outcome_after Move answer
 outcome_left Plan answer = None
+outcome_left kind answer = outcome_after kind answer

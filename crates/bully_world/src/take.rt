@@ -3,7 +3,7 @@ ghost use Rattle.std.specs.Option.{option_map_or};
 ghost use Rattle.bully_steps.specs.ProcedureState.{IsProcedureState, HasSameNode, CanResume, resumed};
 ghost use Rattle.bully_steps.specs.Procedure.{state_of};
 ghost use Rattle.bully_world.specs.State.{StepsTo, KeepsGenerations, IsFull};
-ghost use Rattle.bully_world.specs.Turn.{turn, has_table, step_event, is_in_step, procedure_after, procedure_left, outcome_left};
+ghost use Rattle.bully_world.specs.Turn.{turn, has_table, step_event, is_in_step, procedure_after, procedure_left, outcome_brought, outcome_left};
 ghost use Rattle.bully_world.specs.declared.turn.Next.{Next};
 
 use crate::World;
@@ -75,14 +75,21 @@ fn outcome_by(kind: StepKind, answer: Answer) -> Option<Outcome>
 {
     match kind {
         StepKind::Start => Some(Outcome::Started),
-        StepKind::Return => match answer {
-            Answer::Yes => Some(Outcome::Yes),
-            Answer::No => Some(Outcome::No),
-            Answer::Failed => Some(Outcome::Failed),
-            Answer::Done | Answer::Discarded => None,
-        },
+        StepKind::Return => outcome_brought(answer),
         StepKind::Move => Some(Outcome::Moved),
-        StepKind::Lose | StepKind::Drop | StepKind::Plan => None,
+        _ => None,
+    }
+}
+
+// What a call that is answered so brings, if anything.
+fn outcome_brought(answer: Answer) -> Option<Outcome>
+    ensures { result ≡ outcome_brought answer }
+{
+    match answer {
+        Answer::Yes => Some(Outcome::Yes),
+        Answer::No => Some(Outcome::No),
+        Answer::Failed => Some(Outcome::Failed),
+        Answer::Done | Answer::Discarded => None,
     }
 }
 

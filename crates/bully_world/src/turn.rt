@@ -5,13 +5,13 @@ ghost use Rattle.bully_steps.specs.ProcedureState.{HasSameNode, IsProcedureState
 ghost use Rattle.bully_steps.specs.Procedure.{state_of};
 ghost use Rattle.bully_steps.specs.PointKind.{point_at, nodes_in};
 ghost use Rattle.bully_world.specs.Cause.{is_live_in};
-ghost use Rattle.bully_world.specs.Turn.{event_at, procedure_by, procedure_in, is_in_step, agree, same_point, same_set, same_node, turn, turn_of_call, turn_of_want, has_table};
+ghost use Rattle.bully_world.specs.Turn.{event_with, kind_of_step, procedure_by, procedure_in, is_in_step, agree, same_point, same_set, same_node, turn, turn_of_call, turn_of_want, has_table};
 ghost use Rattle.bully_world.specs.declared.turn.StepKind.{StepKind};
 
 use crate::World;
 use crate::node_state::NodeState;
 use bully_base::{Node, NodeSet, Status};
-use bully_calls::{Event, Phase, Slot};
+use bully_calls::{Event, EventKind, NodeEventKind, Phase, Slot};
 use bully_steps::{PointKind, Procedure, Want};
 use bully_table::Table;
 
@@ -33,18 +33,29 @@ pub enum StepKind {
 }
 
 impl StepKind {
+    /// What the event of such a step is.
+    pub fn kind(self) -> EventKind
+        ensures { result ≡ kind_of_step self }
+    {
+        let kind = match self {
+            StepKind::Start => NodeEventKind::Start,
+            StepKind::Lose => NodeEventKind::Lose,
+            StepKind::Return => NodeEventKind::Return,
+            StepKind::Drop => NodeEventKind::Drop,
+            StepKind::Move => NodeEventKind::Move,
+            StepKind::Plan => return EventKind::Plan,
+        };
+        EventKind::Node(kind)
+    }
+
     /// The event of such a step of the node. A plan has the table, and the others have none.
     pub fn event(self, node: Node, table: Option<Table>) -> Event
         requires { self ≡ StepKind.Plan → IsSome table }
-        ensures { result ≡ event_at self node table }
+        ensures { result ≡ event_with (kind_of_step self) node table }
     {
-        match self {
-            StepKind::Start => Event::Start(node),
-            StepKind::Lose => Event::Lose(node),
-            StepKind::Return => Event::Return(node),
-            StepKind::Drop => Event::Drop(node),
-            StepKind::Move => Event::Move(node),
-            StepKind::Plan => Event::Plan(node, table.unwrap()),
+        match self.kind() {
+            EventKind::Node(kind) => kind.event(node),
+            EventKind::Plan => Event::Plan(node, table.unwrap()),
         }
     }
 }

@@ -1,13 +1,14 @@
 ghost use Rattle.std.specs.Prelude.{◌≡◌, ◌↔◌, ◌≤◌, ◌<◌, ℕ, IfOk, IfErr, IfSome, IfNone, IsOk, length, true, false, None, Some, if◌then◌else◌};
 ghost use Rattle.bully_world.specs.State.{state_at, world_of, cause_in, waits_for, first_state, new_states, node_state_of, IsApplied, IsFull, NobodyWaits, NobodyWaitsBelow, IsKept, IsReached};
 ghost use Rattle.bully_world.specs.NodeInvariant.{NodeInvariant};
+ghost use Rattle.bully_world.specs.Place.{place_at};
 ghost use Rattle.bully_world.specs.World.{first_world};
 
 use crate::causes::{cause_of, is_full_for, place_of};
 use crate::node_state::NodeState;
 use crate::steps::apply_event;
 use bully_base::{Node, OutOfMemory, Setup};
-use bully_calls::{Answer, Event, Refused, Slot, Waiting};
+use bully_calls::{Answer, Event, EventKind, Refused, Slot, Waiting, Whose};
 use bully_handlers::Vector;
 use bully_steps::Point;
 use std::alloc::Global;
@@ -159,6 +160,19 @@ impl World {
             return None;
         }
         self.waiting.lowest(callee)
+    }
+
+    /// The node at which an event of this kind, of this node, takes place, and the only one whose vector it may change: the callee of
+    /// the node's call, where the event is the callee's, and else the node itself, which is at most the setup's last.
+    pub fn place_at(&self, node: Node, kind: EventKind) -> Node
+        requires { node ≤ self.now.setup.nodes }
+        ensures place { result ≡ place_at (world_of self.now) node kind }
+        ensures within { result ≤ self.now.setup.nodes }
+    {
+        match (kind.whose(), self.node_state(node).slot().call()) {
+            (Whose::Callee, Some(call)) => call.callee,
+            _ => node,
+        }
     }
 
     /// What is kept of the node. The node is at most the setup's last.
