@@ -8,7 +8,7 @@ use Rattle.bully_calls.specs.Slot.{holds_call}
 use Rattle.bully_steps.specs.declared.point.Want.{Want}
 use Rattle.bully_steps.specs.Point.{offered}
 use Rattle.bully_calls.specs.declared.event.Event.{Event}
-use Rattle.bully_calls.specs.Events.{node_of}
+use Rattle.bully_calls.specs.Events.{kind_of, node_of}
 use Rattle.bully_world.specs.Cause.{cause, IsToldByNode}
 use Rattle.bully_world.specs.State.{StoredNode, node_state_of}
 use Rattle.bully_world.specs.StateAfter.{node_after, node_answer, opened_state, phased_state, CanApplyHere}
@@ -19,22 +19,22 @@ use Rattle.bully_agent.specs.Agent.{IsAgentOf, IsAlone}
 use Rattle.bully_agent.specs.Part.{IsLike, IsPart, Always, FollowsAt, CauseAt}
 use Rattle.bully_agent.proofs.PartLemmas.{alone, alone_part, exact_follows, exact_agent, exact_can}
 
-pub alone_no_run : (e : Event) → IsAlone e → IsNoRun e
+pub alone_no_run : (e : Event) → IsAlone (kind_of e) → IsNoRun e
 alone_no_run (Event.Run i) own = elim own [ ]
 alone_no_run e own = λ i same. absurd (cc same)
 
-pub alone_told : (e : Event) → IsAlone e → IsToldByNode e
+pub alone_told : (e : Event) → IsAlone (kind_of e) → IsToldByNode e
 alone_told (Event.Run i) own = elim own [ ]
 alone_told (Event.Lose i) own = elim own [ ]
 alone_told e own = tt
 
 -- the event is answered alike, whatever the node is
-same_answer : (e : Event) (m n : StoredNode) → IsAlone e → node_answer e m ≡ node_answer e n
+same_answer : (e : Event) (m n : StoredNode) → IsAlone (kind_of e) → node_answer e m ≡ node_answer e n
 same_answer (Event.Return i) m n own = elim own [ ]
 same_answer e m n own = refl
 
 -- a reply that is under way stays so, or is lost with its call
-ahead_like : (setup : Setup) (e : Event) (m : StoredNode) (a : Answer) → IsAlone e → holds_call is_sent m.slot ≡ true → IsLike (node_after setup e m) (node_state_of (node_after setup e (phased_state (Phase.Ran a) m)))
+ahead_like : (setup : Setup) (e : Event) (m : StoredNode) (a : Answer) → IsAlone (kind_of e) → holds_call is_sent m.slot ≡ true → IsLike (node_after setup e m) (node_state_of (node_after setup e (phased_state (Phase.Ran a) m)))
 ahead_like setup (Event.Recover i) m a own sent = inr (record { answer = a; sent = sent; ran = refl })
 ahead_like setup (Event.Crash i) m a own sent = inl refl
 ahead_like setup (Event.Check i) m a own sent = inr (record { answer = a; sent = sent; ran = refl })
@@ -53,7 +53,7 @@ ahead_like setup (Event.Plan i table) m a own sent = inr (record { answer = a; s
 ahead_like setup e m a own sent = elim own [ ]
 
 -- Where nothing refuses the event in any world of which this is the node, it leads on in each of them.
-module _ (setup : Setup) (e : Event) (count : ℕ) (m : StoredNode) (own : IsAlone e) (free : CauseAt Always setup (node_of e) count m e None) where
+module _ (setup : Setup) (e : Event) (count : ℕ) (m : StoredNode) (own : IsAlone (kind_of e)) (free : CauseAt Always setup (node_of e) count m e None) where
   follows_by : (w : World) → IsPart setup (node_of e) m w → IsLike m (node_state w (node_of e)) → (w' : World) × Step setup w e w' (node_answer e m) × IsPart setup (node_of e) (node_after setup e m) w'
   follows_by w part (inl here) =
       let next = exact_follows setup e w count m (alone_no_run e own) (record { all = part.fits; here = here; none = free w part tt }) in

@@ -1,6 +1,6 @@
 -- A step leaves what is kept of every node but the one at which it takes place a part of the world.
 use Rattle.std.proofs.Common.{◌≡◌, ◌≢◌, ℕ, ◌⊎◌, inl, inr, true, false, Some, refl, sym, ◌∙◌, ap, subst, arith}
-use Rattle.std.specs.Prelude.{◌==◌, if◌then◌else◌}
+use Rattle.std.specs.Prelude.{◌==◌, option_map, if◌then◌else◌}
 use Rattle.std.specs.Option.{option_map_or}
 use Rattle.std.proofs.lemmas.Bool.Decides.{nat_tests}
 use Rattle.bully_base.specs.Setup.{Setup}
@@ -11,6 +11,7 @@ use Rattle.bully_calls.specs.Slot.{SlotCall, pending_of}
 use Rattle.bully_handlers.specs.Handler.{reply}
 use Rattle.bully_calls.specs.declared.event.Event.{Event}
 use Rattle.bully_world.specs.Cause.{in_phase}
+use Rattle.bully_world.specs.Place.{callee_or, place_of}
 use Rattle.bully_world.specs.State.{StoredNode, node_state_of}
 use Rattle.bully_world.specs.Step.{Step, IsUp, ran}
 use Rattle.bully_world.specs.World.{World, NodeState, node_state, pending, vector}
@@ -20,7 +21,7 @@ use Rattle.bully_world.proofs.LawfulLemmas.{lawful_more}
 use Rattle.bully_world.proofs.NodeInvariantLemmas.{step_fits}
 use Rattle.bully_world.proofs.RunInvariant.{ran_here, ran_other}
 use Rattle.bully_world.proofs.SlotLemmas.{call_in_slot, pending_there, phased_is}
-use Rattle.bully_agent.specs.Laws.{GroupGoesOn, KeepsOthers, callee_of, place_of, with_part}
+use Rattle.bully_agent.specs.Laws.{GroupGoesOn, KeepsOthers, with_part}
 use Rattle.bully_agent.specs.Part.{IsLike, IsPart, IsUnderWay}
 use Rattle.bully_agent.proofs.ReturnLemmas.{sent_call}
 
@@ -65,7 +66,7 @@ module _ (setup : Setup) (w : World) (i : ℕ) (c : Pending) (all : WorldInvaria
 
 step_like : (setup : Setup) (w w' : World) (e : Event) (a : Answer) (k : ℕ) (m : StoredNode) → WorldInvariant setup w → Step setup w e w' a → k ≢ place_of w e → IsLike m (node_state w k) → IsLike m (node_state w' k)
 step_like setup w w' (Event.Run i) a k m all s d like =
-    let elsewhere : k ≢ s.0.call.callee = λ same. d (same ∙ ap callee_of (sym s.1)) in
+    let elsewhere : k ≢ s.0.call.callee = λ same. d (same ∙ ap (λ q. callee_or i (option_map (λ (p : Pending). p.call) q)) (sym s.1)) in
     subst (λ v. IsLike m (node_state v k)) (sym s.4) (run_like setup w i s.0 all s.1 s.2 s.3 k m elsewhere (grind arith) like)
 step_like setup w w' e a k m all s d like = subst (IsLike m) (sym (own_other setup w w' e a k (λ i same. absurd (cc same)) s d)) like
 

@@ -9,7 +9,7 @@ use Rattle.bully_calls.specs.Slot.{SlotCall, pending_of, phased}
 use Rattle.bully_handlers.specs.Vector.{Vector}
 use Rattle.bully_calls.specs.declared.event.Event.{Event}
 use Rattle.bully_calls.specs.declared.event.Refused.{Refused}
-use Rattle.bully_calls.specs.Events.{node_of}
+use Rattle.bully_calls.specs.Events.{kind_of, node_of}
 use Rattle.bully_world.specs.Cause.{cause, refuses, first_of, later_refusals, is_pending, is_live_in, is_down_at}
 use Rattle.bully_world.specs.State.{StoredNode, node_state_of}
 use Rattle.bully_world.specs.StateAfter.{phased_state}
@@ -46,7 +46,7 @@ ahead_alike m f = record { vector = refl; point = refl; pending = same_pending m
     same_live None = refl
     same_live (Some p) = refl
 
-same_refusals : (setup : Setup) (w v : World) (count : ℕ) (e : Event) (x y : NodeState) → IsAlone e → node_state w (node_of e) ≡ x → node_state v (node_of e) ≡ y → IsReadAlike x y
+same_refusals : (setup : Setup) (w v : World) (count : ℕ) (e : Event) (x y : NodeState) → IsAlone (kind_of e) → node_state w (node_of e) ≡ x → node_state v (node_of e) ≡ y → IsReadAlike x y
     → first_of (refuses setup w count e) later_refusals ≡ first_of (refuses setup v count e) later_refusals
 same_refusals setup w v count (Event.Recover i) x y own there here alike = refl
 same_refusals setup w v count (Event.Crash i) x y own there here alike = refl
@@ -69,13 +69,13 @@ module _ (setup : Setup) (e : Event) (count : ℕ) (m : StoredNode) (node : IsNo
       down-test w i (node_state w i) b refl (λ t. same ∙ to t) (λ d. from (sym same ∙ d))
 
   -- the later refusals in a world where a reply may be under way
-  later_there : (w : World) (r : Option Refused) → IsAlone e → IsLike m (node_state w i) → ((v : World) (n : ℕ) → node_state v i ≡ node_state_of m → r ≡ first_of (refuses setup v n e) later_refusals) → first_of (refuses setup w count e) later_refusals ≡ r
+  later_there : (w : World) (r : Option Refused) → IsAlone (kind_of e) → IsLike m (node_state w i) → ((v : World) (n : ℕ) → node_state v i ≡ node_state_of m → r ≡ first_of (refuses setup v n e) later_refusals) → first_of (refuses setup w count e) later_refusals ≡ r
   later_there w r own (inl here) told = sym (told w count here)
   later_there w r own (inr u) told =
       let here = alone_here setup i m node in
       same_refusals setup w (alone setup i m) count e (node_state_of (phased_state (Phase.Ran u.answer) m)) (node_state_of m) own u.ran here (ahead_alike m (Phase.Ran u.answer)) ∙ sym (told (alone setup i m) count here)
 
-  pub later_cause_at : (w : World) (b : Bool) (r : Option Refused) → IsAlone e → ((k : ℕ) → e ≡ Event.Recover k → ⊥) → IsPart setup i m w → (b ≡ true → m.vector.vector.status ≡ Down) → (m.vector.vector.status ≡ Down → b ≡ true)
+  pub later_cause_at : (w : World) (b : Bool) (r : Option Refused) → IsAlone (kind_of e) → ((k : ℕ) → e ≡ Event.Recover k → ⊥) → IsPart setup i m w → (b ≡ true → m.vector.vector.status ≡ Down) → (m.vector.vector.status ≡ Down → b ≡ true)
       → ((v : World) (n : ℕ) → node_state v i ≡ node_state_of m → r ≡ first_of (refuses setup v n e) later_refusals) → cause setup w count e ≡ (if b then Some Refused.IsDown else r)
   later_cause_at w b r own other part to from told =
       cause-later setup w count e other room node

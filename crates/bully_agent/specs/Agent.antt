@@ -8,6 +8,8 @@ use Rattle.bully_steps.specs.declared.point.Want.{Want}
 use Rattle.bully_steps.specs.Point.{offered}
 use Rattle.bully_calls.specs.declared.event.Event.{Event}
 use Rattle.bully_calls.specs.declared.event.Refused.{Refused}
+use Rattle.bully_calls.specs.declared.kind.EventKind.{EventKind}
+use Rattle.bully_calls.specs.declared.kind.NodeEventKind.{NodeEventKind}
 use Rattle.bully_world.specs.declared.take.TakenStep.{TakenStep}
 use Rattle.bully_world.specs.NodeInvariant.{NodeInvariant}
 use Rattle.bully_world.specs.State.{StoredNode, node_state_of, IsKept}
@@ -54,19 +56,12 @@ down_node_state task = record { vector = record empty_vector { task = task }; po
 abbrev pub wanted : AgentState → Want
 wanted a = if is_some a.node_state.slot.content then Want.Await else offered a.setup a.node_state.vector.vector.coordinator a.node_state.point
 
--- the event is one that a node takes by itself: it needs no other node, no request and no reply
-abbrev pub IsAlone : Event → Type 0
-IsAlone (Event.Recover i) = Unit {0}
-IsAlone (Event.Crash i) = Unit {0}
-IsAlone (Event.Check i) = Unit {0}
-IsAlone (Event.Timeout i) = Unit {0}
-IsAlone (Event.Start i) = Unit {0}
-IsAlone (Event.Run i) = ⊥
-IsAlone (Event.Lose i) = ⊥
-IsAlone (Event.Return i) = ⊥
-IsAlone (Event.Drop i) = Unit {0}
-IsAlone (Event.Move i) = Unit {0}
-IsAlone (Event.Plan i table) = Unit {0}
+-- an event of this kind is one that a node takes by itself: it needs no other node, no request and no reply
+abbrev pub IsAlone : EventKind → Type 0
+IsAlone (EventKind.Node NodeEventKind.Run) = ⊥
+IsAlone (EventKind.Node NodeEventKind.Lose) = ⊥
+IsAlone (EventKind.Node NodeEventKind.Return) = ⊥
+IsAlone kind = Unit {0}
 
 -- the number of the last call after the event: a call has the number of events told before its start
 abbrev pub number_after : Event → ℕ → ℕ → ℕ

@@ -3,26 +3,16 @@ use Rattle.std.specs.Prelude.{◌≡◌, ◌≢◌, ◌<◌, ◌==◌, ℕ, Bool
 use Rattle.bully_base.specs.declared.node.Status.TheVariants.{Normal}
 use Rattle.bully_base.specs.Setup.{Setup, IsNode}
 use Rattle.bully_calls.specs.declared.call.Answer.{Answer}
-use Rattle.bully_calls.specs.Pending.{Pending}
 use Rattle.bully_handlers.specs.Vector.{Vector}
 use Rattle.bully_calls.specs.declared.event.Event.{Event}
-use Rattle.bully_calls.specs.Events.{node_of}
 use Rattle.bully_world.specs.Lawful.{IsLawful}
 use Rattle.bully_world.specs.NodeInvariant.{TakesPart, WorldInvariant}
-use Rattle.bully_world.specs.State.{StoredNode}
+use Rattle.bully_world.specs.Place.{place_of}
+use Rattle.bully_world.specs.State.{StoredNode, empties_slot}
 use Rattle.bully_world.specs.Step.{Step}
-use Rattle.bully_world.specs.World.{World, pending}
+use Rattle.bully_world.specs.World.{World}
 use Rattle.bully_agent.specs.Calls.{HasRun}
 use Rattle.bully_agent.specs.Part.{IsPart}
-
-abbrev pub callee_of : Option Pending → ℕ
-callee_of None = 0
-callee_of (Some c) = c.call.callee
-
--- the node at which the event takes place: of a Run the callee
-abbrev pub place_of : World → Event → ℕ
-place_of w (Event.Run i) = callee_of (pending w i)
-place_of w e = node_of e
 
 -- what is kept of every node but the one at which a step takes place is a part of the world that comes
 abbrev pub KeepsOthers : Type 0
@@ -46,13 +36,10 @@ GroupGoesOn = (setup : Setup) (events : List Event) (answers : List Answer) (w w
     → Step setup w e w' a → place_of w e ≡ i → IsPart setup i next w'
     → IsLawful setup (events ++ e ∷ []) (answers ++ a ∷ []) w' × AreParts setup (with_part kept i next) w'
 
--- the event is node i's own loss, return, drop or crash: what ends its call
+-- the event ends node i's call: it is its own loss, or empties its slot
 abbrev pub ends_call : Event → ℕ → Bool
-ends_call (Event.Crash j) i = j == i
 ends_call (Event.Lose j) i = j == i
-ends_call (Event.Return j) i = j == i
-ends_call (Event.Drop j) i = j == i
-ends_call e i = false
+ends_call e i = empties_slot e i
 
 -- A call that ran with an answer is one that ran with it, until such an event of its caller.
 abbrev pub RunsStay : Type 0

@@ -1,26 +1,26 @@
-ghost use Rattle.std.specs.Prelude.{◌≡◌, ◌≤◌, ◌↔◌, None, length, IfOk, IfErr, IfSome, IsTrue};
+ghost use Rattle.std.specs.Prelude.{◌≡◌, ◌≤◌, ◌<◌, ◌+◌, ◌↔◌, true, false, None, length, IfOk, IfErr, IfSome, IsTrue};
 ghost use Rattle.std.specs.Option.{option_copied};
 ghost use Rattle.bully_world.specs.NodeInvariant.{WorldInvariant};
 ghost use Rattle.bully_world.specs.World.{World, node_state, first_world};
 ghost use Rattle.bully_base.specs.NodeSet.{with_node};
 ghost use Rattle.bully_table.specs.Planning.{planned};
-ghost use Rattle.bully_calls.specs.Events.{node_of};
+ghost use Rattle.bully_calls.specs.declared.kind.EventKind.{EventKind};
+ghost use Rattle.bully_calls.specs.Events.{event_at, kind_of, node_of};
 ghost use Rattle.bully_agent.specs.Agent.{IsAlone, IsRefused, IsTaken, PartOf, down_node_state, new_agent, number_after, wanted};
 ghost use Rattle.bully_agent.specs.Calls.{GivesOut, IsAwaited, IsDue, IsFailed, IsReplyTo, IsRequested, IsReturned, IsServed, RefusesFailure, RefusesReply, RefusesRequest, TellsRun, request_of};
 ghost use Rattle.bully_agent.specs.Part.{Always};
 
 use crate::due::{can_return, is_under_way};
-use crate::planning::planned_table;
 use crate::requests::{request_cause, serve_request};
 use crate::returns::{return_failure, return_reply};
 use crate::taking::take_alone;
 use bully_base::{Node, OutOfMemory, Setup};
-use bully_calls::{Reply, Request, Slot};
+use bully_calls::{NodeEventKind, Reply, Request, Slot};
 use bully_handlers::Vector;
-use bully_steps::{Point, Want};
+use bully_steps::{Point, Want, planned_table};
 use bully_table::Table;
-use bully_world::{Event, NodeState, Refused, TakenStep};
-use std::alloc::Global;
+use bully_world::{Event, NodeState, Refused, TakenStep, is_full_for};
+use std::alloc::{AllocError, Global};
 use std::marker::Model;
 
 /// One node on its own.
@@ -189,69 +189,28 @@ impl Agent {
         requires { IfSome (option_copied old) (λ t. length t ≡ self.now.setup.partitions) }
         ensures { IfOk result (λ table. table ≡ planned self.now.setup (option_copied old.entry) (with_node self.now.node self.now.node_state.vector.vector.up)) }
     {
-        planned_table(
-            alloc,
-            &self.setup,
-            self.node,
-            self.node_state.vector().up(),
-            old,
-        )
+        let up = self.node_state.vector().up();
+        match planned_table(alloc, &self.setup, self.node, up, old) {
+            Ok(table) => Ok(table),
+            Err(_) => Err(AllocError), // never `NoMember`: the node is a member
+        }
     }
 
-    /// The node recovers, and stands for election. Refused as `Full`, `IsUp`. The rule: docs/ALGORITHM.md.
-    pub fn recover(&mut self) -> Result<TakenStep, Refused>
-        ensures taken { IfOk result (IsTaken self.old (Event.Recover self.old.node) self.new) }
-        ensures why { IfErr result (IsRefused Always self.old (Event.Recover self.old.node)) }
+    /// The node takes the event of this kind by itself: any but a Run, which is [`Agent::serve`], a Lose and a Return, which are
+    /// [`Agent::failed`] and [`Agent::replied`]. Of a process that dies nobody takes its Crash: whoever sees its death logs that. Once
+    /// a Start is taken, [`Agent::request`] has what is to be sent. What each does: docs/ALGORITHM.md. Refused as
+    ///
+    /// - `Full`; `IsDown`, but a Recover as `IsUp`;
+    /// - a Check and a Timeout as `Busy`;
+    /// - a Start and a Move as `NoStep`, `SlotBusy`;
+    /// - a Drop as `NoCall`, `NotOrphan`.
+    pub fn take(&mut self, kind: NodeEventKind) -> Result<TakenStep, Refused>
+        requires alone { IsAlone (EventKind.Node kind) }
+        ensures taken { IfOk result (IsTaken self.old (event_at kind self.old.node) self.new) }
+        ensures why { IfErr result (IsRefused Always self.old (event_at kind self.old.node)) }
         ensures unchanged { IfErr result (λ _. self.new ≡ self.old) }
     {
-        self.take_event(Event::Recover(self.node))
-    }
-
-    /// The node crashes. Of a process that dies nobody calls this: whoever sees its death logs the event. Refused as `Full`,
-    /// `IsDown`.
-    pub fn crash(&mut self) -> Result<TakenStep, Refused>
-        ensures taken { IfOk result (IsTaken self.old (Event.Crash self.old.node) self.new) }
-        ensures why { IfErr result (IsRefused Always self.old (Event.Crash self.old.node)) }
-        ensures unchanged { IfErr result (λ _. self.new ≡ self.old) }
-    {
-        self.take_event(Event::Crash(self.node))
-    }
-
-    /// The idle node begins to check. Refused as `Full`, `IsDown`, `Busy`.
-    pub fn check(&mut self) -> Result<TakenStep, Refused>
-        ensures taken { IfOk result (IsTaken self.old (Event.Check self.old.node) self.new) }
-        ensures why { IfErr result (IsRefused Always self.old (Event.Check self.old.node)) }
-        ensures unchanged { IfErr result (λ _. self.new ≡ self.old) }
-    {
-        self.take_event(Event::Check(self.node))
-    }
-
-    /// The idle node heard nothing for too long. Refused as `Full`, `IsDown`, `Busy`.
-    pub fn timeout(&mut self) -> Result<TakenStep, Refused>
-        ensures taken { IfOk result (IsTaken self.old (Event.Timeout self.old.node) self.new) }
-        ensures why { IfErr result (IsRefused Always self.old (Event.Timeout self.old.node)) }
-        ensures unchanged { IfErr result (λ _. self.new ≡ self.old) }
-    {
-        self.take_event(Event::Timeout(self.node))
-    }
-
-    /// The node starts the call that its point offers; [`Agent::request`] then has what is to be sent. Refused as `Full`,
-    /// `IsDown`, `NoStep`, `SlotBusy`.
-    pub fn start(&mut self) -> Result<TakenStep, Refused>
-        ensures taken { IfOk result (IsTaken self.old (Event.Start self.old.node) self.new) }
-        ensures why { IfErr result (IsRefused Always self.old (Event.Start self.old.node)) }
-        ensures unchanged { IfErr result (λ _. self.new ≡ self.old) }
-    {
-        self.take_event(Event::Start(self.node))
-    }
-
-    /// The node's procedure moves on without a call. Refused as `Full`, `IsDown`, `NoStep`, `SlotBusy`.
-    pub fn advance(&mut self) -> Result<TakenStep, Refused>
-        ensures taken { IfOk result (IsTaken self.old (Event.Move self.old.node) self.new) }
-        ensures why { IfErr result (IsRefused Always self.old (Event.Move self.old.node)) }
-        ensures unchanged { IfErr result (λ _. self.new ≡ self.old) }
-    {
-        self.take_event(Event::Move(self.node))
+        self.take_event(kind.event(self.node))
     }
 
     /// The node has planned this table. Refused as `Full`, `IsDown`, `NoStep`, `SlotBusy`, `BadTable`.
@@ -261,15 +220,6 @@ impl Agent {
         ensures unchanged { IfErr result (λ _. self.new ≡ self.old) }
     {
         self.take_event(Event::Plan(self.node, table))
-    }
-
-    /// The node's call, an orphan, is taken out of its slot. Refused as `Full`, `IsDown`, `NoCall`, `NotOrphan`.
-    pub fn drop_orphan(&mut self) -> Result<TakenStep, Refused>
-        ensures taken { IfOk result (IsTaken self.old (Event.Drop self.old.node) self.new) }
-        ensures why { IfErr result (IsRefused Always self.old (Event.Drop self.old.node)) }
-        ensures unchanged { IfErr result (λ _. self.new ≡ self.old) }
-    {
-        self.take_event(Event::Drop(self.node))
     }
 
     /// The request runs at the node. Refused as `Full`; `BadNode`, where its caller is above the setup's last node;
@@ -323,7 +273,7 @@ impl Agent {
         ensures unchanged { IfErr result (λ _. self.new ≡ self.old) }
     {
         let told = reply.answer;
-        if self.events >= self.setup.events_max() {
+        if self.is_full_for(1) {
             return Err(Refused::Full);
         }
         if !self.is_due(reply) {
@@ -352,7 +302,7 @@ impl Agent {
         ensures why { IfErr result (RefusesFailure self.old number) }
         ensures unchanged { IfErr result (λ _. self.new ≡ self.old) }
     {
-        if self.events >= self.setup.events_max() - 1 {
+        if self.is_full_for(2) {
             return Err(Refused::Full);
         }
         if !self.awaits(number) {
@@ -370,10 +320,10 @@ impl Agent {
     }
 
     // An event that the node takes by itself.
-    // (inlined with what it calls, so that each call of the agent has what its own event needs, and no more)
+    // (inlined with what it calls, so that a call for an event that is known has what that needs, and no more)
     #[inline(always)]
     fn take_event(&mut self, event: Event) -> Result<TakenStep, Refused>
-        requires alone { IsAlone event }
+        requires alone { IsAlone (kind_of event) }
         requires named { node_of event ≡ self.old.node }
         ensures taken { IfOk result (IsTaken self.old event self.new) }
         ensures why { IfErr result (IsRefused Always self.old event) }
@@ -383,6 +333,15 @@ impl Agent {
         self.number = number_after(&event, self.events, self.number);
         self.events += 1;
         Ok(TakenStep { event, answer })
+    }
+
+    // Whether there is no room for so many events more, one at least.
+    fn is_full_for(&self, count: u32) -> bool
+        requires { 0 < count }
+        ensures full { result ≡ true → self.now.setup.events_max < self.now.events + count }
+        ensures room { result ≡ false → self.now.events + count ≤ self.now.setup.events_max }
+    {
+        is_full_for(&self.setup, self.events, count)
     }
 
     // Whether the reply is one to the call that the node has under way.

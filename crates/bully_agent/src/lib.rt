@@ -11,7 +11,6 @@ ghost use Rattle.bully_agent.specs.Laws.{GroupGoesOn, KeepsOthers, PartsAgree, R
 
 mod agent;
 mod due;
-mod planning;
 mod requests;
 mod returns;
 mod taking;

@@ -12,7 +12,7 @@ ghost use Rattle.bully_agent.specs.Part.{FollowsAt, IsRefusedAt};
 use bully_base::{Node, Setup};
 use bully_calls::{Answer, CallKind, Request};
 use bully_table::Table;
-use bully_world::{NodeState, Refused};
+use bully_world::{NodeState, Refused, is_full_for};
 
 /// Why the request is refused at the node, whose agent told so many events; none where it isn't.
 pub fn request_cause(
@@ -27,7 +27,7 @@ pub fn request_cause(
     ensures can { IfNone result (CanServe setup.now node events node_state.now request.now) }
     ensures small { IfNone result (events + 1 < 2 ^ 32) }
 {
-    if events >= setup.events_max() {
+    if is_full_for(setup, events, 1) {
         return Some(Refused::Full);
     }
     if request.caller.number() > setup.nodes() {

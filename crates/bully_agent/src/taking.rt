@@ -1,13 +1,13 @@
 //! The events that a node takes by itself.
 ghost use Rattle.std.specs.Prelude.{◌≡◌, ◌+◌, ◌<◌, ◌^◌, Some, None, IfOk, IfErr, OnOk, if◌then◌else◌};
-ghost use Rattle.bully_calls.specs.Events.{node_of};
+ghost use Rattle.bully_calls.specs.Events.{kind_of, node_of};
 ghost use Rattle.bully_world.specs.StateAfter.{node_after, node_answer};
 ghost use Rattle.bully_agent.specs.Agent.{IsAgentOf, IsAlone};
 ghost use Rattle.bully_agent.specs.Part.{Always, CauseAt, FollowsAt, IsRefusedAt};
 
 use bully_base::Setup;
 use bully_calls::Answer;
-use bully_world::{Event, NodeState, Refused, own_cause};
+use bully_world::{Event, NodeState, Refused, is_full_for, own_cause};
 
 /// Why such an event is refused, with so many events told; none where it isn't. `node_state` is that of the event's node.
 // (inlined, as `Agent::take_event` is)
@@ -18,13 +18,13 @@ pub fn alone_cause(
     node_state: &NodeState,
     event: &Event,
 ) -> Option<Refused>
-    requires own { IsAlone event.now }
+    requires own { IsAlone (kind_of event.now) }
     requires is { IsAgentOf setup.now (node_of event.now) events node_state.now }
     ensures cause { CauseAt Always setup.now (node_of event.now) events node_state.now event.now result }
     ensures room { result ≡ None → events < setup.now.events_max }
     ensures small { result ≡ None → events + 1 < 2 ^ 32 }
 {
-    if events >= setup.events_max() {
+    if is_full_for(setup, events, 1) {
         return Some(Refused::Full);
     }
     let is_down = node_state.is_down();
@@ -51,7 +51,7 @@ pub fn take_alone(
     node_state: &mut NodeState,
     event: &Event,
 ) -> Result<Answer, Refused>
-    requires own { IsAlone event.now }
+    requires own { IsAlone (kind_of event.now) }
     requires is { IsAgentOf setup.now (node_of event.now) events node_state.old }
     ensures after { OnOk result (node_state.new ≡ node_after setup.now event.now node_state.old) }
     ensures answer { IfOk result (λ answer. answer ≡ node_answer event.now node_state.old) }

@@ -3,7 +3,7 @@ ghost use Rattle.std.specs.Prelude.{◌≤◌};
 
 use bully_agent::Agent;
 use bully_base::{Node, Setup};
-use bully_calls::{Answer, Reply, Request};
+use bully_calls::{Answer, NodeEventKind, Reply, Request};
 use bully_world::{Refused, TakenStep};
 use std::alloc::Global;
 
@@ -17,7 +17,7 @@ pub fn new_agent(alloc: Global, setup: &Setup, number: u16) -> Option<Agent>
 /// The request of the call that the node starts.
 #[inline(always)]
 pub fn started(caller: &mut Agent) -> Option<Request> {
-    if answer_of(caller.start()).is_err() {
+    if answer_of(caller.take(NodeEventKind::Start)).is_err() {
         return None;
     }
     match caller.request() {

@@ -146,7 +146,7 @@ impl Network {
     fn fall(&mut self, place: usize) -> Option<()> {
         let agent = self.agents.get_mut(place)?;
         let node = agent.node();
-        let taken = agent.crash();
+        let taken = agent.take(NodeEventKind::Crash);
         self.forget(node);
         self.log_taken(taken)
     }
@@ -158,7 +158,7 @@ impl Network {
         if is_new {
             make_anew(alloc, agent)?;
         }
-        let taken = agent.recover();
+        let taken = agent.take(NodeEventKind::Recover);
         self.log_taken(taken)
     }
 
@@ -174,9 +174,9 @@ impl Network {
         let checks = self.random.next() % 2 == 0;
         let agent = self.agents.get_mut(place)?;
         let taken = if checks {
-            agent.check()
+            agent.take(NodeEventKind::Check)
         } else {
-            agent.timeout()
+            agent.take(NodeEventKind::Timeout)
         };
         match taken {
             Err(Refused::IsDown | Refused::Busy) => Some(()),
@@ -204,7 +204,7 @@ impl Network {
             Want::Await => return self.give_up(place),
             Want::Start(call) => self.start(place, call)?,
             Want::Move => {
-                let taken = agent.advance();
+                let taken = agent.take(NodeEventKind::Move);
                 self.log_taken(taken)?;
             }
             Want::Plan => {
@@ -250,7 +250,7 @@ impl Network {
     fn drop_orphan(&mut self, place: usize, call: Call) -> Option<()> {
         let agent = self.agents.get_mut(place)?;
         let node = agent.node();
-        answer_of(agent.drop_orphan()).ok()?;
+        answer_of(agent.take(NodeEventKind::Drop)).ok()?;
         self.forget(node);
         self.log_call(node, Detail::unanswered(NodeEventKind::Drop, call))
     }

@@ -2,7 +2,7 @@ ghost use Rattle.std.specs.Prelude.{◌≤◌};
 
 use bully_agent::Agent;
 use bully_base::{Node, Setup};
-use bully_calls::Answer;
+use bully_calls::{Answer, NodeEventKind};
 use bully_steps::Want;
 use bully_world::TakenStep;
 use std::alloc::Global;
@@ -29,7 +29,7 @@ fn recovered(alloc: Global, setup: &Setup, node: Node) -> Option<Agent>
     requires { node ≤ setup.now.nodes }
 {
     let mut agent = Agent::new(alloc, setup, node, 0, None).ok()?;
-    agent.recover().ok()?; // log it
+    agent.take(NodeEventKind::Recover).ok()?; // log it
     Some(agent)
 }
 
@@ -37,8 +37,8 @@ fn recovered(alloc: Global, setup: &Setup, node: Node) -> Option<Agent>
 /// the agent refuses it.
 pub fn next_event(alloc: Global, agent: &mut Agent) -> Option<TakenStep> {
     match agent.wants() {
-        Want::Start(_) => agent.start().ok(),
-        Want::Move => agent.advance().ok(),
+        Want::Start(_) => agent.take(NodeEventKind::Start).ok(),
+        Want::Move => agent.take(NodeEventKind::Move).ok(),
         Want::Plan => {
             let table = agent.prepare(alloc, agent.vector().task()).ok()?;
             agent.plan(table).ok()

@@ -1,5 +1,6 @@
 ghost use Rattle.std.specs.Prelude.{◌≡◌, ◌≢◌, ◌+◌, ◌≤◌, ◌<◌, ◌==◌, ◌&&◌, ℕ, length, not, true, false, Some, None, IfSome, if◌then◌else◌};
 ghost use Rattle.bully_base.specs.NodeSet.{with_node, IsFallingBelow};
+ghost use Rattle.bully_base.specs.Setup.{IsSetup};
 ghost use Rattle.bully_table.specs.Balance.{is_balanced};
 ghost use Rattle.bully_calls.specs.Pending.{is_sent, is_failed};
 ghost use Rattle.bully_steps.specs.Point.{offered, IsPointOf};
@@ -29,6 +30,7 @@ pub fn is_full_for(setup: &Setup, events: u32, count: u32) -> bool
     requires { 0 < count }
     ensures full { result ≡ true → setup.now.events_max < events + count }
     ensures room { result ≡ false → events + count ≤ setup.now.events_max }
+    ensures within { IsSetup setup.now }
 {
     setup.events_max().saturating_sub(events) < count
 }

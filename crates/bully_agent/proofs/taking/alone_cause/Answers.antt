@@ -13,15 +13,15 @@ use Rattle.bully_agent.proofs.taking.alone_cause.Goals as goal
 pub own_cause-requires-clause-own : goal.own_cause-requires-clause-own
 own_cause-requires-clause-own c = alone_told c.args.event.now c.requires.own
 
-pub returns-then-events-events_max-clause-cause : goal.returns-then-events-events_max-clause-cause
-returns-then-events-events_max-clause-cause c = λ w part met. full_cause c.args.setup.now w c.args.events c.args.event.now (omega (arith, c.if-events-events_max.true, c.events_max.ensures.events_max))
+pub returns-then-is_full_for-clause-cause : goal.returns-then-is_full_for-clause-cause
+returns-then-is_full_for-clause-cause c = λ w part met. full_cause c.args.setup.now w c.args.events c.args.event.now (omega (arith, c.is_full_for.ensures.full c.if-is_full_for.true))
 
 pub returns-in-Recover-clause-cause : goal.returns-in-Recover-clause-cause
 returns-in-Recover-clause-cause c = λ w part met.
     let i = c.in-Recover.field-0 in
     let m = c.args.node_state.now in
     let setup = c.args.setup.now in
-    let room : c.args.events < setup.events_max = omega (arith, c.if-events-events_max.false, c.events_max.ensures.events_max) in
+    let room : c.args.events < setup.events_max = omega (arith, c.is_full_for.ensures.room c.if-is_full_for.false) in
     let node : IsNode setup i = subst (λ e. IsNode setup (node_of e)) c.in-Recover.is c.requires.is.is_node in
     let here : IsPart setup i m w = subst (λ e. IsPart setup (node_of e) m w) c.in-Recover.is part in
     ap (cause setup w c.args.events) c.in-Recover.is
@@ -29,11 +29,11 @@ returns-in-Recover-clause-cause c = λ w part met.
 
 pub returns-in_default-clause-cause : goal.returns-in_default-clause-cause
 returns-in_default-clause-cause c = λ w part met.
-    let room : c.args.events < c.args.setup.now.events_max = omega (arith, c.if-events-events_max.false, c.events_max.ensures.events_max) in
+    let room : c.args.events < c.args.setup.now.events_max = omega (arith, c.is_full_for.ensures.room c.if-is_full_for.false) in
     down_cause_at c.args.setup.now c.args.event.now c.args.events c.args.node_state.now c.requires.is.is_node room w c.is_down-is_down.result c.in_default.not-Recover part c.is_down-is_down.ensures.0 c.is_down-is_down.ensures.1 c.if-is_down.true
 
 pub returns-in_default-2-clause-cause : goal.returns-in_default-2-clause-cause
 returns-in_default-2-clause-cause c = λ w part met.
-    let room : c.args.events < c.args.setup.now.events_max = omega (arith, c.if-events-events_max.false, c.events_max.ensures.events_max) in
+    let room : c.args.events < c.args.setup.now.events_max = omega (arith, c.is_full_for.ensures.room c.if-is_full_for.false) in
     later_cause_at c.args.setup.now c.args.event.now c.args.events c.args.node_state.now c.requires.is.is_node room w c.is_down-is_down.result c.own_cause.result c.requires.own c.in_default.not-Recover part c.is_down-is_down.ensures.0 c.is_down-is_down.ensures.1 c.own_cause.ensures
     ∙ ap (λ t. if t then Some Refused.IsDown else c.own_cause.result) c.if-is_down.false

@@ -2,7 +2,7 @@
 
 use bully_agent::{Agent, FailedCall};
 use bully_base::{Node, Setup, Status};
-use bully_calls::{Answer, Reply, Request};
+use bully_calls::{Answer, NodeEventKind, Reply, Request};
 use bully_lines::{push_reply, push_request, read_reply, read_request};
 use bully_steps::Want;
 use bully_world::{Event, TakenStep, World};
@@ -45,9 +45,9 @@ impl Cluster {
     pub fn happen(&mut self, place: usize, input: Input) -> Option<()> {
         let agent = self.agents.get_mut(place)?;
         let taken = match input {
-            Input::Recover => agent.recover(),
-            Input::Crash => agent.crash(),
-            Input::Timeout => agent.timeout(),
+            Input::Recover => agent.take(NodeEventKind::Recover),
+            Input::Crash => agent.take(NodeEventKind::Crash),
+            Input::Timeout => agent.take(NodeEventKind::Timeout),
         };
         log_step(&mut self.world, agent, taken.ok())
     }
@@ -131,8 +131,8 @@ fn add_agents(alloc: Global, setup: &Setup, agents: &mut Vec<Agent>) -> Option<(
 fn step(alloc: Global, agent: &mut Agent) -> Option<TakenStep> {
     match agent.wants() {
         Want::Nothing | Want::Await => None,
-        Want::Start(_) => agent.start().ok(),
-        Want::Move => agent.advance().ok(),
+        Want::Start(_) => agent.take(NodeEventKind::Start).ok(),
+        Want::Move => agent.take(NodeEventKind::Move).ok(),
         Want::Plan => plan(alloc, agent),
     }
 }
