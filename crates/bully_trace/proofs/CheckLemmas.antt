@@ -15,7 +15,7 @@ use Rattle.bully_trace.specs.VerdictText.{IsJudgedAs, verdict_text}
 
 pub no-fault : (known : Option (List ℕ)) (judge : JudgeState) → AreAllJudged known judge → HasNoFault known
 no-fault None judge all = tt
-no-fault (Some bytes) judge (header, rows, is, judged) = rw is refl
+no-fault (Some bytes) judge (header, rows, is, within, judged) = rw is refl
 
 -- the verdict, which is that of all rows that were judged
 judged-as : (known : Option (List ℕ)) (judge : JudgeState) (verdict : Verdict) (Writes : List ℕ → Type 0)
