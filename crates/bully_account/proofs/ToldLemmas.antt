@@ -10,6 +10,7 @@ use Rattle.bully_trace.specs.declared.verdict.Verdict.{Verdict}
 use Rattle.bully_trace.specs.Judging.{AreAllJudged, HasJudged, JudgeState}
 use Rattle.bully_rows.specs.RecordsLeft.{EndsReading}
 use Rattle.bully_rows.specs.Rows.{OfTrace, no_memory}
+use Rattle.bully_rows.specs.Trace.{headed}
 use Rattle.bully_trace.specs.Verdict.{IsJudged}
 use Rattle.bully_rows.proofs.TraceLemmas.{memory-ends}
 use Rattle.bully_account.specs.declared.showing.NodeSheet.{NodeSheet}
@@ -17,14 +18,14 @@ use Rattle.bully_account.specs.TraceReport.{Explains, IsUntold}
 use Rattle.bully_account.specs.NodeSummary.{ShowsAll}
 
 -- the verdict on all rows of a text is that on its trace, and its world the one that is shown
-pub verdict-told : (known : Option (List ℕ)) (setup : Setup) (judge : JudgeState) (verdict : Verdict) (sheets : List NodeSheet)
+pub verdict-told : (known : Option (List ℕ)) (judge : JudgeState) (verdict : Verdict) (sheets : List NodeSheet)
     → ((setup : Setup) (rows : List Row) → HasJudged setup rows judge → IsJudged setup (first_world setup) 0 2 rows verdict (world_of judge.world))
-    → IsReached judge.world → ShowsAll judge.world sheets → AreAllJudged known setup judge → OfTrace known (Explains verdict sheets)
-verdict-told None setup judge verdict sheets says reached shown all = tt
-verdict-told (Some bytes) setup judge verdict sheets says reached shown (version, rows, is, judged) = (
-  record { version = version; setup = setup; rows = rows },
+    → IsReached judge.world → ShowsAll judge.world sheets → AreAllJudged known judge → OfTrace known (Explains verdict sheets)
+verdict-told None judge verdict sheets says reached shown all = tt
+verdict-told (Some bytes) judge verdict sheets says reached shown (header, rows, is, within, (judged, version)) = (
+  headed header rows,
   is,
-  record { world = judge.world; reached = reached; same = judged.same; judged = says setup rows judged; shown = shown },
+  record { world = judge.world; reached = reached; same = judged.same; judged = says header.setup rows judged; shown = shown },
 )
 
 -- a verdict is no fault

@@ -1,11 +1,13 @@
-ghost use Rattle.std.specs.Prelude.{◌≡◌, ℕ, List, Option, None, IfErr, MatchOption, OnOk};
-ghost use Rattle.bully_account.specs.Accounts.{AreTakenToEnd, Begins, Takes};
-ghost use Rattle.bully_trace.specs.Judging.{IsNoRow, IsNoStart};
+ghost use Rattle.std.specs.Prelude.{◌≡◌, ℕ, List, Option, None, IfErr, OnOk};
+ghost use Rattle.bully_account.specs.Accounts.{AreTakenToEnd};
 ghost use Rattle.bully_rows.specs.RecordsLeft.{EndsReading, IsUnread};
 
 use crate::Account;
 use crate::lines::Lines;
-use bully_rows::{RowReader, TraceFault};
+use bully_base::{OutOfMemory, Setup};
+use bully_rows::{
+    Header, NodeEvent, Row, RowReader, Started, TraceFault, TraceTaker, Version, take_text,
+};
 use std::alloc::Global;
 use std::io::Read;
 
@@ -20,43 +22,55 @@ pub fn read_each<R: Read + Drop>(
     ensures taken { (known : Option (List ℕ)) → IsUnread known rows.old → OnOk result (AreTakenToEnd known account.new) }
     ensures fault { (known : Option (List ℕ)) → IsUnread known rows.old → IfErr result (EndsReading known) }
 {
-    while rows.advance()? {
-        if let Some(account) = account {
-            take_row(alloc, rows, account)?;
-        } else {
-            begin(alloc, rows, account)?;
-        }
-    }
-    Ok(())
+    let mut text: Started<(), Account> = Started {
+        start: (),
+        taker: None,
+    };
+    let taken = take_text(alloc, rows, &mut text);
+    *account = text.taker;
+    taken
 }
 
-// The account takes the row read last.
-fn take_row<R: Read + Drop>(
-    alloc: Global,
-    rows: &RowReader<Lines<R>>,
-    account: &mut Account,
-) -> Result<(), TraceFault>
-    ensures taken { OnOk result (Takes rows.now account.old account.new) }
-    ensures fault { IfErr result (IsNoRow rows.now account.old.judge) }
-{
-    match rows.row(alloc, account.version(), account.world().setup())? {
-        Some(row) => account.take_row(rows, row),
-        None => return Err(rows.bad_row()),
-    }
-    Ok(())
-}
+impl<R: Read + Drop> TraceTaker<Lines<R>, ()> for Account {
+    ghost use Rattle.bully_account.specs.Accounts.{HasTakenBehind};
 
-// The account begins behind the header, before any row.
-#[inline(never)]
-fn begin<R: Read + Drop>(
-    alloc: Global,
-    rows: &RowReader<Lines<R>>,
-    account: &mut Option<Account>,
-) -> Result<(), TraceFault>
-    ensures begun { OnOk result (MatchOption account.new ⊥ (λ a. Begins rows.now.fields a)) }
-    ensures fault { IfErr result (IsNoStart rows.now.fields) }
-{
-    let header = rows.header()?;
-    *account = Some(Account::new(alloc, header)?);
-    Ok(())
+    ghost version_of = { λ a. a.judge.version };
+
+    ghost setup_of = { λ a. a.judge.world.setup };
+
+    ghost has_taken = { λ _. HasTakenBehind };
+
+    ghost told = { λ _ header rows a taken. (taken.1, taken.0.judged.same) };
+
+    fn begin(alloc: Global, _start: (), header: Header) -> Result<Account, OutOfMemory> {
+        Account::new(alloc, header)
+    }
+
+    fn trace_version(&self) -> Version {
+        self.version()
+    }
+
+    fn trace_setup(&self) -> &Setup {
+        self.world().setup()
+    }
+
+    fn take_read_event(
+        &mut self,
+        _alloc: Global,
+        rows: &RowReader<Lines<R>>,
+        event: NodeEvent,
+    ) -> Result<(), OutOfMemory> {
+        self.take_row(rows, Row::Event(event.event()));
+        Ok(())
+    }
+
+    fn take_read_row(
+        &mut self,
+        _alloc: Global,
+        rows: &RowReader<Lines<R>>,
+        row: Row,
+    ) -> Result<(), OutOfMemory> {
+        self.take_row(rows, row);
+        Ok(())
+    }
 }

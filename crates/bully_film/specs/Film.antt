@@ -3,12 +3,8 @@ use Rattle.std.specs.Prelude.{◌≡◌, ◌⊎◌, ℕ, ◌+◌, ◌-◌, ◌<�
 use Rattle.std.specs.Option.{option_and_then}
 use Rattle.bully_base.specs.Setup.{Setup}
 use Rattle.bully_rows.specs.declared.header.Header.{Header}
-use Rattle.bully_rows.specs.declared.header.Version.{Version}
 use Rattle.bully_rows.specs.declared.trace.Row.{Row}
-use Rattle.bully_rows.specs.declared.trace.TraceCause.{TraceCause}
-use Rattle.bully_rows.specs.Headers.{Record, header_of, header_with}
-use Rattle.bully_rows.specs.RecordsLeft.{EndsReading, HasRead, IsUnread, ReadSoFar, rows_left}
-use Rattle.bully_rows.specs.Rows.{IsTraceOf, fault_at, row_of}
+use Rattle.bully_rows.specs.Taking.{IsWhollyTaken}
 use Rattle.bully_rows.specs.Trace.{Trace}
 use Rattle.bully_trace.specs.Judging.{HasJudged, JudgeState}
 use Rattle.bully_trace.specs.declared.verdict.Verdict.{Verdict}
@@ -142,36 +138,10 @@ pub record IsFilmOf (asked : WindowState) (finished : FinishedFilm) (trace : Tra
   pub ends : length before + length shown + 1 ≡ min asked.to (last_judged trace.rows (deciding finished.verdict))
   pub at_end : finished.at_end.items ≡ snapshots_of (world_behind trace.setup (before ++ shown)) 1 trace.setup.nodes
 
--- rows of a text, behind the film's header, were filmed
-abbrev pub AreFilmed : Option (List ℕ) → WindowState → ReadSoFar → FilmState → Type 0
-AreFilmed known window reader film =
-    (rows : List Row) × HasRead known rows (rows_left (header_with film.judge.version film.judge.world.setup) reader)
-    × HasFilmed film.judge.world.setup rows film × (film.window ≡ window)
-
--- what was read of a text was filmed: nothing of it yet, or the rows behind its header
-abbrev pub IsFilmedSoFar : Option (List ℕ) → WindowState → ReadSoFar → Option FilmState → Type 0
-IsFilmedSoFar known window reader None = IsUnread known reader
-IsFilmedSoFar known window reader (Some film) = AreFilmed known window reader film
+-- the rows of a trace with this header were filmed, for this window
+abbrev pub HasFilmedBehind : WindowState → Header → List Row → FilmState → Type 0
+HasFilmedBehind window header rows film = HasFilmed header.setup rows film × (film.judge.version ≡ header.version) × (film.window ≡ window)
 
 -- all rows of a text were filmed
 abbrev pub AreAllFilmed : Option (List ℕ) → WindowState → FilmState → Type 0
-AreAllFilmed known window film =
-    (version : Version) × (rows : List Row) × IsTraceOf known (record { version = version; setup = film.judge.world.setup; rows = rows })
-    × HasFilmed film.judge.world.setup rows film × (film.window ≡ window)
-
--- a text was read to its end: it has no header, or all its rows were filmed
-abbrev pub IsFilmedToEnd : Option (List ℕ) → WindowState → Option FilmState → Type 0
-IsFilmedToEnd known window None = EndsReading known (fault_at 1 TraceCause.BadHeader)
-IsFilmedToEnd known window (Some film) = AreAllFilmed known window film
-
--- the film begins behind a header of these fields
-abbrev pub Begins : Record → WindowState → FilmState → Type 0
-Begins fields window film =
-    (header : Header) × (header_of fields ≡ Some header) × HasFilmed header.setup [] film × (film.judge.version ≡ header.version) × (film.window ≡ window)
-
--- the film takes the row that was read last
-abbrev pub TakesRow : ReadSoFar → FilmState → FilmState → Type 0
-TakesRow reader film after =
-    (row : Row) × (row_of film.judge.version film.judge.world.setup reader.fields ≡ Some row) × (after.judge.version ≡ film.judge.version)
-    × (after.window ≡ film.window)
-    × ((setup : Setup) (rows : List Row) → length rows + 2 ≡ reader.number → HasFilmed setup rows film → HasFilmed setup (rows ++ (row ∷ [])) after)
+AreAllFilmed known window = IsWhollyTaken (HasFilmedBehind window) known

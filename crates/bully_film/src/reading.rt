@@ -1,12 +1,12 @@
-ghost use Rattle.std.specs.Prelude.{◌≡◌, ℕ, List, length, Option, None, IfErr, IfOk, MatchOption, OnOk};
-ghost use Rattle.bully_film.specs.Film.{AreAllFilmed, Begins, IsFilmedToEnd, IsFilmOf, TakesRow};
-ghost use Rattle.bully_rows.specs.RecordsLeft.{EndsReading, IsUnread};
-ghost use Rattle.bully_rows.specs.Rows.{OfTrace, row_of};
-ghost use Rattle.bully_trace.specs.Judging.{IsNoRow, IsNoStart};
+ghost use Rattle.std.specs.Prelude.{IfErr, IfOk};
+ghost use Rattle.bully_film.specs.Film.{AreAllFilmed, IsFilmOf};
+ghost use Rattle.bully_rows.specs.RecordsLeft.{EndsReading};
+ghost use Rattle.bully_rows.specs.Rows.{OfTrace};
 
 use crate::film::{Film, FinishedFilm};
 use crate::window::Window;
-use bully_rows::{RowReader, TraceFault, no_header};
+use bully_base::{OutOfMemory, Setup};
+use bully_rows::{Header, NodeEvent, Row, RowReader, TraceFault, TraceTaker, Version, take_trace};
 use std::alloc::Global;
 use std::io::Read;
 
@@ -33,99 +33,53 @@ fn film_text<R: Read + Drop>(alloc: Global, reader: R, window: Window) -> Result
     ensures fault { IfErr result (EndsReading (R.remaining reader)) }
 {
     // (by a reference to a reference: so the reader of rows is of another type than those of `check` and of `read_trace`, and is built
-    // into this loop)
+    // into the loop over this film's rows)
     let mut reader = reader;
     let mut lent = &mut reader;
     let mut rows = RowReader::open(alloc, &mut lent);
-    film_rows(alloc, &mut rows, window)
+    take_trace(alloc, &mut rows, window)
 }
 
-// Films all rows. The header makes the film.
-fn film_rows<R: Read + Drop>(
-    alloc: Global,
-    rows: &mut RowReader<R>,
-    window: Window,
-) -> Result<Film, TraceFault>
-    ensures filmed { (known : Option (List ℕ)) → IsUnread known rows.old → IfOk result (AreAllFilmed known window) }
-    ensures fault { (known : Option (List ℕ)) → IsUnread known rows.old → IfErr result (EndsReading known) }
-{
-    let mut film: Option<Film> = None;
-    match film_each(alloc, rows, window, &mut film) {
-        Ok(()) => film.ok_or(no_header()),
-        Err(fault) => Err(fault),
+// (an event that names a node and no more is filmed in the loop over the rows, and is never a `Row`, as in `check`)
+impl<R: Read + Drop> TraceTaker<R, Window> for Film {
+    ghost use Rattle.bully_film.specs.Film.{HasFilmedBehind};
+
+    ghost version_of = { λ film. film.judge.version };
+
+    ghost setup_of = { λ film. film.judge.world.setup };
+
+    ghost has_taken = { HasFilmedBehind };
+
+    ghost told = { λ window header rows film filmed. (filmed.1, filmed.0.judged.same) };
+
+    fn begin(alloc: Global, start: Window, header: Header) -> Result<Film, OutOfMemory> {
+        Film::new(alloc, header, start)
     }
-}
 
-// Films each row that is still to be read.
-fn film_each<R: Read + Drop>(
-    alloc: Global,
-    rows: &mut RowReader<R>,
-    window: Window,
-    film: &mut Option<Film>,
-) -> Result<(), TraceFault>
-    requires { film.old ≡ None }
-    ensures filmed { (known : Option (List ℕ)) → IsUnread known rows.old → OnOk result (IsFilmedToEnd known window film.new) }
-    ensures fault { (known : Option (List ℕ)) → IsUnread known rows.old → IfErr result (EndsReading known) }
-{
-    while rows.advance()? {
-        if let Some(film) = film {
-            take_row(alloc, rows, film)?;
-        } else {
-            begin(alloc, rows, window, film)?;
-        }
+    fn trace_version(&self) -> Version {
+        self.version()
     }
-    Ok(())
-}
 
-// Films the row read last.
-// (an event that names a node and no more, as most rows do, is never a `Row` here, as in `check`)
-fn take_row<R: Read + Drop>(
-    alloc: Global,
-    rows: &RowReader<R>,
-    film: &mut Film,
-) -> Result<(), TraceFault>
-    ensures taken { OnOk result (TakesRow rows.now film.old film.new) }
-    ensures fault { IfErr result (IsNoRow rows.now film.old.judge) }
-{
-    match rows.node_event(film.version()) {
-        Some(event) => {
-            film.take_node_event(alloc, rows.number(), event)?;
-            Ok(())
-        }
-        None => take_longer_row(alloc, rows, film),
+    fn trace_setup(&self) -> &Setup {
+        self.world().setup()
     }
-}
 
-// Films the row read last, where it is no event that names a node and no more.
-#[inline(never)]
-fn take_longer_row<R: Read + Drop>(
-    alloc: Global,
-    rows: &RowReader<R>,
-    film: &mut Film,
-) -> Result<(), TraceFault>
-    requires { length rows.now.fields ≡ 2 → row_of film.old.judge.version film.old.judge.world.setup rows.now.fields ≡ None }
-    ensures taken { OnOk result (TakesRow rows.now film.old film.new) }
-    ensures fault { IfErr result (IsNoRow rows.now film.old.judge) }
-{
-    match rows.longer_row(alloc, film.version(), film.world().setup())? {
-        Some(row) => film.take_row(alloc, rows.number(), row)?,
-        None => return Err(rows.bad_row()),
+    #[inline(always)]
+    fn take_read_event(
+        &mut self,
+        alloc: Global,
+        rows: &RowReader<R>,
+        event: NodeEvent,
+    ) -> Result<(), OutOfMemory> {
+        self.take_node_event(alloc, rows.number(), event)
     }
-    Ok(())
-}
 
-// The film begins behind the header, before any row.
-#[inline(never)]
-fn begin<R: Read + Drop>(
-    alloc: Global,
-    rows: &RowReader<R>,
-    window: Window,
-    film: &mut Option<Film>,
-) -> Result<(), TraceFault>
-    ensures begun { OnOk result (MatchOption film.new ⊥ (λ film. Begins rows.now.fields window film)) }
-    ensures fault { IfErr result (IsNoStart rows.now.fields) }
-{
-    let header = rows.header()?;
-    *film = Some(Film::new(alloc, header, window)?);
-    Ok(())
+    fn take_read_row(
+        &mut self,
+        alloc: Global,
+        rows: &RowReader<R>,
+        row: Row,
+    ) -> Result<(), OutOfMemory> {
+        self.take_row(alloc, rows.number(), row)
+    }
 }

@@ -1,17 +1,22 @@
 -- A log that is followed by one row more, and why it isn't.
-use Rattle.std.proofs.Common.{◌≡◌, ◌⊎◌, ◌+◌, ◌++◌, Bool, true, false, List, [], ◌∷◌, Some, inl, inr, map, length-append, append_assoc, append-nil, refl, sym, ap, subst, arith, ◌∙◌}
+use Rattle.std.proofs.Common.{◌≡◌, ◌≢◌, ◌≤◌, ◌⊎◌, ◌+◌, ◌++◌, ℕ, Bool, true, false, List, [], ◌∷◌, Some, Result, Ok, Err, inl, inr, map, length-append, append_assoc, append-nil, refl, sym, ap, subst, arith, ◌∙◌}
+use Rattle.std.specs.Prelude.{IfErr, IfOk, OnOk}
 use Rattle.std.proofs.lemmas.List.{map-append}
 use Rattle.bully_base.specs.Setup.{Setup}
-use Rattle.bully_replica.specs.Following.{FailsAt, FailsBehind, Follows, FollowerState, FollowsUpTo, StopsAt, row_in}
+use Rattle.bully_replica.specs.Following.{FailsAt, FailsBehind, FailsOutside, Follows, FollowerState, FollowsUpTo, Stops, StopsAt, row_in}
 use Rattle.bully_replica.specs.Replica.{HasLearned, ReplicaState}
 use Rattle.bully_replica.specs.declared.follower.FollowFault.{FollowFault}
 use Rattle.bully_replica.proofs.LogLemmas.{taken_setup}
 use Rattle.bully_rows.specs.Headers.{Record}
-use Rattle.bully_rows.specs.RecordsLeft.{ReadSoFar, Takes}
+use Rattle.bully_rows.specs.RecordsLeft.{IsOutside, ReadSoFar, Takes}
 use Rattle.bully_rows.specs.Rows.{row_of}
 use Rattle.bully_rows.specs.declared.TheConstants.{ROWS_MAX}
 use Rattle.bully_rows.specs.declared.header.Version.{Version}
 use Rattle.bully_rows.specs.declared.trace.TraceCause.{TraceCause}
+use Rattle.bully_rows.specs.declared.trace.TraceFault.{TraceFault}
+use Rattle.bully_rows.specs.Rows.{is_of_form}
+use Rattle.bully_rows.specs.Taking.{AllTaken, AreTakenBy, IsLast, IsNext, IsUnreadable, StopsBehind, StopsNext}
+use Rattle.bully_rows.proofs.TakingLemmas.{kept-by-all}
 
 -- before any of the records
 pub follows_none : (records : List Record) (f : FollowerState) → FollowsUpTo records f f records
@@ -90,3 +95,95 @@ followed_all reader mid now before f found is takes so_far records known =
     by_left (first ∷ rest) some up =
         let (one, same, left) : (found ≡ true) × (now.fields ≡ first) × (now.records ≡ Some rest) = rw some at takes in
         absurd (cc (is, one))
+
+-- ---- one row, and each of those that are left
+
+-- what is done with a row, why it isn't, and what a fault of the reader is told as
+abbrev LearnsRow : ReadSoFar → FollowerState → FollowerState → Type 0
+LearnsRow reader f after = Follows reader.fields f after
+
+abbrev RefusesRow : ReadSoFar → FollowerState → FollowerState → FollowFault → Type 0
+RefusesRow reader f after fault = FailsBehind reader.fields f fault × (after ≡ f)
+
+abbrev TellsForm : TraceFault → FollowFault → Type 0
+TellsForm fault told = told ≡ FollowFault.Form fault.cause
+
+-- a read takes the next row, or finds none
+pub took : (r : Result Bool FollowFault) (reader now : ReadSoFar) (P Q : Type 0) → IfOk r (λ found. found ≡ true → IsNext reader now × P) → IfOk r (λ found. found ≡ false → IsLast reader now × Q)
+    → IfOk r (λ found. Takes reader.records now.records found now.fields)
+took (Ok true) reader now P Q taken last = (taken refl).0.takes
+took (Ok false) reader now P Q taken last = (last refl).0
+took (Err fault) reader now P Q taken last = tt
+
+outside : (cause : TraceCause) (reader : ReadSoFar) → is_of_form cause ≡ false → cause ≢ TraceCause.Write → FailsOutside reader (FollowFault.Form cause)
+outside TraceCause.BadHeader reader form write = absurd (cc form)
+outside TraceCause.BadRow reader form write = absurd (cc form)
+outside TraceCause.TooManyRows reader form write = absurd (cc form)
+outside TraceCause.Read reader form write = inl refl
+outside TraceCause.Write reader form write = absurd (write refl)
+outside TraceCause.OutOfMemory reader form write = inr (inl refl)
+
+unreadable : (reader : ReadSoFar) (fault : TraceFault) → IsUnreadable reader fault → FailsOutside reader (FollowFault.Form fault.cause)
+unreadable reader fault is = by_why is.why
+  where
+    by_why : IsOutside fault ⊎ ((fault.cause ≡ TraceCause.TooManyRows) × (reader.number ≡ ROWS_MAX + 1)) → FailsOutside reader (FollowFault.Form fault.cause)
+    by_why (inl (form, write, memory)) = outside fault.cause reader form write
+    by_why (inr (many, number)) = inr (inr (ap FollowFault.Form many, number))
+
+-- why the next row isn't learned
+fails : (reader now : ReadSoFar) (f after : FollowerState) (fault : FollowFault) → StopsNext RefusesRow TellsForm reader f now after fault → FailsAt reader now f fault
+fails reader now f after fault (inl (read, is, same, unchanged)) = rw same (inl (unreadable reader read is))
+fails reader now f after fault (inr (next, refused, unchanged)) = inr (next.takes, refused)
+
+stays : (reader now : ReadSoFar) (f after : FollowerState) (fault : FollowFault) → StopsNext RefusesRow TellsForm reader f now after fault → after ≡ f
+stays reader now f after fault (inl (read, is, same, unchanged)) = unchanged
+stays reader now f after fault (inr (next, refused, unchanged)) = unchanged
+
+pub fails_at : (r : Result Bool FollowFault) (reader now : ReadSoFar) (f after : FollowerState) → IfErr r (StopsNext RefusesRow TellsForm reader f now after) → IfErr r (FailsAt reader now f)
+fails_at (Ok found) reader now f after stops = tt
+fails_at (Err fault) reader now f after stops = fails reader now f after fault stops
+
+pub stays_at : (r : Result Bool FollowFault) (reader now : ReadSoFar) (f after : FollowerState) → IfErr r (StopsNext RefusesRow TellsForm reader f now after) → IfErr r (λ _. after ≡ f)
+stays_at (Ok found) reader now f after stops = tt
+stays_at (Err fault) reader now f after stops = stays reader now f after fault stops
+
+-- how far a reader has come, and the follower with it, each with its count
+abbrev IsCountedTo : ReadSoFar → FollowerState → ReadSoFar → FollowerState → Type 0
+IsCountedTo reader before now f = IsFollowedTo reader before now f × (before.rows ≤ f.rows) × (reader.number + f.rows ≡ before.rows + now.number)
+
+counted_to : (n : ℕ) (reader now : ReadSoFar) (before f : FollowerState) → AreTakenBy LearnsRow n reader before now f → IsCountedTo reader before now f
+counted_to n reader now before f taken =
+    kept-by-all LearnsRow (IsCountedTo reader before) keeps n reader before now f taken ((λ records known. (records, known, follows_none records before)), omega arith, omega arith)
+  where
+    keeps : (mid now : ReadSoFar) (f after : FollowerState) → IsNext mid now → LearnsRow now f after → IsCountedTo reader before mid f → IsCountedTo reader before now after
+    keeps mid now f after next follows (so_far, more, counted) = (
+      followed_more reader mid now before f after true refl next.takes follows so_far,
+      omega (arith, more, follows.2),
+      omega (arith, counted, follows.2, next.number),
+    )
+
+pub all_followed : (r : Result (Unit {0}) FollowFault) (reader now : ReadSoFar) (before f : FollowerState) → OnOk r (AllTaken LearnsRow reader before now f)
+    → OnOk r ((records : List Record) → reader.records ≡ Some records → FollowsUpTo records before f [])
+all_followed (Ok u) reader now before f (n, mid, taken, last) = followed_all reader mid now before f false refl last (counted_to n reader mid before f taken).0
+all_followed (Err fault) reader now before f all = tt
+
+pub part_followed : (r : Result (Unit {0}) FollowFault) (reader now : ReadSoFar) (before f : FollowerState)
+    → IfErr r (StopsBehind LearnsRow RefusesRow TellsForm reader before now f)
+    → IfErr r (λ fault. (records : List Record) → reader.records ≡ Some records → (left : List Record) × FollowsUpTo records before f left × Stops reader before left f fault)
+part_followed (Ok u) reader now before f part = tt
+part_followed (Err fault) reader now before f (n, mid, between, taken, stops) = λ records known.
+    let (so_far, more, counted) = counted_to n reader mid before between taken in
+    let (left, there, up) = so_far records known in
+    let same : f ≡ between = stays mid now between f fault stops in
+    rw same (left, up, by_end left counted (stops_at mid now between left fault there (fails mid now between f fault stops)))
+  where
+    by_end : (left : List Record) → reader.number + between.rows ≡ before.rows + mid.number → StopsAt left between fault ⊎ HasGivenAll mid fault → Stops reader before left between fault
+    by_end left counted (inl at) = inl at
+    by_end left counted (inr (many, number)) = inr (many, omega (arith, counted, number))
+
+pub rows_grow : (r : Result (Unit {0}) FollowFault) (reader now : ReadSoFar) (before f : FollowerState) → OnOk r (AllTaken LearnsRow reader before now f)
+    → IfErr r (StopsBehind LearnsRow RefusesRow TellsForm reader before now f) → before.rows ≤ f.rows
+rows_grow (Ok u) reader now before f (n, mid, taken, last) part = (counted_to n reader mid before f taken).1
+rows_grow (Err fault) reader now before f all (n, mid, between, taken, stops) =
+    let same : f ≡ between = stays mid now between f fault stops in
+    rw same (counted_to n reader mid before between taken).1

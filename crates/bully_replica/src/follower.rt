@@ -8,7 +8,9 @@ ghost use Rattle.bully_rows.specs.declared.TheConstants.{ROWS_MAX};
 
 use crate::Replica;
 use bully_base::OutOfMemory;
-use bully_rows::{Header, ROWS_MAX, RowReader, TraceCause, TraceFault};
+use bully_rows::{
+    Header, ROWS_MAX, RowReader, RowTaker, TraceCause, TraceFault, take_each, take_next,
+};
 use bully_trace::Violation;
 use std::alloc::Global;
 use std::io::Read;
@@ -96,16 +98,7 @@ impl Follower {
         ensures unchanged { IfErr result (λ _. self.new ≡ self.old) }
         ensures within { self.new.rows ≤ ROWS_MAX }
     {
-        let is_full = self.rows == ROWS_MAX;
-        if !reader.advance()? {
-            return Ok(false);
-        }
-        if is_full {
-            return Err(FollowFault::Form(TraceCause::TooManyRows));
-        }
-        learn_next(alloc, &mut self.replica, reader)?;
-        self.rows += 1;
-        Ok(true)
+        take_next(alloc, reader, self)
     }
 
     /// Learns the rows that the reader still gives, in their order, up to the first that [`Follower::take_next`] refuses; what was
@@ -121,7 +114,26 @@ impl Follower {
         ensures counted { self.old.rows ≤ self.new.rows }
         ensures within { self.new.rows ≤ ROWS_MAX }
     {
-        while self.take_next(alloc, reader)? {}
+        take_each(alloc, reader, self)
+    }
+}
+
+impl<R: Read + Drop> RowTaker<R> for Follower {
+    ghost use Rattle.std.specs.Prelude.{◌≡◌};
+    ghost use Rattle.bully_replica.specs.Following.{FailsBehind, Follows};
+
+    type Fault = FollowFault;
+
+    ghost takes = { λ reader f after. Follows reader.fields f after };
+
+    ghost refuses = { λ reader f after fault. FailsBehind reader.fields f fault × (after ≡ f) };
+
+    fn take(&mut self, alloc: Global, rows: &RowReader<R>) -> Result<(), FollowFault> {
+        if self.rows == ROWS_MAX {
+            return Err(FollowFault::Form(TraceCause::TooManyRows));
+        }
+        learn_next(alloc, &mut self.replica, rows)?;
+        self.rows += 1;
         Ok(())
     }
 }

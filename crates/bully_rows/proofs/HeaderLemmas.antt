@@ -18,7 +18,6 @@ use Rattle.bully_rows.specs.declared.TheConstants.{FIRST_NODES_MAX, FIRST_PARTIT
 use Rattle.bully_rows.specs.declared.header.Header.{Header}
 use Rattle.bully_rows.specs.declared.header.Version.{Version}
 use Rattle.bully_rows.specs.declared.trace.Row.{Row}
-use Rattle.bully_rows.specs.declared.trace.TraceFault.{TraceFault}
 use Rattle.bully_rows.specs.Headers.{IsVersionFor, Record, header_of, header_with, fits_first, later_version, node_in, partitions_in, says_more, setup_in, version_for, weight_in, weighted_in, weights_from, weights_in, within}
 use Rattle.bully_rows.specs.Trace.{AreRowsFor, are_short, version_with}
 use Rattle.bully_rows.specs.Words.{keeps_named}
@@ -108,10 +107,6 @@ header-fits (a ∷ b ∷ c ∷ d ∷ x ∷ []) header e = absurd (cc e)
 header-fits (a ∷ b ∷ c ∷ d ∷ x ∷ y ∷ []) header e =
     later-fits (bytes_eq a (codes "bully")) b (weighted_in c d x y) header e
 header-fits (a ∷ b ∷ c ∷ d ∷ x ∷ y ∷ z ∷ rest) header e = absurd (cc e)
-
-pub made-fits : (fields : Record) (made : Result Header TraceFault) → IfOk made (λ header. header_of fields ≡ Some header) → IfOk made (λ header. IsVersionFor header.version header.setup)
-made-fits fields (Ok header) told = header-fits fields header told
-made-fits fields (Err fault) told = tt
 
 -- ---- records of another length
 

@@ -1,6 +1,6 @@
 -- A trace, from its header and the rows behind it, as far as it was read.
 use Rattle.std.proofs.Common.{◌≡◌, ◌∙◌, ◌+◌, ◌≤◌, ◌<◌, ◌++◌, arith, Bool, true, false, ℕ, List, [], ◌∷◌, Option, Some, None, Ok, Err, refl, sym, ap, append_assoc}
-use Rattle.std.specs.Prelude.{IfOk, IfSome, IsOk, Result, option_map}
+use Rattle.std.specs.Prelude.{IfSome, IsOk, option_map}
 use Rattle.std.proofs.lemmas.List.{append-nil, length-append}
 use Rattle.bully_rows.specs.declared.TheConstants.{ROWS_MAX}
 use Rattle.bully_rows.specs.declared.header.Header.{Header}
@@ -152,12 +152,6 @@ header-read known reader now found header unread takes is next told = record {
           mean = refl;
           behind = behind;
         }
-
-pub header-means : (known : Option (List ℕ)) (reader now : ReadSoFar) (found : Bool) (made : Result Header TraceFault)
-    → IsUnread known reader → Takes reader.records now.records found now.fields → found ≡ true → now.number ≡ reader.number + 1
-    → IfOk made (λ header. header_of now.fields ≡ Some header) → IfOk made (λ header. HasRead known [] (rows_left header now))
-header-means known reader now found (Ok header) unread takes is next told = header-read known reader now found header unread takes is next told
-header-means known reader now found (Err fault) unread takes is next told = tt
 
 -- a first row that is no header, and a text without rows
 pub header-bad : (known : Option (List ℕ)) (left after : Option (List Record)) (found : Bool) (fields : Record)

@@ -16,8 +16,10 @@ mod reading;
 mod row;
 mod row_reader;
 mod saying;
+mod taking;
 mod text;
 mod trace;
+mod trace_taking;
 mod words;
 mod writing;
 
@@ -28,10 +30,12 @@ pub use reading::read_trace;
 pub use row::{number_within, read_coordinator, read_node};
 pub use row_reader::{RowReader, no_header};
 pub use saying::read_set;
+pub use taking::{RowTaker, take_each, take_next};
 pub use text::{
     push_detailed, push_event, push_header, push_node, push_row, push_set, push_task, push_vector,
 };
 pub use trace::{Claim, Row, Rows, Trace, TraceCause, TraceFault, WholeClaim};
+pub use trace_taking::{Started, TraceTaker, take_text, take_trace};
 pub use words::{
     SAW, answer_word, call_named, call_word, cause_word, is_word, kind_named, outcome_named,
     reply_named, status_named, status_word,

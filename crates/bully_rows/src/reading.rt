@@ -1,13 +1,13 @@
-ghost use Rattle.std.specs.Prelude.{◌≡◌, ◌≢◌, ◌≤◌, ℕ, List, [], Option, ◌+◌, length, IfErr, IfOk, OnOk};
-ghost use Rattle.bully_rows.specs.Headers.{IsVersionFor};
+ghost use Rattle.std.specs.Prelude.{◌≡◌, ◌≢◌, ℕ, List, Option, IfErr, IfOk};
+ghost use Rattle.bully_rows.specs.RecordsLeft.{EndsReading, IsUnread};
 ghost use Rattle.bully_rows.specs.Rows.{IsFirstFault, IsReadAtItsRow, IsTraceOf};
-ghost use Rattle.bully_rows.specs.Trace.{AreRowsFor, headed};
-ghost use Rattle.bully_rows.specs.declared.TheConstants.{ROWS_MAX};
-ghost use Rattle.bully_rows.specs.RecordsLeft.{EndsReading, HasRead, IsUnread, rows_left};
 
-use crate::header::Header;
-use crate::row_reader::{RowReader, no_header};
+use crate::header::{Header, Version};
+use crate::kind::NodeEvent;
+use crate::row_reader::RowReader;
 use crate::trace::{Row, Rows, Trace, TraceCause, TraceFault};
+use crate::trace_taking::{TraceTaker, take_trace};
+use bully_base::{OutOfMemory, Setup};
 use std::alloc::Global;
 use std::io::Read;
 
@@ -32,53 +32,69 @@ pub fn read_trace<R: Read + Drop>(alloc: Global, reader: R) -> Result<Trace, Tra
 // The trace of a text of which nothing was read.
 // (apart from the function that owns the reader, which has to be dropped)
 fn read_all<R: Read + Drop>(alloc: Global, rows: &mut RowReader<R>) -> Result<Trace, TraceFault>
+    requires { (known : Option (List ℕ)) × IsUnread known rows.old }
     ensures read { (known : Option (List ℕ)) → IsUnread known rows.old → IfOk result (IsTraceOf known) }
     ensures fault { (known : Option (List ℕ)) → IsUnread known rows.old → IfErr result (EndsReading known) }
 {
-    let header = take_header(rows)?;
-    let mut read = Vec::new(alloc);
-    match read_rows(alloc, &header, rows, &mut read) {
-        Ok(()) => Ok(Trace {
-            version: header.version,
-            setup: header.setup,
-            rows: Rows::from_vec(read),
-        }),
-        Err(fault) => Err(fault),
-    }
+    let read: TraceRows = take_trace(alloc, rows, ())?;
+    Ok(Trace {
+        version: read.header.version,
+        setup: read.header.setup,
+        rows: Rows::from_vec(read.rows),
+    })
 }
 
-// Takes the header, which is the first row.
-fn take_header<R: Read + Drop>(rows: &mut RowReader<R>) -> Result<Header, TraceFault>
-    ensures read { (known : Option (List ℕ)) → IsUnread known rows.old → IfOk result (λ header. HasRead known [] (rows_left header rows.new)) }
-    ensures fits { IfOk result (λ header. IsVersionFor header.version header.setup) }
-    ensures counted { OnOk result (rows.new.number ≡ rows.old.number + 1) }
-    ensures fault { (known : Option (List ℕ)) → IsUnread known rows.old → IfErr result (EndsReading known) }
-{
-    if !rows.advance()? {
-        return Err(no_header());
-    }
-    rows.header()
+// The header of a trace, and the rows behind it that were read.
+#[derive(Drop)]
+struct TraceRows {
+    header: Header,
+    rows: Vec<Row>,
 }
 
-// Reads all rows that are left of a trace with this header.
-fn read_rows<R: Read + Drop>(
-    alloc: Global,
-    header: &Header,
-    rows: &mut RowReader<R>,
-    read: &mut Vec<Row>,
-) -> Result<(), TraceFault>
-    requires empty { read.old.items ≡ [] }
-    requires begun { 1 ≤ rows.old.number }
-    ensures read { (known : Option (List ℕ)) → HasRead known [] (rows_left header.now rows.old) → OnOk result (IsTraceOf known (headed header.now read.new.items)) }
-    ensures within { OnOk result (length read.new.items ≤ ROWS_MAX) }
-    ensures fits { OnOk result (AreRowsFor header.now.version read.new.items) }
-    ensures fault { (known : Option (List ℕ)) → HasRead known [] (rows_left header.now rows.old) → IfErr result (EndsReading known) }
-{
-    while rows.advance()? {
-        match rows.row(alloc, header.version, &header.setup)? {
-            Some(row) => read.push(row)?,
-            None => return Err(rows.bad_row()),
-        }
+impl<R: Read + Drop> TraceTaker<R, ()> for TraceRows {
+    ghost use Rattle.std.proofs.Common.{rules};
+    ghost use Rattle.std.specs.Prelude.{◌≡◌};
+    ghost use Rattle.bully_rows.specs.Headers.{IsVersionFor};
+    ghost use Rattle.bully_rows.specs.Trace.{AreRowsFor};
+
+    ghost version_of = { λ t. t.header.version };
+
+    ghost setup_of = { λ t. t.header.setup };
+
+    ghost has_taken = { λ _ header rows t. (t.header ≡ header) × (t.rows.items ≡ rows) × IsVersionFor header.version header.setup × AreRowsFor header.version rows };
+
+    ghost told = { Prim.search rules };
+
+    fn begin(alloc: Global, _start: (), header: Header) -> Result<TraceRows, OutOfMemory> {
+        let rows = Vec::new(alloc);
+        Ok(TraceRows { header, rows })
     }
-    Ok(())
+
+    fn trace_version(&self) -> Version {
+        self.header.version
+    }
+
+    fn trace_setup(&self) -> &Setup {
+        &self.header.setup
+    }
+
+    fn take_read_event(
+        &mut self,
+        _alloc: Global,
+        _rows: &RowReader<R>,
+        event: NodeEvent,
+    ) -> Result<(), OutOfMemory> {
+        self.rows.push(Row::Event(event.event()))?;
+        Ok(())
+    }
+
+    fn take_read_row(
+        &mut self,
+        _alloc: Global,
+        _rows: &RowReader<R>,
+        row: Row,
+    ) -> Result<(), OutOfMemory> {
+        self.rows.push(row)?;
+        Ok(())
+    }
 }

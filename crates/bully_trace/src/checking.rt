@@ -1,11 +1,11 @@
-ghost use Rattle.std.specs.Prelude.{◌≡◌, ◌≢◌, ◌⊎◌, ◌++◌, ℕ, List, length, Option, None, MatchOption, IfOk, IfErr, OnOk};
+ghost use Rattle.std.specs.Prelude.{◌≡◌, ◌≢◌, ◌⊎◌, ◌++◌, List, IfOk, IfErr, OnOk};
 ghost use Rattle.std.specs.Io.KnownBytes.{Appends};
 ghost use Rattle.std.specs.String.{string_bytes};
-ghost use Rattle.bully_rows.specs.Rows.{HasNoFault, IsFirstFault, IsOfWriting, IsReadAtItsRow, OfTrace, row_of};
+ghost use Rattle.bully_rows.specs.Rows.{HasNoFault, IsFirstFault, IsOfWriting, IsReadAtItsRow, OfTrace};
 ghost use Rattle.bully_base.specs.Setup.{Setup as SetupState};
 ghost use Rattle.bully_rows.specs.declared.trace.Row.{Row as RowState};
-ghost use Rattle.bully_trace.specs.Judging.{AreAllJudged, Begins, HasJudged, IsJudgedToEnd, IsNoRow, IsNoStart, TakesRow};
-ghost use Rattle.bully_rows.specs.RecordsLeft.{EndsReading, IsUnread};
+ghost use Rattle.bully_trace.specs.Judging.{AreAllJudged, HasJudged};
+ghost use Rattle.bully_rows.specs.RecordsLeft.{EndsReading};
 ghost use Rattle.bully_trace.specs.Verdict.{IsJudged, IsLawfulCount, AgreesAfterEachRow};
 ghost use Rattle.bully_trace.specs.Recorded.{RecordedAgreement};
 ghost use Rattle.bully_trace.specs.VerdictText.{IsJudgedAs, verdict_text, node_lines};
@@ -15,8 +15,11 @@ ghost use Rattle.bully_world.specs.World.{first_world};
 use crate::Verdict;
 use crate::judging::Judge;
 use crate::verdict_text::{push_node_line, push_verdict_head};
-use bully_base::{Node, OutOfMemory};
-use bully_rows::{RowReader, TraceCause, TraceFault, no_header, not_written};
+use bully_base::{Node, OutOfMemory, Setup};
+use bully_rows::{
+    Header, NodeEvent, Row, RowReader, TraceCause, TraceFault, TraceTaker, Version, not_written,
+    take_trace,
+};
 use bully_world::World;
 use std::alloc::Global;
 use std::io::{Read, Write};
@@ -54,98 +57,57 @@ pub fn check<R: Read + Drop, W: Write>(
 
 // Has all rows of a text judged.
 fn judge_text<R: Read + Drop>(alloc: Global, reader: R) -> Result<Judge, TraceFault>
-    ensures judged { IfOk result (λ judge. AreAllJudged (R.remaining reader) judge.world.setup judge) }
+    ensures judged { IfOk result (AreAllJudged (R.remaining reader)) }
     ensures fault { IfErr result (EndsReading (R.remaining reader)) }
 {
     let mut rows = RowReader::open(alloc, reader);
-    judge_rows(alloc, &mut rows)
+    take_trace(alloc, &mut rows, ())
 }
 
-// Has all rows judged. The header makes the judge.
-fn judge_rows<R: Read + Drop>(alloc: Global, rows: &mut RowReader<R>) -> Result<Judge, TraceFault>
-    ensures judged { (known : Option (List ℕ)) → IsUnread known rows.old → IfOk result (λ judge. AreAllJudged known judge.world.setup judge) }
-    ensures fault { (known : Option (List ℕ)) → IsUnread known rows.old → IfErr result (EndsReading known) }
-{
-    let mut judge: Option<Judge> = None;
-    match judge_each(alloc, rows, &mut judge) {
-        Ok(()) => judge.ok_or(no_header()),
-        Err(fault) => Err(fault),
+// (an event that names a node and no more is judged in the loop over the rows, and is never a `Row`)
+impl<R: Read + Drop> TraceTaker<R, ()> for Judge {
+    ghost use Rattle.bully_trace.specs.Judging.{HasJudgedBehind};
+
+    ghost version_of = { λ j. j.version };
+
+    ghost setup_of = { λ j. j.world.setup };
+
+    ghost has_taken = { λ _. HasJudgedBehind };
+
+    ghost told = { λ _ header rows j judged. (judged.1, judged.0.same) };
+
+    fn begin(alloc: Global, _start: (), header: Header) -> Result<Judge, OutOfMemory> {
+        Judge::new(alloc, header)
     }
-}
 
-// Has each row judged that is still to be read.
-// (in one loop: so the reading and the judging are built into it. What has to be dropped is owned by the functions above, one
-// each: an exit with such a value is dear to prove)
-fn judge_each<R: Read + Drop>(
-    alloc: Global,
-    rows: &mut RowReader<R>,
-    judge: &mut Option<Judge>,
-) -> Result<(), TraceFault>
-    requires { judge.old ≡ None }
-    ensures judged { (known : Option (List ℕ)) → IsUnread known rows.old → OnOk result (IsJudgedToEnd known judge.new) }
-    ensures fault { (known : Option (List ℕ)) → IsUnread known rows.old → IfErr result (EndsReading known) }
-{
-    while rows.advance()? {
-        if let Some(judge) = judge {
-            take_row(alloc, rows, judge)?;
-        } else {
-            begin(alloc, rows, judge)?;
-        }
+    fn trace_version(&self) -> Version {
+        self.version()
     }
-    Ok(())
-}
 
-// Has the row read last judged.
-// (an event that names a node and no more, as most rows do, is never a `Row`, which would be moved at each step)
-fn take_row<R: Read + Drop>(
-    alloc: Global,
-    rows: &RowReader<R>,
-    judge: &mut Judge,
-) -> Result<(), TraceFault>
-    ensures taken { OnOk result (TakesRow rows.now judge.old judge.new) }
-    ensures fault { IfErr result (IsNoRow rows.now judge.old) }
-{
-    match rows.node_event(judge.version()) {
-        Some(event) => {
-            judge.take_node_event(rows.number(), event);
-            Ok(())
-        }
-        None => take_longer_row(alloc, rows, judge),
+    fn trace_setup(&self) -> &Setup {
+        self.world().setup()
     }
-}
 
-// Has the row read last judged, where it is no event that names a node and no more.
-#[inline(never)]
-fn take_longer_row<R: Read + Drop>(
-    alloc: Global,
-    rows: &RowReader<R>,
-    judge: &mut Judge,
-) -> Result<(), TraceFault>
-    requires { length rows.now.fields ≡ 2 → row_of judge.old.version judge.old.world.setup rows.now.fields ≡ None }
-    ensures taken { OnOk result (TakesRow rows.now judge.old judge.new) }
-    ensures fault { IfErr result (IsNoRow rows.now judge.old) }
-{
-    match &rows.longer_row(alloc, judge.version(), judge.world().setup())? {
-        Some(row) => judge.take_row(rows.number(), row),
-        None => return Err(rows.bad_row()),
+    #[inline(always)]
+    fn take_read_event(
+        &mut self,
+        _alloc: Global,
+        rows: &RowReader<R>,
+        event: NodeEvent,
+    ) -> Result<(), OutOfMemory> {
+        self.take_node_event(rows.number(), event);
+        Ok(())
     }
-    Ok(())
-}
 
-// The judge begins behind the header, before any row.
-// (out of line, and by a reference: else room for a header and a judge would be cleared at each row)
-#[inline(never)]
-fn begin<R: Read + Drop>(
-    alloc: Global,
-    rows: &RowReader<R>,
-    judge: &mut Option<Judge>,
-) -> Result<(), TraceFault>
-    ensures begun { OnOk result (MatchOption judge.new ⊥ (λ judge. Begins rows.now.fields judge)) }
-    ensures fault { IfErr result (IsNoStart rows.now.fields) }
-{
-    let header = rows.header()?;
-    *judge = Some(Judge::new(alloc, header)?);
-    Ok(())
+    fn take_read_row(
+        &mut self,
+        _alloc: Global,
+        rows: &RowReader<R>,
+        row: Row,
+    ) -> Result<(), OutOfMemory> {
+        self.take_row(rows.number(), &row);
+        Ok(())
+    }
 }
 
 // Writes the verdict of the judge, and tells it.

@@ -14,25 +14,25 @@ use Rattle.bully_trace.proofs.checking.check.Goals as goal
 pub returns-clause-verdict : goal.returns-clause-verdict
 returns-clause-verdict g c =
     let judge = c.in_ok-judge.judge in
-    told-as (g.R.Read.remaining c.args.reader) judge.world.setup judge c.write_verdict.result (Appends (g.W.Write.contents c.args.writer.now) (g.W.Write.contents c.write_verdict.new.writer))
+    told-as (g.R.Read.remaining c.args.reader) judge c.write_verdict.result (Appends (g.W.Write.contents c.args.writer.now) (g.W.Write.contents c.write_verdict.new.writer))
     c.write_verdict.ensures.verdict c.write_verdict.ensures.text c.in_ok-judge.ensures.judged
 
 pub returns-clause-lawful : goal.returns-clause-lawful
 returns-clause-lawful g c =
     let judge = c.in_ok-judge.judge in
-    told-so (g.R.Read.remaining c.args.reader) judge.world.setup judge c.write_verdict.result (λ (verdict : Verdict) (trace : Trace). IsLawfulCount trace verdict)
+    told-so (g.R.Read.remaining c.args.reader) judge c.write_verdict.result (λ (verdict : Verdict) (trace : Trace). IsLawfulCount trace verdict)
     c.write_verdict.ensures.verdict (λ verdict trace is. lawful_count trace verdict (world_of judge.world) is) c.in_ok-judge.ensures.judged
 
 pub returns-clause-agreement : goal.returns-clause-agreement
 returns-clause-agreement g c =
     let judge = c.in_ok-judge.judge in
-    told-so (g.R.Read.remaining c.args.reader) judge.world.setup judge c.write_verdict.result (λ (verdict : Verdict) (trace : Trace). AgreesAfterEachRow trace verdict)
+    told-so (g.R.Read.remaining c.args.reader) judge c.write_verdict.result (λ (verdict : Verdict) (trace : Trace). AgreesAfterEachRow trace verdict)
     c.write_verdict.ensures.verdict (λ verdict trace is. agrees_after trace verdict (world_of judge.world) is) c.in_ok-judge.ensures.judged
 
 pub returns-clause-recorded : goal.returns-clause-recorded
 returns-clause-recorded g c =
     let judge = c.in_ok-judge.judge in
-    told-so (g.R.Read.remaining c.args.reader) judge.world.setup judge c.write_verdict.result (λ (verdict : Verdict) (trace : Trace). RecordedAgreement trace verdict)
+    told-so (g.R.Read.remaining c.args.reader) judge c.write_verdict.result (λ (verdict : Verdict) (trace : Trace). RecordedAgreement trace verdict)
     c.write_verdict.ensures.verdict (λ verdict trace is. recorded trace verdict (world_of judge.world) is) c.in_ok-judge.ensures.judged
 
 pub returns-in_err-judge-clause-silent : goal.returns-in_err-judge-clause-silent

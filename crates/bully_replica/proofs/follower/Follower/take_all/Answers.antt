@@ -1,16 +1,11 @@
-use Rattle.std.proofs.Common.{arith, rules}
-use Rattle.bully_replica.specs.Following.{Follows}
-use Rattle.bully_replica.proofs.FollowLemmas.{followed_more, follows_none}
+use Rattle.bully_replica.proofs.FollowLemmas.{all_followed, part_followed, rows_grow}
 use Rattle.bully_replica.proofs.follower.Follower.take_all.Goals as goal
 
-pub loop-init : goal.loop-init
-loop-init g c = ((λ records known. (records, known, follows_none records c.args.self.now)), omega arith, omega arith)
+pub returns-clause-all : goal.returns-clause-all
+returns-clause-all g c = all_followed c.take_each.result c.args.reader.now c.take_each.new.rows c.args.self.now c.take_each.new.taker c.take_each.ensures.all
 
-pub loop-preserved : goal.loop-preserved
-loop-preserved g c =
-    let follows : Follows c.take_next.new.reader.fields c.loop.self c.take_next.new.self = c.in_ok-take_next.ensures.follows (search rules) in (
-      followed_more c.args.reader.now c.loop.reader c.take_next.new.reader c.args.self.now c.loop.self c.take_next.new.self c.in_ok-take_next.field-0 (search rules)
-          c.in_ok-take_next.ensures.takes follows c.loop.invariant.0,
-      omega (arith, c.loop.invariant.1, follows.2),
-      omega (arith, c.loop.invariant.2, follows.2, c.in_ok-take_next.ensures.counted (search rules)),
-    )
+pub returns-clause-part : goal.returns-clause-part
+returns-clause-part g c = part_followed c.take_each.result c.args.reader.now c.take_each.new.rows c.args.self.now c.take_each.new.taker c.take_each.ensures.part
+
+pub returns-clause-counted : goal.returns-clause-counted
+returns-clause-counted g c = rows_grow c.take_each.result c.args.reader.now c.take_each.new.rows c.args.self.now c.take_each.new.taker c.take_each.ensures.all c.take_each.ensures.part
