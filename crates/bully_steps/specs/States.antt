@@ -1,5 +1,5 @@
 -- What each typed state of a procedure holds.
-use Rattle.std.specs.Prelude.{ℕ, Bool, false, [], List, Some, None}
+use Rattle.std.specs.Prelude.{ℕ, Bool, false, [], List, Option, Some, None}
 use Rattle.bully_base.specs.Setup.{Setup}
 use Rattle.bully_steps.specs.declared.point.Point.{Point}
 use Rattle.bully_steps.specs.ProcedureState.{ProcedureState, procedure_state}
@@ -13,21 +13,10 @@ pub record Identity : Type 0 where
 pub record IdleState : Type 0 where
   pub identity : Identity
 
-pub record AskingState : Type 0 where
+-- one that calls other nodes
+pub record CallingState (T : Type 0) : Type 0 where
   pub identity : Identity
-  pub next : ℕ
-  pub awaits : Bool
-
-pub record HaltingState : Type 0 where
-  pub identity : Identity
-  pub next : ℕ
-  pub up : List ℕ
-  pub awaits : Bool
-
-pub record AnnouncingState : Type 0 where
-  pub identity : Identity
-  pub rest : List ℕ
-  pub up : List ℕ
+  pub held : T
   pub awaits : Bool
 
 pub record PlanningState : Type 0 where
@@ -39,44 +28,17 @@ pub record PlannedState : Type 0 where
   pub up : List ℕ
   pub table : List ℕ
 
-pub record ReadyingState : Type 0 where
-  pub identity : Identity
-  pub rest : List ℕ
-  pub awaits : Bool
+abbrev pub identity_of : ProcedureState → Identity
+identity_of h = record { setup = h.setup; node = h.node; generation = h.generation }
 
-pub record CheckingState : Type 0 where
-  pub identity : Identity
-  pub callee : ℕ
-  pub awaits : Bool
-
-pub record InquiringState : Type 0 where
-  pub identity : Identity
-  pub coordinator : ℕ
-  pub awaits : Bool
+abbrev pub state_at : Identity → Point → List ℕ → Option ℕ → Bool → ProcedureState
+state_at whose point up coordinator awaits = procedure_state whose.setup whose.node whose.generation point up coordinator awaits
 
 abbrev pub idle : IdleState → ProcedureState
-idle s = procedure_state s.identity.setup s.identity.node s.identity.generation Point.Idle [] None false
-
-abbrev pub asking : AskingState → ProcedureState
-asking s = procedure_state s.identity.setup s.identity.node s.identity.generation (Point.Asking s.next) [] None s.awaits
-
-abbrev pub halting : HaltingState → ProcedureState
-halting s = procedure_state s.identity.setup s.identity.node s.identity.generation (Point.Halting s.next) s.up None s.awaits
-
-abbrev pub announcing : AnnouncingState → ProcedureState
-announcing s = procedure_state s.identity.setup s.identity.node s.identity.generation (Point.Announcing s.rest) s.up None s.awaits
+idle s = state_at s.identity Point.Idle [] None false
 
 abbrev pub planning : PlanningState → ProcedureState
-planning s = procedure_state s.identity.setup s.identity.node s.identity.generation Point.Planning s.up None false
+planning s = state_at s.identity Point.Planning s.up None false
 
 abbrev pub planned : PlannedState → ProcedureState
-planned s = record (procedure_state s.identity.setup s.identity.node s.identity.generation Point.Planning s.up None false) { table = Some s.table }
-
-abbrev pub readying : ReadyingState → ProcedureState
-readying s = procedure_state s.identity.setup s.identity.node s.identity.generation (Point.Readying s.rest) [] None s.awaits
-
-abbrev pub checking : CheckingState → ProcedureState
-checking s = procedure_state s.identity.setup s.identity.node s.identity.generation (Point.Checking s.callee) [] None s.awaits
-
-abbrev pub inquiring : InquiringState → ProcedureState
-inquiring s = procedure_state s.identity.setup s.identity.node s.identity.generation Point.Inquiring [] (Some s.coordinator) s.awaits
+planned s = record (state_at s.identity Point.Planning s.up None false) { table = Some s.table }

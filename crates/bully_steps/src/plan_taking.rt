@@ -6,7 +6,7 @@ ghost use Rattle.bully_steps.specs.Procedure.{state_of};
 ghost use Rattle.bully_steps.specs.ProcedureState.{resumed};
 
 use crate::Procedure;
-use crate::states::{Planned, Readying};
+use crate::states::{Calling, Planned, Readied};
 use bully_base::OutOfMemory;
 use bully_table::Table;
 use std::alloc::{AllocError, Global};
@@ -59,9 +59,9 @@ impl Procedure {
         let idle = Procedure::idle_in(self.setup(), self.node(), self.generation());
         match mem::replace(self, idle) {
             Procedure::Planned(planned) => {
-                *self = Procedure::Readying(Readying {
+                *self = Procedure::Readying(Calling {
                     identity: planned.identity,
-                    rest: planned.up,
+                    held: Readied { rest: planned.up },
                     awaits: false,
                 });
                 planned.table

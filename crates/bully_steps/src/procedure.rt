@@ -8,7 +8,8 @@ ghost use Rattle.bully_steps.specs.Procedure.{state_of};
 
 use crate::point_kind::{leave_answered, nodes_in};
 use crate::states::{
-    Announcing, Asking, Checking, Halting, Identity, Idle, Inquiring, Planned, Planning, Readying,
+    Announced, Announcing, Asked, Asking, Begins, Checked, Checking, Halted, Halting, Identity,
+    Idle, Inquired, Inquiring, Planned, Planning, Readied, Readying,
 };
 use crate::{Point, PointKind, StoredPoint, Want};
 use bully_base::{Node, NodeSet, Setup};
@@ -136,12 +137,12 @@ impl Procedure {
     {
         match self {
             Procedure::Idle(_) => PointKind::Idle,
-            Procedure::Asking(asking) => PointKind::Asking(asking.next),
-            Procedure::Halting(halting) => PointKind::Halting(halting.next),
+            Procedure::Asking(asking) => PointKind::Asking(asking.held.next),
+            Procedure::Halting(halting) => PointKind::Halting(halting.held.next),
             Procedure::Announcing(_) => PointKind::Announcing,
             Procedure::Planning(_) | Procedure::Planned(_) => PointKind::Planning,
             Procedure::Readying(_) => PointKind::Readying,
-            Procedure::Checking(checking) => PointKind::Checking(checking.callee),
+            Procedure::Checking(checking) => PointKind::Checking(checking.held.callee),
             Procedure::Inquiring(_) => PointKind::Inquiring,
         }
     }
@@ -152,8 +153,8 @@ impl Procedure {
         ensures point { (state_of self.now).point ≡ point_at (kind_of (state_of self.now).point) (nodes_in (option_copied result)) }
     {
         match self {
-            Procedure::Announcing(announcing) => Some(&announcing.rest),
-            Procedure::Readying(readying) => Some(&readying.rest),
+            Procedure::Announcing(announcing) => Some(&announcing.held.rest),
+            Procedure::Readying(readying) => Some(&readying.held.rest),
             _ => None,
         }
     }
@@ -163,8 +164,8 @@ impl Procedure {
         ensures { option_copied result ≡ (state_of self.now).up }
     {
         match self {
-            Procedure::Halting(halting) => Some(&halting.up),
-            Procedure::Announcing(announcing) => Some(&announcing.up),
+            Procedure::Halting(halting) => Some(&halting.held.up),
+            Procedure::Announcing(announcing) => Some(&announcing.held.up),
             Procedure::Planning(planning) => Some(&planning.up),
             Procedure::Planned(planned) => Some(&planned.up),
             _ => None,
@@ -176,7 +177,7 @@ impl Procedure {
         ensures { result ≡ (state_of self.now).coordinator }
     {
         match self {
-            Procedure::Inquiring(inquiring) => Some(inquiring.coordinator),
+            Procedure::Inquiring(inquiring) => Some(inquiring.held.coordinator),
             _ => None,
         }
     }
@@ -256,7 +257,7 @@ impl Procedure {
         let awaits = is_started(outcome);
         match (self, next) {
             (Procedure::Asking(asking), PointKind::Asking(number)) => {
-                asking.next = number;
+                asking.held.next = number;
                 asking.awaits = awaits;
                 true
             }
@@ -265,17 +266,17 @@ impl Procedure {
                 true
             }
             (Procedure::Announcing(announcing), PointKind::Announcing) => {
-                leave_answered(&mut announcing.rest, outcome);
+                leave_answered(&mut announcing.held.rest, outcome);
                 announcing.awaits = awaits;
                 true
             }
             (Procedure::Readying(readying), PointKind::Readying) => {
-                leave_answered(&mut readying.rest, outcome);
+                leave_answered(&mut readying.held.rest, outcome);
                 readying.awaits = awaits;
                 true
             }
             (Procedure::Checking(checking), PointKind::Checking(callee)) => {
-                checking.callee = callee;
+                checking.held.callee = callee;
                 checking.awaits = awaits;
                 true
             }
@@ -365,13 +366,19 @@ impl Procedure {
     {
         match kind {
             PointKind::Idle => Idle::begin(self),
-            PointKind::Asking(next) => Asking::begin(self, next, awaits),
-            PointKind::Halting(next) => Halting::begin(self, next, up, awaits),
-            PointKind::Announcing => Announcing::begin(self, left, up, awaits),
+            PointKind::Asking(next) => Asked { next }.begin(self, awaits),
+            PointKind::Halting(next) => Halted { next, up: *up }.begin(self, awaits),
+            PointKind::Announcing => {
+                let (rest, up) = (*left, *up);
+                Announced { rest, up }.begin(self, awaits)
+            }
             PointKind::Planning => Planning::begin(self, up),
-            PointKind::Readying => Readying::begin(self, left, awaits),
-            PointKind::Checking(callee) => Checking::begin(self, callee, awaits),
-            PointKind::Inquiring => Inquiring::begin(self, coordinator.unwrap(), awaits),
+            PointKind::Readying => Readied { rest: *left }.begin(self, awaits),
+            PointKind::Checking(callee) => Checked { callee }.begin(self, awaits),
+            PointKind::Inquiring => {
+                let coordinator = coordinator.unwrap();
+                Inquired { coordinator }.begin(self, awaits)
+            }
         }
     }
 

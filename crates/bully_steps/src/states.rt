@@ -1,19 +1,15 @@
-mod announcing;
-mod asking;
-mod checking;
+mod calling;
 mod halting;
+mod held;
 mod identity;
 mod idle;
-mod inquiring;
 mod planning;
-mod readying;
 
-pub use announcing::Announcing;
-pub use asking::Asking;
-pub use checking::Checking;
-pub use halting::Halting;
+pub use calling::{Begins, Calling, Held};
+pub use halting::{Halted, Halting};
+pub use held::{
+    Announced, Announcing, Asked, Asking, Checked, Checking, Inquired, Inquiring, Readied, Readying,
+};
 pub use identity::Identity;
 pub use idle::Idle;
-pub use inquiring::Inquiring;
 pub use planning::{Planned, Planning};
-pub use readying::Readying;
