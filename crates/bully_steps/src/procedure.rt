@@ -1,4 +1,4 @@
-ghost use Rattle.std.specs.Prelude.{◌≡◌, ◌≤◌, [], None, Some, true, false};
+ghost use Rattle.std.specs.Prelude.{◌≡◌, ◌≤◌, [], None, Some, true, false, option_map};
 ghost use Rattle.std.specs.Option.{option_copied};
 ghost use Rattle.bully_base.specs.NodeSet.{IsFallingBelow};
 ghost use Rattle.bully_steps.specs.ProcedureState.{IsProcedureState, IsCall, SuitsInquiry, CanResume, procedure_state, want_of, next_of, resumed, resumed_point, resumed_up, is_started as started};
@@ -48,6 +48,7 @@ impl Procedure {
     {
         Procedure::Idle(Idle {
             identity: Identity::new(setup, node, generation),
+            awaits: false,
         })
     }
 
@@ -294,13 +295,28 @@ impl Procedure {
         requires { CanResume (state_of self.old) outcome }
         ensures { state_of self.new ≡ resumed (state_of self.old) outcome }
     {
-        let kind = self.kind();
-        let next = kind
+        let next = self
+            .kind()
             .next(self.left(), self.setup(), self.node(), outcome)
             .unwrap();
+        match next {
+            PointKind::Idle => Idle::begin(self),
+            _ => self.change_to(next, outcome),
+        }
+    }
+
+    // Goes on by the outcome, to the point of this kind.
+    // (apart, so that a procedure that ends copies no set)
+    #[inline(never)]
+    fn change_to(&mut self, next: PointKind, outcome: Outcome)
+        requires state { IsProcedureState (state_of self.old) }
+        requires can { CanResume (state_of self.old) outcome }
+        requires next { option_map kind_of (next_of (state_of self.old) outcome) ≡ Some next }
+        ensures { state_of self.new ≡ resumed (state_of self.old) outcome }
+    {
         let up = self.up_after(outcome);
         let mut left = nodes_in(self.left());
-        kind.change_left(&mut left, &up, outcome);
+        self.kind().change_left(&mut left, &up, outcome);
         let coordinator = self.coordinator();
         self.go_to(next, &left, &up, coordinator, is_started(outcome));
     }

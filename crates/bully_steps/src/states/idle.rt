@@ -11,6 +11,9 @@ use std::marker::Model;
 #[derive(Drop, Debug)]
 pub struct Idle {
     pub(crate) identity: Identity,
+    // No call is under way, so it is of no meaning. With a field behind the identity, that stays where it lies when a
+    // procedure ends, and isn't copied out and in.
+    pub(crate) awaits: bool,
 }
 
 impl Model for Idle {
@@ -32,6 +35,7 @@ impl Idle {
     {
         *procedure = Procedure::Idle(Idle {
             identity: *procedure.identity(),
+            awaits: false,
         });
     }
 }
