@@ -26,3 +26,4 @@ pub mod TurnSteps
 pub mod ProcedureAfter
 pub mod TurnTaken
 pub mod WaitingLemmas
+pub mod ServingLemmas

@@ -9,3 +9,4 @@ pub mod State
 pub mod StateAfter
 pub mod Turn
 pub mod Waiting
+pub mod Serving

@@ -8,6 +8,7 @@ ghost use Rattle.bully_world.specs.StepOf.{StepIsComputed, LeadIsComputed, StepI
 
 mod causes;
 mod node_state;
+mod serving;
 mod steps;
 mod take;
 mod turn;
