@@ -10,7 +10,7 @@ use bully_world::World;
 /// Who leads: the coordinator that all Normal nodes have, by the law of agreement; none where no node is Normal.
 /// Takes no memory.
 pub fn leader(world: &World) -> Option<Node>
-    ensures { IsLeader (world_of world.now) result }
+    ensures leader { IsLeader (world_of world.now) result }
 {
     world.vector(first_normal(world)?).coordinator()
 }

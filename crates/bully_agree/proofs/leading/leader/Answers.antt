@@ -7,5 +7,5 @@ pub returns : goal.returns
 returns c =
     let w = c.args.world.now in
     let node = c.in_ok-first_normal.field-0 in
-    leads (world_of w) node c.coordinator.result (reached_agrees w c.first_normal.ensures.reached) c.in_ok-first_normal.ensures.normal
-    (c.coordinator.ensures ∙ (ap (λ v. v.vector.coordinator) c.vector.ensures.vector ∙ sym (ap (λ v. v.coordinator) (vector-here w node))))
+    let is = c.coordinator.ensures ∙ (ap (λ v. v.vector.coordinator) c.vector.ensures.vector ∙ sym (ap (λ v. v.coordinator) (vector-here w node))) in
+    record { leader = leads (world_of w) node c.coordinator.result (reached_agrees w c.first_normal.ensures.reached) c.in_ok-first_normal.ensures.normal is }
