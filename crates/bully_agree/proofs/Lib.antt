@@ -16,5 +16,7 @@ pub mod Law
 pub mod FenceLemmas
 pub mod KeptLemmas
 pub mod ViewLemmas
+pub mod NodeViewLemmas
+pub mod LeaderLemmas
 pub mod RunLemmas
 pub mod WholeLemmas

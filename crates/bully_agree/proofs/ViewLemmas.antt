@@ -1,17 +1,16 @@
 -- The view of a world shows what the world has, so it agrees.
-use Rattle.std.proofs.Common.{◌≡◌, ◌<◌, ◌+◌, ◌++◌, ℕ, zero, suc, List, [], ◌∷◌, map, take, length, add-one, arith, refl, sym, ap, ◌∙◌}
+use Rattle.std.proofs.Common.{◌≡◌, ℕ, zero, suc, List, [], ◌∷◌, map, length, arith, refl, sym, ap, ◌∙◌}
 use Rattle.std.specs.Prelude.{slice_index_or}
 use Rattle.std.proofs.lemmas.List.{length-map}
-use Rattle.bully_base.specs.Places.{at_node}
 use Rattle.bully_base.specs.Setup.{Setup}
 use Rattle.bully_calls.specs.declared.call.Answer.{Answer}
 use Rattle.bully_world.proofs.NodeInvariantLemmas.{lawful_fits}
 use Rattle.bully_calls.specs.declared.event.Event.{Event}
 use Rattle.bully_world.specs.Lawful.{IsLawful}
-use Rattle.bully_world.specs.State.{StoredNode, WorldState, IsReached, empty_state, node_state_of, world_of}
+use Rattle.bully_world.specs.State.{WorldState, IsReached, node_state_of, world_of}
 use Rattle.bully_world.specs.World.{NodeState, World, empty_node_state, node_state}
 use Rattle.bully_agree.specs.Agreement.{Agreement}
-use Rattle.bully_agree.specs.View.{NodeView, IsView, ViewAgrees, nothing_shown, shown, shown_of, view_of}
+use Rattle.bully_agree.specs.View.{IsView, ViewAgrees, nothing_shown, shown, shown_of, view_of}
 use Rattle.bully_agree.proofs.Law.{agreement_lem}
 
 index-shown : (ms : List NodeState) (k : ℕ) → slice_index_or (map shown_of ms) k nothing_shown ≡ shown_of (slice_index_or ms k empty_node_state)
@@ -49,16 +48,3 @@ view_keeps w reached = record {
   agrees = lawful_agrees w.setup w.events reached.applied reached.answers (world_of w) reached.lawful;
   viewed = record { events = reached.applied; answers = reached.answers; world = world_of w; lawful = reached.lawful; view = ap (λ n. view_of w.setup n (world_of w)) (sym reached.counted) };
 }
-
-shown-place : (ms : List StoredNode) (k : ℕ) → k < length ms → map shown_of (take (suc k) (map node_state_of ms)) ≡ map shown_of (take k (map node_state_of ms)) ++ shown_of (node_state_of (slice_index_or ms k (empty_state 0))) ∷ []
-shown-place [] k l = absurd (omega arith)
-shown-place (m ∷ ms) zero l = refl
-shown-place (m ∷ ms) (suc k) l = ap (λ xs. shown_of (node_state_of m) ∷ xs) (shown-place ms k (omega arith))
-
--- one node more is shown
-pub shown-more : (ms : List StoredNode) (xs : List NodeView) (s : NodeView) (k i : ℕ) → k + 1 ≡ i → k < length ms → xs ≡ map shown_of (take k (map node_state_of ms)) → s ≡ shown_of (node_state_of (at_node (empty_state 0) ms i))
-    → xs ++ s ∷ [] ≡ map shown_of (take (k + 1) (map node_state_of ms))
-shown-more ms xs s k zero e l so now = absurd (omega arith)
-shown-more ms xs s k (suc j) e l so now =
-    let same : j ≡ k = omega arith in
-    rw so (rw now (rw same (rw (add-one k) (sym (shown-place ms k l)))))

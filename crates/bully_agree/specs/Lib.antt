@@ -2,7 +2,9 @@ pub mod Actors
 pub mod Agreement
 pub mod Fencing
 pub mod KeptSetup
+pub mod Leader
 pub mod Runs
 pub mod Progress
 pub mod View
+pub mod NodeViews
 pub mod WholeCalls

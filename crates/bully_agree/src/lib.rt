@@ -16,11 +16,13 @@ ghost use Rattle.bully_world.specs.Step.{Step};
 ghost use Rattle.bully_world.specs.World.{World, vector};
 ghost use Rattle.bully_calls.specs.declared.event.Event.{Event};
 
+mod leading;
 mod runs;
 mod views;
 mod walks;
 mod whole_calls;
 
+pub use leading::leader;
 pub use runs::{RunFault, run};
 pub use views::View;
 pub use views::making::view;

@@ -4,27 +4,13 @@ ghost use Rattle.bully_agree.specs.View.{ViewAgrees, IsViewed, shown};
 
 mod kept_setup;
 pub mod making;
+mod node_views;
 
 use bully_base::{Node, Setup, Status};
 use bully_table::Table;
 use kept_setup::KeptSetup;
+use node_views::NodeViews;
 use std::marker::Model;
-
-/// What is shown of one node.
-#[derive(Drop, Debug)]
-struct NodeView {
-    status: Status,
-    coordinator: Option<Node>,
-    task: Option<Table>,
-}
-
-impl Model for NodeView {
-    ghost use Rattle.bully_agree.specs.View.{NodeView as NodeViewState};
-
-    ghost Value = { NodeViewState };
-
-    ghost view = { λ s. record { status = s.status; coordinator = s.coordinator; task = s.task } };
-}
 
 /// What a world shows: how many events were applied, and each node's status, coordinator and task.
 /// Its type keeps that the nodes agree, and that a lawful list of so many events leads to such a world.
@@ -32,7 +18,7 @@ impl Model for NodeView {
 pub struct View {
     setup: KeptSetup,
     events: u32,
-    nodes: Vec<NodeView>,
+    nodes: NodeViews,
 }
 
 impl Model for View {
@@ -40,9 +26,9 @@ impl Model for View {
 
     ghost Value = { ViewState };
 
-    ghost view = { λ v. record { setup = v.setup; events = v.events; nodes = v.nodes.items } };
+    ghost view = { λ v. record { setup = v.setup; events = v.events; nodes = v.nodes } };
 
-    ghost invariant = { λ v. IsView (record { setup = v.setup; events = v.events; nodes = v.nodes.items }) };
+    ghost invariant = { λ v. IsView (record { setup = v.setup; events = v.events; nodes = v.nodes }) };
 }
 
 impl View {
@@ -75,7 +61,7 @@ impl View {
         requires { node ≤ self.now.setup.nodes }
         ensures { result ≡ (shown self.now node).status }
     {
-        self.shown(node).status
+        self.nodes.status(node)
     }
 
     /// The node that it takes as coordinator; none where it has none. The node is at most the setup's last.
@@ -83,7 +69,7 @@ impl View {
         requires { node ≤ self.now.setup.nodes }
         ensures { result ≡ (shown self.now node).coordinator }
     {
-        self.shown(node).coordinator
+        self.nodes.coordinator(node)
     }
 
     /// The task that it holds, a table of the owner of each partition; none where it has none. The node is at most the
@@ -92,14 +78,6 @@ impl View {
         requires { node ≤ self.now.setup.nodes }
         ensures { option_copied result ≡ (shown self.now node).task }
     {
-        self.shown(node).task.as_ref()
-    }
-
-    // What is shown of the node.
-    fn shown(&self, node: Node) -> &NodeView
-        requires { node ≤ self.now.setup.nodes }
-        ensures { result.now ≡ shown self.now node }
-    {
-        &self.nodes[usize::from(node.number() - 1)]
+        self.nodes.task(node)
     }
 }

@@ -5,15 +5,19 @@ use mathlib.Core.List.{IsPrefix}
 use lib.ListN.{get_elem?}
 use Rattle.atomic_table.proofs.Lists.{at_set, at_snoc}
 use Rattle.left_right.specs.Register.{Admits, Turns, TurnsAt, Forks, Merges}
-use Rattle.bully_agree.specs.View.{View, view_of}
+use Rattle.bully_agree.proofs.ViewLemmas.{shown_there}
+use Rattle.bully_agree.specs.View.{View, view_of, shown, shown_of}
 use Rattle.bully_base.specs.Setup.{Setup}
 use Rattle.bully_world.specs.State.{WorldState, first_state, world_of}
-use Rattle.bully_world.specs.World.{World, first_world}
+use Rattle.bully_world.specs.World.{World, first_world, node_state}
 use Rattle.bully_watch.specs.History.{IsHistory}
-use Rattle.bully_watch.specs.Observation.{Looks}
+use Rattle.bully_watch.specs.Observation.{Glances}
 use Rattle.bully_watch.specs.CopyRule.{IsPublished, Knows, LeadsToCopy, SeesAll, applied_to, no_knowledge, copy_of}
+use Rattle.bully_watch.specs.Sight.{IsSeen, glance_in}
 use Rattle.bully_watch.specs.declared.entry.Entry.{Entry}
+use Rattle.bully_watch.specs.declared.glance.Glance.{Glance}
 use Rattle.bully_watch.specs.declared.knowledge.Knowledge.{Knowledge}
+use Rattle.bully_watch.specs.declared.knowledge.PublisherId.{PublisherId}
 use Rattle.bully_watch.specs.declared.world_copy.WorldCopy.{WorldCopy}
 use Rattle.bully_watch.proofs.HistoryLemmas.{history_empty}
 use Rattle.bully_watch.proofs.CopyLemmas.{copy_after}
@@ -78,8 +82,13 @@ pub rule_opened : (setup : Setup) (w : WorldState) → w ≡ first_state setup �
 rule_opened setup w new first =
     ([], copy_opened setup w new first, λ seat k at. ⊎_elim (λ old. absurd (cc (old))) (λ (own : no_knowledge ≡ k). subst (λ (u : Knowledge). Knows w.setup [] u) own (knows_nothing w.setup [])) (at_snoc [] no_knowledge k seat at))
 
--- the view of the copy that a look reads is an observation
-pub look_shows : (before : Knowledge) (w : WorldState) (after : Knowledge) (v : View) → before.is_named ≡ true → SeesAll before w after → v ≡ view_of w.setup w.events (world_of w) → Looks before.publisher after.seen v
-look_shows before w after v named saw shown =
-    let same : w.setup ≡ before.publisher.setup = sym (saw.3 named) in
-    (world_of w, subst (λ s. IsHistory s after.seen (world_of w)) same saw.2.0, shown ∙ (ap (λ n. view_of w.setup n (world_of w)) saw.2.1 ∙ ap (λ s. view_of s (length after.seen) (world_of w)) same))
+-- what is read of a node in the copy is what an observation shows of it
+pub glance_shows : (p : PublisherId) (entries : List Entry) (i : ℕ) (g : Glance) → IsSeen p.setup entries (λ w s. s ≡ glance_in w i) g → Glances p entries i g
+glance_shows p entries i g seen =
+    let w : WorldState = seen.0 in
+    let v : View = view_of p.setup (length entries) (world_of w) in
+    let history : IsHistory p.setup entries (world_of w) = subst (λ s. IsHistory s entries (world_of w)) seen.2 seen.1.0 in
+    let shows : shown v i ≡ shown_of (node_state (world_of w) i) = shown_there p.setup (length entries) (world_of w) i in
+    let is : g ≡ glance_in w i = seen.3 in
+    let counted : w.events ≡ length entries = seen.1.1 in
+    (v, (world_of w, history, refl), cc (is, counted, ap (λ s. s.status) shows, ap (λ s. s.coordinator) shows))

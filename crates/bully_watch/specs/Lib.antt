@@ -1,3 +1,4 @@
 pub mod History
 pub mod Observation
 pub mod CopyRule
+pub mod Sight

@@ -6,13 +6,16 @@
 #![tactic(auto)]
 
 mod entry;
+mod glance;
 mod knowledge;
 mod observer;
 mod publisher;
+mod sight;
 mod told;
 mod world_copy;
 
 pub use entry::Entry;
+pub use glance::{Glance, GlanceFault, Leader};
 pub use knowledge::PublisherId;
 pub use observer::{LookFault, Observer};
 pub use publisher::{OpenFault, Publisher};

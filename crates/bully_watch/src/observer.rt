@@ -1,12 +1,16 @@
-ghost use Rattle.std.specs.Prelude.{◌≡◌, [], IfOk, length, true};
+ghost use Rattle.std.specs.Prelude.{◌≡◌, ◌≤◌, [], IfOk, IfErr, IfSome, MatchResult, length, true};
 ghost use mathlib.Core.List.{IsPrefix};
 ghost use Rattle.left_right.specs.Sides.{view};
-ghost use Rattle.bully_watch.specs.Observation.{longer, Looks};
+ghost use Rattle.bully_watch.specs.Observation.{longer, Glances, IsGlanceFault, Leads, Looks};
 ghost use Rattle.bully_watch.specs.CopyRule.{prefix_of};
+ghost use Rattle.bully_watch.specs.Sight.{IsSeen};
 
+use crate::glance::{Glance, GlanceFault, Leader};
+use crate::sight::{OfLeader, OfNode, Sight, WholeView};
 use crate::told::Told;
 use crate::world_copy::{CopyReader, Look};
-use bully_agree::{View, view};
+use bully_agree::View;
+use bully_base::Node;
 use core::mem::replace_with;
 use std::alloc::Global;
 use std::marker::Model;
@@ -81,14 +85,62 @@ impl Observer {
         ensures goes_on { IsPrefix self.old.entries self.new.entries }
         ensures view { IfOk result (Looks self.old.publisher self.new.entries) }
     {
-        replace_with(self, (), |observer: Observer, _| observer.look_once())
+        let alloc = self.alloc;
+        match self.read(&WholeView { alloc }) {
+            Some(Ok(view)) => Ok(view),
+            Some(Err(_)) => Err(LookFault::OutOfMemory),
+            None => Err(LookFault::Gone),
+        }
     }
 
-    // `look`, where the observer comes back.
-    fn look_once(self) -> (Observer, Result<View, LookFault>)
+    /// What a look would show of one node: it sees no less than was seen before, takes no lock and no memory, and never
+    /// waits. Refused with `Gone` where the publisher was ended, and with `BadNode` above the group's last node.
+    /// The rule: this project's profile.
+    pub fn glance(&mut self, node: Node) -> Result<Glance, GlanceFault>
+        ensures publisher { self.new.publisher ≡ self.old.publisher }
+        ensures goes_on { IsPrefix self.old.entries self.new.entries }
+        ensures glance { IfOk result (Glances self.old.publisher self.new.entries node) }
+        ensures fault { MatchResult result (λ _. node ≤ self.old.publisher.setup.nodes) (IsGlanceFault self.old.publisher.setup node) }
+    {
+        match self.read(&OfNode { node }) {
+            Some(Some(glance)) => Ok(glance),
+            Some(None) => Err(GlanceFault::BadNode),
+            None => Err(GlanceFault::Gone),
+        }
+    }
+
+    /// Who leads, by the same rule as a glance: the coordinator that all Normal nodes have. Refused with `Gone` alone.
+    /// The rule: this project's profile.
+    pub fn leader(&mut self) -> Result<Leader, GlanceFault>
+        ensures publisher { self.new.publisher ≡ self.old.publisher }
+        ensures goes_on { IsPrefix self.old.entries self.new.entries }
+        ensures leader { IfOk result (Leads self.old.publisher self.new.entries) }
+        ensures fault { IfErr result (λ fault. fault ≡ GlanceFault.Gone) }
+    {
+        match self.read(&OfLeader) {
+            Some(leader) => Ok(leader),
+            None => Err(GlanceFault::Gone),
+        }
+    }
+
+    // What is read of the copy that is shown; none where the publisher was ended.
+    fn read<S: Sight>(&mut self, sight: &S) -> Option<S::Seen>
+        ensures publisher { self.new.publisher ≡ self.old.publisher }
+        ensures goes_on { IsPrefix self.old.entries self.new.entries }
+        ensures seen { IfSome result (IsSeen self.old.publisher.setup self.new.entries (S.sees sight.now)) }
+    {
+        replace_with(
+            self,
+            sight,
+            |observer: Observer, sight: &S| observer.read_once(sight),
+        )
+    }
+
+    // `read`, where the observer comes back.
+    fn read_once<S: Sight>(self, sight: &S) -> (Observer, Option<S::Seen>)
         ensures publisher { result.0.publisher ≡ self.publisher }
         ensures goes_on { IsPrefix self.entries result.0.entries }
-        ensures view { IfOk result.1 (Looks self.publisher result.0.entries) }
+        ensures seen { IfSome result.1 (IsSeen self.publisher.setup result.0.entries (S.sees sight.now)) }
     {
         let Observer {
             reader,
@@ -102,21 +154,18 @@ impl Observer {
                     count,
                     alloc,
                 },
-                Err(LookFault::Gone),
+                None,
             ),
             Ok(reading) => {
                 let count = reading.get().world.events() as usize;
-                let seen = view(alloc, &reading.get().world);
+                let seen = sight.read(&reading.get().world);
                 let reader = reading.leave();
                 let observer = Observer {
                     reader,
                     count,
                     alloc,
                 };
-                match seen {
-                    Ok(view) => (observer, Ok(view)),
-                    Err(_) => (observer, Err(LookFault::OutOfMemory)),
-                }
+                (observer, Some(seen))
             }
         }
     }

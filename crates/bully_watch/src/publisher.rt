@@ -1,9 +1,8 @@
 ghost use Rattle.std.specs.Prelude.{◌≡◌, ◌≤◌, [], ◌++◌, All, IfOk, MatchResult, take, drop, length, vec_len, true};
-ghost use mathlib.Core.List.{IsPrefix};
 ghost use Rattle.left_right.specs.Sides.{view};
 ghost use Rattle.bully_world.specs.World.{World as WorldOf};
 ghost use Rattle.bully_watch.specs.History.{IsHistory};
-ghost use Rattle.bully_watch.specs.Observation.{IsOpenFault};
+ghost use Rattle.bully_watch.specs.Observation.{IsOpenFault, MayPublish, Publishes};
 ghost use Rattle.bully_watch.specs.CopyRule.{IsPublisher, LeadsToCopy, prefix_of};
 
 use crate::Entry;
@@ -111,23 +110,14 @@ impl Publisher {
     /// drop one, and publish again. Observers then see what they saw, and a later publish covers all.
     /// The rule: this project's profile, docs/DECISIONS.md.
     pub fn publish<R: Wait>(&mut self, rt: &R, entries: &[Entry]) -> Result<Told, OutOfMemory>
-        requires history { (w : WorldOf) × IsHistory self.old.publisher.setup entries.now w }
-        requires taken { IsPrefix self.old.taken entries.now }
-        ensures publisher { self.new.publisher ≡ self.old.publisher }
-        ensures told { IfOk result (λ t. (t.publisher ≡ self.old.publisher) × (t.entries ≡ entries.now)) }
-        ensures shown { MatchResult result (λ _. self.new.shown ≡ entries.now) (λ _. self.new.shown ≡ self.old.shown) }
-        ensures taken { MatchResult result (λ _. self.new.taken ≡ entries.now) (λ _. IsPrefix self.new.taken entries.now) }
+        requires { MayPublish self.old entries.now }
+        ensures publishes { Publishes self.old entries.now self.new result }
     {
         replace_with(
             self,
             entries,
             |publisher: Publisher, entries: &[Entry]| -> (Publisher, Result<Told, OutOfMemory>)
-                requires history { (w : WorldOf) × IsHistory publisher.publisher.setup entries.now w }
-                requires taken { IsPrefix publisher.taken entries.now }
-                ensures publisher { result.0.publisher ≡ publisher.publisher }
-                ensures told { IfOk result.1 (λ t. (t.publisher ≡ publisher.publisher) × (t.entries ≡ entries.now)) }
-                ensures shown { MatchResult result.1 (λ _. result.0.shown ≡ entries.now) (λ _. result.0.shown ≡ publisher.shown) }
-                ensures taken { MatchResult result.1 (λ _. result.0.taken ≡ entries.now) (λ _. IsPrefix result.0.taken entries.now) }
+                requires { MayPublish publisher entries.now }
             { publisher.published(rt, entries) },
         )
     }
@@ -145,12 +135,8 @@ impl Publisher {
 
     // `publish`, where the publisher comes back. A place for what is told is there before anything is shown.
     fn published<R: Wait>(self, rt: &R, entries: &[Entry]) -> (Publisher, Result<Told, OutOfMemory>)
-        requires history { (w : WorldOf) × IsHistory self.publisher.setup entries.now w }
-        requires taken { IsPrefix self.taken entries.now }
-        ensures publisher { result.0.publisher ≡ self.publisher }
-        ensures told { IfOk result.1 (λ t. (t.publisher ≡ self.publisher) × (t.entries ≡ entries.now)) }
-        ensures shown { MatchResult result.1 (λ _. result.0.shown ≡ entries.now) (λ _. result.0.shown ≡ self.shown) }
-        ensures taken { MatchResult result.1 (λ _. result.0.taken ≡ entries.now) (λ _. IsPrefix result.0.taken entries.now) }
+        requires { MayPublish self entries.now }
+        ensures { Publishes self entries.now result.0 result.1 }
     {
         let Publisher {
             name,

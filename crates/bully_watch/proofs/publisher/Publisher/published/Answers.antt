@@ -1,4 +1,4 @@
-use Rattle.std.proofs.Common.{◌≡◌, ◌++◌, drop, take, sym, ap, ◌∙◌, subst}
+use Rattle.std.proofs.Common.{rules, ◌≡◌, ◌++◌, drop, take, sym, ap, ◌∙◌, subst}
 use Rattle.std.proofs.lemmas.List.{take-append-drop}
 use Rattle.left_right.specs.Sides.{view}
 use Rattle.bully_watch.specs.History.{IsHistory}
@@ -23,8 +23,13 @@ invariant_of-publisher g c =
     subst (λ d. IsPublisher c.self.inside.name.name n (view d.place) d.shown.value.world pending) (sym same)
     (taken_more _ _ n (view now.place) _ pending now.shown.value.world entries world c.self.invariant history c.take_in-writer.ensures.within.1 here)
 
-pub returns-then-count-entries-clause-taken : goal.returns-then-count-entries-clause-taken
-returns-then-count-entries-clause-taken g c =
+pub returns-then-count-entries : goal.returns-then-count-entries
+returns-then-count-entries g c =
     let n = c.take_in-writer.result.1 in
     let rest = drop n c.args.entries.now in
-    (rest, ap (λ l. l ++ rest) c.take_in-writer.ensures.here ∙ take-append-drop n c.args.entries.now)
+    record {
+      publisher = search rules;
+      told = search rules;
+      shown = search rules;
+      taken = (rest, ap (λ l. l ++ rest) c.take_in-writer.ensures.here ∙ take-append-drop n c.args.entries.now);
+    }

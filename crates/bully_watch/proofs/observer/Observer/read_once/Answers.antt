@@ -1,0 +1,7 @@
+use Rattle.std.proofs.Common.{ap}
+use Rattle.left_right.specs.Sides.{view}
+use Rattle.bully_watch.proofs.StepLemmas.{looks as turns}
+use Rattle.bully_watch.proofs.observer.Observer.read_once.Goals as goal
+
+pub enter_as-requires : goal.enter_as-requires
+enter_as-requires g c = turns _ _
