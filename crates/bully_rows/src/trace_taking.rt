@@ -4,7 +4,7 @@ ghost use Rattle.bully_rows.specs.Rows.{row_of};
 ghost use Rattle.bully_rows.specs.Taking.{Begins, IsNoRow, IsNoStart, IsTakenToEnd, IsWhollyTaken, TakesRow};
 
 use crate::header::{Header, Version};
-use crate::kind::NodeEvent;
+use crate::node_event::NodeEvent;
 use crate::row_reader::{RowReader, no_header};
 use crate::taking::{RowTaker, take_each};
 use crate::trace::{Row, TraceFault};
@@ -17,7 +17,7 @@ pub trait TraceTaker<R: Read + Drop, S>: Drop {
     ghost use Rattle.std.specs.Prelude.{◌≡◌, [], List, Some, IfOk, OnOk};
     ghost use Rattle.bully_base.specs.Setup.{Setup as SetupState};
     ghost use Rattle.bully_rows.specs.Headers.{IsVersionFor};
-    ghost use Rattle.bully_rows.specs.Kinds.{event_at};
+    ghost use Rattle.bully_calls.specs.Events.{event_at};
     ghost use Rattle.bully_rows.specs.Rows.{row_of};
     ghost use Rattle.bully_rows.specs.Taking.{GoesOn};
     ghost use Rattle.bully_rows.specs.declared.header.Header.{Header as HeaderState};
