@@ -3,7 +3,7 @@ ghost use Rattle.bully_rows.specs.RecordsLeft.{EndsReading, IsUnread};
 ghost use Rattle.bully_rows.specs.Rows.{IsFirstFault, IsReadAtItsRow, IsTraceOf};
 
 use crate::header::{Header, Version};
-use crate::kind::NodeEvent;
+use crate::node_event::NodeEvent;
 use crate::row_reader::RowReader;
 use crate::trace::{Row, Rows, Trace, TraceCause, TraceFault};
 use crate::trace_taking::{TraceTaker, take_trace};
