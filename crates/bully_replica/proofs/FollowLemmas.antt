@@ -133,11 +133,11 @@ unreadable reader fault is = by_why is.why
 -- why the next row isn't learned
 fails : (reader now : ReadSoFar) (f after : FollowerState) (fault : FollowFault) → StopsNext RefusesRow TellsForm reader f now after fault → FailsAt reader now f fault
 fails reader now f after fault (inl (read, is, same, unchanged)) = rw same (inl (unreadable reader read is))
-fails reader now f after fault (inr (next, refused, unchanged)) = inr (next.takes, refused)
+fails reader now f after fault (inr (next, (refused, unchanged))) = inr (next.takes, refused)
 
 stays : (reader now : ReadSoFar) (f after : FollowerState) (fault : FollowFault) → StopsNext RefusesRow TellsForm reader f now after fault → after ≡ f
 stays reader now f after fault (inl (read, is, same, unchanged)) = unchanged
-stays reader now f after fault (inr (next, refused, unchanged)) = unchanged
+stays reader now f after fault (inr (next, (refused, unchanged))) = unchanged
 
 pub fails_at : (r : Result Bool FollowFault) (reader now : ReadSoFar) (f after : FollowerState) → IfErr r (StopsNext RefusesRow TellsForm reader f now after) → IfErr r (FailsAt reader now f)
 fails_at (Ok found) reader now f after stops = tt

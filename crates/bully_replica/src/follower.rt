@@ -98,7 +98,10 @@ impl Follower {
         ensures unchanged { IfErr result (λ _. self.new ≡ self.old) }
         ensures within { self.new.rows ≤ ROWS_MAX }
     {
-        take_next(alloc, reader, self)
+        let taken = take_next(alloc, reader, self);
+        // Shows the proof what the type keeps.
+        let _ = &self.replica;
+        taken
     }
 
     /// Learns the rows that the reader still gives, in their order, up to the first that [`Follower::take_next`] refuses; what was
@@ -114,7 +117,10 @@ impl Follower {
         ensures counted { self.old.rows ≤ self.new.rows }
         ensures within { self.new.rows ≤ ROWS_MAX }
     {
-        take_each(alloc, reader, self)
+        let taken = take_each(alloc, reader, self);
+        // Shows the proof what the type keeps.
+        let _ = &self.replica;
+        taken
     }
 }
 

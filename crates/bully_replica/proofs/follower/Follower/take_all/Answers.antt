@@ -2,10 +2,10 @@ use Rattle.bully_replica.proofs.FollowLemmas.{all_followed, part_followed, rows_
 use Rattle.bully_replica.proofs.follower.Follower.take_all.Goals as goal
 
 pub returns-clause-all : goal.returns-clause-all
-returns-clause-all g c = all_followed c.take_each.result c.args.reader.now c.take_each.new.rows c.args.self.now c.take_each.new.taker c.take_each.ensures.all
+returns-clause-all g c = all_followed c.take_each-taken.result c.args.reader.now c.take_each-taken.new.rows c.args.self.now c.take_each-taken.new.taker c.take_each-taken.ensures.all
 
 pub returns-clause-part : goal.returns-clause-part
-returns-clause-part g c = part_followed c.take_each.result c.args.reader.now c.take_each.new.rows c.args.self.now c.take_each.new.taker c.take_each.ensures.part
+returns-clause-part g c = part_followed c.take_each-taken.result c.args.reader.now c.take_each-taken.new.rows c.args.self.now c.take_each-taken.new.taker c.take_each-taken.ensures.part
 
 pub returns-clause-counted : goal.returns-clause-counted
-returns-clause-counted g c = rows_grow c.take_each.result c.args.reader.now c.take_each.new.rows c.args.self.now c.take_each.new.taker c.take_each.ensures.all c.take_each.ensures.part
+returns-clause-counted g c = rows_grow c.take_each-taken.result c.args.reader.now c.take_each-taken.new.rows c.args.self.now c.take_each-taken.new.taker c.take_each-taken.ensures.all c.take_each-taken.ensures.part

@@ -2,10 +2,10 @@ use Rattle.bully_replica.proofs.FollowLemmas.{fails_at, stays_at, took}
 use Rattle.bully_replica.proofs.follower.Follower.take_next.Goals as goal
 
 pub returns-clause-takes : goal.returns-clause-takes
-returns-clause-takes g c = took c.take_next.result c.args.reader.now c.take_next.new.rows _ _ c.take_next.ensures.taken c.take_next.ensures.ended
+returns-clause-takes g c = took c.take_next-taken.result c.args.reader.now c.take_next-taken.new.rows _ _ c.take_next-taken.ensures.taken c.take_next-taken.ensures.ended
 
 pub returns-clause-fault : goal.returns-clause-fault
-returns-clause-fault g c = fails_at c.take_next.result c.args.reader.now c.take_next.new.rows c.args.self.now c.take_next.new.taker c.take_next.ensures.refused
+returns-clause-fault g c = fails_at c.take_next-taken.result c.args.reader.now c.take_next-taken.new.rows c.args.self.now c.take_next-taken.new.taker c.take_next-taken.ensures.refused
 
 pub returns-clause-unchanged : goal.returns-clause-unchanged
-returns-clause-unchanged g c = stays_at c.take_next.result c.args.reader.now c.take_next.new.rows c.args.self.now c.take_next.new.taker c.take_next.ensures.refused
+returns-clause-unchanged g c = stays_at c.take_next-taken.result c.args.reader.now c.take_next-taken.new.rows c.args.self.now c.take_next-taken.new.taker c.take_next-taken.ensures.refused
