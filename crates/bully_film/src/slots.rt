@@ -1,4 +1,4 @@
-//! The stretches over which a node's slot held the same call in the same phase.
+//! What is seen of a node in the stretches of its slot: a call in a phase, or nothing; and how such a call ends.
 ghost use Rattle.std.specs.Prelude.{◌≡◌, ◌+◌, ◌<◌, ◌↔◌, drop, length, IsTrue};
 ghost use Rattle.bully_film.specs.Lane.{IsEndBefore, IsEndBy, IsEndIn};
 
