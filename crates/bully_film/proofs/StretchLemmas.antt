@@ -1,27 +1,60 @@
 -- Stretches that lie end to end go on by a row.
-use Rattle.std.proofs.Common.{◌≡◌, ◌∙◌, ℕ, ◌+◌, ◌-◌, ◌<◌, ◌≤◌, ◌++◌, List, [], ◌∷◌, Option, length, replicate, map, take, get_or, refl, sym, ap, subst, arith}
+use Rattle.std.proofs.Common.{◌≡◌, ◌≢◌, ◌∙◌, ℕ, ◌+◌, ◌-◌, ◌<◌, ◌≤◌, ◌++◌, List, [], ◌∷◌, length, replicate, map, take, get_or, refl, sym, ap, subst, arith}
 use Rattle.std.proofs.lemmas.List.{append_assoc, append-nil, map_more, replicate_more, take_all}
 use Rattle.bully_film.specs.declared.snapshot.NodeSnapshot.{NodeSnapshot}
-use Rattle.bully_film.specs.declared.slots.HeldCall.{HeldCall}
-use Rattle.bully_film.specs.declared.slots.Holding.{Holding}
-use Rattle.bully_film.specs.declared.stretches.Bar.{Bar}
-use Rattle.bully_film.specs.declared.stretches.Stand.{Stand}
+use Rattle.bully_film.specs.declared.stretches.Stretch.{Stretch}
 use Rattle.bully_film.specs.declared.whole.Lane.{Lane}
-use Rattle.bully_film.specs.Lane.{AreJoined, AreJoinedHeld, AreLanes, IsLane, held_in, spread, spread_held, stand_of}
+use Rattle.bully_film.specs.Lane.{AreApart, AreJoined, AreLanes, EndsBefore, IsLane, spread}
+
+abbrev pub stretch_of : {T : Type 0} → ℕ → ℕ → T → Stretch T
+stretch_of {T} first last value = record { first = first; last = last; seen = value }
+
+spread-more : {T : Type 0} (done : List (Stretch T)) (one : Stretch T) → spread (done ++ one ∷ []) ≡ spread done ++ replicate (one.last + 1 - one.first) one.seen
+spread-more {T} [] one = append-nil (replicate (one.last + 1 - one.first) one.seen)
+spread-more {T} (first ∷ done) one =
+    ap (λ l. replicate (first.last + 1 - first.first) first.seen ++ l) (spread-more done one)
+    ∙ sym (append_assoc (replicate (first.last + 1 - first.first) first.seen) (spread done) (replicate (one.last + 1 - one.first) one.seen))
 
 -- one more row of the same stretch
-goes-on : {A : Type 0} (done all : List A) (from row : ℕ) (value : A) → from ≤ row → done ++ replicate (row + 1 - from) value ≡ all
-    → done ++ replicate (row + 1 + 1 - from) value ≡ all ++ value ∷ []
-goes-on {A} done all from row value within is =
+spread-longer : {T : Type 0} (done : List (Stretch T)) (from row : ℕ) (value : T) → from ≤ row
+    → spread (done ++ stretch_of from (row + 1) value ∷ []) ≡ spread (done ++ stretch_of from row value ∷ []) ++ value ∷ []
+spread-longer {T} done from row value within =
     let more : row + 1 + 1 - from ≡ row + 1 - from + 1 = omega (arith, within) in
-    ap (λ n. done ++ replicate n value) more
-    ∙ ap (λ l. done ++ l) (sym (replicate_more (row + 1 - from) value))
-    ∙ sym (append_assoc done (replicate (row + 1 - from) value) (value ∷ []))
-    ∙ ap (λ l. l ++ value ∷ []) is
+    spread-more done (stretch_of from (row + 1) value)
+    ∙ ap (λ n. spread done ++ replicate n value) more
+    ∙ ap (λ l. spread done ++ l) (sym (replicate_more (row + 1 - from) value))
+    ∙ sym (append_assoc (spread done) (replicate (row + 1 - from) value) (value ∷ []))
+    ∙ ap (λ l. l ++ value ∷ []) (sym (spread-more done (stretch_of from row value)))
 
--- one more row begins a stretch
-begins-anew : {A : Type 0} (all : List A) (row : ℕ) (value : A) → all ++ replicate (row + 1 + 1 - (row + 1)) value ≡ all ++ value ∷ []
-begins-anew {A} all row value = let one : row + 1 + 1 - (row + 1) ≡ 1 = omega arith in ap (λ n. all ++ replicate n value) one
+joined-longer : {T : Type 0} (first : ℕ) (done : List (Stretch T)) (from row : ℕ) (value : T) → AreJoined first (done ++ stretch_of from row value ∷ []) (row + 1)
+    → AreJoined first (done ++ stretch_of from (row + 1) value ∷ []) (row + 1 + 1)
+joined-longer {T} first [] from row value (here, some, joined) = (here, omega (arith, some), refl)
+joined-longer {T} first (one ∷ done) from row value (here, some, joined) = (here, some, joined-longer (one.last + 1) done from row value joined)
+
+before-longer : {T : Type 0} (done : List (Stretch T)) (from row other : ℕ) (value seen : T) → EndsBefore seen (done ++ stretch_of from row value ∷ [])
+    → EndsBefore seen (done ++ stretch_of from other value ∷ [])
+before-longer {T} [] from row other value seen apart = apart
+before-longer {T} (one ∷ done) from row other value seen apart = apart
+
+apart-longer : {T : Type 0} (done : List (Stretch T)) (from row other : ℕ) (value : T) → AreApart (done ++ stretch_of from row value ∷ [])
+    → AreApart (done ++ stretch_of from other value ∷ [])
+apart-longer {T} [] from row other value apart = apart
+apart-longer {T} (one ∷ done) from row other value (here, apart) = (before-longer done from row other value one.seen here, apart-longer done from row other value apart)
+
+-- one more stretch, of a row
+spread-begins : {T : Type 0} (all : List (Stretch T)) (row : ℕ) (value : T) → spread (all ++ stretch_of row row value ∷ []) ≡ spread all ++ value ∷ []
+spread-begins {T} all row value =
+    let one : row + 1 - row ≡ 1 = omega arith in
+    spread-more all (stretch_of row row value) ∙ ap (λ n. spread all ++ replicate n value) one
+
+joined-begins : {T : Type 0} (first : ℕ) (all : List (Stretch T)) (row : ℕ) (value : T) → AreJoined first all row → AreJoined first (all ++ stretch_of row row value ∷ []) (row + 1)
+joined-begins {T} first [] row value joined = (sym joined, omega (arith, joined), refl)
+joined-begins {T} first (one ∷ all) row value (here, some, joined) = (here, some, joined-begins (one.last + 1) all row value joined)
+
+apart-begins : {T : Type 0} (done : List (Stretch T)) (one next : Stretch T) → AreApart (done ++ one ∷ []) → one.seen ≢ next.seen → AreApart ((done ++ one ∷ []) ++ next ∷ [])
+apart-begins {T} [] one next apart other = (other, (tt, tt))
+apart-begins {T} (first ∷ []) one next (here, apart) other = (here, apart-begins [] one next apart other)
+apart-begins {T} (first ∷ second ∷ done) one next (here, apart) other = (here, apart-begins (second ∷ done) one next apart other)
 
 -- one more of the values
 taken-more : {A : Type 0} (f : NodeSnapshot → A) (start : A) (rest : List NodeSnapshot) (k : ℕ) (x : NodeSnapshot) → k < length rest → x ≡ get_or rest k x
@@ -29,147 +62,73 @@ taken-more : {A : Type 0} (f : NodeSnapshot → A) (start : A) (rest : List Node
 taken-more {A} f start rest k x within is =
     ap (λ y. (start ∷ map f (take k rest)) ++ f y ∷ []) is ∙ ap (λ l. start ∷ l) (sym (map_more f rest k x within))
 
--- ---- of a status
-
-abbrev pub bar_of : ℕ → ℕ → Stand → Bar
-bar_of first last value = record { first = first; last = last; stand = value }
-
-spread-more : (done : List Bar) (one : Bar) → spread (done ++ one ∷ []) ≡ spread done ++ replicate (one.last + 1 - one.first) one.stand
-spread-more [] one = append-nil (replicate (one.last + 1 - one.first) one.stand)
-spread-more (first ∷ done) one =
-    ap (λ l. replicate (first.last + 1 - first.first) first.stand ++ l) (spread-more done one)
-    ∙ sym (append_assoc (replicate (first.last + 1 - first.first) first.stand) (spread done) (replicate (one.last + 1 - one.first) one.stand))
-
-bar-joined-more : (first : ℕ) (done : List Bar) (from last : ℕ) (value : Stand) → AreJoined first done from → from ≤ last
-    → AreJoined first (done ++ bar_of from last value ∷ []) (last + 1)
-bar-joined-more first [] from last value joined within = (sym joined, omega (arith, joined, within), refl)
-bar-joined-more first (one ∷ done) from last value (here, some, joined) within = (here, some, bar-joined-more (one.last + 1) done from last value joined within)
-
 -- the stretches that are done, and the one at hand, are those of the first value and of so many more
-pub record IsBarLoop (first : ℕ) (done : List Bar) (from row : ℕ) (value start : Stand) (rest : List NodeSnapshot) (k : ℕ) : Type 0 where
-  pub spread : spread done ++ replicate (row + 1 - from) value ≡ start ∷ map stand_of (take k rest)
-  pub joined : AreJoined first done from
+pub record IsLoop {T : Type 0} (seen : NodeSnapshot → T) (first : ℕ) (done : List (Stretch T)) (from row : ℕ) (value start : T) (rest : List NodeSnapshot) (k : ℕ) : Type 0 where
+  pub spread : spread (done ++ stretch_of from row value ∷ []) ≡ start ∷ map seen (take k rest)
+  pub joined : AreJoined first (done ++ stretch_of from row value ∷ []) (row + 1)
+  pub apart : AreApart (done ++ stretch_of from row value ∷ [])
   pub within : from ≤ row
   pub row_is : row ≡ first + k
 
-pub bar-starts : (first : ℕ) (start : Stand) (rest : List NodeSnapshot) → IsBarLoop first [] first first start start rest 0
-bar-starts first start rest = record {
-  spread = let one : first + 1 - first ≡ 1 = omega arith in ap (λ n. replicate n start) one;
-  joined = refl;
+pub starts : {T : Type 0} (seen : NodeSnapshot → T) (first : ℕ) (start : T) (rest : List NodeSnapshot) → IsLoop seen first [] first first start start rest 0
+starts {T} seen first start rest = record {
+  spread = spread-begins [] first start;
+  joined = joined-begins first [] first start refl;
+  apart = (tt, tt);
   within = omega arith;
   row_is = omega arith;
 }
 
-pub bar-goes-on : (first : ℕ) (done : List Bar) (from row : ℕ) (value next start : Stand) (rest : List NodeSnapshot) (k : ℕ) (x : NodeSnapshot)
-    → next ≡ stand_of x → value ≡ next → k < length rest → x ≡ get_or rest k x
-    → IsBarLoop first done from row value start rest k → IsBarLoop first done from (row + 1) value start rest (k + 1)
-bar-goes-on first done from row value next start rest k x of same below is loop = record {
+pub goes-on : {T : Type 0} (seen : NodeSnapshot → T) (first : ℕ) (done : List (Stretch T)) (from row : ℕ) (value next start : T) (rest : List NodeSnapshot) (k : ℕ) (x : NodeSnapshot)
+    → next ≡ seen x → value ≡ next → k < length rest → x ≡ get_or rest k x
+    → IsLoop seen first done from row value start rest k → IsLoop seen first done from (row + 1) value start rest (k + 1)
+goes-on {T} seen first done from row value next start rest k x of same below is loop = record {
   spread =
-      goes-on (spread done) (start ∷ map stand_of (take k rest)) from row value loop.within loop.spread
-      ∙ ap (λ v. (start ∷ map stand_of (take k rest)) ++ v ∷ []) (same ∙ of)
-      ∙ taken-more stand_of start rest k x below is;
-  joined = loop.joined;
+      spread-longer done from row value loop.within
+      ∙ ap (λ l. l ++ value ∷ []) loop.spread
+      ∙ ap (λ v. (start ∷ map seen (take k rest)) ++ v ∷ []) (same ∙ of)
+      ∙ taken-more seen start rest k x below is;
+  joined = joined-longer first done from row value loop.joined;
+  apart = apart-longer done from row (row + 1) value loop.apart;
   within = omega (arith, loop.within);
   row_is = omega (arith, loop.row_is);
 }
 
-pub bar-begins : (first : ℕ) (done all : List Bar) (one : Bar) (from row : ℕ) (value next start : Stand) (rest : List NodeSnapshot) (k : ℕ) (x : NodeSnapshot)
-    → next ≡ stand_of x → one ≡ bar_of from row value → all ≡ done ++ one ∷ [] → k < length rest → x ≡ get_or rest k x
-    → IsBarLoop first done from row value start rest k → IsBarLoop first all (row + 1) (row + 1) next start rest (k + 1)
-bar-begins first done all one from row value next start rest k x of is_one is_all below is loop = record {
+pub begins : {T : Type 0} (seen : NodeSnapshot → T) (first : ℕ) (done all : List (Stretch T)) (one : Stretch T) (from row : ℕ) (value next start : T) (rest : List NodeSnapshot) (k : ℕ) (x : NodeSnapshot)
+    → next ≡ seen x → value ≢ next → one ≡ stretch_of from row value → all ≡ done ++ one ∷ [] → k < length rest → x ≡ get_or rest k x
+    → IsLoop seen first done from row value start rest k → IsLoop seen first all (row + 1) (row + 1) next start rest (k + 1)
+begins {T} seen first done all one from row value next start rest k x of other is_one is_all below is loop = record {
   spread =
-      ap (λ l. l ++ replicate (row + 1 + 1 - (row + 1)) next) whole
-      ∙ begins-anew (start ∷ map stand_of (take k rest)) row next
-      ∙ ap (λ v. (start ∷ map stand_of (take k rest)) ++ v ∷ []) of
-      ∙ taken-more stand_of start rest k x below is;
-  joined = rw (is_all, is_one) (bar-joined-more first done from row value loop.joined loop.within);
+      spread-begins all (row + 1) next
+      ∙ ap (λ l. spread l ++ next ∷ []) whole
+      ∙ ap (λ l. l ++ next ∷ []) loop.spread
+      ∙ ap (λ v. (start ∷ map seen (take k rest)) ++ v ∷ []) of
+      ∙ taken-more seen start rest k x below is;
+  joined = joined-begins first all (row + 1) next (rw whole loop.joined);
+  apart = rw whole (apart-begins done (stretch_of from row value) (stretch_of (row + 1) (row + 1) next) loop.apart other);
   within = omega arith;
   row_is = omega (arith, loop.row_is);
 }
   where
-    whole : spread all ≡ start ∷ map stand_of (take k rest)
-    whole = ap spread is_all ∙ ap (λ o. spread (done ++ o ∷ [])) is_one ∙ spread-more done (bar_of from row value) ∙ loop.spread
+    whole : all ≡ done ++ stretch_of from row value ∷ []
+    whole = is_all ∙ ap (λ o. done ++ o ∷ []) is_one
 
-pub bar-ends : (first : ℕ) (done all : List Bar) (one : Bar) (from row : ℕ) (value start : Stand) (rest : List NodeSnapshot) (k : ℕ)
-    → one ≡ bar_of from row value → all ≡ done ++ one ∷ [] → k ≡ length rest
-    → IsBarLoop first done from row value start rest k → (spread all ≡ start ∷ map stand_of rest) × AreJoined first all (first + length rest + 1)
-bar-ends first done all one from row value start rest k is_one is_all end loop = (
-  ap spread is_all ∙ ap (λ o. spread (done ++ o ∷ [])) is_one ∙ spread-more done (bar_of from row value) ∙ loop.spread
-      ∙ ap (λ l. start ∷ map stand_of l) (take_all k rest (omega (arith, end))),
-  let last : row + 1 ≡ first + length rest + 1 = omega (arith, loop.row_is, end) in
-      rw (is_all, is_one) (subst (λ n. AreJoined first (done ++ bar_of from row value ∷ []) n) last (bar-joined-more first done from row value loop.joined loop.within)),
-)
+-- what the loop has made when it ends
+pub record IsWhole {T : Type 0} (seen : NodeSnapshot → T) (first : ℕ) (all : List (Stretch T)) (start : T) (rest : List NodeSnapshot) : Type 0 where
+  pub spread : spread all ≡ start ∷ map seen rest
+  pub joined : AreJoined first all (first + length rest + 1)
+  pub apart : AreApart all
 
--- ---- of a slot
-
-abbrev pub holding_of : ℕ → ℕ → (Option HeldCall) → Holding
-holding_of first last value = record { first = first; last = last; held = value }
-
-spread_held-more : (done : List Holding) (one : Holding) → spread_held (done ++ one ∷ []) ≡ spread_held done ++ replicate (one.last + 1 - one.first) one.held
-spread_held-more [] one = append-nil (replicate (one.last + 1 - one.first) one.held)
-spread_held-more (first ∷ done) one =
-    ap (λ l. replicate (first.last + 1 - first.first) first.held ++ l) (spread_held-more done one)
-    ∙ sym (append_assoc (replicate (first.last + 1 - first.first) first.held) (spread_held done) (replicate (one.last + 1 - one.first) one.held))
-
-holding-joined-more : (first : ℕ) (done : List Holding) (from last : ℕ) (value : (Option HeldCall)) → AreJoinedHeld first done from → from ≤ last
-    → AreJoinedHeld first (done ++ holding_of from last value ∷ []) (last + 1)
-holding-joined-more first [] from last value joined within = (sym joined, omega (arith, joined, within), refl)
-holding-joined-more first (one ∷ done) from last value (here, some, joined) within = (here, some, holding-joined-more (one.last + 1) done from last value joined within)
-
--- the stretches that are done, and the one at hand, are those of the first value and of so many more
-pub record IsHoldingLoop (first : ℕ) (done : List Holding) (from row : ℕ) (value start : (Option HeldCall)) (rest : List NodeSnapshot) (k : ℕ) : Type 0 where
-  pub spread : spread_held done ++ replicate (row + 1 - from) value ≡ start ∷ map held_in (take k rest)
-  pub joined : AreJoinedHeld first done from
-  pub within : from ≤ row
-  pub row_is : row ≡ first + k
-
-pub holding-starts : (first : ℕ) (start : (Option HeldCall)) (rest : List NodeSnapshot) → IsHoldingLoop first [] first first start start rest 0
-holding-starts first start rest = record {
-  spread = let one : first + 1 - first ≡ 1 = omega arith in ap (λ n. replicate n start) one;
-  joined = refl;
-  within = omega arith;
-  row_is = omega arith;
-}
-
-pub holding-goes-on : (first : ℕ) (done : List Holding) (from row : ℕ) (value next start : (Option HeldCall)) (rest : List NodeSnapshot) (k : ℕ) (x : NodeSnapshot)
-    → next ≡ held_in x → value ≡ next → k < length rest → x ≡ get_or rest k x
-    → IsHoldingLoop first done from row value start rest k → IsHoldingLoop first done from (row + 1) value start rest (k + 1)
-holding-goes-on first done from row value next start rest k x of same below is loop = record {
-  spread =
-      goes-on (spread_held done) (start ∷ map held_in (take k rest)) from row value loop.within loop.spread
-      ∙ ap (λ v. (start ∷ map held_in (take k rest)) ++ v ∷ []) (same ∙ of)
-      ∙ taken-more held_in start rest k x below is;
-  joined = loop.joined;
-  within = omega (arith, loop.within);
-  row_is = omega (arith, loop.row_is);
-}
-
-pub holding-begins : (first : ℕ) (done all : List Holding) (one : Holding) (from row : ℕ) (value next start : (Option HeldCall)) (rest : List NodeSnapshot) (k : ℕ) (x : NodeSnapshot)
-    → next ≡ held_in x → one ≡ holding_of from row value → all ≡ done ++ one ∷ [] → k < length rest → x ≡ get_or rest k x
-    → IsHoldingLoop first done from row value start rest k → IsHoldingLoop first all (row + 1) (row + 1) next start rest (k + 1)
-holding-begins first done all one from row value next start rest k x of is_one is_all below is loop = record {
-  spread =
-      ap (λ l. l ++ replicate (row + 1 + 1 - (row + 1)) next) whole
-      ∙ begins-anew (start ∷ map held_in (take k rest)) row next
-      ∙ ap (λ v. (start ∷ map held_in (take k rest)) ++ v ∷ []) of
-      ∙ taken-more held_in start rest k x below is;
-  joined = rw (is_all, is_one) (holding-joined-more first done from row value loop.joined loop.within);
-  within = omega arith;
-  row_is = omega (arith, loop.row_is);
-}
-  where
-    whole : spread_held all ≡ start ∷ map held_in (take k rest)
-    whole = ap spread_held is_all ∙ ap (λ o. spread_held (done ++ o ∷ [])) is_one ∙ spread_held-more done (holding_of from row value) ∙ loop.spread
-
-pub holding-ends : (first : ℕ) (done all : List Holding) (one : Holding) (from row : ℕ) (value start : (Option HeldCall)) (rest : List NodeSnapshot) (k : ℕ)
-    → one ≡ holding_of from row value → all ≡ done ++ one ∷ [] → k ≡ length rest
-    → IsHoldingLoop first done from row value start rest k → (spread_held all ≡ start ∷ map held_in rest) × AreJoinedHeld first all (first + length rest + 1)
-holding-ends first done all one from row value start rest k is_one is_all end loop = (
-  ap spread_held is_all ∙ ap (λ o. spread_held (done ++ o ∷ [])) is_one ∙ spread_held-more done (holding_of from row value) ∙ loop.spread
-      ∙ ap (λ l. start ∷ map held_in l) (take_all k rest (omega (arith, end))),
-  let last : row + 1 ≡ first + length rest + 1 = omega (arith, loop.row_is, end) in
-      rw (is_all, is_one) (subst (λ n. AreJoinedHeld first (done ++ holding_of from row value ∷ []) n) last (holding-joined-more first done from row value loop.joined loop.within)),
-)
+pub ends : {T : Type 0} (seen : NodeSnapshot → T) (first : ℕ) (done all : List (Stretch T)) (one : Stretch T) (from row : ℕ) (value start : T) (rest : List NodeSnapshot) (k : ℕ)
+    → one ≡ stretch_of from row value → all ≡ done ++ one ∷ [] → k ≡ length rest → IsLoop seen first done from row value start rest k → IsWhole seen first all start rest
+ends {T} seen first done all one from row value start rest k is_one is_all end loop =
+    let whole : all ≡ done ++ stretch_of from row value ∷ [] = is_all ∙ ap (λ o. done ++ o ∷ []) is_one in
+    let last : row + 1 ≡ first + length rest + 1 = omega (arith, loop.row_is, end) in
+    rw whole record {
+      spread = loop.spread ∙ ap (λ l. start ∷ map seen l) (take_all k rest (omega (arith, end)));
+      joined = subst (AreJoined first (done ++ stretch_of from row value ∷ [])) last loop.joined;
+      apart = loop.apart;
+    }
 
 -- ---- of all nodes
 

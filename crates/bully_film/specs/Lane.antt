@@ -1,5 +1,5 @@
 -- How one node stood, row by row, and the stretches over which it stayed so.
-use Rattle.std.specs.Prelude.{◌≡◌, ℕ, Bool, false, not, ◌+◌, ◌-◌, ◌≤◌, ◌==◌, ◌++◌, List, [], ◌∷◌, Option, Some, None, map, option_map, replicate, length, if◌then◌else◌}
+use Rattle.std.specs.Prelude.{◌≡◌, ◌≢◌, ℕ, Bool, false, not, ◌+◌, ◌-◌, ◌≤◌, ◌==◌, ◌++◌, List, [], ◌∷◌, Option, Some, None, map, option_map, replicate, length, if◌then◌else◌}
 use Rattle.bully_calls.specs.declared.call.Answer.{Answer}
 use Rattle.bully_calls.specs.declared.call.Call.{Call}
 use Rattle.bully_calls.specs.declared.call.Phase.{Phase}
@@ -9,9 +9,8 @@ use Rattle.bully_film.specs.declared.snapshot.SlotCall.{SlotCall}
 use Rattle.bully_film.specs.declared.whole.Lane.{Lane}
 use Rattle.bully_film.specs.declared.slots.End.{End}
 use Rattle.bully_film.specs.declared.slots.HeldCall.{HeldCall}
-use Rattle.bully_film.specs.declared.slots.Holding.{Holding}
-use Rattle.bully_film.specs.declared.stretches.Bar.{Bar}
-use Rattle.bully_film.specs.declared.stretches.Stand.{Stand}
+use Rattle.bully_film.specs.declared.stands.Stand.{Stand}
+use Rattle.bully_film.specs.declared.stretches.Stretch.{Stretch}
 
 -- node j before the row, where it is so where the row doesn't speak of it
 abbrev pub snapshot_before : ℕ → NodeSnapshot → Scene → NodeSnapshot
@@ -44,24 +43,29 @@ held_of held = record { call = held.call; phase = held.phase }
 abbrev pub held_in : NodeSnapshot → Option HeldCall
 held_in snapshot = option_map held_of snapshot.call
 
--- what bars say of each row that they span
-abbrev pub spread : List Bar → List Stand
+-- a stretch over which a slot held the same, or nothing
+abbrev pub Holding : Type 0
+Holding = Stretch (Option HeldCall)
+
+-- what stretches say of each row that they span
+abbrev pub spread : {T : Type 0} → List (Stretch T) → List T
 spread [] = []
-spread (bar ∷ bars) = replicate (bar.last + 1 - bar.first) bar.stand ++ spread bars
+spread (one ∷ others) = replicate (one.last + 1 - one.first) one.seen ++ spread others
 
--- the bars lie end to end, from this row up to before that one
-abbrev pub AreJoined : ℕ → List Bar → ℕ → Type 0
+-- the stretches lie end to end, from this row up to before that one
+abbrev pub AreJoined : {T : Type 0} → ℕ → List (Stretch T) → ℕ → Type 0
 AreJoined first [] end = first ≡ end
-AreJoined first (bar ∷ bars) end = (bar.first ≡ first) × (first ≤ bar.last) × AreJoined (bar.last + 1) bars end
+AreJoined first (one ∷ others) end = (one.first ≡ first) × (first ≤ one.last) × AreJoined (one.last + 1) others end
 
--- the same of what a slot holds
-abbrev pub spread_held : List Holding → List (Option HeldCall)
-spread_held [] = []
-spread_held (holding ∷ holdings) = replicate (holding.last + 1 - holding.first) holding.held ++ spread_held holdings
+-- behind this something else is seen, if anything
+abbrev pub EndsBefore : {T : Type 0} → T → List (Stretch T) → Type 0
+EndsBefore value [] = Unit {0}
+EndsBefore value (one ∷ others) = value ≢ one.seen
 
-abbrev pub AreJoinedHeld : ℕ → List Holding → ℕ → Type 0
-AreJoinedHeld first [] end = first ≡ end
-AreJoinedHeld first (holding ∷ holdings) end = (holding.first ≡ first) × (first ≤ holding.last) × AreJoinedHeld (holding.last + 1) holdings end
+-- those that meet differ
+abbrev pub AreApart : {T : Type 0} → List (Stretch T) → Type 0
+AreApart [] = Unit {0}
+AreApart (one ∷ others) = EndsBefore one.seen others × AreApart others
 
 -- how a call ends behind which the slot holds another one, or the same in another phase
 abbrev pub IsEndBy : HeldCall → Call → End → Type 0
@@ -78,7 +82,7 @@ IsEndBefore (Some next) call end = IsEndBy next call end
 -- the same of the stretches behind it, of which there may be none
 abbrev pub IsEndIn : List Holding → Call → End → Type 0
 IsEndIn [] call end = end ≡ End.UnderWay
-IsEndIn (holding ∷ holdings) call end = IsEndBefore holding.held call end
+IsEndIn (holding ∷ holdings) call end = IsEndBefore holding.seen call end
 
 -- the number of the row before those of the scenes: of the header, where there are none
 abbrev pub row_before : List Scene → ℕ
@@ -94,8 +98,10 @@ pub record IsLane (i first : ℕ) (snapshots : List NodeSnapshot) (lane : Lane) 
   pub node : lane.node ≡ i
   pub bars : spread lane.bars.items ≡ map stand_of snapshots
   pub bars_joined : AreJoined first lane.bars.items (first + length snapshots)
-  pub holdings : spread_held lane.holdings.items ≡ map held_in snapshots
-  pub holdings_joined : AreJoinedHeld first lane.holdings.items (first + length snapshots)
+  pub bars_apart : AreApart lane.bars.items
+  pub holdings : spread lane.holdings.items ≡ map held_in snapshots
+  pub holdings_joined : AreJoined first lane.holdings.items (first + length snapshots)
+  pub holdings_apart : AreApart lane.holdings.items
   pub orphans : lane.orphans.items ≡ map is_orphan snapshots
 
 -- the lanes of the nodes from node i on, of which each stood so

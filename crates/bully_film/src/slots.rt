@@ -1,11 +1,10 @@
-//! The stretches over which a node's slot held the same call in the same phase.
-ghost use Rattle.std.specs.Prelude.{◌≡◌, ◌+◌, ◌-◌, ◌^◌, ◌<◌, ◌≤◌, ◌↔◌, ◌++◌, ◌∷◌, [], drop, length, map, IfOk, IsTrue, OnOk};
-ghost use Rattle.bully_film.specs.Lane.{AreJoinedHeld, IsEndBefore, IsEndBy, IsEndIn, held_in, spread_held};
+//! What is seen of a node in the stretches of its slot: a call in a phase, or nothing; and how such a call ends.
+ghost use Rattle.std.specs.Prelude.{◌≡◌, ◌+◌, ◌<◌, ◌↔◌, drop, length, IsTrue};
+ghost use Rattle.bully_film.specs.Lane.{IsEndBefore, IsEndBy, IsEndIn};
 
 use crate::snapshot::NodeSnapshot;
-use bully_base::OutOfMemory;
+use crate::stretches::{Seen, Stretch};
 use bully_calls::{Call, Phase};
-use std::alloc::Global;
 
 /// A call in a slot, and how far it came.
 #[derive(Clone, Copy, PartialEq, Eq)]
@@ -14,32 +13,9 @@ pub struct HeldCall {
     pub phase: Phase,
 }
 
-/// A stretch of rows behind each of which a node's slot held this, or nothing: from the first to the last. A call that was sent is an
-/// arrow from the first row of its stretch to the one behind the last, in which it runs, is lost, or is given up.
-#[derive(Clone, Copy)]
-pub struct Holding {
-    pub first: u32,
-    pub last: u32,
-    pub held: Option<HeldCall>,
-}
-
-/// What the slot of a node held that stood so behind each of these rows, of which the first has this number. Refused where an
-/// allocation fails.
-pub fn holdings(
-    alloc: Global,
-    first: u32,
-    snapshots: &[NodeSnapshot],
-) -> Result<Vec<Holding>, OutOfMemory>
-    requires { first + length snapshots.now < 2 ^ 32 }
-    ensures spread { IfOk result (λ holdings. spread_held holdings.items ≡ map held_in snapshots.now) }
-    ensures joined { IfOk result (λ holdings. AreJoinedHeld first holdings.items (first + length snapshots.now)) }
-{
-    let mut holdings = Vec::new(alloc);
-    if let Some((start, rest)) = snapshots.split_first() {
-        push_holdings(&mut holdings, first, held_in(start), rest)?;
-    }
-    Ok(holdings)
-}
+/// A stretch of rows behind each of which a node's slot held this, or nothing. A call that was sent is an arrow from the first row of its
+/// stretch to the one behind the last, in which it runs, is lost, or is given up.
+pub type Holding = Stretch<Option<HeldCall>>;
 
 /// How a stretch of a slot ends: the call runs at its callee, it is lost, it is taken out of the slot, or it is still there behind the
 /// last row.
@@ -57,7 +33,7 @@ pub fn end_at(holdings: &[Holding], place: usize, call: &Call) -> End
     ensures { IsEndIn (drop (place + 1) holdings.now) call.now result }
 {
     match holdings[place + 1..].first() {
-        Some(next) => end_before(&next.held, call),
+        Some(next) => end_before(&next.seen, call),
         None => End::UnderWay,
     }
 }
@@ -92,61 +68,22 @@ fn same_call(one: &Call, other: &Call) -> bool
     one == other
 }
 
-// Appends what the slot of a node held that first held this.
-fn push_holdings(
-    holdings: &mut Vec<Holding>,
-    first: u32,
-    start: Option<HeldCall>,
-    rest: &[NodeSnapshot],
-) -> Result<(), OutOfMemory>
-    requires empty { holdings.old.items ≡ [] }
-    requires fits { first + length rest.now + 1 < 2 ^ 32 }
-    ensures spread { OnOk result (spread_held holdings.new.items ≡ start ∷ map held_in rest.now) }
-    ensures joined { OnOk result (AreJoinedHeld first holdings.new.items (first + length rest.now + 1)) }
-{
-    let mut from = first;
-    let mut row = first;
-    let mut held = start;
-    for snapshot in rest {
-        let next = held_in(snapshot);
-        if !same_held(&held, &next) {
-            holdings.push(Holding::new(from, row, &held))?;
-            from = row + 1;
-            held = next;
-        }
-        row += 1;
-    }
-    holdings.push(Holding::new(from, row, &held))?;
-    Ok(())
-}
+impl Seen for Option<HeldCall> {
+    ghost use Rattle.bully_film.specs.Lane.{held_in};
 
-impl Holding {
-    fn new(first: u32, last: u32, held: &Option<HeldCall>) -> Holding
-        ensures { result ≡ record { first = first; last = last; held = held.now } }
-    {
-        Holding {
-            first,
-            last,
-            held: *held,
+    ghost seen = { held_in };
+
+    fn seen_in(snapshot: &NodeSnapshot) -> Option<HeldCall> {
+        match snapshot.call {
+            Some(held) => Some(HeldCall {
+                call: held.call,
+                phase: held.phase,
+            }),
+            None => None,
         }
     }
-}
 
-fn held_in(snapshot: &NodeSnapshot) -> Option<HeldCall>
-    ensures { result ≡ held_in snapshot.now }
-{
-    match snapshot.call {
-        Some(held) => Some(HeldCall {
-            call: held.call,
-            phase: held.phase,
-        }),
-        None => None,
+    fn is_same(&self, other: &Option<HeldCall>) -> bool {
+        *self == *other
     }
-}
-
-// Whether the two are the same.
-fn same_held(one: &Option<HeldCall>, other: &Option<HeldCall>) -> bool
-    ensures { IsTrue result ↔ (one.now ≡ other.now) }
-{
-    *one == *other
 }

@@ -1,91 +1,87 @@
-//! The stretches over which a node kept its status and its coordinator.
-ghost use Rattle.std.specs.Prelude.{◌≡◌, ◌+◌, ◌-◌, ◌^◌, ◌<◌, ◌≤◌, ◌↔◌, ◌++◌, ◌∷◌, [], length, map, IfOk, IsTrue, OnOk};
-ghost use Rattle.bully_film.specs.Lane.{AreJoined, spread, stand_of};
+//! The stretches of rows over which the same is seen of a node: its status and its coordinator, or what its slot holds.
+ghost use Rattle.std.specs.Prelude.{◌≡◌, ◌+◌, ◌^◌, ◌<◌, ◌↔◌, ◌∷◌, [], length, map, IfOk, IsTrue, OnOk};
+ghost use Rattle.bully_film.specs.Lane.{AreApart, AreJoined, spread};
 
 use crate::snapshot::NodeSnapshot;
-use bully_base::{Node, OutOfMemory, Status};
+use bully_base::OutOfMemory;
 use std::alloc::Global;
 
-/// What a bar shows: a status, and whom the node follows.
-#[derive(Clone, Copy, PartialEq, Eq)]
-pub struct Stand {
-    pub status: Status,
-    pub coordinator: Option<Node>,
+/// What is seen of a node.
+pub trait Seen: Copy {
+    ghost use Rattle.bully_film.specs.declared.snapshot.NodeSnapshot.{NodeSnapshot as SnapshotState};
+
+    // What is seen in a snapshot.
+    ghost seen: { SnapshotState → Self };
+
+    /// What is seen in this snapshot.
+    fn seen_in(snapshot: &NodeSnapshot) -> Self
+        ensures { result ≡ seen snapshot.now };
+
+    /// Whether the two are the same.
+    fn is_same(&self, other: &Self) -> bool
+        ensures { IsTrue result ↔ (self.now ≡ other.now) };
 }
 
-/// A stretch of rows behind each of which a node stood so: from the first to the last.
+/// A stretch of rows behind each of which this was seen of a node: from the first to the last.
 #[derive(Clone, Copy)]
-pub struct Bar {
+pub struct Stretch<T> {
     pub first: u32,
     pub last: u32,
-    pub stand: Stand,
+    pub seen: T,
 }
 
-/// The bars of a node that stood so behind each of these rows, of which the first has this number. Refused where an allocation fails.
-pub fn bars(alloc: Global, first: u32, snapshots: &[NodeSnapshot]) -> Result<Vec<Bar>, OutOfMemory>
-    requires { first + length snapshots.now < 2 ^ 32 }
-    ensures spread { IfOk result (λ bars. spread bars.items ≡ map stand_of snapshots.now) }
-    ensures joined { IfOk result (λ bars. AreJoined first bars.items (first + length snapshots.now)) }
-{
-    let mut bars = Vec::new(alloc);
-    if let Some((start, rest)) = snapshots.split_first() {
-        push_bars(&mut bars, first, stand_of(start), rest)?;
-    }
-    Ok(bars)
-}
-
-// Appends the bars of a node that first stood so.
-fn push_bars(
-    bars: &mut Vec<Bar>,
+/// The stretches of a node that stood so behind each of these rows, of which the first has this number: over each the same is seen, and
+/// what is seen changes where two meet. Refused where an allocation fails.
+pub fn stretches_of<T: Seen>(
+    alloc: Global,
     first: u32,
-    start: Stand,
+    snapshots: &[NodeSnapshot],
+) -> Result<Vec<Stretch<T>>, OutOfMemory>
+    requires { first + length snapshots.now < 2 ^ 32 }
+    ensures spread { IfOk result (λ stretches. spread stretches.items ≡ map T.seen snapshots.now) }
+    ensures joined { IfOk result (λ stretches. AreJoined first stretches.items (first + length snapshots.now)) }
+    ensures apart { IfOk result (λ stretches. AreApart stretches.items) }
+{
+    let mut stretches = Vec::new(alloc);
+    if let Some((start, rest)) = snapshots.split_first() {
+        push_stretches(&mut stretches, first, T::seen_in(start), rest)?;
+    }
+    Ok(stretches)
+}
+
+// Appends the stretches of a node of which this was seen first.
+fn push_stretches<T: Seen>(
+    stretches: &mut Vec<Stretch<T>>,
+    first: u32,
+    start: T,
     rest: &[NodeSnapshot],
 ) -> Result<(), OutOfMemory>
-    requires empty { bars.old.items ≡ [] }
+    requires empty { stretches.old.items ≡ [] }
     requires fits { first + length rest.now + 1 < 2 ^ 32 }
-    ensures spread { OnOk result (spread bars.new.items ≡ start ∷ map stand_of rest.now) }
-    ensures joined { OnOk result (AreJoined first bars.new.items (first + length rest.now + 1)) }
+    ensures spread { OnOk result (spread stretches.new.items ≡ start ∷ map T.seen rest.now) }
+    ensures joined { OnOk result (AreJoined first stretches.new.items (first + length rest.now + 1)) }
+    ensures apart { OnOk result (AreApart stretches.new.items) }
 {
     let mut from = first;
     let mut row = first;
-    let mut stand = start;
+    let mut seen = start;
     for snapshot in rest {
-        let next = stand_of(snapshot);
-        if !same_stand(&stand, &next) {
-            bars.push(Bar::new(from, row, &stand))?;
+        let next = T::seen_in(snapshot);
+        if !seen.is_same(&next) {
+            stretches.push(Stretch::new(from, row, seen))?;
             from = row + 1;
-            stand = next;
+            seen = next;
         }
         row += 1;
     }
-    bars.push(Bar::new(from, row, &stand))?;
+    stretches.push(Stretch::new(from, row, seen))?;
     Ok(())
 }
 
-impl Bar {
-    fn new(first: u32, last: u32, stand: &Stand) -> Bar
-        ensures { result ≡ record { first = first; last = last; stand = stand.now } }
+impl<T> Stretch<T> {
+    fn new(first: u32, last: u32, seen: T) -> Stretch<T>
+        ensures { result ≡ record { first = first; last = last; seen = seen } }
     {
-        Bar {
-            first,
-            last,
-            stand: *stand,
-        }
+        Stretch { first, last, seen }
     }
-}
-
-fn stand_of(snapshot: &NodeSnapshot) -> Stand
-    ensures { result ≡ stand_of snapshot.now }
-{
-    Stand {
-        status: snapshot.status,
-        coordinator: snapshot.coordinator,
-    }
-}
-
-// Whether the two are the same.
-fn same_stand(one: &Stand, other: &Stand) -> bool
-    ensures { IsTrue result ↔ (one.now ≡ other.now) }
-{
-    *one == *other
 }

@@ -9,9 +9,10 @@ ghost use Rattle.bully_rows.specs.Trace.{Trace};
 use crate::film::FinishedFilm;
 use crate::lane::lane_of;
 use crate::scene::Scene;
-use crate::slots::{Holding, holdings};
+use crate::slots::Holding;
 use crate::snapshot::NodeSnapshot;
-use crate::stretches::{Bar, bars};
+use crate::stands::Bar;
+use crate::stretches::stretches_of;
 use bully_base::{Node, OutOfMemory};
 use std::alloc::{AllocError, Global};
 
@@ -70,8 +71,8 @@ fn stretched(
     }
     Ok(Lane {
         node,
-        bars: bars(alloc, first, snapshots)?,
-        holdings: holdings(alloc, first, snapshots)?,
+        bars: stretches_of(alloc, first, snapshots)?,
+        holdings: stretches_of(alloc, first, snapshots)?,
         orphans: orphans(alloc, snapshots)?,
     })
 }

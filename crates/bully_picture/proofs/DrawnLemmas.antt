@@ -9,10 +9,9 @@ use Rattle.bully_calls.specs.declared.call.Phase.{Phase}
 use Rattle.bully_trace.specs.declared.verdict.Verdict.{Verdict}
 use Rattle.bully_film.specs.declared.scene.Scene.{Scene}
 use Rattle.bully_film.specs.declared.slots.HeldCall.{HeldCall}
-use Rattle.bully_film.specs.declared.slots.Holding.{Holding}
 use Rattle.bully_film.specs.declared.snapshot.NodeSnapshot.{NodeSnapshot}
 use Rattle.bully_film.specs.declared.whole.Lane.{Lane}
-use Rattle.bully_film.specs.Lane.{AreJoinedHeld, AreLanes, IsLane, held_in, spread_held}
+use Rattle.bully_film.specs.Lane.{AreJoined, AreLanes, Holding, IsLane, held_in, spread}
 use Rattle.bully_picture.specs.Drawn.{HasArrow, HasArrows, HasBelow, HasHoldings, HasLanes, HasNodes, HasRows, arrow_label, below_label, decides, has_failed, held_label, node_label, row_label}
 use Rattle.bully_picture.specs.Title.{Has}
 use Rattle.bully_picture.specs.Written.{Gains, IsCopied, IsIn, Written}
@@ -21,13 +20,13 @@ use Rattle.bully_picture.proofs.WrittenLemmas.{has-more, has-within, nothing-gai
 -- what a text has, a longer one has, too
 pub holdings-more : (text more : List ℕ) (i : ℕ) (holdings : List Holding) → HasHoldings text i holdings → HasHoldings (text ++ more) i holdings
 holdings-more text more i holdings has =
-    All-weaker (λ h. Has text (held_label i h.first h.last h.held)) (λ h. Has (text ++ more) (held_label i h.first h.last h.held))
-    (λ h. has-more (held_label i h.first h.last h.held) text more) holdings has
+    All-weaker (λ h. Has text (held_label i h.first h.last h.seen)) (λ h. Has (text ++ more) (held_label i h.first h.last h.seen))
+    (λ h. has-more (held_label i h.first h.last h.seen) text more) holdings has
 
 pub holdings-within : (text middle : List ℕ) (i : ℕ) (holdings : List Holding) → Has text middle → HasHoldings middle i holdings → HasHoldings text i holdings
 holdings-within text middle i holdings within has =
-    All-weaker (λ h. Has middle (held_label i h.first h.last h.held)) (λ h. Has text (held_label i h.first h.last h.held))
-    (λ h. has-within text middle (held_label i h.first h.last h.held) within) holdings has
+    All-weaker (λ h. Has middle (held_label i h.first h.last h.seen)) (λ h. Has text (held_label i h.first h.last h.seen))
+    (λ h. has-within text middle (held_label i h.first h.last h.seen) within) holdings has
 
 pub lanes-within : (text middle : List ℕ) (lanes : List Lane) → Has text middle → HasLanes middle lanes → HasLanes text lanes
 lanes-within text middle lanes within has =
@@ -80,26 +79,26 @@ up-to-or-behind row last = by (nat_le row last) refl
     by true is = inl (grind (arith, nat_tests, is))
     by false is = inr (grind (arith, nat_tests, is))
 
-holdings-arrows : (text : List ℕ) (i first end : ℕ) (holdings : List Holding) → AreJoinedHeld first holdings end → HasHoldings text i holdings
-    → HasArrows text i first (spread_held holdings)
+holdings-arrows : (text : List ℕ) (i first end : ℕ) (holdings : List Holding) → AreJoined first holdings end → HasHoldings text i holdings
+    → HasArrows text i first (spread holdings)
 holdings-arrows text i first end [] joined has held row (low, is) runs =
     let none : None ≡ Some held = sym (get_or_past [] (row - first) None (omega arith)) ∙ is in
     absurd (cc)
 holdings-arrows text i first end (h ∷ holdings) (begins, order, joined) has held row (low, is) runs =
-    let here : Has text (held_label i h.first h.last h.held) = All-head (λ (one : Holding). Has text (held_label i one.first one.last one.held)) h holdings has in
-    let rest : HasHoldings text i holdings = All-tail (λ (one : Holding). Has text (held_label i one.first one.last one.held)) h holdings has in
-    let stretch = replicate (h.last + 1 - h.first) h.held in
-    let at : h.last + 1 ≡ first + length stretch = omega (arith, begins, order, length-replicate (h.last + 1 - h.first) h.held) in
+    let here : Has text (held_label i h.first h.last h.seen) = All-head (λ (one : Holding). Has text (held_label i one.first one.last one.seen)) h holdings has in
+    let rest : HasHoldings text i holdings = All-tail (λ (one : Holding). Has text (held_label i one.first one.last one.seen)) h holdings has in
+    let stretch = replicate (h.last + 1 - h.first) h.seen in
+    let at : h.last + 1 ≡ first + length stretch = omega (arith, begins, order, length-replicate (h.last + 1 - h.first) h.seen) in
     elim (up-to-or-behind row h.last) [
       | inl high ↦
           let low' : h.first ≤ row = omega (arith, begins, low) in
-          let same : h.held ≡ Some held = sym (held-within h.first h.last row h.held (spread_held holdings) low' high)
-          ∙ ap (λ k. get_or (stretch ++ spread_held holdings) (row - k) None) begins ∙ is in
-          subst (λ k. HasArrow text i k (stretch ++ spread_held holdings) held row) begins
-          (arrow-here text i h.first h.last row h.held held (spread_held holdings) low' high same runs here)
-      | inr behind ↦ arrow-later text i first (h.last + 1) row stretch (spread_held holdings) held at
+          let same : h.seen ≡ Some held = sym (held-within h.first h.last row h.seen (spread holdings) low' high)
+          ∙ ap (λ k. get_or (stretch ++ spread holdings) (row - k) None) begins ∙ is in
+          subst (λ k. HasArrow text i k (stretch ++ spread holdings) held row) begins
+          (arrow-here text i h.first h.last row h.seen held (spread holdings) low' high same runs here)
+      | inr behind ↦ arrow-later text i first (h.last + 1) row stretch (spread holdings) held at
           (holdings-arrows text i (h.last + 1) end holdings joined rest held row
-          (behind, sym (held-later first (h.last + 1) row stretch (spread_held holdings) at behind) ∙ is) runs)
+          (behind, sym (held-later first (h.last + 1) row stretch (spread holdings) at behind) ∙ is) runs)
     ]
 
 lane-arrows : (text : List ℕ) (i first : ℕ) (snapshots : List NodeSnapshot) (lane : Lane) → IsLane i first snapshots lane → HasHoldings text lane.node lane.holdings.items
@@ -163,10 +162,10 @@ empty-gains i first last held a is = subst (λ h. Gains a a (λ text. Has text (
 
 -- one more stretch has its arrow
 pub holdings-one : (i : ℕ) (holdings : List Holding) (k : ℕ) (h : Holding) (start a b : Written) → k < length holdings → h ≡ get_or holdings k h
-    → Gains start a (λ text. HasHoldings text i (take k holdings)) → Gains a b (λ text. Has text (held_label i h.first h.last h.held))
+    → Gains start a (λ text. HasHoldings text i (take k holdings)) → Gains a b (λ text. Has text (held_label i h.first h.last h.seen))
     → Gains start b (λ text. HasHoldings text i (take (k + 1) holdings))
 holdings-one i holdings k h start a b =
-    let label : Holding → List ℕ = λ one. held_label i one.first one.last one.held in
+    let label : Holding → List ℕ = λ one. held_label i one.first one.last one.seen in
     one-gained (λ text one. Has text (label one)) (λ text more one. has-more (label one) text more) holdings k h start a b
 
 pub holdings-all : (i : ℕ) (holdings : List Holding) (k : ℕ) (start a : Written) → length holdings ≤ k → Gains start a (λ text. HasHoldings text i (take k holdings))

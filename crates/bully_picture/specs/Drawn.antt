@@ -10,10 +10,9 @@ use Rattle.bully_calls.specs.declared.call.Phase.{Phase}
 use Rattle.bully_trace.specs.declared.verdict.Verdict.{Verdict}
 use Rattle.bully_film.specs.declared.scene.Scene.{Scene}
 use Rattle.bully_film.specs.declared.slots.HeldCall.{HeldCall}
-use Rattle.bully_film.specs.declared.slots.Holding.{Holding}
 use Rattle.bully_film.specs.declared.snapshot.NodeSnapshot.{NodeSnapshot}
 use Rattle.bully_film.specs.declared.whole.Lane.{Lane}
-use Rattle.bully_film.specs.Lane.{held_in}
+use Rattle.bully_film.specs.Lane.{Holding, held_in}
 use Rattle.bully_picture.specs.Escaping.{escaped, shortened}
 use Rattle.bully_picture.specs.Title.{Has}
 
@@ -66,7 +65,7 @@ HasNodes text nodes name_at = (is_wide : Bool) × ((i : ℕ) → i < nodes → H
 
 -- all stretches of the slot of node i have their arrows
 abbrev pub HasHoldings : List ℕ → ℕ → List Holding → Type 0
-HasHoldings text i holdings = All (λ h. Has text (held_label i h.first h.last h.held)) holdings
+HasHoldings text i holdings = All (λ h. Has text (held_label i h.first h.last h.seen)) holdings
 
 -- so do those of all lanes
 abbrev pub HasLanes : List ℕ → List Lane → Type 0

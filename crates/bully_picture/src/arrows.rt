@@ -65,7 +65,7 @@ pub fn draw_calls(
     ensures { Gains arrows.old arrows.new (λ text. HasHoldings text node holdings.now) }
 {
     for (place, holding) in holdings.iter().enumerate() {
-        if let Some(held) = holding.held {
+        if let Some(held) = holding.seen {
             let end = end_at(holdings, place, &held.call);
             let is_orphan = is_orphan(canvas, orphans, holding.last);
             draw_held(canvas, arrows, node, holding, held, end, is_orphan);

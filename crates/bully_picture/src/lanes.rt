@@ -19,7 +19,7 @@ pub fn draw_bars(canvas: &mut Canvas, node: Node, bars: &[Bar]) {
         draw_bar(canvas, node, bar);
     }
     if let Some(bar) = bars.first() {
-        draw_stand(canvas, node, bar.first, bar.stand);
+        draw_stand(canvas, node, bar.first, bar.seen);
     }
 }
 
@@ -28,7 +28,7 @@ fn draw_bar(canvas: &mut Canvas, node: Node, bar: &Bar) {
     push_bar(canvas, node, bar);
     let shows_rows = canvas.layout.rows > 0;
     push_title(&mut canvas.lines, node, bar, shows_rows);
-    canvas.lines.push(match bar.stand.status {
+    canvas.lines.push(match bar.seen.status {
         Status::Down => "</line>\n",
         _ => "</rect>\n",
     });
@@ -39,8 +39,8 @@ fn push_bar(canvas: &mut Canvas, node: Node, bar: &Bar) {
     let x = canvas.layout.x(node);
     let top = canvas.layout.y(bar.first);
     let end = canvas.layout.end(bar.last);
-    let look = bar_look(bar.stand.status);
-    if let Status::Down = bar.stand.status {
+    let look = bar_look(bar.seen.status);
+    if let Status::Down = bar.seen.status {
         push_line(&mut canvas.lines, x, top, x, end);
         canvas.lines.push(look);
         return;
@@ -67,7 +67,7 @@ fn bar_look(status: Status) -> &'static str {
 // What is shown where the pointer rests on a bar: how the node stands, and behind which rows, where any are shown.
 fn push_title(paper: &mut Paper, node: Node, bar: &Bar, shows_rows: bool) {
     paper.push_node("<title>node ", node, ": ");
-    push_stand(paper, bar.stand);
+    push_stand(paper, bar.seen);
     if shows_rows {
         paper.push_number(", behind rows ", bar.first, " to ");
         paper.push_number("", bar.last, "");

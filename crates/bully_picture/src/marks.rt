@@ -13,7 +13,7 @@ use crate::paper::Paper;
 use crate::words::{decides, push_meaning, push_row_text};
 use bully_base::Node;
 use bully_calls::{EventKind, NodeEventKind};
-use bully_film::{FinishedFilm, NodeSnapshot, Scene, Stand};
+use bully_film::{FinishedFilm, Scene, Seen, Stand};
 use bully_table::Table;
 
 // What is said of a table that is too long to be shown.
@@ -174,17 +174,10 @@ fn owner_size(layout: &Layout) -> u32 {
 
 // Says how a node stands behind the row, where that changes it: before the words of calls, which have more places to stand at.
 fn draw_change(canvas: &mut Canvas, scene: &Scene) {
-    let before = stand_of(&scene.other.before);
-    let after = stand_of(&scene.other.after);
+    let before = Stand::seen_in(&scene.other.before);
+    let after = Stand::seen_in(&scene.other.after);
     if before != after {
         draw_stand(canvas, scene.other.node, scene.number, after);
-    }
-}
-
-fn stand_of(snapshot: &NodeSnapshot) -> Stand {
-    Stand {
-        status: snapshot.status,
-        coordinator: snapshot.coordinator,
     }
 }
 

@@ -384,10 +384,11 @@ impl Procedure {
             PointKind::Idle => Idle::begin(self),
             PointKind::Asking(next) => Asked { next }.begin(self, awaits),
             PointKind::Halting(next) => Halted { next, up: *up }.begin(self, awaits),
-            PointKind::Announcing => {
-                let (rest, up) = (*left, *up);
-                Announced { rest, up }.begin(self, awaits)
+            PointKind::Announcing => Announced {
+                rest: *left,
+                up: *up,
             }
+            .begin(self, awaits),
             PointKind::Planning => Planning::begin(self, up),
             PointKind::Readying => Readied { rest: *left }.begin(self, awaits),
             PointKind::Checking(callee) => Checked { callee }.begin(self, awaits),

@@ -15,9 +15,9 @@ loop-place-preserved c =
           (holdings-one i c.args.holdings.now c.loop-place.place h c.args.arrows.now c.loop-place.arrows w.draw_held.new.arrows c.loop-place-test.true c.index-holdings-place.is c.loop-place.invariant
           (subst (λ held. Gains c.loop-place.arrows w.draw_held.new.arrows (λ text. Has text (held_label i h.first h.last held))) (sym w.in-Some.is) w.draw_held.ensures))
       | in_default w ↦ subst (λ b. Gains c.args.arrows.now b (λ text. HasHoldings text i (take (c.loop-place.place + 1) c.args.holdings.now))) (sym w.arrows-is)
-          (let none : h.held ≡ None = search rules in
+          (let none : h.seen ≡ None = search rules in
           holdings-one i c.args.holdings.now c.loop-place.place h c.args.arrows.now c.loop-place.arrows c.loop-place.arrows c.loop-place-test.true c.index-holdings-place.is c.loop-place.invariant
-          (empty-gains i h.first h.last h.held c.loop-place.arrows none))
+          (empty-gains i h.first h.last h.seen c.loop-place.arrows none))
     ]
 
 pub returns : goal.returns
