@@ -1,5 +1,5 @@
 -- What the operator and a node do in a turn.
-use Rattle.std.specs.Prelude.{◌≡◌, ◌≢◌, ◌<◌, ◌⊎◌, ◌+◌, ◌++◌, ℕ, zero, suc, Bool, true, false, List, [], ◌∷◌, map, None, ◌==◌}
+use Rattle.std.specs.Prelude.{◌≡◌, ◌+◌, ◌++◌, ℕ, zero, suc, Bool, true, false, List, [], ◌∷◌, map, None, ◌==◌}
 use Rattle.std.specs.Bool.{MatchBool}
 use Rattle.bully_base.specs.Setup.{Setup}
 use Rattle.bully_config.specs.Configuration.{Configuration}
