@@ -7,8 +7,8 @@
 //! the first turn, no task is kept over a crash, and a node checks at each sixteenth. `run` has a thread for the operator
 //! and one for each node. They share the world and its history under one lock. In a turn a node plans first, where it has
 //! to; then it serves the lowest call that waits for it; if there is none it begins a check or a timeout, or takes the step
-//! that its procedure offers. For each of these it takes the lock anew, and after a turn without an event it gives its
-//! processor away, as `bully run` does. `play` takes the same turns in rounds, without a lock. In the end the history is
+//! that its procedure offers. It takes the lock once for these, and once more where it plans, and after a turn without an event
+//! it gives its processor away, as `bully run` does. `play` takes the same turns in rounds, without a lock. In the end the history is
 //! written as a trace.
 
 // The other calls of it are the checker's.
@@ -191,14 +191,14 @@ fn take_turn(setup: &Setup, group: &mut impl Hold, turn: u32, procedure: &mut Pr
     if procedure.point == Point::Planning && procedure.table.is_none() {
         procedure.table = Some(planned(setup, group, procedure));
     }
-    if group.hold(|group| group.serve(me)) {
-        return true;
-    }
     let idle = procedure.point == Point::Idle;
-    group.hold(|group| match turn % 16 {
-        0 if idle => group.step(Action::Check, me, &[]),
-        8 if idle => group.step(Action::Timeout, me, &[]),
-        _ => group.proceed(procedure),
+    group.hold(|group| {
+        group.serve(me)
+            || match turn % 16 {
+                0 if idle => group.step(Action::Check, me, &[]),
+                8 if idle => group.step(Action::Timeout, me, &[]),
+                _ => group.proceed(procedure),
+            }
     })
 }
 

@@ -1,5 +1,5 @@
 pub mod WorldLemmas
-pub mod NodeTurnLemmas
+pub mod TurnLemmas
 pub mod SeatLemmas
 pub mod LockedLemmas
 pub mod FinishLemmas

@@ -1,31 +1,21 @@
 -- What a world shows of a number above its last node, and what its turn rule offers.
-use Rattle.std.proofs.Common.{◌≡◌, ◌<◌, ℕ, Bool, true, false, None, Some, arith, ap, refl, ⊎_elim}
-use Rattle.bully_base.specs.Setup.{IsNode}
-use Rattle.bully_base.specs.declared.node.Status.TheVariants.{Down}
-use Rattle.bully_handlers.specs.Vector.{is_down}
+use Rattle.std.proofs.Common.{◌≡◌, ◌<◌, ℕ, Bool, true, false, None, Some, arith, refl}
 use Rattle.bully_steps.specs.ProcedureState.{ProcedureState}
 use Rattle.bully_watch.specs.History.{whose}
 use Rattle.bully_watch.proofs.PartLemmas.{whose_own}
 use Rattle.bully_world.specs.declared.turn.Next.{Next}
 use Rattle.bully_world.specs.declared.turn.StepKind.{StepKind}
-use Rattle.bully_world.specs.Cause.{is_down_at}
 use Rattle.bully_world.specs.State.{WorldState, IsReached, world_of}
 use Rattle.bully_world.specs.Turn.{turn, step_event, is_in_step}
-use Rattle.bully_world.specs.World.{World, pending, vector}
+use Rattle.bully_world.specs.World.{World, pending}
 use Rattle.bully_world.proofs.NodeInvariantLemmas.{lawful_fits}
+use Rattle.bully_world.proofs.ServingLemmas.{status_beyond}
 use Rattle.bully_world.proofs.TurnSteps.{turn_own}
 pub use Rattle.bully_world.proofs.TurnTaken.{no_turn_raises}
-
-status_beyond : (s : WorldState) (i : ℕ) → IsReached s → s.setup.nodes < i → (vector (world_of s) i).status ≡ Down
-status_beyond s i r above = ⊎_elim (λ d. d) (λ (n : IsNode s.setup i). absurd (omega (arith, n.1, above))) ((lawful_fits s.setup r.applied r.answers (world_of s) r.lawful).fits i).a_node
 
 -- a number above the last node has no call
 pub no_call_beyond : (s : WorldState) (i : ℕ) → IsReached s → s.setup.nodes < i → pending (world_of s) i ≡ None
 no_call_beyond s i r above = ((lawful_fits s.setup r.applied r.answers (world_of s) r.lawful).fits i).down_free (status_beyond s i r above)
-
--- and is Down
-pub down_beyond : (s : WorldState) (i : ℕ) → IsReached s → s.setup.nodes < i → is_down_at (world_of s) i ≡ true
-down_beyond s i r above = ap is_down (status_beyond s i r above)
 
 -- a step that is offered is one of the procedure's node
 pub whose_turn : (w : World) (kind : StepKind) (h : ProcedureState) → whose w (step_event kind h) ≡ Some h.node

@@ -3,6 +3,6 @@ pub mod Seat
 pub mod Locked
 pub mod Steps
 pub mod Turns
-pub mod NodeTurns
+pub mod OwnLoop
 pub mod Finish
 pub mod Publish

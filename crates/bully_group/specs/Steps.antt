@@ -1,13 +1,12 @@
 -- What a step of a locked group does, and when each of its faults comes.
-use Rattle.std.specs.Prelude.{◌≡◌, ◌≢◌, ◌<◌, ◌⊎◌, ◌++◌, ℕ, Bool, true, false, [], ◌∷◌, length, Some, None, Result, Ok, Err}
+use Rattle.std.specs.Prelude.{◌≡◌, ◌≢◌, ◌<◌, ◌++◌, ℕ, Bool, true, false, [], ◌∷◌, length, Some, None, Result, Ok, Err}
 use Rattle.bully_calls.specs.declared.call.Answer.{Answer}
 use Rattle.bully_watch.specs.declared.entry.Entry.{Entry}
 use Rattle.bully_watch.specs.History.{whose}
 use Rattle.bully_calls.specs.declared.event.Event.{Event}
-use Rattle.bully_world.specs.Cause.{is_down_at}
+use Rattle.bully_world.specs.Serving.{IsServed, NoneServed}
 use Rattle.bully_world.specs.State.{world_of, cause_in, RaisesGenerations}
 use Rattle.bully_world.specs.Step.{Step}
-use Rattle.bully_world.specs.World.{World, pending, is_sent_to}
 use Rattle.bully_group.specs.declared.locked.shown.ViewFault.{ViewFault}
 use Rattle.bully_group.specs.declared.locked.step.StepFault.{StepFault}
 use Rattle.bully_group.specs.declared.locked.step.StepFault.TheVariants.{Foreign, NotYours, Refused, OutOfMemory}
@@ -61,16 +60,6 @@ IsLateFault NotYours = ⊥
 IsLateFault (Refused why) = Unit {0}
 IsLateFault OutOfMemory = Unit {0}
 
--- the caller's call is the one to be served by the node: it waits for it, no lower caller's does, and the node isn't Down
-pub record IsServed (w : World) (node caller : ℕ) : Type 0 where
-  pub waits : is_sent_to node (pending w caller) ≡ true
-  pub lowest : (i : ℕ) → i < caller → is_sent_to node (pending w i) ≡ false
-  pub up : is_down_at w node ≡ false
-
--- there is none: no call waits for the node, or it is Down
-abbrev pub NoneServed : World → ℕ → Type 0
-NoneServed w node = ((i : ℕ) → is_sent_to node (pending w i) ≡ false) ⊎ (is_down_at w node ≡ true)
-
 -- the seat is known, and a node's
 abbrev pub MayServe : LockedState → SeatState → Type 0
 MayServe s seat = IsKnown s.history seat × (0 < seat.actor)
@@ -80,7 +69,7 @@ abbrev pub Serves : LockedState → SeatState → LockedState → SeatState → 
 Serves s seat s' seat' =
     MayServe s seat
     × (caller : ℕ)
-    × IsServed (world_of s.world) seat.actor caller
+    × IsServed s.world seat.actor caller
     × (cause_in s.world (Event.Run caller) ≡ None)
     × Records s seat (Event.Run caller) s' seat'
 
@@ -91,19 +80,19 @@ IsServeFault s seat NotYours = IsKnown s.history seat × (seat.actor ≡ 0)
 IsServeFault s seat (Refused why) =
     MayServe s seat
     × (caller : ℕ)
-    × IsServed (world_of s.world) seat.actor caller
+    × IsServed s.world seat.actor caller
     × (cause_in s.world (Event.Run caller) ≡ Some why)
 IsServeFault s seat OutOfMemory =
     MayServe s seat
     × (caller : ℕ)
-    × IsServed (world_of s.world) seat.actor caller
+    × IsServed s.world seat.actor caller
     × (cause_in s.world (Event.Run caller) ≡ None)
 
 -- what a serve that is no fault tells: whether a call was served
 abbrev pub IsServe : LockedState → SeatState → LockedState → SeatState → Bool → Type 0
 IsServe s seat s' seat' true = Serves s seat s' seat'
 IsServe s seat s' seat' false =
-    MayServe s seat × NoneServed (world_of s.world) seat.actor × (s' ≡ s) × (seat' ≡ seat)
+    MayServe s seat × NoneServed s.world seat.actor × (s' ≡ s) × (seat' ≡ seat)
 
 -- an entry was added
 abbrev pub is_served : Result Bool StepFault → Bool

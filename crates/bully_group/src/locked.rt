@@ -6,7 +6,7 @@ ghost use Rattle.bully_group.specs.Seat.{AreNewSeats};
 ghost use Rattle.bully_world.specs.State.{first_state};
 
 pub mod finish;
-pub mod node_turn;
+pub mod own_loop;
 pub mod publish;
 pub mod shown;
 pub mod step;

@@ -1,5 +1,5 @@
 -- What a thread's turns keep, and what the seats of all threads make of the history.
-use Rattle.std.proofs.Common.{OnOk, ◌≡◌, ◌∙◌, ℕ, zero, suc, ◌+◌, ◌≤◌, ◌==◌, inl, inr, Bool, true, false, List, [], ◌∷◌, Option, Some, None, Result, Ok, Err, IfOk, IfErr, IfSome, All, get_or, map, drop, length, length-append, if◌then◌else◌, arith, refl, sym, ap, subst}
+use Rattle.std.proofs.Common.{OnOk, ◌≡◌, ◌∙◌, ℕ, zero, suc, ◌+◌, ◌<◌, ◌≤◌, ◌==◌, ◌⊎◌, inl, inr, Bool, true, false, List, [], ◌∷◌, Option, Some, None, Result, Ok, Err, IfOk, IfErr, IfSome, All, get_or, map, drop, length, length-append, if◌then◌else◌, arith, refl, sym, ap, subst}
 use Rattle.std.specs.Prelude.{slice_get}
 use Rattle.std.specs.Bool.{MatchBool}
 use Rattle.std.proofs.lemmas.List.Elements.{All-push, All-nil, All-cons}
@@ -10,18 +10,18 @@ use Rattle.bully_base.specs.declared.TheConstants.{EVENTS_MAX}
 use Rattle.bully_base.specs.Setup.{IsSetup}
 use Rattle.bully_config.specs.Configuration.{Configuration}
 use Rattle.bully_config.specs.declared.config.Fault.{Fault}
-use Rattle.bully_group.specs.declared.locked.node_turn.NodeTurn.{NodeTurn}
+use Rattle.bully_group.specs.declared.locked.turn.NodeTurn.{NodeTurn}
 use Rattle.bully_group.specs.declared.locked.step.StepFault.{StepFault}
 use Rattle.bully_group.specs.Finish.{EachInOneLog}
 use Rattle.bully_group.specs.Locked.{LockedState, IsLocked}
 use Rattle.bully_group.specs.Seat.{SeatState, AreNewSeats}
-use Rattle.bully_group.specs.NodeTurns.{TurnsBy, adds_entry}
-use Rattle.bully_group.specs.Turns.{IsTurnFault}
+use Rattle.bully_group.specs.Steps.{MayServe, IsServeFault, Serves as Served}
+use Rattle.bully_group.specs.Turns.{MayTurn, Goes, IsTurnFault, IsNodeTurn, IsServeOrTurnFault, IsNodeTurnFault, adds_entry}
 use Rattle.bully_play.specs.Play.{IsDue, IsPlay, event_of_fault}
-use Rattle.bully_nodes.specs.Run.{SeatAndPass, Logs, AppliesAt, PreparesAt, ServesAt, ProceedsAt, HasDueLog, IsGivenBack, IsRoleOf, procedure_of, IsActorsTurn, ActorsTurns}
+use Rattle.bully_nodes.specs.Run.{SeatAndPass, Hold, Logs, Applies, AppliesAt, PreparesAt, IsServeRefused, Serves, ServesOrApplies, Proceeds, TakesAt, HasDueLog, IsGivenBack, IsRoleOf, procedure_of, IsActorsTurn, ActorsTurns}
 use Rattle.bully_nodes.specs.declared.jobs.Role.{Role}
 use Rattle.bully_play.specs.Schedule.{AreLeft}
-use Rattle.bully_play.specs.Turns.{GoesOn, Follows, IsTurnOn, OperatesOn}
+use Rattle.bully_play.specs.Turns.{GoesOn, Follows, ServesOrGoesOn, IsTurnOn, OperatesOn}
 use Rattle.bully_play.proofs.LawfulLemmas.{lawful-bound}
 use Rattle.bully_play.proofs.RecordingLemmas.{step_due, faults_due, later_place}
 use Rattle.bully_steps.specs.declared.driver.Choice.{Choice}
@@ -33,6 +33,7 @@ use Rattle.bully_watch.specs.declared.entry.Entry.{Entry}
 use Rattle.bully_watch.specs.declared.knowledge.PublisherId.{PublisherId}
 use Rattle.bully_watch.specs.History.{event_of, answer_of}
 use Rattle.bully_calls.specs.declared.event.Event.{Event}
+use Rattle.bully_world.specs.Serving.{NoneServed}
 use Rattle.bully_world.specs.State.{world_of}
 use Rattle.bully_world.specs.World.{node_state}
 use Rattle.bully_world.proofs.NodeInvariantLemmas.{lawful_fits}
@@ -41,23 +42,96 @@ use Rattle.bully_world.specs.Turn.{step_event}
 abbrev held : SeatState → ℕ → SeatAndPass
 held seat counted = record { seat = seat; counted = counted }
 
--- what a turn of a locked group does to a seat and a pass
-pub turned : (IsState : LockedState → Type 0) (answer : Result NodeTurn StepFault) (s s' : LockedState) (seat seat' : SeatState) (h h' : ProcedureState) (n n' : ℕ) → IsState s → IfOk answer (TurnsBy s seat h s' seat' h') → IfErr answer (IsTurnFault s seat h) → IfErr answer (λ _. (s' ≡ s) × (seat' ≡ seat) × (h' ≡ h))
-    → n' ≡ (if adds_entry answer then n + 1 else n) → ProceedsAt IsState (held seat n) h (held seat' n') h'
-turned IsState (Ok NodeTurn.Served) s s' seat seat' h h' n n' is turns fails same counted = absurd turns
-turned IsState (Ok NodeTurn.Went) s s' seat seat' h h' n n' is goes fails same counted =
-    inl (goes.1, record { from = s; is_state = is; to = s'; records = goes.4; counted = counted }, goes.5, goes.2)
-turned IsState (Ok NodeTurn.Waiting) s s' seat seat' h h' n n' is waits fails same counted =
-    inr (rw (waits.2, counted) refl, s, is, inl waits.0)
-turned IsState (Ok NodeTurn.Resynced) s s' seat seat' h h' n n' is resyncs fails same counted =
-    inr (rw (resyncs.2, counted) refl, s, is, inr (inl resyncs.0))
-turned IsState (Err fault) s s' seat seat' h h' n n' is turns fails same counted =
-    inr (rw (same.1, counted) refl, s, is, inr (inr (fault, (fails, same.2))))
+abbrev hold : LockedState → SeatState → ℕ → Hold
+hold s seat counted = record { group = s; own = held seat counted }
 
--- a serve is that of any node
-pub served_ok : {E : Type 0} (IsState : LockedState → Type 0) (result : Result Bool E) (before after : SeatAndPass) (node : ℕ) → IfOk result (λ served. (i : ℕ) → ServesAt IsState before i served after) → IfOk result (λ served. ServesAt IsState before node served after)
-served_ok IsState (Ok served) before after node serves = serves node
-served_ok IsState (Err e) before after node serves = tt
+-- what a turn of a locked group does to the group, a seat and a pass
+module _ (s s' : LockedState) (seat seat' : SeatState) (h h' : ProcedureState) (n n' : ℕ) where
+  abbrev Takes : Type 0
+  Takes = ServesOrGoesOn Applies Serves Proceeds Choice.Proceed (hold s seat n) h (hold s' seat' n') h'
+
+  may_serve : 0 < h.node → MayTurn s seat h → MayServe s seat
+  may_serve positive may = (may.0, rw may.1 positive)
+
+  -- nothing changes
+  abbrev Same : Type 0
+  Same = (s' ≡ s) × (seat' ≡ seat) × (h' ≡ h)
+
+  same_hold : s' ≡ s → seat' ≡ seat → n' ≡ n → hold s' seat' n' ≡ hold s seat n
+  same_hold group own counted = rw (group, own, counted) refl
+
+  -- no call is served, and the procedure does this
+  unserved : 0 < h.node → MayTurn s seat h → NoneServed s.world seat.actor → Proceeds (hold s seat n) h (hold s' seat' n') h' → Takes
+  unserved positive may none goes = (false, hold s seat n, (refl, may_serve positive may, none), goes)
+
+  served : Served s seat s' seat' → h' ≡ h → n' ≡ n + 1 → Takes
+  served ran same counted = (true, hold s' seat' n', inl (ran.1, ran.2, record { records = ran.4; counted = counted }), (refl, same))
+
+  went : 0 < h.node → NoneServed s.world seat.actor → Goes s seat h s' seat' h' → n' ≡ n + 1 → Takes
+  went positive none goes counted = unserved positive goes.0 none (inl (goes.1, record { records = goes.4; counted = counted }, goes.5, goes.2))
+
+  refused : (fault : StepFault) → IsServeRefused s seat h.node fault → Same → n' ≡ n → Takes
+  refused fault is same counted = (true, hold s seat n, inr (refl, fault, is), (same_hold same.0 same.1 counted, same.2))
+
+  late : (fault : StepFault) → 0 < h.node → IsServeOrTurnFault s seat h fault → Same → n' ≡ n → Takes
+  late fault positive is same counted = by_part is.1
+    where
+      by_part : IsServeFault s seat fault ⊎ (NoneServed s.world seat.actor × IsTurnFault s seat h fault) → Takes
+      by_part (inl serve) = refused fault (inl serve) same counted
+      by_part (inr turn) = unserved positive is.0 turn.0 (inr (same_hold same.0 same.1 counted, inr (inr (fault, (turn.1, same.2)))))
+
+  pub turned : (answer : Result NodeTurn StepFault) → 0 < h.node → IfOk answer (IsNodeTurn s seat h s' seat' h') → IfErr answer (IsNodeTurnFault s seat h) → IfErr answer (λ _. Same) → n' ≡ (if adds_entry answer then n + 1 else n) → Takes
+  turned (Ok NodeTurn.Served) positive turns fails same counted = served turns.1 turns.2 counted
+  turned (Ok NodeTurn.Went) positive turns fails same counted = went positive turns.0 turns.1 counted
+  turned (Ok NodeTurn.Waiting) positive turns fails same counted =
+      unserved positive turns.1.0.0 turns.0 (inr (same_hold turns.1.1 turns.1.2 counted, inl turns.1.0))
+  turned (Ok NodeTurn.Resynced) positive turns fails same counted =
+      unserved positive turns.1.0.0 turns.0 (inr (same_hold turns.1.1 turns.1.2 counted, inr (inl turns.1.0)))
+  turned (Err (StepFault.Foreign index)) positive turns fails same counted = refused (StepFault.Foreign index) (inl fails) same counted
+  turned (Err StepFault.NotYours) positive turns fails same counted = refused StepFault.NotYours (inr (refl, fails.0, fails.1)) same counted
+  turned (Err (StepFault.Refused why)) positive turns fails same counted = late (StepFault.Refused why) positive fails same counted
+  turned (Err StepFault.OutOfMemory) positive turns fails same counted = late StepFault.OutOfMemory positive fails same counted
+
+-- a serve that ends the turn, and one that doesn't
+pub ends_served : (e : Event) (served : Bool) (before after : Hold) → served ≡ true → ((node : ℕ) → Serves before node served after) → ServesOrApplies e before after
+ends_served e served before after is serves = inl (λ node. subst (λ (b : Bool). Serves before node b after) is (serves node))
+
+pub ends_applied : {X E : Type 0} (result : Result X E) (e : Event) (served : Bool) (before mid after : Hold) → served ≡ false → ((node : ℕ) → Serves before node served mid) → OnOk result (Applies e mid after) → OnOk result (ServesOrApplies e before after)
+ends_applied (Ok x) e served before mid after is serves applies = inr (mid, (λ node. subst (λ (b : Bool). Serves before node b mid) is (serves node)), applies)
+ends_applied (Err x) e served before mid after is serves applies = tt
+
+-- what a node does that chose an event
+checks : (h : ProcedureState) (before after : Hold) → ServesOrApplies (Event.Check h.node) before after → ServesOrGoesOn Applies Serves Proceeds Choice.Check before h after h
+checks h before after (inl serves) = (true, after, serves h.node, (refl, refl))
+checks h before after (inr goes) = (false, goes.0, goes.1 h.node, (goes.2, refl))
+
+times_out : (h : ProcedureState) (before after : Hold) → ServesOrApplies (Event.Timeout h.node) before after → ServesOrGoesOn Applies Serves Proceeds Choice.Timeout before h after h
+times_out h before after (inl serves) = (true, after, serves h.node, (refl, refl))
+times_out h before after (inr goes) = (false, goes.0, goes.1 h.node, (goes.2, refl))
+
+-- one hold of the lock, by what is done in it
+module _ (IsState : LockedState → Type 0) (choice : Choice) (s s' : LockedState) (before after : SeatAndPass) (h : ProcedureState) (is : IsState s) where
+  abbrev from : Hold
+  from = record { group = s; own = before }
+
+  abbrev to : Hold
+  to = record { group = s'; own = after }
+
+  pub in_hold : {X E : Type 0} (result : Result X E) (h' : ProcedureState) → choice ≡ Choice.Proceed → OnOk result (ServesOrGoesOn Applies Serves Proceeds Choice.Proceed from h to h') → OnOk result (TakesAt IsState choice before h after h')
+  in_hold (Ok x) h' chosen does = (s, s', is, subst (λ (k : Choice). ServesOrGoesOn Applies Serves Proceeds k from h to h') (sym chosen) does)
+  in_hold (Err e) h' chosen does = tt
+
+  pub check_in_hold : {X E : Type 0} (result : Result X E) (node : ℕ) → choice ≡ Choice.Check → node ≡ h.node → OnOk result (ServesOrApplies (Event.Check node) from to) → OnOk result (TakesAt IsState choice before h after h)
+  check_in_hold (Ok x) node chosen same does =
+      let all : ServesOrGoesOn Applies Serves Proceeds Choice.Check from h to h = checks h from to (subst (λ (i : ℕ). ServesOrApplies (Event.Check i) from to) same does) in
+      (s, s', is, subst (λ (k : Choice). ServesOrGoesOn Applies Serves Proceeds k from h to h) (sym chosen) all)
+  check_in_hold (Err e) node chosen same does = tt
+
+  pub timeout_in_hold : {X E : Type 0} (result : Result X E) (node : ℕ) → choice ≡ Choice.Timeout → node ≡ h.node → OnOk result (ServesOrApplies (Event.Timeout node) from to) → OnOk result (TakesAt IsState choice before h after h)
+  timeout_in_hold (Ok x) node chosen same does =
+      let all : ServesOrGoesOn Applies Serves Proceeds Choice.Timeout from h to h = times_out h from to (subst (λ (i : ℕ). ServesOrApplies (Event.Timeout i) from to) same does) in
+      (s, s', is, subst (λ (k : Choice). ServesOrGoesOn Applies Serves Proceeds k from h to h) (sym chosen) all)
+  timeout_in_hold (Err e) node chosen same does = tt
 
 -- a task that is shown has the setup's partitions
 sized : (n : ℕ) (task : Option (List ℕ)) → ((table : List ℕ) → task ≡ Some table → length table ≡ n) → IfSome task (λ t. length t ≡ n)
@@ -81,26 +155,16 @@ module _ {S : Type 0} (IsState : LockedState → Type 0) (at : S → SeatAndPass
       by_turn true now rest = (at now.0, now.1, rest now.0 now.2)
       by_turn false now rest = rest before now
 
-  goes_on_at : (choice : Choice) (before : S) (h : ProcedureState) (after : S) (h' : ProcedureState) → GoesOn (λ (e : Event) (b a : S). AppliesAt IsState e (at b) (at a)) (λ (b : S) (g : ProcedureState) (a : S) (g' : ProcedureState). ProceedsAt IsState (at b) g (at a) g') choice before h after h' → GoesOn (AppliesAt IsState) (ProceedsAt IsState) choice (at before) h (at after) h'
-  goes_on_at Choice.Check before h after h' does = does
-  goes_on_at Choice.Timeout before h after h' does = does
-  goes_on_at Choice.Proceed before h after h' does = does
-
-  follows_at : (served : Bool) (period number : ℕ) (before : S) (h : ProcedureState) (after : S) (h' : ProcedureState) → Follows (λ (e : Event) (b a : S). AppliesAt IsState e (at b) (at a)) (λ (b : S) (g : ProcedureState) (a : S) (g' : ProcedureState). ProceedsAt IsState (at b) g (at a) g') served period number before h after h' → Follows (AppliesAt IsState) (ProceedsAt IsState) served period number (at before) h (at after) h'
-  follows_at true period number before h after h' does = (ap at does.0, does.1)
-  follows_at false period number before h after h' does = goes_on_at (chosen_every period number h.point) before h after h' does
-
   pub operator_turn_ok : {X E : Type 0} (result : Result X E) (c : Configuration) (number : ℕ) (left : List Fault) (before after : S) → AreLeft c.faults number left → OnOk result ((faults : List Fault) → AreLeft faults number left → OperatesOn (λ (e : Event) (b a : S). AppliesAt IsState e (at b) (at a)) number faults before after)
       → OnOk result (IsActorsTurn IsState c number (at before) None (at after) None)
   operator_turn_ok (Ok x) c number left before after are does = operates_at number c.faults before after (does c.faults are)
   operator_turn_ok (Err e) c number left before after are does = tt
 
   pub node_turn_ok : {X E : Type 0} (result : Result X E) (c : Configuration) (period number : ℕ) (before : S) (h : ProcedureState) (after : S) (h' : ProcedureState) → period ≡ c.period
-      → OnOk result (IsTurnOn (λ (e : Event) (b a : S). AppliesAt IsState e (at b) (at a)) (λ (b : S) (g ready : ProcedureState). PreparesAt IsState (at b) g ready) (λ (b : S) (node : ℕ) (served : Bool) (a : S). ServesAt IsState (at b) node served (at a)) (λ (b : S) (g : ProcedureState) (a : S) (g' : ProcedureState). ProceedsAt IsState (at b) g (at a) g') period number before h after h')
+      → OnOk result (IsTurnOn (λ (b : S) (g ready : ProcedureState). PreparesAt IsState (at b) g ready) (λ (choice : Choice) (b : S) (g : ProcedureState) (a : S) (g' : ProcedureState). TakesAt IsState choice (at b) g (at a) g') period number before h after h')
       → OnOk result (IsActorsTurn IsState c number (at before) (Some h) (at after) (Some h'))
   node_turn_ok (Ok x) c period number before h after h' same does =
-      subst (λ (n : ℕ). IsTurnOn (AppliesAt IsState) (PreparesAt IsState) (ServesAt IsState) (ProceedsAt IsState) n number (at before) h (at after) h') same
-      (does.0, does.1, at does.2, does.3, does.4, follows_at does.1 period number does.2 does.0 after h' does.5)
+      subst (λ (n : ℕ). IsTurnOn (PreparesAt IsState) (TakesAt IsState) n number (at before) h (at after) h') same does
   node_turn_ok (Err e) c period number before h after h' same does = tt
 
 -- the same of what the actor's role holds
@@ -111,7 +175,7 @@ operator_turned result IsState c number role left before after at is holds does 
     (operator_turn_ok IsState at result c number left before after (subst (λ (r : Role). IsRoleOf c number r) is holds) does)
 
 pub node_turned : {X E S : Type 0} (result : Result X E) (IsState : LockedState → Type 0) (c : Configuration) (period number : ℕ) (role : Role) (p : Procedure) (h' : ProcedureState) (before after : S) (at : S → SeatAndPass) → role ≡ Role.Node p → period ≡ c.period
-    → OnOk result (IsTurnOn (λ (e : Event) (b a : S). AppliesAt IsState e (at b) (at a)) (λ (b : S) (g ready : ProcedureState). PreparesAt IsState (at b) g ready) (λ (b : S) (node : ℕ) (served : Bool) (a : S). ServesAt IsState (at b) node served (at a)) (λ (b : S) (g : ProcedureState) (a : S) (g' : ProcedureState). ProceedsAt IsState (at b) g (at a) g') period number before (state_of p) after h')
+    → OnOk result (IsTurnOn (λ (b : S) (g ready : ProcedureState). PreparesAt IsState (at b) g ready) (λ (choice : Choice) (b : S) (g : ProcedureState) (a : S) (g' : ProcedureState). TakesAt IsState choice (at b) g (at a) g') period number before (state_of p) after h')
     → OnOk result (IsActorsTurn IsState c number (at before) (procedure_of role) (at after) (Some h'))
 node_turned result IsState c period number role p h' before after at is same does =
     subst (λ (r : Role). OnOk result (IsActorsTurn IsState c number (at before) (procedure_of r) (at after) (Some h'))) (sym is)
@@ -119,41 +183,51 @@ node_turned result IsState c period number role p h' before after at is same doe
 
 module _ (IsState : LockedState → Type 0) (faults : List Fault) (actor : ℕ) where
   -- an entry that is due is kept, and so is a seat as it was
-  logs_keep : (e : Event) (before after : SeatAndPass) → IsDue faults e → Logs IsState e before after → IsGivenBack faults actor before → IsGivenBack faults actor after
+  logs_keep : (e : Event) (before after : Hold) → IsDue faults e → Logs e before after → IsGivenBack faults actor before.own → IsGivenBack faults actor after.own
   logs_keep e before after due logs kept = record {
     actor = logs.records.actor ∙ kept.actor;
-    due = rw logs.records.log (All-push (λ (told : ℕ × Entry). IsDue faults told.1.event) before.seat.log _ kept.due due);
-    counted = logs.counted ∙ (ap (λ (k : ℕ). k + 1) kept.counted ∙ sym (ap length logs.records.log ∙ length-append before.seat.log _));
+    due = rw logs.records.log (All-push (λ (told : ℕ × Entry). IsDue faults told.1.event) before.own.seat.log _ kept.due due);
+    counted = logs.counted ∙ (ap (λ (k : ℕ). k + 1) kept.counted ∙ sym (ap length logs.records.log ∙ length-append before.own.seat.log _));
   }
 
-  applies_keep : (e : Event) (before after : SeatAndPass) → IsDue faults e → AppliesAt IsState e before after → IsGivenBack faults actor before → IsGivenBack faults actor after
+  same_keeps : (before after : Hold) → after ≡ before → IsGivenBack faults actor before.own → IsGivenBack faults actor after.own
+  same_keeps before after same kept = subst (λ (held : Hold). IsGivenBack faults actor held.own) (sym same) kept
+
+  applies_keep : (e : Event) (before after : Hold) → IsDue faults e → Applies e before after → IsGivenBack faults actor before.own → IsGivenBack faults actor after.own
   applies_keep e before after due (inl logs) kept = logs_keep e before after due logs kept
-  applies_keep e before after due (inr same) kept = rw same.0 kept
+  applies_keep e before after due (inr same) kept = same_keeps before after same.0 kept
 
-  serves_keep : (node : ℕ) (served : Bool) (before after : SeatAndPass) → ServesAt IsState before node served after → IsGivenBack faults actor before → IsGivenBack faults actor after
-  serves_keep node true before after (inl ran) kept = logs_keep (Event.Run ran.0) before after tt ran.1 kept
-  serves_keep node true before after (inr same) kept = rw same.0 kept
-  serves_keep node false before after same kept = rw same.0 kept
+  serves_keep : (node : ℕ) (served : Bool) (before after : Hold) → Serves before node served after → IsGivenBack faults actor before.own → IsGivenBack faults actor after.own
+  serves_keep node true before after (inl ran) kept = logs_keep (Event.Run ran.0) before after tt ran.2 kept
+  serves_keep node true before after (inr same) kept = same_keeps before after same.0 kept
+  serves_keep node false before after same kept = same_keeps before after same.0 kept
 
-  proceeds_keep : (before : SeatAndPass) (h : ProcedureState) (after : SeatAndPass) (h' : ProcedureState) → ProceedsAt IsState before h after h' → IsGivenBack faults actor before → IsGivenBack faults actor after
+  proceeds_keep : (before : Hold) (h : ProcedureState) (after : Hold) (h' : ProcedureState) → Proceeds before h after h' → IsGivenBack faults actor before.own → IsGivenBack faults actor after.own
   proceeds_keep before h after h' (inl taken) kept = logs_keep (step_event taken.0 h) before after (step_due faults taken.0 h) taken.1 kept
-  proceeds_keep before h after h' (inr same) kept = rw same.0 kept
+  proceeds_keep before h after h' (inr same) kept = same_keeps before after same.0 kept
 
-  goes_on_keeps : (choice : Choice) (before : SeatAndPass) (h : ProcedureState) (after : SeatAndPass) (h' : ProcedureState) → GoesOn (AppliesAt IsState) (ProceedsAt IsState) choice before h after h' → IsGivenBack faults actor before → IsGivenBack faults actor after
+  goes_on_keeps : (choice : Choice) (before : Hold) (h : ProcedureState) (after : Hold) (h' : ProcedureState) → GoesOn Applies Proceeds choice before h after h' → IsGivenBack faults actor before.own → IsGivenBack faults actor after.own
   goes_on_keeps Choice.Check before h after h' does kept = applies_keep (Event.Check h.node) before after tt does.0 kept
   goes_on_keeps Choice.Timeout before h after h' does kept = applies_keep (Event.Timeout h.node) before after tt does.0 kept
   goes_on_keeps Choice.Proceed before h after h' does kept = proceeds_keep before h after h' does kept
 
-  follows_keeps : (served : Bool) (period number : ℕ) (before : SeatAndPass) (h : ProcedureState) (after : SeatAndPass) (h' : ProcedureState) → Follows (AppliesAt IsState) (ProceedsAt IsState) served period number before h after h' → IsGivenBack faults actor before → IsGivenBack faults actor after
-  follows_keeps true period number before h after h' does kept = subst (λ (s : SeatAndPass). IsGivenBack faults actor s) (sym does.0) kept
-  follows_keeps false period number before h after h' does kept = goes_on_keeps (chosen_every period number h.point) before h after h' does kept
+  follows_keeps : (served : Bool) (choice : Choice) (before : Hold) (h : ProcedureState) (after : Hold) (h' : ProcedureState) → Follows Applies Proceeds served choice before h after h' → IsGivenBack faults actor before.own → IsGivenBack faults actor after.own
+  follows_keeps true choice before h after h' does kept = same_keeps before after does.0 kept
+  follows_keeps false choice before h after h' does kept = goes_on_keeps choice before h after h' does kept
 
-  -- a node's turn
+  -- the operator's event, and a node's turn
+  applied_keeps : (e : Event) (before after : SeatAndPass) → IsDue faults e → AppliesAt IsState e before after → IsGivenBack faults actor before → IsGivenBack faults actor after
+  applied_keeps e before after due does kept = applies_keep e _ _ due does.3 kept
+
+  takes_keep : (choice : Choice) (before : SeatAndPass) (h : ProcedureState) (after : SeatAndPass) (h' : ProcedureState) → TakesAt IsState choice before h after h' → IsGivenBack faults actor before → IsGivenBack faults actor after
+  takes_keep choice before h after h' does kept =
+      let all = does.3 in
+      follows_keeps all.0 choice all.1 h _ h' all.3 (serves_keep h.node all.0 _ all.1 all.2 kept)
+
   turn_keeps : (period number : ℕ) (before : SeatAndPass) (h : ProcedureState) (after : SeatAndPass) (h' : ProcedureState)
-      → IsTurnOn (AppliesAt IsState) (PreparesAt IsState) (ServesAt IsState) (ProceedsAt IsState) period number before h after h'
+      → IsTurnOn (PreparesAt IsState) (TakesAt IsState) period number before h after h'
       → IsGivenBack faults actor before → IsGivenBack faults actor after
-  turn_keeps period number before h after h' does kept =
-      follows_keeps does.1 period number does.2 does.0 after h' does.5 (serves_keep h.node does.1 before does.2 does.4 kept)
+  turn_keeps period number before h after h' does kept = takes_keep (chosen_every period number does.0.point) before does.0 after h' does.2 kept
 
   operates_keep : (number place : ℕ) (rest : List Fault) (before after : SeatAndPass) → drop place faults ≡ rest → OperatesOn (AppliesAt IsState) number rest before after → IsGivenBack faults actor before → IsGivenBack faults actor after
   operates_keep number place [] before after is does kept = subst (λ (s : SeatAndPass). IsGivenBack faults actor s) (sym does) kept
@@ -162,7 +236,7 @@ module _ (IsState : LockedState → Type 0) (faults : List Fault) (actor : ℕ) 
     where
       by_turn : (b : Bool) → MatchBool b ((mid : SeatAndPass) × AppliesAt IsState (event_of_fault fault) before mid × OperatesOn (AppliesAt IsState) number rest mid after) (OperatesOn (AppliesAt IsState) number rest before after) → IsDue faults (event_of_fault fault)
           → ((mid : SeatAndPass) → OperatesOn (AppliesAt IsState) number rest mid after → IsGivenBack faults actor mid → IsGivenBack faults actor after) → IsGivenBack faults actor after
-      by_turn true now due later = later now.0 now.2 (applies_keep (event_of_fault fault) before now.0 due now.1 kept)
+      by_turn true now due later = later now.0 now.2 (applied_keeps (event_of_fault fault) before now.0 due now.1 kept)
       by_turn false now due later = later before now kept
 
 -- an actor's turn, and all of them

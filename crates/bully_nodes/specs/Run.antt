@@ -9,20 +9,21 @@ use Rattle.bully_group.specs.declared.locked.finish.FinishFault.{FinishFault}
 use Rattle.bully_group.specs.Locked.{LockedState, view_in}
 use Rattle.bully_group.specs.Seat.{SeatState, IsKnown, IsForeign}
 use Rattle.bully_group.specs.declared.locked.step.StepFault.{StepFault}
-use Rattle.bully_group.specs.Steps.{Records, IsStepFault, IsServeFault, MayServe, NoneServed}
+use Rattle.bully_group.specs.Steps.{Records, IsStepFault, IsServeFault, MayServe}
 use Rattle.bully_group.specs.Turns.{Waits, Resyncs, Fails}
 use Rattle.bully_nodes.specs.declared.jobs.Role.{Role}
 use Rattle.bully_nodes.specs.declared.running.NodesFault.{NodesFault}
 use Rattle.bully_nodes.specs.declared.running.NodesFault.TheVariants.{Spawn, Finish, OutOfMemory}
 use Rattle.bully_play.specs.Play.{IsDue}
 use Rattle.bully_play.specs.Schedule.{AreLeft}
-use Rattle.bully_play.specs.Turns.{idle_at, IsTurnOn, OperatesOn}
+use Rattle.bully_play.specs.Turns.{idle_at, IsTurnOn, OperatesOn, ServesOrGoesOn}
+use Rattle.bully_steps.specs.declared.driver.Choice.{Choice}
 use Rattle.bully_steps.specs.Prepared.{prepared_from}
 use Rattle.bully_steps.specs.Procedure.{state_of}
 use Rattle.bully_steps.specs.ProcedureState.{ProcedureState}
 use Rattle.bully_watch.specs.declared.entry.Entry.{Entry}
 use Rattle.bully_calls.specs.declared.event.Event.{Event}
-use Rattle.bully_world.specs.State.{world_of}
+use Rattle.bully_world.specs.Serving.{IsServed, NoneServed}
 use Rattle.bully_world.specs.Turn.{turn, step_event, procedure_after}
 use Rattle.bully_world.specs.declared.turn.Next.{Next}
 use Rattle.bully_world.specs.declared.turn.StepKind.{StepKind}
@@ -35,19 +36,28 @@ pub record SeatAndPass : Type 0 where
 -- What a thread does goes by states of the group that come while it holds the lock. IsState says what holds of them: for a
 -- group of L that is what the type `Locked` of L keeps
 
--- in some state of the group the event is recorded, and the pass counts it
-pub record Logs (IsState : LockedState → Type 0) (e : Event) (before after : SeatAndPass) : Type 0 where
-  pub from : LockedState
-  pub is_state : IsState from
-  pub to : LockedState
-  pub records : Records from before.seat e to after.seat
-  pub counted : after.counted ≡ before.counted + 1
+-- the group under its lock, and the seat and the pass of the thread that holds it
+pub record Hold : Type 0 where
+  pub group : LockedState
+  pub own : SeatAndPass
 
--- the event is recorded, or refused in some state of the group
+-- in one hold of the lock, which finds some state of the group, this is done
+abbrev pub InOneHold : (LockedState → Type 0) → (Hold → Hold → Type 0) → SeatAndPass → SeatAndPass → Type 0
+InOneHold IsState does before after =
+    (s s' : LockedState) × IsState s × does (record { group = s; own = before }) (record { group = s'; own = after })
+
+-- the event is recorded, and the pass counts it
+pub record Logs (e : Event) (before after : Hold) : Type 0 where
+  pub records : Records before.group before.own.seat e after.group after.own.seat
+  pub counted : after.own.counted ≡ before.own.counted + 1
+
+-- the event is recorded, or refused
+abbrev pub Applies : Event → Hold → Hold → Type 0
+Applies e before after =
+    Logs e before after ⊎ ((after ≡ before) × (fault : StepFault) × IsStepFault before.group before.own.seat e fault)
+
 abbrev pub AppliesAt : (LockedState → Type 0) → Event → SeatAndPass → SeatAndPass → Type 0
-AppliesAt IsState e before after =
-    Logs IsState e before after
-    ⊎ ((after ≡ before) × (s : LockedState) × IsState s × (fault : StepFault) × IsStepFault s before.seat e fault)
+AppliesAt IsState e before after = InOneHold IsState (Applies e) before after
 
 -- no task makes another procedure of it: it isn't at Planning, or has its table
 abbrev pub IsReady : ProcedureState → Type 0
@@ -60,25 +70,40 @@ PreparesAt IsState before h ready =
     ((s : LockedState) × IsState s × IsKnown s.history before.seat × (ready ≡ prepared_from (shown (view_in s) h.node).task h))
     ⊎ ((ready ≡ h) × (IsReady h ⊎ ((s : LockedState) × IsState s × (index : ℕ) × IsForeign s.history before.seat index)))
 
--- a node's turn ends with its serve, which runs a call or is refused in some state of the group; or in some state there
--- is no call to be served
-abbrev pub ServesAt : (LockedState → Type 0) → SeatAndPass → ℕ → Bool → SeatAndPass → Type 0
-ServesAt IsState before node true after =
-    ((caller : ℕ) × Logs IsState (Event.Run caller) before after)
-    ⊎ ((after ≡ before) × (s : LockedState) × IsState s × (fault : StepFault) × IsServeFault s before.seat fault)
-ServesAt IsState before node false after =
-    (after ≡ before) × (s : LockedState) × IsState s × MayServe s before.seat × NoneServed (world_of s.world) before.seat.actor
+-- the serve of the node is refused, also since the seat isn't the node's
+abbrev pub IsServeRefused : LockedState → SeatState → ℕ → StepFault → Type 0
+IsServeRefused s seat node fault =
+    IsServeFault s seat fault ⊎ ((fault ≡ StepFault.NotYours) × IsKnown s.history seat × (seat.actor ≢ node))
+
+-- a node's turn ends with its serve, which runs the call of the lowest caller that waits for it, or is refused; or there is
+-- no call to be served
+abbrev pub Serves : Hold → ℕ → Bool → Hold → Type 0
+Serves before node true after =
+    ((caller : ℕ) × IsServed before.group.world before.own.seat.actor caller × Logs (Event.Run caller) before after)
+    ⊎ ((after ≡ before) × (fault : StepFault) × IsServeRefused before.group before.own.seat node fault)
+Serves before node false after =
+    (after ≡ before) × MayServe before.group before.own.seat × NoneServed before.group.world before.own.seat.actor
+
+-- the node serves, or else the event is recorded or refused
+abbrev pub ServesOrApplies : Event → Hold → Hold → Type 0
+ServesOrApplies e before after =
+    ((node : ℕ) → Serves before node true after) ⊎ ((mid : Hold) × ((node : ℕ) → Serves before node false mid) × Applies e mid after)
 
 -- the turn rule has the procedure rest, or be given up for the one that the world shows, or a fault comes
 abbrev pub GoesNot : LockedState → SeatState → ProcedureState → ProcedureState → Type 0
 GoesNot s seat h h' = Waits s seat h h' ⊎ Resyncs s seat h h' ⊎ ((fault : StepFault) × Fails s seat h h' fault)
 
--- in some state of the group the procedure takes the step that the turn rule offers and goes on by it, or no entry is added
-abbrev pub ProceedsAt : (LockedState → Type 0) → SeatAndPass → ProcedureState → SeatAndPass → ProcedureState → Type 0
-ProceedsAt IsState before h after h' =
-    ((kind : StepKind) × (logs : Logs IsState (step_event kind h) before after) × (h' ≡ procedure_after kind logs.records.answer h)
-    × (turn logs.from.world h ≡ Next.Take kind))
-    ⊎ ((after ≡ before) × (s : LockedState) × IsState s × GoesNot s before.seat h h')
+-- the procedure takes the step that the turn rule offers and goes on by it, or no entry is added
+abbrev pub Proceeds : Hold → ProcedureState → Hold → ProcedureState → Type 0
+Proceeds before h after h' =
+    ((kind : StepKind) × (logs : Logs (step_event kind h) before after) × (h' ≡ procedure_after kind logs.records.answer h)
+    × (turn before.group.world h ≡ Next.Take kind))
+    ⊎ ((after ≡ before) × GoesNot before.group before.own.seat h h')
+
+-- in one hold of the lock the node serves, or else does what it chose
+abbrev pub TakesAt : (LockedState → Type 0) → Choice → SeatAndPass → ProcedureState → SeatAndPass → ProcedureState → Type 0
+TakesAt IsState choice before h after h' =
+    InOneHold IsState (λ (held left : Hold). ServesOrGoesOn Applies Serves Proceeds choice held h left h') before after
 
 -- the procedure that an actor holds; the operator holds none
 abbrev pub procedure_of : Role → Option ProcedureState
@@ -96,12 +121,13 @@ abbrev pub first_of : Setup → ℕ → Option ProcedureState
 first_of setup zero = None
 first_of setup (suc i) = Some (idle_at setup (suc i))
 
--- an actor's turn of this number: the operator's takes the configuration's faults of that turn, and a node's is the turn of
--- the procedure that it holds, with the configuration's period
+-- an actor's turn of this number: the operator's takes the configuration's faults of that turn, each in a hold of its own. A
+-- node's is the turn of the procedure that it holds, with the configuration's period: once that is prepared, all of it is one
+-- hold of the lock
 abbrev pub IsActorsTurn : (LockedState → Type 0) → Configuration → ℕ → SeatAndPass → Option ProcedureState → SeatAndPass → Option ProcedureState → Type 0
 IsActorsTurn IsState c number before None after None = OperatesOn (AppliesAt IsState) number c.faults before after
 IsActorsTurn IsState c number before (Some h) after (Some h') =
-    IsTurnOn (AppliesAt IsState) (PreparesAt IsState) (ServesAt IsState) (ProceedsAt IsState) c.period number before h after h'
+    IsTurnOn (PreparesAt IsState) (TakesAt IsState) c.period number before h after h'
 IsActorsTurn IsState c number before None after (Some h') = ⊥
 IsActorsTurn IsState c number before (Some h) after None = ⊥
 

@@ -12,7 +12,7 @@ use Rattle.bully_config.specs.declared.config.Fault.{Fault}
 use Rattle.bully_config.specs.declared.config.FaultKind.{FaultKind}
 use Rattle.bully_play.specs.Play.{HasFault, IsDue, IsPlay, event_of_kind, event_of_fault, trace_setup, trace_with}
 use Rattle.bully_play.specs.Recording.{RecordingState, IsRecorded, AddsRow, Applies, Steps, Continues}
-use Rattle.bully_play.specs.Turns.{RunsLowest, GoesBy, ProceedsIn, GoesOn, Follows, IsTurn, Operates, Rounds, IsScheduled, first_recording, idle_first}
+use Rattle.bully_play.specs.Turns.{RunsLowest, GoesBy, ProceedsIn, GoesOn, Follows, TakesIn, IsTurn, Operates, Rounds, IsScheduled, first_recording, idle_first}
 use Rattle.bully_play.proofs.LawfulLemmas.{lawful-bound}
 use Rattle.bully_play.proofs.OperatorLemmas.{at_place}
 use Rattle.bully_steps.specs.declared.driver.Choice.{Choice}
@@ -22,6 +22,7 @@ use Rattle.bully_rows.specs.declared.trace.Row.{Row}
 use Rattle.bully_rows.specs.Trace.{Trace, trace_for}
 use Rattle.bully_calls.specs.declared.event.Event.{Event}
 use Rattle.bully_calls.specs.declared.event.Refused.{Refused}
+use Rattle.bully_world.specs.Serving.{IsServed, NoneServed}
 use Rattle.bully_world.specs.State.{WorldState, state_at, world_of, cause_in}
 use Rattle.bully_world.specs.Step.{Step}
 use Rattle.bully_world.specs.Turn.{step_event, procedure_after, turn}
@@ -95,7 +96,7 @@ steps_continue kind before h after h' (inr full) = rw full.1 (nothing_continues 
 
 -- a node's turn
 serves_continue : (before : RecordingState) (i : ℕ) (served : Bool) (after : RecordingState) → RunsLowest before i served after → Continues before after
-serves_continue before i true after does = applied_continues (Event.Run does.0) before after does.3 (λ c. tt)
+serves_continue before i true after does = applied_continues (Event.Run does.0) before after does.2 (λ c. tt)
 serves_continue before i false after does = rw does.0 (nothing_continues before)
 
 proceeds_continue : (next : Next) (before : RecordingState) (h : ProcedureState) (after : RecordingState) (h' : ProcedureState) → GoesBy next before h after h' → Continues before after
@@ -108,13 +109,25 @@ goes_on_continues Choice.Check before h after h' does = applied_continues (Event
 goes_on_continues Choice.Timeout before h after h' does = applied_continues (Event.Timeout h.node) before after does.0 (λ c. tt)
 goes_on_continues Choice.Proceed before h after h' does = proceeds_continue (turn before.world h) before h after h' does
 
-follows_continues : (served : Bool) (period number : ℕ) (before : RecordingState) (h : ProcedureState) (after : RecordingState) (h' : ProcedureState) → Follows Applies ProceedsIn served period number before h after h' → Continues before after
-follows_continues true period number before h after h' does = rw does.0 (nothing_continues before)
-follows_continues false period number before h after h' does = goes_on_continues (chosen_every period number h.point) before h after h' does
+follows_continues : (served : Bool) (choice : Choice) (before : RecordingState) (h : ProcedureState) (after : RecordingState) (h' : ProcedureState) → Follows Applies ProceedsIn served choice before h after h' → Continues before after
+follows_continues true choice before h after h' does = rw does.0 (nothing_continues before)
+follows_continues false choice before h after h' does = goes_on_continues choice before h after h' does
+
+takes_continues : (choice : Choice) (before : RecordingState) (h : ProcedureState) (after : RecordingState) (h' : ProcedureState) → TakesIn choice before h after h' → Continues before after
+takes_continues choice before h after h' does =
+    continues_then before does.1 after (serves_continue before h.node does.0 does.1 does.2) (follows_continues does.0 choice does.1 h after h' does.3)
 
 turn_continues : (period number : ℕ) (before : RecordingState) (h : ProcedureState) (after : RecordingState) (h' : ProcedureState) → IsTurn period number before h after h' → Continues before after
-turn_continues period number before h after h' does =
-    continues_then before does.2 after (serves_continue before h.node does.1 does.2 does.4) (follows_continues does.1 period number does.2 does.0 after h' does.5)
+turn_continues period number before h after h' does = takes_continues (chosen_every period number does.0.point) before does.0 after h' does.2
+
+-- the turn of a node that serves, and of one that serves nobody
+pub serves_turn : {X E : Type 0} (result : Result X E) (choice : Choice) (before : RecordingState) (h : ProcedureState) (after : RecordingState) (node caller : ℕ) → node ≡ h.node → IsServed before.world node caller → OnOk result (Applies (Event.Run caller) before after) → OnOk result (TakesIn choice before h after h)
+serves_turn (Ok x) choice before h after node caller same is ran = (true, after, (caller, subst (λ (i : ℕ). IsServed before.world i caller) same is, ran), (refl, refl))
+serves_turn (Err e) choice before h after node caller same is ran = tt
+
+pub chosen_turn : {X E : Type 0} (result : Result X E) (choice : Choice) (before : RecordingState) (h : ProcedureState) (after : RecordingState) (h' : ProcedureState) (node : ℕ) → node ≡ h.node → NoneServed before.world node → OnOk result (GoesOn Applies ProceedsIn choice before h after h') → OnOk result (TakesIn choice before h after h')
+chosen_turn (Ok x) choice before h after h' node same none goes = (false, before, (refl, subst (NoneServed before.world) same none), goes)
+chosen_turn (Err e) choice before h after h' node same none goes = tt
 
 pub turn_ok : {A E : Type 0} (result : Result A E) (period number : ℕ) (before : RecordingState) (h : ProcedureState) (after : RecordingState) (h' : ProcedureState) → OnOk result (IsTurn period number before h after h') → OnOk result (Continues before after)
 turn_ok (Ok x) period number before h after h' does = turn_continues period number before h after h' does

@@ -1,7 +1,6 @@
 -- The trace of a lawful list of events is one that a text can tell.
-use Rattle.std.proofs.Common.{◌≡◌, ℕ, List, length, All, Option, Some, [], arith, refl, sym, subst}
+use Rattle.std.proofs.Common.{◌≡◌, ℕ, List, Option, Some, [], arith, refl, sym, subst}
 use Rattle.std.proofs.lemmas.List.Elements.{All-weaker}
-use Rattle.bully_base.specs.declared.TheConstants.{EVENTS_MAX}
 use Rattle.bully_base.specs.Setup.{IsSetup, Setup}
 use Rattle.bully_calls.specs.declared.event.Event.{Event}
 use Rattle.bully_rows.specs.declared.header.Version.{Version}

@@ -1,7 +1,6 @@
 -- What the operator and a node do in a turn.
-use Rattle.std.specs.Prelude.{◌≡◌, ◌≢◌, ◌<◌, ◌⊎◌, ◌+◌, ◌++◌, ℕ, zero, suc, Bool, true, false, List, [], ◌∷◌, map, None, ◌==◌}
+use Rattle.std.specs.Prelude.{◌≡◌, ◌+◌, ◌++◌, ℕ, zero, suc, Bool, true, false, List, [], ◌∷◌, map, None, ◌==◌}
 use Rattle.std.specs.Bool.{MatchBool}
-use Rattle.bully_base.specs.declared.node.Status.TheVariants.{Down}
 use Rattle.bully_base.specs.Setup.{Setup}
 use Rattle.bully_config.specs.Configuration.{Configuration}
 use Rattle.bully_config.specs.declared.config.Fault.{Fault}
@@ -15,26 +14,18 @@ use Rattle.bully_steps.specs.ProcedureState.{ProcedureState, procedure_state}
 use Rattle.bully_rows.specs.declared.trace.Row.{Row}
 use Rattle.bully_calls.specs.declared.event.Event.{Event}
 use Rattle.bully_world.specs.declared.turn.Next.{Next}
-use Rattle.bully_world.specs.State.{WorldState, state_at, world_of, first_state}
+use Rattle.bully_world.specs.Serving.{IsServed, NoneServed}
+use Rattle.bully_world.specs.State.{WorldState, state_at, first_state}
 use Rattle.bully_world.specs.Turn.{procedure_in, turn}
-use Rattle.bully_world.specs.World.{pending, is_sent_to}
 
 -- from the task that the procedure's node has
 abbrev pub prepared : WorldState → ProcedureState → ProcedureState
 prepared w h = prepared_from (state_at w h.node).vector.vector.task h
 
--- the lowest caller that waits for node i
-pub record IsLowest (w : WorldState) (i caller : ℕ) : Type 0 where
-  pub waits : is_sent_to i (pending (world_of w) caller) ≡ true
-  pub lowest : (j : ℕ) → j < caller → is_sent_to i (pending (world_of w) j) ≡ false
-
 -- node i serves: the call of the lowest caller that waits for it runs. It serves nobody where it is Down or none waits
 abbrev pub RunsLowest : RecordingState → ℕ → Bool → RecordingState → Type 0
-RunsLowest before i true after =
-    (caller : ℕ) × IsLowest before.world i caller × ((state_at before.world i).vector.vector.status ≢ Down) × Applies (Event.Run caller) before after
-RunsLowest before i false after =
-    (after ≡ before)
-    × (((state_at before.world i).vector.vector.status ≡ Down) ⊎ ((j : ℕ) → is_sent_to i (pending (world_of before.world) j) ≡ false))
+RunsLowest before i true after = (caller : ℕ) × IsServed before.world i caller × Applies (Event.Run caller) before after
+RunsLowest before i false after = (after ≡ before) × NoneServed before.world i
 
 -- what the procedure does where the turn rule offers this
 abbrev pub GoesBy : Next → RecordingState → ProcedureState → RecordingState → ProcedureState → Type 0
@@ -42,31 +33,31 @@ GoesBy Next.Resync before h after h' = (after ≡ before) × (h' ≡ procedure_i
 GoesBy Next.Rest before h after h' = (after ≡ before) × (h' ≡ h)
 GoesBy (Next.Take kind) before h after h' = Steps kind before h after h'
 
--- What a turn is, over any state S of what it is taken on. There `applies` is what an event does, `prepares` which
--- procedure another one is prepared to, `serves` whether a node serves a call and what that does, and `proceeds` what a
--- procedure does by the turn rule
+-- What a turn is, over any state S of what it is taken on. There `applies` is what an event does, `serves` whether a node
+-- serves a call and what that does, and `proceeds` what a procedure does by the turn rule. `prepares` says which procedure
+-- another one is prepared to, and `takes` what comes then in one piece: the node serves, or else does what it chose
 
--- the node does what it chooses
+-- the node does what it chose
 abbrev pub GoesOn : {S : Type 0} → (Event → S → S → Type 0) → (S → ProcedureState → S → ProcedureState → Type 0) → Choice → S → ProcedureState → S → ProcedureState → Type 0
 GoesOn applies proceeds Choice.Check before h after h' = applies (Event.Check h.node) before after × (h' ≡ h)
 GoesOn applies proceeds Choice.Timeout before h after h' = applies (Event.Timeout h.node) before after × (h' ≡ h)
 GoesOn applies proceeds Choice.Proceed before h after h' = proceeds before h after h'
 
 -- a node that served does nothing else in its turn
-abbrev pub Follows : {S : Type 0} → (Event → S → S → Type 0) → (S → ProcedureState → S → ProcedureState → Type 0) → Bool → ℕ → ℕ → S → ProcedureState → S → ProcedureState → Type 0
-Follows applies proceeds true period number before h after h' = (after ≡ before) × (h' ≡ h)
-Follows applies proceeds false period number before h after h' = GoesOn applies proceeds (chosen_every period number h.point) before h after h'
+abbrev pub Follows : {S : Type 0} → (Event → S → S → Type 0) → (S → ProcedureState → S → ProcedureState → Type 0) → Bool → Choice → S → ProcedureState → S → ProcedureState → Type 0
+Follows applies proceeds true choice before h after h' = (after ≡ before) × (h' ≡ h)
+Follows applies proceeds false choice before h after h' = GoesOn applies proceeds choice before h after h'
 
--- a node's turn of this number, with the procedure that it holds: it is prepared, then the node serves, and then it goes
--- on, where a node checks once in a period
-abbrev pub IsTurnOn : {S : Type 0} → (Event → S → S → Type 0) → (S → ProcedureState → ProcedureState → Type 0) → (S → ℕ → Bool → S → Type 0) → (S → ProcedureState → S → ProcedureState → Type 0) → ℕ → ℕ → S → ProcedureState → S → ProcedureState → Type 0
-IsTurnOn {S} applies prepares serves proceeds period number before h after h' =
-    (ready : ProcedureState)
-    × (served : Bool)
-    × (mid : S)
-    × prepares before h ready
-    × serves before h.node served mid
-    × Follows applies proceeds served period number mid ready after h'
+-- the node serves, or else does what it chose
+abbrev pub ServesOrGoesOn : {S : Type 0} → (Event → S → S → Type 0) → (S → ℕ → Bool → S → Type 0) → (S → ProcedureState → S → ProcedureState → Type 0) → Choice → S → ProcedureState → S → ProcedureState → Type 0
+ServesOrGoesOn {S} applies serves proceeds choice before h after h' =
+    (served : Bool) × (mid : S) × serves before h.node served mid × Follows applies proceeds served choice mid h after h'
+
+-- a node's turn of this number, with the procedure that it holds: it is prepared, and then the node serves, or else goes on
+-- as it chooses, where a node checks once in a period
+abbrev pub IsTurnOn : {S : Type 0} → (S → ProcedureState → ProcedureState → Type 0) → (Choice → S → ProcedureState → S → ProcedureState → Type 0) → ℕ → ℕ → S → ProcedureState → S → ProcedureState → Type 0
+IsTurnOn prepares takes period number before h after h' =
+    (ready : ProcedureState) × prepares before h ready × takes (chosen_every period number ready.point) before ready after h'
 
 -- the operator's turn: the faults of that turn, one after the other
 abbrev pub OperatesOn : {S : Type 0} → (Event → S → S → Type 0) → ℕ → List Fault → S → S → Type 0
@@ -86,8 +77,12 @@ Prepares before h ready = ready ≡ prepared before.world h
 abbrev pub ProceedsIn : RecordingState → ProcedureState → RecordingState → ProcedureState → Type 0
 ProceedsIn before h after h' = GoesBy (turn before.world h) before h after h'
 
+-- the node serves, or else does what it chose
+abbrev pub TakesIn : Choice → RecordingState → ProcedureState → RecordingState → ProcedureState → Type 0
+TakesIn choice before h after h' = ServesOrGoesOn Applies RunsLowest ProceedsIn choice before h after h'
+
 abbrev pub IsTurn : ℕ → ℕ → RecordingState → ProcedureState → RecordingState → ProcedureState → Type 0
-IsTurn period number before h after h' = IsTurnOn Applies Prepares RunsLowest ProceedsIn period number before h after h'
+IsTurn period number before h after h' = IsTurnOn Prepares TakesIn period number before h after h'
 
 abbrev pub Operates : ℕ → List Fault → RecordingState → RecordingState → Type 0
 Operates number faults before after = OperatesOn Applies number faults before after

@@ -1,16 +1,16 @@
-ghost use Rattle.std.specs.Prelude.{◌≡◌, ◌≤◌, IfOk, OnOk};
+ghost use Rattle.std.specs.Prelude.{◌≡◌, OnOk};
 ghost use Rattle.bully_steps.specs.Procedure.{state_of};
 ghost use Rattle.bully_steps.specs.ProcedureState.{HasSameNode};
 
-use bully_base::{Node, OutOfMemory};
-use bully_steps::Procedure;
+use bully_base::OutOfMemory;
+use bully_steps::{Choice, Procedure};
 use bully_world::Event;
 
 /// What turns are taken on: a world whose events are recorded, or a group at its lock. Each call is refused where an
 /// allocation fails.
 pub trait Backend {
-    ghost use Rattle.std.specs.Prelude.{ℕ, Bool};
     ghost use Rattle.bully_base.specs.Setup.{Setup};
+    ghost use Rattle.bully_steps.specs.declared.driver.Choice.{Choice as AnyChoice};
     ghost use Rattle.bully_steps.specs.ProcedureState.{ProcedureState};
     ghost use Rattle.bully_calls.specs.declared.event.Event.{Event as AnyEvent};
 
@@ -23,11 +23,8 @@ pub trait Backend {
     // Which procedure another one is prepared to.
     ghost prepares: { Self → ProcedureState → ProcedureState → Type 0 };
 
-    // Whether a node serves a call, and what that does.
-    ghost serves: { Self → ℕ → Bool → Self → Type 0 };
-
-    // What a procedure does by the turn rule.
-    ghost proceeds: { Self → ProcedureState → Self → ProcedureState → Type 0 };
+    // What comes in one piece: the procedure's node serves, or else does what it chose.
+    ghost takes: { AnyChoice → Self → ProcedureState → Self → ProcedureState → Type 0 };
 
     /// Applies the event; one that is refused is passed over.
     fn apply(&mut self, event: Event) -> Result<(), OutOfMemory>
@@ -41,16 +38,11 @@ pub trait Backend {
         ensures same_node { HasSameNode (state_of procedure.old) (state_of procedure.new) }
         ensures same { self.new ≡ self.old };
 
-    /// Runs the call that waits for the node, and tells whether its turn ends with that.
-    fn serve(&mut self, node: Node) -> Result<bool, OutOfMemory>
-        requires { node ≤ (setup self.old).nodes }
-        ensures serves { IfOk result (λ served. serves self.old node served self.new) }
-        ensures setup { OnOk result (setup self.new ≡ setup self.old) };
-
-    /// Takes the procedure's step by the turn rule, and the procedure goes on by it.
-    fn proceed(&mut self, procedure: &mut Procedure) -> Result<(), OutOfMemory>
+    /// Runs the call that waits for the procedure's node. Where none does, the node does what it chose: a check, a timeout, or
+    /// what the turn rule says of the procedure, which goes on by that.
+    fn take(&mut self, choice: Choice, procedure: &mut Procedure) -> Result<(), OutOfMemory>
         requires { (state_of procedure.old).setup ≡ setup self.old }
-        ensures proceeds { OnOk result (proceeds self.old (state_of procedure.old) self.new (state_of procedure.new)) }
+        ensures takes { OnOk result (takes choice self.old (state_of procedure.old) self.new (state_of procedure.new)) }
         ensures same_node { HasSameNode (state_of procedure.old) (state_of procedure.new) }
         ensures setup { OnOk result (setup self.new ≡ setup self.old) };
 }

@@ -1,6 +1,7 @@
 ghost use Rattle.std.specs.Prelude.{◌≡◌, ◌≤◌, ◌++◌, ◌∷◌, [], length, IfOk, OnOk};
 ghost use Rattle.bully_play.specs.Play.{trace_setup};
-ghost use Rattle.bully_play.specs.Recording.{Steps};
+ghost use Rattle.bully_play.specs.Recording.{Applies, Steps};
+ghost use Rattle.bully_play.specs.Turns.{GoesOn, ProceedsIn};
 ghost use Rattle.bully_steps.specs.Procedure.{state_of};
 ghost use Rattle.bully_steps.specs.ProcedureState.{HasSameNode};
 ghost use Rattle.bully_rows.specs.Trace.{trace_for};
@@ -11,9 +12,9 @@ ghost use Rattle.bully_world.specs.declared.turn.Next.{Next};
 
 use crate::backend::Backend;
 use crate::trace::trace_with;
-use bully_base::{Node, OutOfMemory, Setup, Status};
+use bully_base::{OutOfMemory, Setup};
 use bully_rows::{Row, Trace};
-use bully_steps::Procedure;
+use bully_steps::{Choice, Procedure};
 use bully_world::{Event, Next, StepKind, World};
 use std::alloc::Global;
 use std::marker::Model;
@@ -42,6 +43,37 @@ impl Recording {
             world: World::new(alloc, setup)?,
             rows: Vec::new(alloc),
         })
+    }
+
+    // The procedure's node does what it chose. A check or a timeout leaves the procedure as it is.
+    fn go_on(&mut self, choice: Choice, procedure: &mut Procedure) -> Result<(), OutOfMemory>
+        requires setup { (state_of procedure.old).setup ≡ self.old.world.setup }
+        ensures goes_on { OnOk result (GoesOn Applies ProceedsIn choice self.old (state_of procedure.old) self.new (state_of procedure.new)) }
+        ensures same_node { HasSameNode (state_of procedure.old) (state_of procedure.new) }
+        ensures setup { OnOk result (self.new.world.setup ≡ self.old.world.setup) }
+    {
+        match choice {
+            Choice::Check => self.apply(Event::Check(procedure.node())),
+            Choice::Timeout => self.apply(Event::Timeout(procedure.node())),
+            Choice::Proceed => self.proceed(procedure),
+        }
+    }
+
+    // The procedure goes on by the turn rule.
+    fn proceed(&mut self, procedure: &mut Procedure) -> Result<(), OutOfMemory>
+        requires setup { (state_of procedure.old).setup ≡ self.old.world.setup }
+        ensures proceeds { OnOk result (ProceedsIn self.old (state_of procedure.old) self.new (state_of procedure.new)) }
+        ensures same_node { HasSameNode (state_of procedure.old) (state_of procedure.new) }
+        ensures setup { OnOk result (self.new.world.setup ≡ self.old.world.setup) }
+    {
+        match self.world.next(procedure) {
+            Next::Resync => {
+                self.world.resync(procedure);
+                Ok(())
+            }
+            Next::Rest => Ok(()),
+            Next::Take(kind) => self.take_step(kind, procedure),
+        }
     }
 
     // Takes a step that the turn rule offers, and records its event; the procedure goes on by it. Where the world
@@ -78,7 +110,7 @@ impl Recording {
 
 impl Backend for Recording {
     ghost use Rattle.bully_play.specs.Recording.{Applies};
-    ghost use Rattle.bully_play.specs.Turns.{Prepares, RunsLowest, ProceedsIn};
+    ghost use Rattle.bully_play.specs.Turns.{Prepares, TakesIn};
 
     ghost setup = { λ r. r.world.setup };
 
@@ -86,9 +118,7 @@ impl Backend for Recording {
 
     ghost prepares = { Prepares };
 
-    ghost serves = { RunsLowest };
-
-    ghost proceeds = { ProceedsIn };
+    ghost takes = { TakesIn };
 
     // An event that the world refuses isn't recorded.
     fn apply(&mut self, event: Event) -> Result<(), OutOfMemory> {
@@ -103,26 +133,10 @@ impl Backend for Recording {
         procedure.prepare(*self.rows.allocator(), task)
     }
 
-    // A Down node serves nobody. Of several calls the lowest caller's runs.
-    fn serve(&mut self, node: Node) -> Result<bool, OutOfMemory> {
-        if self.world.vector(node).status() == Status::Down {
-            return Ok(false);
-        }
-        let Some(caller) = self.world.waiting_for(node) else {
-            return Ok(false);
-        };
-        self.apply(Event::Run(caller))?;
-        Ok(true)
-    }
-
-    fn proceed(&mut self, procedure: &mut Procedure) -> Result<(), OutOfMemory> {
-        match self.world.next(procedure) {
-            Next::Resync => {
-                self.world.resync(procedure);
-                Ok(())
-            }
-            Next::Rest => Ok(()),
-            Next::Take(kind) => self.take_step(kind, procedure),
+    fn take(&mut self, choice: Choice, procedure: &mut Procedure) -> Result<(), OutOfMemory> {
+        match self.world.caller_to_serve(procedure.node()) {
+            Some(caller) => self.apply(Event::Run(caller)),
+            None => self.go_on(choice, procedure),
         }
     }
 }

@@ -2,8 +2,7 @@ ghost use Rattle.std.specs.Prelude.{◌≡◌, ◌+◌, ◌<◌, List, OnOk};
 ghost use Rattle.bully_config.specs.declared.config.Fault.{Fault as AnyFault};
 ghost use Rattle.bully_play.specs.Schedule.{AreLeft};
 ghost use Rattle.bully_play.specs.Play.{event_of_fault};
-ghost use Rattle.bully_play.specs.Turns.{GoesOn, IsTurnOn, OperatesOn};
-ghost use Rattle.bully_steps.specs.Driver.{chosen_every};
+ghost use Rattle.bully_play.specs.Turns.{IsTurnOn, OperatesOn};
 ghost use Rattle.bully_steps.specs.Procedure.{state_of};
 ghost use Rattle.bully_steps.specs.ProcedureState.{HasSameNode};
 
@@ -11,7 +10,7 @@ use crate::backend::Backend;
 use crate::schedule::Schedule;
 use bully_base::OutOfMemory;
 use bully_config::{Fault, FaultKind};
-use bully_steps::{Choice, Driver, Procedure};
+use bully_steps::{Driver, Procedure};
 use bully_world::Event;
 
 /// The operator's turn: the faults of this turn, in the order of the document. One that is refused is passed over.
@@ -43,8 +42,8 @@ fn fault_event(fault: Fault) -> Event
 }
 
 /// The turn of this number of the node that holds the procedure, which goes on. It is prepared first, where it
-/// is Planning. Then the node serves the call that waits for it, if any; else it goes on as it chooses, with a check
-/// once in a period of at least 1.
+/// is Planning. Then, in one piece, the node serves the call that waits for it, if any; else it goes on as it chooses, with
+/// a check once in a period of at least 1.
 pub fn take_node_turn<S: Backend>(
     backend: &mut S,
     period: u32,
@@ -53,36 +52,11 @@ pub fn take_node_turn<S: Backend>(
 ) -> Result<(), OutOfMemory>
     requires setup { (state_of place.old).setup ≡ S.setup backend.old }
     requires period { 0 < period }
-    ensures turn { OnOk result (IsTurnOn S.applies S.prepares S.serves S.proceeds period turn backend.old (state_of place.old) backend.new (state_of place.new)) }
+    ensures turn { OnOk result (IsTurnOn S.prepares S.takes period turn backend.old (state_of place.old) backend.new (state_of place.new)) }
     ensures same_node { HasSameNode (state_of place.old) (state_of place.new) }
     ensures setup { OnOk result (S.setup backend.new ≡ S.setup backend.old) }
 {
-    let node = place.node();
     backend.prepare(place)?;
-    if backend.serve(node)? {
-        return Ok(());
-    }
-    follow_choice(backend, period, turn, place)
-}
-
-// The node begins a check or has a timeout, where it chooses so, and holds its procedure as it is; else the
-// procedure goes on by the turn rule.
-fn follow_choice<S: Backend>(
-    backend: &mut S,
-    period: u32,
-    turn: u32,
-    procedure: &mut Procedure,
-) -> Result<(), OutOfMemory>
-    requires setup { (state_of procedure.old).setup ≡ S.setup backend.old }
-    requires period { 0 < period }
-    ensures goes_on { OnOk result (GoesOn S.applies S.proceeds (chosen_every period turn (state_of procedure.old).point) backend.old (state_of procedure.old) backend.new (state_of procedure.new)) }
-    ensures same_node { HasSameNode (state_of procedure.old) (state_of procedure.new) }
-    ensures setup { OnOk result (S.setup backend.new ≡ S.setup backend.old) }
-{
-    let node = procedure.node();
-    match Driver::choose_every(period, turn, procedure) {
-        Choice::Check => backend.apply(Event::Check(node)),
-        Choice::Timeout => backend.apply(Event::Timeout(node)),
-        Choice::Proceed => backend.proceed(procedure),
-    }
+    let choice = Driver::choose_every(period, turn, place);
+    backend.take(choice, place)
 }

@@ -3,7 +3,6 @@ ghost use Rattle.std.specs.Option.{option_map};
 ghost use Rattle.bully_group.specs.Seat.{IsKnown, IsForeign};
 ghost use Rattle.bully_group.specs.Steps.{Records, IsAllowed, IsYours, IsStepFault, IsTakeFault, IsServe, IsServeFault, IsLateFault, is_served};
 ghost use Rattle.bully_watch.specs.History.{whose, callee_of};
-ghost use Rattle.bully_world.specs.Cause.{is_down_at};
 ghost use Rattle.bully_world.specs.State.{world_of, cause_in};
 ghost use Rattle.bully_world.specs.World.{pending};
 
@@ -11,7 +10,7 @@ use super::Locked;
 use crate::naming::Naming;
 use crate::pass::Pass;
 use crate::seat::Seat;
-use bully_base::{Node, OutOfMemory, Status};
+use bully_base::{Node, OutOfMemory};
 use bully_watch::Entry;
 use bully_world::{Event, Refused, World};
 
@@ -86,10 +85,7 @@ impl<L: Naming> Locked<L> {
         ensures unchanged { IfErr result (λ _. (self.new ≡ self.old) × (seat.new ≡ seat.old)) }
         ensures pass { pass.new ≡ (if is_served result then pass.old + 1 else pass.old) }
     {
-        if is_down(&self.world, node) {
-            return Ok(false);
-        }
-        let Some(caller) = self.world.waiting_for(node) else {
+        let Some(caller) = self.world.caller_to_serve(node) else {
             return Ok(false);
         };
         self.take_allowed(seat, &Event::Run(caller), pass)?;
@@ -173,14 +169,6 @@ fn callee_of(world: &World, caller: Node) -> Option<u16>
     }
     let call = world.slot(caller).call()?;
     Some(call.callee.number())
-}
-
-// Whether the node is Down, as one above the setup's last is.
-#[tactic(auto, using(crate::proofs::WorldLemmas::down_beyond))]
-fn is_down(world: &World, node: Node) -> bool
-    ensures { result ≡ is_down_at (world_of world.now) node }
-{
-    node.number() > world.setup().nodes() || world.vector(node).status() == Status::Down
 }
 
 /// Room for one entry more in the history and in the log. Both have the entries that they had.

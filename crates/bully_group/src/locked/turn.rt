@@ -1,6 +1,5 @@
-ghost use Rattle.std.specs.Prelude.{◌≡◌, ◌+◌, ◌<◌, IfOk, IfErr, OnOk, is_ok, true, false, vec_len, vec_capacity, if◌then◌else◌};
-ghost use Rattle.bully_group.specs.NodeTurns.{LeavesInStep, TurnsBy, adds_entry};
-ghost use Rattle.bully_group.specs.Turns.{handed_back, IfWent, IfWaiting, IfResynced, IfFault, is_went, MayTurn, Goes, Waits, Resyncs, Fails, IsTurnFault, EndsInStep};
+ghost use Rattle.std.specs.Prelude.{◌≡◌, ◌+◌, ◌<◌, IfOk, IfErr, OnOk, is_ok, true, vec_len, vec_capacity, if◌then◌else◌};
+ghost use Rattle.bully_group.specs.Turns.{IsNodeTurn, IsNodeTurnFault, LeavesInStep, TurnsBy, adds_entry, MayTurn, Goes, IsTurnFault};
 ghost use Rattle.bully_steps.specs.Procedure.{state_of};
 ghost use Rattle.bully_steps.specs.ProcedureState.{HasSameNode};
 ghost use Rattle.bully_world.specs.Turn.{turn, has_table, is_in_step, step_event};
@@ -8,7 +7,6 @@ ghost use Rattle.bully_world.specs.declared.turn.Next.{Next};
 ghost use Rattle.bully_world.specs.declared.turn.StepKind.{StepKind};
 
 use super::Locked;
-use super::node_turn::NodeTurn;
 use super::step::{StepFault, foreign_index, record_entry, reserve_entry};
 use crate::naming::Naming;
 use crate::pass::Pass;
@@ -18,55 +16,34 @@ use bully_steps::Procedure;
 use bully_watch::Entry;
 use bully_world::{Event, Next, Refused, StepKind, TakenStep};
 
-/// What became of a turn. Each hands a procedure of the same node back.
-#[derive(Drop, Debug)]
-pub enum Turn {
-    /// A step was taken, and the procedure goes on by it.
-    Went(Procedure),
-    /// There is nothing that it can do now; it is as it was.
-    Waiting(Procedure),
-    /// It wasn't in step with the world. It is given up for the one that the world shows.
-    Resynced(Procedure),
-    /// No turn was taken, for this fault; it is as it was.
-    Fault(Procedure, StepFault),
+/// What became of a node's whole turn, in which the procedure that it holds goes on in its place.
+#[derive(Clone, Copy, PartialEq, Eq, Debug)]
+pub enum NodeTurn {
+    /// The call that waited for the node ran. The procedure is as it was.
+    Served,
+    /// The procedure took a step, and went on by it.
+    Went,
+    /// There was nothing that the procedure could do. It is as it was.
+    Waiting,
+    /// The procedure wasn't in step with the world. It was given up for the one that the world shows.
+    Resynced,
 }
 
 impl<L: Naming> Locked<L> {
-    /// Takes the turn of the seat's node by the turn rule, with the procedure that the node holds, whose setup is the
-    /// group's. A step that is taken adds an entry as `step` does. Refused, in this order, as `Foreign`, `NotYours`
-    /// where the seat isn't that of the procedure's node, then, where the rule has a step, `Refused` as Full, and
-    /// `OutOfMemory`; then nothing changes. The rule: docs/ALGORITHM.md.
-    pub fn turn(&mut self, seat: &mut Seat, procedure: Procedure, pass: &mut Pass<L>) -> Turn
-        requires setup { (state_of procedure).setup ≡ L.setup }
-        ensures went { IfWent result (Goes self.old seat.old (state_of procedure) self.new seat.new) }
-        ensures waiting { IfWaiting result (Waits self.old seat.old (state_of procedure)) }
-        ensures resynced { IfResynced result (Resyncs self.old seat.old (state_of procedure)) }
-        ensures fault { IfFault result (Fails self.old seat.old (state_of procedure)) }
-        ensures in_step { EndsInStep self.new result }
-        ensures same_node { HasSameNode (state_of procedure) (handed_back result) }
-        ensures unchanged { is_went result ≡ false → (self.new ≡ self.old) × (seat.new ≡ seat.old) }
-        ensures pass { pass.new ≡ (if is_went result then pass.old + 1 else pass.old) }
-    {
-        let mut procedure = procedure;
-        match self.turn_in_place(seat, &mut procedure, pass) {
-            Ok(NodeTurn::Went) => Turn::Went(procedure),
-            Ok(NodeTurn::Waiting) => Turn::Waiting(procedure),
-            Ok(NodeTurn::Resynced) => Turn::Resynced(procedure),
-            Ok(NodeTurn::Served) => unreachable!(),
-            Err(fault) => Turn::Fault(procedure, fault),
-        }
-    }
-
-    /// [`Locked::turn`], with the procedure where it lies. After a fault it is as it was.
-    pub fn turn_in_place(
+    /// The whole turn of the seat's node in one hold of the lock, with the procedure that it holds, whose setup is the
+    /// group's: it serves as [`Locked::serve`] does, and where it serves no call, it takes the turn of the procedure as
+    /// [`Locked::turn`] does. Refused, in this order, as `Foreign`, `NotYours` where the seat isn't that of the
+    /// procedure's node, and as the serve or the turn is; then nothing changes. The rule: docs/ALGORITHM.md.
+    #[tactic(auto, using(crate::proofs::TurnLemmas::serve_fault))]
+    pub fn serve_or_turn(
         &mut self,
         seat: &mut Seat,
         procedure: &mut Procedure,
         pass: &mut Pass<L>,
     ) -> Result<NodeTurn, StepFault>
         requires setup { (state_of procedure.old).setup ≡ L.setup }
-        ensures turn { IfOk result (TurnsBy self.old seat.old (state_of procedure.old) self.new seat.new (state_of procedure.new)) }
-        ensures fault { IfErr result (IsTurnFault self.old seat.old (state_of procedure.old)) }
+        ensures turn { IfOk result (IsNodeTurn self.old seat.old (state_of procedure.old) self.new seat.new (state_of procedure.new)) }
+        ensures fault { IfErr result (IsNodeTurnFault self.old seat.old (state_of procedure.old)) }
         ensures in_step { IfOk result (LeavesInStep self.new (state_of procedure.new)) }
         ensures same_node { HasSameNode (state_of procedure.old) (state_of procedure.new) }
         ensures unchanged { IfErr result (λ _. (self.new ≡ self.old) × (seat.new ≡ seat.old) × (state_of procedure.new ≡ state_of procedure.old)) }
@@ -75,8 +52,12 @@ impl<L: Naming> Locked<L> {
         if let Some(index) = foreign_index(&self.history, seat) {
             return Err(StepFault::Foreign { index });
         }
-        if seat.actor != procedure.node().number() {
+        let node = procedure.node();
+        if seat.actor != node.number() {
             return Err(StepFault::NotYours);
+        }
+        if self.serve_node(node, seat, pass)? {
+            return Ok(NodeTurn::Served);
         }
         self.turn_known(seat, procedure, pass)
     }

@@ -3,7 +3,7 @@ use Rattle.std.proofs.Common.{rules, Bool, false, subst}
 use Rattle.bully_steps.specs.Procedure.{state_of}
 use Rattle.bully_group.specs.Steps.{IsServe}
 use Rattle.bully_group.specs.Turns.{MayTurn}
-use Rattle.bully_group.proofs.NodeTurnLemmas.{turn_alone, fault_alone}
+use Rattle.bully_group.proofs.TurnLemmas.{turn_alone, fault_alone}
 use Rattle.bully_group.proofs.locked.Locked.serve_or_turn.Goals as goal
 
 pub returns-clause-turn : goal.returns-clause-turn

@@ -1,14 +1,13 @@
 -- A node's whole turn from its two parts: the serve, and the turn of the procedure.
 use Rattle.std.proofs.Common.{◌≡◌, Result, Ok, Err, IfOk, IfErr, inl, inr, subst}
 use Rattle.bully_steps.specs.ProcedureState.{ProcedureState}
-use Rattle.bully_group.specs.declared.locked.node_turn.NodeTurn.{NodeTurn}
-use Rattle.bully_group.specs.declared.locked.node_turn.NodeTurn.TheVariants.{Served, Went, Waiting, Resynced}
+use Rattle.bully_group.specs.declared.locked.turn.NodeTurn.{NodeTurn}
+use Rattle.bully_group.specs.declared.locked.turn.NodeTurn.TheVariants.{Served, Went, Waiting, Resynced}
 use Rattle.bully_group.specs.declared.locked.step.StepFault.{StepFault}
 use Rattle.bully_group.specs.Locked.{LockedState}
-use Rattle.bully_group.specs.NodeTurns.{ServesNone, TurnsBy, IsNodeTurn, IsNodeTurnFault}
 use Rattle.bully_group.specs.Seat.{SeatState}
 use Rattle.bully_group.specs.Steps.{IsServeFault, IsLateFault}
-use Rattle.bully_group.specs.Turns.{MayTurn, IsTurnFault}
+use Rattle.bully_group.specs.Turns.{MayTurn, IsTurnFault, ServesNone, TurnsBy, IsNodeTurn, IsNodeTurnFault}
 
 -- a fault of the serve
 pub serve_fault : (s : LockedState) (seat : SeatState) (h : ProcedureState) (fault : StepFault) → MayTurn s seat h → IsLateFault fault → IsServeFault s seat fault → IsNodeTurnFault s seat h fault
