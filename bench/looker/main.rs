@@ -1,9 +1,10 @@
 //! Looks at a group's view behind `RwLock`, in plain Rust: what `bench/look` compares observers with.
 //!
-//!     looker quiet|publishing NODES LOOKS
+//!     looker quiet|glances|publishing NODES LOOKS
 //!
 //! The group takes its first turns and is published. Then the view is looked at, read and cloned, so often, beside a thread
-//! that goes on with the turns and publishes after each, or with nothing beside it. A publish writes what changed alone.
+//! that goes on with the turns and publishes after each, or with nothing beside it. A publish writes what changed alone. A
+//! glance reads the events and what is shown of node 1 but its table.
 //! It prints the looks and what the last view makes, or the looks and the publishes.
 
 // The checks of it are the oracle's.
@@ -68,7 +69,7 @@ impl View {
     /// A number that all of it makes.
     fn made(&self) -> u64 {
         let mut made = self.events;
-        let mut join = |number: u64| made = made.wrapping_mul(31).wrapping_add(number);
+        let mut join = |number: u64| made = joined(made, number);
         for shown in &self.nodes {
             join(shown.status as u64);
             join(u64::from(shown.coordinator.unwrap_or(0)));
@@ -87,6 +88,29 @@ fn look(shown: &RwLock<View>, looks: u32) -> View {
         let view = black_box(shown.read().unwrap().clone());
         assert!(last.events <= view.events);
         last = view;
+    }
+    last
+}
+
+/// A number that what was made and one number more make.
+fn joined(made: u64, number: u64) -> u64 {
+    made.wrapping_mul(31).wrapping_add(number)
+}
+
+/// The events, and the status and the coordinator of node 1.
+type Glance = (u64, Status, Option<u16>);
+
+/// Glances so often; the last glance. The counts never fall.
+fn glance(shown: &RwLock<View>, glances: u32) -> Glance {
+    let glance = || -> Glance {
+        let view = shown.read().unwrap();
+        (view.events, view.nodes[0].status, view.nodes[0].coordinator)
+    };
+    let mut last = glance();
+    for _ in 1..glances {
+        let next = black_box(glance());
+        assert!(last.0 <= next.0);
+        last = next;
     }
     last
 }
@@ -123,6 +147,12 @@ fn main() {
     let shown = RwLock::new(View::of(&group));
     if task == "quiet" {
         println!("looks {looks}\nmade {}", look(&shown, looks).made());
+        return;
+    }
+    if task == "glances" {
+        let (events, status, coordinator) = glance(&shown, looks);
+        let made = joined(joined(events, status as u64), u64::from(coordinator.unwrap_or(0)));
+        println!("looks {looks}\nmade {made}");
         return;
     }
     let stop = AtomicBool::new(false);

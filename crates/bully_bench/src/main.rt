@@ -4,6 +4,7 @@
 //!     records                   how many records `csv` finds on standard input
 //!     turns NODES COUNT         turns of a group under its lock: how many entries there are, and a number that all make
 //!     quiet NODES LOOKS         looks of an observer, with nothing beside them, and a number that the last view makes
+//!     glances NODES GLANCES     glances of an observer, with nothing beside them, and a number that the last one makes
 //!     publishing NODES LOOKS    looks of an observer beside a thread that takes turns, and how often that one published
 //!     watch TURNS               turns of each node in a thread of its own, beside threads that look: entries, looks, entries seen at most
 //!
@@ -85,7 +86,9 @@ fn print_watched(rt: &HostRuntime, task: Watching, watched: Option<Watched>) -> 
         made,
     } = watched?;
     match task {
-        Watching::Quiet(_) => println!(rt; "looks {looks}\nmade {made}").ok(),
+        Watching::Quiet(_) | Watching::Glances(_) => println!(rt;
+            "looks {looks}\nmade {made}"
+        ).ok(),
         Watching::Publishing(_) => println!(rt; "looks {looks}\npublishes {publishes}").ok(),
         Watching::Threads(_) => println!(rt; "entries {entries}\nlooks {looks}\nseen {seen}").ok(),
     }
@@ -105,6 +108,7 @@ fn task_named(name: &str, words: &mut Args) -> Option<Task> {
         "records" => Some(Task::Records),
         "turns" => Some(Task::Turns(nodes_in(words)?, number_in(words)?)),
         "quiet" => Some(Task::Watch(nodes_in(words)?, 1, Watching::Quiet(number_in(words)?))),
+        "glances" => Some(Task::Watch(nodes_in(words)?, 1, Watching::Glances(number_in(words)?))),
         "publishing" => Some(Task::Watch(
             nodes_in(words)?,
             1,

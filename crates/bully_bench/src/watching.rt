@@ -35,6 +35,8 @@ const PUBLISHES: u32 = 10;
 pub enum Watching {
     /// So many looks, with nothing beside them.
     Quiet(u32),
+    /// So many glances at node 1, with nothing beside them.
+    Glances(u32),
     /// So many looks, beside a thread that takes turns and publishes after each.
     Publishing(u32),
     /// So many turns of each node and of the operator, each in a thread of its own, with a publish in every tenth turn
@@ -132,6 +134,8 @@ enum Job<L: Naming> {
     Lead(Team<L>, Watching),
     /// So many looks, or looks until the others have ended.
     Look(Observer, Option<u32>),
+    /// So many glances.
+    Glance(Observer, u32),
 }
 
 // Does this with the group, by jobs in threads of their own.
@@ -163,6 +167,10 @@ fn add_others<L: Naming, R: Wait>(
         Watching::Quiet(looks) | Watching::Publishing(looks) => {
             settle(rt, group, team)?;
             add_looks(jobs, observers, Some(looks))
+        }
+        Watching::Glances(glances) => {
+            settle(rt, group, team)?;
+            jobs.push(Job::Glance(observers.pop()?, glances)).ok()
         }
         Watching::Threads(turns) => {
             add_turns(jobs, team, turns)?;
@@ -206,7 +214,7 @@ fn add_looks<L: Naming>(
 // How many jobs of this task the others wait for: that of the observer, or those of the operator and of each node.
 fn ending(task: Watching) -> u64 {
     match task {
-        Watching::Quiet(_) | Watching::Publishing(_) => 1,
+        Watching::Quiet(_) | Watching::Glances(_) | Watching::Publishing(_) => 1,
         Watching::Threads(_) => u64::from(THREADS) + 1,
     }
 }
@@ -250,6 +258,7 @@ fn work<L: Naming, R: Wait>(
         Job::Play(mut player, turns) => ended(left, play(rt, group, &mut player, turns)),
         Job::Lead(mut team, task) => lead(rt, group, left, &mut team, task),
         Job::Look(mut observer, looks) => look(left, &mut observer, looks),
+        Job::Glance(mut observer, glances) => { ended(left, glance_often(&mut observer, glances)) }
     }
 }
 
@@ -262,7 +271,7 @@ fn lead<L: Naming, R: Wait>(
     task: Watching,
 ) -> Option<Watched> {
     match task {
-        Watching::Quiet(_) => Some(NOTHING),
+        Watching::Quiet(_) | Watching::Glances(_) => Some(NOTHING),
         Watching::Publishing(_) => publish_on(rt, group, team, left),
         Watching::Threads(turns) => ended(left, operate(rt, group, &mut team.operator, turns)),
     }
@@ -325,6 +334,26 @@ fn look_often(observer: &mut Observer, looks: u32) -> Option<Watched> {
     }
 }
 
+// So many glances at node 1, at least one. None where a count falls.
+fn glance_often(observer: &mut Observer, glances: u32) -> Option<Watched> {
+    let node = Node::new(1)?;
+    let mut last = observer.glance(node).ok()?;
+    for _ in 1..glances {
+        let next = observer.glance(node).ok()?;
+        if next.events < last.events {
+            return None;
+        }
+        last = next;
+    }
+    let made = joined(u64::from(last.events), last.status as u64);
+    Some(Watched {
+        looks: u64::from(glances),
+        seen: last.events,
+        made: joined(made, number_of(last.coordinator)),
+        ..NOTHING
+    })
+}
+
 // One more look: how many entries it saw. None where they are fewer than before.
 fn look_once(observer: &mut Observer, before: u32) -> Option<u32> {
     let seen = observer.look().ok()?.events();
@@ -348,14 +377,18 @@ fn with_node(made: u64, view: &View, number: u16) -> u64
         return made;
     };
     let made = joined(made, view.status(node) as u64);
-    let coordinator = match view.coordinator(node) {
-        Some(leader) => u64::from(leader.number()),
-        None => 0,
-    };
-    let made = joined(made, coordinator);
+    let made = joined(made, number_of(view.coordinator(node)));
     match view.task(node) {
         Some(table) => with_owners(made, table),
         None => made,
+    }
+}
+
+// The coordinator's number, and 0 for none.
+fn number_of(coordinator: Option<Node>) -> u64 {
+    match coordinator {
+        Some(leader) => u64::from(leader.number()),
+        None => 0,
     }
 }
 

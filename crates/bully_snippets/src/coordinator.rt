@@ -19,9 +19,6 @@ pub fn coordinator_of<L: Naming, R: Wait>(
     let told = guard.publish(rt, seat); // shows the whole history
     MutexGuard::unlock(guard);
     observer.learn(told.ok()?); // from now on it sees no less
-    let view = observer.look().ok()?; // takes no lock, and never waits
-    if node.number() > view.nodes() {
-        return None;
-    }
-    view.coordinator(node)
+    let glance = observer.glance(node).ok()?; // takes no lock and no memory, and never waits
+    glance.coordinator
 }

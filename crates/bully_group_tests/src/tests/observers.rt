@@ -4,9 +4,9 @@ ghost use Rattle.std.specs.Prelude.{◌≡◌, [], IfSome, Some};
 
 use super::asks::{seen_in, tell_seen};
 use bully_agree::View;
-use bully_base::{Node, Setup, Status};
+use bully_base::{NODES_MAX, Node, Setup, Status};
 use bully_group::{Locked, Naming, Pass, Seat};
-use bully_watch::{LookFault, Observer, Publisher, Told};
+use bully_watch::{Glance, GlanceFault, LookFault, Observer, Publisher, Told};
 use bully_world::Event;
 use std::alloc::Global;
 use std::marker::Model;
@@ -116,12 +116,42 @@ impl Watchers {
         }
     }
 
-    // Tells what the observer sees of node 1.
+    fn glance(&mut self, observer: Which, node: Node) -> Result<Glance, GlanceFault>
+        ensures { self.new ≡ self.old }
+    {
+        match observer {
+            Which::First => self.first.glance(node),
+            Which::Second => self.second.glance(node),
+        }
+    }
+
+    // Whether a glance at node 1 shows what was seen of it, and one at the last node of all, which no group here has, is
+    // refused; both are Gone where the look was.
+    fn glances_as(&mut self, observer: Which, seen: &Result<View, LookFault>) -> bool
+        ensures { self.new ≡ self.old }
+    {
+        let (Some(one), Some(last)) = (Node::new(1), Node::new(NODES_MAX)) else {
+            return false;
+        };
+        let one = self.glance(observer, one);
+        let last = self.glance(observer, last);
+        match seen {
+            Ok(view) => is_shown(view, one) && matches!(last, Err(GlanceFault::BadNode)),
+            Err(_) => {
+                matches!(one, Err(GlanceFault::Gone)) && matches!(last, Err(GlanceFault::Gone))
+            }
+        }
+    }
+
+    // Tells what the observer sees of node 1, and where a glance shows otherwise.
     fn tell_look(&mut self, observer: Which, text: &mut String)
         ensures { self.new ≡ self.old }
     {
         let seen = self.look(observer);
         tell_seen(text, &seen, 1);
+        if !self.glances_as(observer, &seen) {
+            drop(text.push_str("another glance\n"));
+        }
         drop(seen);
     }
 
@@ -133,6 +163,14 @@ impl Watchers {
         let told = seen_in(&seen, 1);
         drop(seen);
         told
+    }
+}
+
+// Whether the glance shows what the view shows of node 1.
+fn is_shown(view: &View, glance: Result<Glance, GlanceFault>) -> bool {
+    match (seen_in(view, 1), glance) {
+        (Some((events, status)), Ok(glance)) => glance.events == events && glance.status == status,
+        _ => false,
     }
 }
 
