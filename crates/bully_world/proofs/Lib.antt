@@ -10,6 +10,7 @@ pub mod SlotLemmas
 pub mod KeptLemmas
 pub mod OwnEvents
 pub mod EventLaws
+pub mod NameLemmas
 pub mod Events
 pub mod NodeInvariantLemmas
 pub mod NamedLemmas
@@ -24,6 +25,7 @@ pub mod AgreeLemmas
 pub mod TurnLemmas
 pub mod TurnSteps
 pub mod ProcedureAfter
+pub mod StepKinds
 pub mod TurnTaken
 pub mod WaitingLemmas
 pub mod ServingLemmas

@@ -12,10 +12,11 @@ use Rattle.bully_world.specs.Step.{Step}
 use Rattle.bully_world.specs.Turn.{turn, turn_in_step, is_in_step, procedure_in, step_event, outcome_after, procedure_after, procedure_left, outcome_left, agree, has_table}
 use Rattle.bully_world.specs.World.{NodeState, node_state, pending}
 use Rattle.bully_world.proofs.AgreeLemmas.{Agrees, agrees_of, agree_if}
-use Rattle.bully_world.proofs.ProcedureAfter.{step_on, identity_after}
+use Rattle.bully_world.proofs.ProcedureAfter.{identity_after}
+use Rattle.bully_world.proofs.StepKinds.{offered_possible, step_on}
 use Rattle.bully_world.proofs.WorldIn.{node_state-world_in}
 use Rattle.bully_world.proofs.TurnLemmas.{reached_fits}
-use Rattle.bully_world.proofs.TurnSteps.{shown, offered_possible, plan_offered, turn_own}
+use Rattle.bully_world.proofs.TurnSteps.{shown, plan_offered, turn_own}
 use Rattle.bully_world.proofs.OwnEvents.{own_raises_nothing}
 
 -- a step is offered only in step, by the call in the slot

@@ -1,6 +1,5 @@
 -- A step that the turn rule offers isn't refused where there is room, and the procedure that goes on by it is in step.
-use Rattle.std.proofs.Common.{◌≡◌, ◌<◌, None, arith, rules, ◌∙◌, ap}
-use Rattle.std.proofs.lemmas.Bool.Decides.{nat_tests}
+use Rattle.std.proofs.Common.{◌≡◌, None, arith, rules, ◌∙◌, ap}
 use Rattle.bully_steps.specs.Procedure.{state_of}
 use Rattle.bully_world.specs.State.{cause_in}
 use Rattle.bully_world.specs.Turn.{step_event, is_in_step}
