@@ -1,6 +1,6 @@
-# What bin/bully and bin/library share: the crates of crates.txt, and how those that one of them stands on are proved and built. It is
-# sourced, where `root` is the top of the repository, and `say` tells a line on standard error. A library is built into its folder
-# out/built, beside a sum of all that it is made of.
+# What bin/bully, bin/library, bin/test and bin/release share: the crates of crates.txt, and how those that one of them stands on are
+# proved and built. It is sourced, where `root` is the top of the repository, and `say` tells a line on standard error. A library is built
+# into its folder out/built, beside a sum of all that it is made of.
 # (root and room are its callers', and proved is one number of prove_below)
 # shellcheck disable=SC2128,SC2154
 
@@ -43,6 +43,19 @@ duration_of() {
         lines=$(find "$root/crates/$1"/{src,specs,proofs} -type f -exec cat {} + 2>/dev/null | wc -l)
         echo $((lines / 10))
     fi
+}
+
+# The version of all that is handed out: the first line of the constant that the program tells as its own.
+version_of_all() {
+    local version
+    version=$(sed -nE 's/^pub const VERSION: &str = "([^"\\]+)\\n.*/\1/p' "$root/crates/bully_cli/src/help.rt")
+    [[ $version =~ ^[0-9]+\.[0-9]+\.[0-9]+$ ]] && echo "$version"
+}
+
+# The commit of the repository, where all that stands in it is committed.
+whole_commit() {
+    local changes
+    changes=$(git -C "$root" status --porcelain 2>/dev/null) && [[ -z $changes ]] && git -C "$root" rev-parse --verify --quiet HEAD
 }
 
 # Finds the folder of the kit, `kit`.
@@ -128,13 +141,15 @@ all_jobs() {
 }
 
 # Proves each library that this crate stands on and that isn't built of what it is made of now, each as soon as those below it are,
-# and then what the command behind it proves and builds. The files of the folder `room` tell what was said.
+# and then what the command behind it proves and builds. The files of the folder `room` tell what was said. Behind the crate there may be
+# a library that goes first, with all below it, and what is said of these once they are proved.
 prove_below() {
     # (of each crate: empty while no proof was begun, `begun` or `proved`; what it is made of; the seconds of its chain; and by how many
     # processes it is proved. And how many were proved, are to be, and are under way, and the processes of these)
     local -A state=() made_of=() chain=() processes_of=()
-    local proved=0 all=0 begun=0 busy=0 libraries
+    local proved=0 all=0 begun=0 busy=0 libraries first='' told=${3-}
     read -ra libraries <<<"${below[$1]}"
+    [[ -z ${2-} ]] || first=" ${below[$2]} $2 "
     read_durations
     find_states
     find_chains "$1"
@@ -241,12 +256,13 @@ find_chains() {
     done
 }
 
-# Those libraries whose proof nothing keeps waiting, that of the longest chain first.
+# Those libraries whose proof nothing keeps waiting: those that go first, and then that of the longest chain.
 waiting_libraries() {
-    local name
+    local name goes_first
     for name in "${libraries[@]}"; do
-        ! is_ready "$name" || printf '%s %s\n' "${chain[$name]}" "$name"
-    done | sort -rn | cut -d ' ' -f 2
+        [[ $first == *" $name "* ]] && goes_first=1 || goes_first=0
+        ! is_ready "$name" || printf '%s %s %s\n' "$goes_first" "${chain[$name]}" "$name"
+    done | sort -rn -k 1,1 -k 2,2 | cut -d ' ' -f 3
 }
 
 # Begins each proof that nothing keeps waiting, while there are cores and memory: where more processes run than that, all take longer. Each
@@ -300,8 +316,14 @@ gather() {
     done
 }
 
-# Tells that one more crate is proved, with the minutes so far.
+# Tells that one more crate is proved, with the minutes so far; and once, that all are that go first.
 tell_proved() {
+    local name
     proved=$((proved + 1))
     say "$proved of $all crates proved after $((SECONDS / 60)).$((SECONDS % 60 / 6)) min: $1"
+    [[ $first == *" $1 "* ]] || return 0
+    for name in $first; do
+        [[ ${state[$name]} == proved ]] || return 0
+    done
+    say "$told"
 }

@@ -2,7 +2,6 @@
 """Tests of the binding. What is wanted comes from `docs/FORMATS.md`, `docs/ALGORITHM.md`, `docs/NODE.md`, `include/bully.h` and the
 files of `examples/`, and never from what the library answered. `try` runs them."""
 import copy
-import itertools
 import os
 import pickle
 import random
@@ -86,7 +85,7 @@ def led(agent: Agent) -> None:
 def end_of(state: State, task: Optional[Sequence[int]]) -> str:
     """The line of a verdict's node."""
     owners = ','.join(map(str, task or ())) or '-'
-    return f'{state.node} {state.status.name.lower()} {state.coordinator or "-"} {state.halter or "-"} {owners}'
+    return f'{state.node} {state.status} {state.coordinator or "-"} {state.halter or "-"} {owners}'
 
 
 class Head(unittest.TestCase):
@@ -151,6 +150,23 @@ class Headers(unittest.TestCase):
         told = re.search(r'VERSION: &str = "([0-9]+\.[0-9]+\.[0-9]+)', program)
         assert told is not None
         self.assertEqual(bully.version(), told.group(1))
+        self.assertEqual(bully.__version__, told.group(1))
+
+    def test_names(self) -> None:
+        """A number of the library is shown by its name, as the rows of traces spell it."""
+        spelled = [
+            (Status, 'down election reorganization normal'),
+            (Want, 'nothing start move plan await'),
+            (CallKind, 'are-you-up are-you-normal halt new-coordinator ready'),
+            (Answer, 'done yes no failed discarded'),
+            (VerdictKind, 'lawful refused differs'),
+            (Event, 'crash recover check timeout drop'),
+        ]
+        for kind, names in spelled:
+            self.assertEqual([str(each) for each in kind], names.split())
+            self.assertEqual([f'{each}' for each in kind], names.split())
+        self.assertEqual(f'{Status.NORMAL:>8}', '  normal')
+        self.assertEqual(f'{int(Status.NORMAL)}', '3')
 
 
 class Traces(unittest.TestCase):
@@ -187,6 +203,15 @@ class Traces(unittest.TestCase):
             self.assertEqual(caught.exception.row, row)
             self.assertIn(f'row {row}', str(caught.exception))
 
+    def test_text(self) -> None:
+        """A text is judged as its bytes are, also one that has no bytes in UTF-8."""
+        for text, wanted in VERDICTS:
+            self.assertEqual(str(check(text)), wanted)
+        for text in (ONE + 'recover,\xff', ONE + 'recover,\udcff'):
+            with self.assertRaises(bully.BadRow) as caught:
+                check(text)
+            self.assertEqual(caught.exception.row, 2)
+
     def test_too_many_rows(self) -> None:
         full = b'bully,1,1,1\n' + b'saw,1,down,-\n' * 1_000_000
         self.assertEqual(str(check(full)), 'lawful 0')
@@ -194,11 +219,12 @@ class Traces(unittest.TestCase):
             check(full + b'anything')
         self.assertEqual(caught.exception.row, 1_000_002)
 
-    def test_kinds_of_bytes(self) -> None:
+    def test_kinds_of_texts(self) -> None:
         text = b'bully,1,2,2\nsaw,2,down,-\n'
-        for kind in (bytes, bytearray, memoryview):
-            self.assertEqual(str(check(kind(text))), 'lawful 0')
-        for wrong in (text.decode(), None, 7, [98]):
+        kinds: List[Union[str, bytes, bytearray, memoryview]] = [text, bytearray(text), memoryview(text), text.decode()]
+        for same in kinds:
+            self.assertEqual(str(check(same)), 'lawful 0')
+        for wrong in (Path('alone.csv'), None, 7, [98]):
             with self.subTest(wrong=wrong), self.assertRaises(TypeError):
                 check(wrong)  # type: ignore[arg-type]
 
@@ -1465,20 +1491,6 @@ class Loading(unittest.TestCase):
                 ran = self.run_with(library, 'import bully; bully.status_name(0)')
                 self.assertEqual(ran.returncode, 1)
                 self.assertIn('OSError', ran.stderr)
-
-
-class Pages(unittest.TestCase):
-    """What `docs/NODE.md` shows in Python."""
-
-    def test_node_page(self) -> None:
-        """The group of two nodes whose log is a list, whose last lines assert what it comes to."""
-        page = (ROOT / 'docs' / 'NODE.md').read_text(encoding='utf-8')
-        lines = page[page.index('    from bully import Replica, Setup\n') :].splitlines()
-        shown = list(itertools.takewhile(lambda line: not line or line.startswith('    '), lines))
-        self.assertIn('assert ', shown[-2] + shown[-1])
-        known: Dict[str, Any] = {}
-        exec(compile(textwrap.dedent('\n'.join(shown)), 'NODE.md', 'exec'), known)
-        self.assertEqual(len(known['log']), known['replica'].rows)
 
 
 class CountingResult(unittest.TextTestResult):

@@ -1,33 +1,38 @@
 """Builds the wheel of the package `bully` for pip, by the standard library alone.
 
-The wheel takes libbully.so with it from the folder BULLY_LIBRARY, or else from out/library at the top of the repository, where
-`bin/library` puts it. Without either it has none, and whoever uses it sets BULLY_LIBRARY.
+The wheel takes libbully.so with it from the folder BULLY_LIBRARY; or else from `lib` of an archive; or else from out/library at the top
+of the repository, where `bin/library` puts it. Without any it has none, and whoever uses it sets BULLY_LIBRARY. The same files make the
+same bytes; SOURCE_DATE_EPOCH, where it is set, is the time of each.
 """
 from __future__ import annotations
 
 import base64
 import hashlib
 import os
+import re
 import sysconfig
+import time
 import zipfile
 from pathlib import Path
 from typing import Dict, List, Optional
 
 HERE = Path(__file__).resolve().parents[1]
-NAME, VERSION = 'bully', '0.5.0'
+NAME = 'bully'
+VERSION = re.findall(r"^__version__ = '([0-9.]+)'", (HERE / NAME / '__init__.py').read_text(encoding='utf-8'), re.MULTILINE)[0]
 SAID = f'{NAME}-{VERSION}.dist-info'
 METADATA = f"""\
 Metadata-Version: 2.1
 Name: {NAME}
 Version: {VERSION}
 Summary: A group that elects a coordinator by the Bully algorithm, over a proved library
+License: none is chosen yet
 Requires-Python: >=3.9
 """
 ENTRY_POINTS = """\
 [console_scripts]
 bully-member = bully.command:main
 """
-FIRST_TIME = (1980, 1, 1, 0, 0, 0)  # so that the same sources make the same wheel
+FIRST_TIME = 315532800  # the first that a zip can tell: 1980-01-01
 
 Settings = Optional[Dict[str, object]]
 
@@ -38,7 +43,7 @@ def get_requires_for_build_wheel(config_settings: Settings = None) -> List[str]:
 
 
 def build_wheel(wheel_directory: str, config_settings: Settings = None, metadata_directory: Optional[str] = None) -> str:
-    """Writes the wheel into this folder. Its name."""
+    """Writes the wheel into this folder, with the file that the setting `proved` names, if any. Its name."""
     library = find_library()
     tag = f'py3-none-{platform()}' if library else 'py3-none-any'
     files = {f'{NAME}/{each.name}': each.read_bytes() for each in sorted((HERE / NAME).glob('*')) if is_source(each)}
@@ -47,6 +52,8 @@ def build_wheel(wheel_directory: str, config_settings: Settings = None, metadata
     files[f'{SAID}/METADATA'] = METADATA.encode()
     files[f'{SAID}/WHEEL'] = f'Wheel-Version: 1.0\nGenerator: {NAME}\nRoot-Is-Purelib: {str(not library).lower()}\nTag: {tag}\n'.encode()
     files[f'{SAID}/entry_points.txt'] = ENTRY_POINTS.encode()
+    if config_settings and 'proved' in config_settings:
+        files[f'{SAID}/PROVED'] = Path(str(config_settings['proved'])).read_bytes()
     files[f'{SAID}/RECORD'] = record(files).encode()
     name = f'{NAME}-{VERSION}-{tag}.whl'
     write(Path(wheel_directory) / name, files)
@@ -65,11 +72,13 @@ def is_source(path: Path) -> bool:
 def find_library() -> Optional[Path]:
     """The library to take along, if there is one. What BULLY_LIBRARY names has to be there."""
     named = os.environ.get('BULLY_LIBRARY')
-    place = Path(named) if named else HERE.parents[1] / 'out' / 'library'
-    file = place / 'libbully.so' if place.is_dir() else place
-    if named and not file.is_file():
+    top = HERE.parents[1]
+    places = [Path(named)] if named else [top / 'lib', top / 'out' / 'library']
+    files = (place / 'libbully.so' if place.is_dir() else place for place in places)
+    file = next(filter(Path.is_file, files), None)
+    if named and not file:
         raise SystemExit(f'BULLY_LIBRARY is {named}, and there is no libbully.so')
-    return file if file.is_file() else None
+    return file
 
 
 def record(files: Dict[str, bytes]) -> str:
@@ -82,9 +91,10 @@ def record(files: Dict[str, bytes]) -> str:
 
 
 def write(path: Path, files: Dict[str, bytes]) -> None:
+    year, month, day, hour, minute, second = time.gmtime(max(FIRST_TIME, int(os.environ.get('SOURCE_DATE_EPOCH', '0'))))[:6]
     with zipfile.ZipFile(path, 'w', zipfile.ZIP_DEFLATED) as wheel:
         for name, content in files.items():
-            entry = zipfile.ZipInfo(name, FIRST_TIME)
+            entry = zipfile.ZipInfo(name, (year, month, day, hour, minute, second))
             entry.external_attr = (0o755 if name.endswith('.so') else 0o644) << 16
             entry.compress_type = zipfile.ZIP_DEFLATED
             wheel.writestr(entry, content)

@@ -10,7 +10,8 @@ when, and what the program has to keep. A `Replica` is what a process knows of a
     load('FOLDER')                  # the folder, or the path of libbully.so itself
     BULLY_LIBRARY=FOLDER python3 .. # the same, where `load` wasn't called
 
-or else in the folder of this package, where `pip install` puts it if it was built.
+or else in the folder of this package, where `pip install` puts it; in an archive in `lib`, and at the top of the repository in
+`out/library`.
 
 One call of a node, which a program sends from process to process:
 
@@ -53,6 +54,8 @@ from .values import (
 
 if TYPE_CHECKING:
     from .running import Member
+
+__version__ = '0.5.0'  # that of the library, which `version` tells
 
 
 def __getattr__(name: str) -> Any:

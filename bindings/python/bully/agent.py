@@ -35,7 +35,7 @@ class Agent(Opened):
 
     def _words(self) -> str:
         state = self._show()
-        return f'of node {state.node}, {Status(state.status).name.lower()}, {state.events} events'
+        return f'of node {state.node}, {Status(state.status)}, {state.events} events'
 
     # What the node does by itself. Each is one event.
 

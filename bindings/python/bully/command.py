@@ -151,7 +151,7 @@ def text_of(group: GroupView) -> str:
     rows = [('node', 'status', 'present', 'coordinator', 'partitions')]
     for node in group.nodes:
         present, partitions = 'yes' if node.is_present else 'no', ' '.join(map(str, node.partitions)) or '-'
-        rows.append((shown_name(node.name), node.status.name.lower(), present, shown_name(node.coordinator), partitions))
+        rows.append((shown_name(node.name), str(node.status), present, shown_name(node.coordinator), partitions))
     widths = [max(map(len, column)) for column in zip(*rows)]
     for row in rows:
         lines.append('  '.join(word.ljust(width) for word, width in zip(row, widths)).rstrip())

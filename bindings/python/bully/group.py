@@ -3,10 +3,12 @@ from __future__ import annotations
 
 import ctypes
 from dataclasses import dataclass
-from typing import Any, Iterable, Optional, Sequence, Tuple
+from typing import Any, Iterable, Optional, Sequence, Tuple, Union
 
 from .faults import FAULTS, expect_ok, fault_at
-from .library import RawSetup, RawVerdict, Room, UINT16_MAX, UINT32_MAX, loaded, loaded_for_long, number_of, numbers_of, owners_of
+from .library import (
+    RawSetup, RawVerdict, Room, UINT16_MAX, UINT32_MAX, line_bytes, loaded, loaded_for_long, number_of, numbers_of, owners_of,
+)  # fmt: skip
 from .values import EVENTS_MAX, PARTITIONS_MAX, TablePlan, Verdict, VerdictKind
 
 
@@ -53,13 +55,13 @@ def status_name(status: int) -> str:
     return name.decode('ascii')
 
 
-def check(trace: bytes) -> Verdict:
-    """Judges a trace, as `bully check` does. Other threads may run meanwhile.
+def check(trace: Union[str, bytes, bytearray, memoryview]) -> Verdict:
+    """Judges a trace, its text or the bytes of that, as `bully check` does. Other threads may run meanwhile.
 
     Raises BadHeader, BadRow or TooManyRows, with the row of the first fault; OutOfMemory."""
-    if not isinstance(trace, (bytes, bytearray, memoryview)):
-        raise TypeError(f'a trace is bytes, and not {type(trace).__name__}')
-    text = bytes(trace)
+    if not isinstance(trace, (str, bytes, bytearray, memoryview)):
+        raise TypeError(f'a trace is str or bytes, and not {type(trace).__name__}')
+    text = line_bytes(trace) if isinstance(trace, str) else bytes(trace)
     told = RawVerdict()
     status = loaded_for_long().bully_check(text, len(text), ctypes.byref(told))
     if status:

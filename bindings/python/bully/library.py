@@ -5,13 +5,13 @@ import ctypes
 import operator
 import os
 from types import TracebackType
-from typing import Any, Callable, Dict, Iterable, List, NoReturn, Optional, Sequence, Tuple, Type, TypeVar, Union
+from typing import Any, Callable, Dict, Iterable, Iterator, List, NoReturn, Optional, Sequence, Tuple, Type, TypeVar, Union
 
 from .faults import BullyError, Short, TableLength, expect_ok
 from .values import Call, CallKind, Line, Rows, State, Status, Want
 
 FILE = 'libbully.so'
-HOW_TO_FIND = f'bin/library FOLDER of Cinnabarloom builds {FILE}, and BULLY_LIBRARY=FOLDER tells where it is'
+HOW_TO_FIND = f'an archive of Cinnabarloom has {FILE} in lib, or bin/library FOLDER builds it; BULLY_LIBRARY=FOLDER tells where it is'
 REPLY_MAX = 32
 ROOM_MIN = 256
 UINT16_MAX = 0xFFFF
@@ -127,19 +127,29 @@ def _declared(library: ctypes.CDLL) -> ctypes.CDLL:
     return library
 
 
+def _own_places() -> Iterator[str]:
+    """Where the library stands that came with this package: beside it, in an archive, or at the top of the repository."""
+    here = os.path.dirname(os.path.abspath(__file__))
+    yield here
+    if here.endswith(os.path.join(os.sep, 'bindings', 'python', 'bully')):
+        top = os.path.join(here, *[os.pardir] * 3)
+        yield os.path.join(top, 'lib')
+        yield os.path.join(top, 'out', 'library')
+
+
 def _place_of(path: Union[str, 'os.PathLike[str]', None]) -> str:
     """The file to load."""
     place = os.fspath(path) if path is not None else os.environ.get('BULLY_LIBRARY') or ''
-    beside = os.path.join(os.path.dirname(__file__), FILE)
     if not place:
-        return beside if os.path.exists(beside) else FILE
+        files = (os.path.join(each, FILE) for each in _own_places())
+        return next(filter(os.path.exists, files), FILE)
     return os.path.join(place, FILE) if os.path.isdir(place) else place
 
 
 def load(path: Union[str, 'os.PathLike[str]', None] = None) -> None:
     """Loads the library from this path: its file, or the folder that has it. Without a path that is BULLY_LIBRARY of the
-    environment, or else libbully.so in the folder of this package, or else what the system finds by that name. An OSError tells
-    that it isn't there."""
+    environment, or else libbully.so in the folder of this package, in `lib` of an archive or in `out/library` of the repository, or else
+    what the system finds by that name. An OSError tells that it isn't there."""
     global _loaded, _loaded_for_long
     place = _place_of(path)
     try:

@@ -87,7 +87,7 @@ def nodes_of(group: GroupView) -> str:
 
 def row_of(node: NodeView) -> str:
     """The row of a node."""
-    status = node.status.name.lower()
+    status = str(node.status)
     owns = ' '.join(map(str, node.partitions)) or '-'
     return (
         f'<tr><td>{html.escape(node.name)}<td><span class="dot {status}"></span>{status}<td>{"yes" if node.is_present else "no"}'

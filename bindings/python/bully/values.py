@@ -50,7 +50,17 @@ class Rows(Sequence[str]):
         return f'<{len(self)} rows>'
 
 
-class Status(enum.IntEnum):
+class Named(enum.IntEnum):
+    """Numbers of the library that are shown by their names, as the rows of traces spell them: `normal`, `are-you-up`."""
+
+    def __str__(self) -> str:
+        return self.name.lower().replace('_', '-')
+
+    def __format__(self, layout: str) -> str:
+        return format(str(self), layout)
+
+
+class Status(Named):
     """The status of a node."""
 
     DOWN = 0
@@ -59,7 +69,7 @@ class Status(enum.IntEnum):
     NORMAL = 3
 
 
-class Want(enum.IntEnum):
+class Want(Named):
     """What a node wants to do next."""
 
     NOTHING = 0
@@ -69,7 +79,7 @@ class Want(enum.IntEnum):
     AWAIT = 4
 
 
-class CallKind(enum.IntEnum):
+class CallKind(Named):
     """The five calls."""
 
     ARE_YOU_UP = 1
@@ -79,7 +89,7 @@ class CallKind(enum.IntEnum):
     READY = 5
 
 
-class Answer(enum.IntEnum):
+class Answer(Named):
     """What a call that returned brought."""
 
     DONE = 0
@@ -89,7 +99,7 @@ class Answer(enum.IntEnum):
     DISCARDED = 4
 
 
-class VerdictKind(enum.IntEnum):
+class VerdictKind(Named):
     """What a verdict on a trace says."""
 
     LAWFUL = 0
@@ -112,7 +122,7 @@ class Verdict:
         return self.kind is VerdictKind.LAWFUL
 
     def __str__(self) -> str:
-        words = f'{self.kind.name.lower()} {self.number}'
+        words = f'{self.kind} {self.number}'
         return f'{words} {self.cause.__name__}' if self.cause else words
 
 
@@ -145,7 +155,7 @@ class State(NamedTuple):
     generation: int
 
 
-class Event(enum.IntEnum):
+class Event(Named):
     """Events that a process appends for reasons of its own."""
 
     CRASH = 1

@@ -28,7 +28,7 @@ class NodeView:
     def told(self) -> Dict[str, Any]:
         """The same for JSON."""
         return {
-            'node': self.node, 'name': self.name, 'status': self.status.name.lower(), 'coordinator': self.coordinator,
+            'node': self.node, 'name': self.name, 'status': str(self.status), 'coordinator': self.coordinator,
             'present': self.is_present, 'partitions': list(self.partitions),
         }  # fmt: skip
 

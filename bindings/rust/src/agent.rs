@@ -27,19 +27,19 @@ pub struct Agent {
 }
 
 impl Agent {
-    /// The agent of a node that is Down, whose log has so many events, 0 at first, and has kept this task, if any. An empty
-    /// task is none.
-    pub fn open(
-        setup: &Setup,
-        node: u16,
-        events: u32,
-        task: Option<&[u16]>,
-    ) -> Result<Agent, OpenError> {
-        let handle = AgentHandle::open(setup, node, events, task.unwrap_or_default());
-        Ok(Agent {
-            handle: handle.map_err(OpenError::told)?,
-            partitions: setup.partitions,
-        })
+    /// The agent of a node that is Down, and of which nothing was logged yet. [`Agent::builder`] has more to say of one.
+    pub fn open(setup: &Setup, node: u16) -> Result<Agent, OpenError> {
+        Agent::builder(setup, node).open()
+    }
+
+    /// What opens the agent of this node, once it is told what its log has.
+    pub fn builder(setup: &Setup, node: u16) -> AgentBuilder<'_> {
+        AgentBuilder {
+            setup,
+            node,
+            events: 0,
+            task: &[],
+        }
     }
 
     /// The node recovers, and stands for election. Refused as `Full`, `IsUp`.
@@ -164,6 +164,50 @@ impl Agent {
     // The event that the node takes by itself.
     fn take(&mut self, event: OwnEvent) -> Result<(), Refused> {
         self.handle.take(event).map_err(Refused::told)
+    }
+}
+
+/// What an agent is opened with: its node, which is Down, and what the log has of it.
+///
+/// ```
+/// use bully::{Agent, Setup};
+///
+/// let setup = Setup::new(3, 4, 1000).keeping();
+/// let agent = Agent::builder(&setup, 2).events(40).task(&[1, 1, 2, 3]).open()?;
+/// assert_eq!(agent.state().events, 40);
+/// assert_eq!(agent.task(), Some(vec![1, 1, 2, 3]));
+/// # Ok::<(), bully::OpenError>(())
+/// ```
+#[derive(Clone, Copy, Debug)]
+#[must_use = "it opens nothing before `open`"]
+pub struct AgentBuilder<'a> {
+    setup: &'a Setup,
+    node: u16,
+    events: u32,
+    task: &'a [u16],
+}
+
+impl<'a> AgentBuilder<'a> {
+    /// The node's log has so many events: 0, where this isn't told.
+    pub fn events(self, events: u32) -> AgentBuilder<'a> {
+        AgentBuilder { events, ..self }
+    }
+
+    /// The node has kept this task: none, where this isn't told. An empty one is none.
+    pub fn task(self, owners: &'a [u16]) -> AgentBuilder<'a> {
+        AgentBuilder {
+            task: owners,
+            ..self
+        }
+    }
+
+    /// Opens the agent.
+    pub fn open(self) -> Result<Agent, OpenError> {
+        let handle = AgentHandle::open(self.setup, self.node, self.events, self.task);
+        Ok(Agent {
+            handle: handle.map_err(OpenError::told)?,
+            partitions: self.setup.partitions,
+        })
     }
 }
 

@@ -13,7 +13,7 @@ mod shown;
 mod table;
 mod trace;
 
-pub use agent::Agent;
+pub use agent::{Agent, AgentBuilder};
 pub use faults::{
     FormFault, HeaderError, LearnError, LearnFault, LineFault, LogError, MembersError, NodeFault,
     OpenError, OutOfMemory, PlanError, PrepareError, Refused, ReplyError, RowError, ServeError,

@@ -48,7 +48,7 @@ struct Pair {
 
 impl Pair {
     fn open(setup: &Setup) -> Pair {
-        let open = |node| Agent::open(setup, node, 0, None).expect("an agent");
+        let open = |node| Agent::open(setup, node).expect("an agent");
         Pair {
             agents: [open(1), open(2)],
             lines: Vec::new(),

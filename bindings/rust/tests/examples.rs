@@ -19,7 +19,7 @@ struct Group {
 
 impl Group {
     fn open(setup: &Setup) -> Group {
-        let open = |node| Agent::open(setup, node, 0, None).expect("an agent");
+        let open = |node| Agent::open(setup, node).expect("an agent");
         let texts = vec![String::new(); usize::from(setup.nodes)];
         Group {
             agents: (1..=setup.nodes).map(open).collect(),

@@ -54,7 +54,8 @@ fn setup() -> Setup {
 }
 
 fn open(node: u16) -> Agent {
-    Agent::open(&setup(), node, 0, Some(&[2, 2, 1])).expect("an agent")
+    let opened = Agent::builder(&setup(), node).task(&[2, 2, 1]).open();
+    opened.expect("an agent")
 }
 
 // Node 2, alone in the end, where it wants to plan.
@@ -150,7 +151,7 @@ fn all_calls() {
             check(b"bully,1,1,1\nrecover,1\n"),
             check(b"bully,1,1,1\nrecover,1\n?"),
         );
-        let _fault = Agent::open(&setup(), 1, 0, Some(&[1, 2]));
+        let _fault = Agent::builder(&setup(), 1).task(&[1, 2]).open();
         all_of_replicas();
     };
     all();
@@ -202,7 +203,7 @@ fn refused_tables() {
     let memory = OutOfMemory;
     let tried = [
         refusals(open(1), OpenError::Memory(memory), |_| {
-            Agent::open(&setup(), 2, 0, None)
+            Agent::open(&setup(), 2)
         }),
         refusals(open(1), memory.into(), |_| {
             plan_table(&setup(), &[1, 2], Some(&[1, 1, 1]))

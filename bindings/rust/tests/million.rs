@@ -15,7 +15,7 @@ fn pages() -> u64 {
 fn a_million_agents() {
     let setup = Setup::new(2, 3, 1000);
     let one = || {
-        let mut agent = Agent::open(&setup, 1, 0, None).expect("an agent");
+        let mut agent = Agent::open(&setup, 1).expect("an agent");
         agent.recover().expect("it is down");
     };
     (0..1000).for_each(|_| one());

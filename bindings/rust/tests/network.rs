@@ -35,7 +35,7 @@ struct Network {
 impl Network {
     fn open(setup: Setup, seed: u64) -> Network {
         let place = |node| Place {
-            agent: Agent::open(&setup, node, 0, None).expect("an agent"),
+            agent: Agent::open(&setup, node).expect("an agent"),
             request: None,
             reply: None,
         };
@@ -97,7 +97,10 @@ impl Network {
         let agent = &self.places[place].agent;
         let state = agent.state();
         let task = agent.task().filter(|_| self.setup.keeps);
-        let opened = Agent::open(&self.setup, state.node, state.events + 1, task.as_deref());
+        let opened = Agent::builder(&self.setup, state.node)
+            .events(state.events + 1)
+            .task(task.as_deref().unwrap_or_default())
+            .open();
         self.places[place].agent = opened.expect("an agent");
         self.log += &format!("crash,{}\n", state.node);
         self.log += &self.places[place].agent.claim().expect("memory");

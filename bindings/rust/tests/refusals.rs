@@ -12,7 +12,7 @@ fn setup() -> Setup {
 }
 
 fn open(node: u16) -> Agent {
-    Agent::open(&setup(), node, 0, None).expect("an agent")
+    Agent::open(&setup(), node).expect("an agent")
 }
 
 fn recovered(node: u16) -> Agent {
@@ -23,7 +23,7 @@ fn recovered(node: u16) -> Agent {
 
 // Node 3, alone, where it wants to plan.
 fn planning(setup: &Setup) -> Agent {
-    let mut agent = Agent::open(setup, 3, 0, None).expect("an agent");
+    let mut agent = Agent::open(setup, 3).expect("an agent");
     agent.recover().expect("it is down");
     agent.advance().expect("no node is above");
     for _ in [2, 1] {
@@ -58,7 +58,7 @@ fn shown(agent: &Agent) -> String {
 
 #[test]
 fn open_refuses() {
-    let fault = |setup: &Setup, node, task| Agent::open(setup, node, 0, task).err();
+    let fault = |setup: &Setup, node, task| Agent::builder(setup, node).task(task).open().err();
     let setups = [
         (Setup::new(0, 3, 1000), SetupFault::BadNodes),
         (Setup::new(3, 0, 1000), SetupFault::BadPartitions),
@@ -66,17 +66,17 @@ fn open_refuses() {
         (setup().with_weights([1, 1]), SetupFault::BadWeights),
     ];
     for (setup, wanted) in setups {
-        assert_eq!(fault(&setup, 0, None), Some(OpenError::Setup(wanted)));
+        assert_eq!(fault(&setup, 0, &[]), Some(OpenError::Setup(wanted)));
     }
     for node in [0, 4] {
         let wanted = Some(OpenError::Node(NodeFault::BadNode));
-        assert_eq!(fault(&setup(), node, Some(&[1])), wanted);
+        assert_eq!(fault(&setup(), node, &[1]), wanted);
     }
     let length = Some(OpenError::Task(TableFault::Length));
-    assert_eq!(fault(&setup(), 3, Some(&[1, 2])), length);
+    assert_eq!(fault(&setup(), 3, &[1, 2]), length);
     let owner = Some(OpenError::Task(TableFault::Owner));
-    assert_eq!(fault(&setup(), 3, Some(&[1, 2, 4])), owner);
-    assert_eq!(fault(&setup(), 3, Some(&[0, 2, 3])), owner);
+    assert_eq!(fault(&setup(), 3, &[1, 2, 4]), owner);
+    assert_eq!(fault(&setup(), 3, &[0, 2, 3]), owner);
 }
 
 /// What a new agent shows: a node that is Down.
@@ -100,15 +100,17 @@ fn a_new_agent_is_down() {
 #[test]
 fn opened_anew() {
     let keeping = Setup::new(3, 3, 1000).keeping();
-    let mut agent = Agent::open(&keeping, 1, 40, Some(&[3, 1, 2])).expect("an agent");
+    let anew = Agent::builder(&keeping, 1).events(40);
+    let mut agent = anew.task(&[3, 1, 2]).open().expect("an agent");
     assert_eq!(agent.claim().as_deref(), Ok("saw,1,down,-,-,-,3 1 2\n"));
     agent.recover().expect("it is down");
     agent.start().expect("a question to node 2");
     let request = agent.request().expect("memory");
     assert_eq!(request.as_deref(), Some("ask,1,41,2,are-you-up"));
     assert_eq!(agent.task(), Some(vec![3, 1, 2]));
-    let empty = Agent::open(&keeping, 1, 40, Some(&[])).expect("an agent");
-    assert_eq!(empty.task(), None);
+    for empty in [anew, anew.task(&[])] {
+        assert_eq!(empty.open().expect("an agent").task(), None);
+    }
 }
 
 /// Every event but a recovery of a node that is down.
@@ -279,14 +281,15 @@ fn full() {
     assert_eq!(replied, Err(ReplyError::Refused(Refused::Full)));
     assert_eq!(agent.failed(0), Err(Refused::Full));
     assert_eq!(shown(&agent), before);
-    let mut late = Agent::open(&setup(), 1, 1000, None).expect("an agent");
+    let late = Agent::builder(&setup(), 1).events(1000).open();
+    let mut late = late.expect("an agent");
     assert_eq!(late.recover(), Err(Refused::Full));
 }
 
 /// A call that failed is two events, so there has to be room for both.
 #[test]
 fn no_room_for_a_failure() {
-    let mut agent = Agent::open(&Setup::new(3, 3, 3), 1, 0, None).expect("an agent");
+    let mut agent = Agent::open(&Setup::new(3, 3, 3), 1).expect("an agent");
     agent.recover().expect("it is down");
     agent.start().expect("a question to node 2");
     assert_eq!(agent.failed(1), Err(Refused::Full));
@@ -371,7 +374,8 @@ fn long_texts() {
     let owners: Vec<u16> = (0..4096).map(|partition| partition / 4 + 1).collect();
     let numbers: Vec<String> = owners.iter().map(u16::to_string).collect();
     let table = numbers.join(" ");
-    let mut agent = Agent::open(&setup, 1, 0, Some(&owners)).expect("an agent");
+    let opened = Agent::builder(&setup, 1).task(&owners).open();
+    let mut agent = opened.expect("an agent");
     assert_eq!(agent.task().as_deref(), Some(owners.as_slice()));
     let claim = agent.claim().expect("memory");
     assert_eq!(claim, format!("saw,1,down,-,-,-,{table}\n"));
