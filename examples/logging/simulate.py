@@ -24,6 +24,7 @@ BUGS = {
     'greedy': 'plans over all nodes, though some are down',
     'ghost': 'a message runs though its caller has crashed since',
     'loyal': 'follows whoever announces itself, though another one halted it',
+    'willing': 'gets normal by a Ready though it was halted since its caller announced itself',
 }
 # These show at once only where all is said.
 TOLD_BUGS = {
@@ -32,6 +33,7 @@ TOLD_BUGS = {
     'garbled': 'stores another table than the one that came with Ready',
     'forgetful': 'leaves a node that answered its Halt out of the up set',
     'masked': 'does not keep who halted it',
+    'hoarding': 'keeps its up set when it begins to halt others',
 }
 
 
@@ -125,7 +127,9 @@ class Group:
                 if (yield 'are-you-up', other) == 'yes':
                     return
             yield 'move', None
-            node.status, node.halter, node.up = 'election', node, set()
+            node.status, node.halter = 'election', node
+            if self.bug != 'hoarding':
+                node.up = set()
             for other in reversed(self.nodes[:node.number - 1]):
                 if (yield 'halt', other) == 'yes' and not self.slips('forgetful'):
                     node.up.add(other)
@@ -201,7 +205,7 @@ class Group:
         else:
             self.write(node, f'move,{node.number}', wrong=wrong)
             self.go_on(node)
-            self.show_all(node)
+            self.show_all(node, self.bug == 'hoarding' and node.status == 'election' and node.up)
 
     def address(self, node, name, callee):
         if name == 'halt' and self.slips('astray'):
@@ -247,11 +251,13 @@ class Group:
             wrong = self.bug == 'loyal' and not follows
             if follows or wrong:
                 callee.status, callee.coordinator = 'reorganization', caller
-        elif call.name == 'ready' and callee.coordinator is caller and callee.status == 'reorganization':
-            callee.status, callee.table = 'normal', call.table
-            if self.slips('garbled'):
-                callee.table = call.table[1:] + call.table[:1]
-            wrong = callee.table != call.table
+        elif call.name == 'ready':
+            wrong = self.bug == 'willing' and callee.status == 'election'
+            if wrong or (callee.coordinator is caller and callee.status == 'reorganization'):
+                callee.status, callee.table = 'normal', call.table
+                if self.slips('garbled'):
+                    callee.table = call.table[1:] + call.table[:1]
+                    wrong = callee.table != call.table
         self.show(callee, wrong)
 
     def halt(self, callee, caller):

@@ -20,14 +20,16 @@ pub fn push_fault(text: &mut Draft, document: &Table, fault: ConfigFault) {
 // Appends what is wrong at a key: of the document, or of the first fault in which it is wrong.
 fn push_key_fault(text: &mut Draft, document: &Table, fault: ConfigFault, key: Key) {
     text.push_between("the key ", key, " ");
-    match faulty(document, fault, key) {
-        Some((number, table)) => {
-            text.push_between("of fault ", number, " ");
-            push_found(text, table, key);
-        }
-        None => push_found(text, document, key),
+    let mut place = document;
+    if let Some((number, table)) = faulty(document, fault, key) {
+        text.push_between("of fault ", number, " ");
+        place = table;
     }
+    push_found(text, place, key);
     push_expected(text, document, key);
+    if value_at(place, key).is_none() {
+        push_near(text, place, key);
+    }
 }
 
 // Which of the faults breaks the rule of the refusal at this key, counted from 1, and its table; none where the key stands at
@@ -139,6 +141,61 @@ fn push_expected(text: &mut Draft, document: &Table, key: Key) {
         Key::Node => push_names(text, items_at(document, Key::Names)),
         Key::Kind => text.push_str("crash or recover"),
     }
+}
+
+// Appends the first key of the table that may be meant for the one which isn't there.
+fn push_near(text: &mut Draft, table: &Table, key: Key) {
+    if let Some(word) = near_key(table, key) {
+        text.push_str("; ");
+        text.push_shown(word);
+        text.push_between(" stands there, which is no key: ", key, " may be meant");
+    }
+}
+
+// The first key of the table that is near to this one.
+fn near_key(table: &Table, key: Key) -> Option<&str> {
+    for (word, _value) in table.iter() {
+        if is_near(word.as_str().as_bytes(), key.word().as_bytes()) {
+            return Some(word.as_str());
+        }
+    }
+    None
+}
+
+// Whether the two differ by one letter: one more, one less, or another one.
+fn is_near(one: &[u8], other: &[u8]) -> bool {
+    let longer = one.len().max(other.len());
+    let shorter = one.len().min(other.len());
+    let same = same_before(one, other).saturating_add(same_behind(one, other));
+    longer.saturating_sub(shorter) <= 1 && longer <= same.saturating_add(1)
+}
+
+// How many bytes the two have in common at their starts.
+fn same_before(one: &[u8], other: &[u8]) -> usize {
+    for (place, byte) in one.iter().enumerate() {
+        if other.get(place) != Some(byte) {
+            return place;
+        }
+    }
+    one.len()
+}
+
+// How many bytes the two have in common at their ends.
+fn same_behind(one: &[u8], other: &[u8]) -> usize {
+    for count in 0..one.len() {
+        if byte_before_end(one, count) != byte_before_end(other, count) {
+            return count;
+        }
+    }
+    one.len()
+}
+
+// The byte that has so many bytes behind it.
+fn byte_before_end(bytes: &[u8], count: usize) -> Option<u8> {
+    if count >= bytes.len() {
+        return None;
+    }
+    Some(bytes[bytes.len() - 1 - count])
 }
 
 // Appends that one of these names may stand there.

@@ -57,8 +57,8 @@ fn push_rest(text: &mut Draft, whole: &WholeClaim, shown: &NodeSummary) {
     push_sets(text, "up", whole.up(), &shown.up);
 }
 
-// The owners that the group shows at the node of the claim; none where it doesn't have the node.
-fn task_of<'a>(world: &'a World, whole: &WholeClaim) -> Option<&'a Table> {
+/// The owners that the group shows at the node of the claim; none where it doesn't have the node.
+pub fn task_of<'a>(world: &'a World, whole: &WholeClaim) -> Option<&'a Table> {
     let node = whole.claim().node;
     if node.number() > world.setup().nodes() {
         return None;

@@ -7,13 +7,18 @@
 //! sentences of a sheet are tested.
 #![tactic(auto)]
 
+mod claim_rules;
 mod config;
 mod config_text;
+mod detail_rules;
 mod differing;
 mod draft;
 mod explaining;
 mod form;
 mod form_text;
+mod point_words;
+mod rules;
+mod scene;
 mod sentences;
 mod sheet_text;
 mod shown;

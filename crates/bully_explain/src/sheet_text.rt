@@ -1,15 +1,18 @@
 use crate::differing::{push_claimed, push_detailed, push_whole_claimed};
 use crate::draft::Draft;
+use crate::rules::{push_nodes_rule, push_rules};
+use crate::scene::{Scene, last_move, node_at};
 use crate::sentences::push_refused;
 use crate::words::{push_held, push_offer, push_point, push_row_place, push_vector, push_what};
 use bully_account::{
     Account, CallSummary, EventKind, Memory, NodeSheet, NodeSummary, Note, Stop, node_sheet,
 };
-use bully_base::{NODES_MAX, Node, OutOfMemory, Status};
+use bully_base::{Node, OutOfMemory, Status};
 use bully_rows::Row;
 use bully_steps::Point;
+use bully_table::Table;
 use bully_trace::Verdict;
-use bully_world::World;
+use bully_world::{Refused, World};
 use std::alloc::Global;
 
 /// How wide the title of a line is, in bytes.
@@ -23,7 +26,10 @@ pub fn sheet_text(
 ) -> Result<String, OutOfMemory> {
     let mut text = Draft::new(alloc);
     match account.stop() {
-        Some(stop) => push_stopped(&mut text, account, stop, nodes),
+        Some(stop) => {
+            let plan = plan_of(alloc, account, node_of(&stop.row))?;
+            push_stopped(&mut text, account, stop, nodes, plan.as_ref());
+        }
         None => push_lawful(&mut text, account, nodes),
     }
     text.finish()
@@ -34,15 +40,49 @@ fn sheet_of(nodes: &[NodeSheet], node: Node) -> Option<&NodeSheet> {
     nodes.get(usize::from(node.number() - 1))
 }
 
-// Appends the sheet of the row that decided: what it says, why it decided, its node, and the others.
-fn push_stopped(text: &mut Draft, account: &Account, stop: &Stop, nodes: &[NodeSheet]) {
+// A table that the node can plan, where one with another table was refused.
+fn plan_of(alloc: Global, account: &Account, node: Node) -> Result<Option<Table>, OutOfMemory> {
+    let world = account.world();
+    let is_refused = matches!(account.verdict(), Verdict::Refused(_, Refused::BadTable));
+    if !is_refused || node.number() > world.setup().nodes() {
+        return Ok(None);
+    }
+    let mut procedure = world.procedure(node);
+    procedure.prepare(alloc, None)?;
+    match procedure.table() {
+        Some(table) => Ok(Some(table.copy()?)),
+        None => Ok(None),
+    }
+}
+
+// Appends the sheet of the row that decided: what it says, why it decided and by which rules, its node, and the others. Where a
+// plan was refused for its table, this is one that can be planned.
+fn push_stopped(
+    text: &mut Draft,
+    account: &Account,
+    stop: &Stop,
+    nodes: &[NodeSheet],
+    plan: Option<&Table>,
+) {
     let node = node_of(&stop.row);
     let sheet = sheet_of(nodes, node);
     push_start(text, stop);
     push_reason(text, account.world(), account.verdict(), &stop.row, sheet);
-    if let Some(sheet) = sheet {
-        text.push_str("\n");
-        push_node(text, node, sheet, account.memory(node));
+    match sheet {
+        Some(sheet) => {
+            let shown = &sheet.shown;
+            let scene = Scene {
+                account,
+                nodes,
+                node,
+                shown,
+                plan,
+            };
+            push_rules(text, &scene, &stop.row);
+            text.push_str("\n");
+            push_node(text, node, sheet, account.memory(node));
+        }
+        None => push_nodes_rule(text, account.world().setup()),
     }
     push_others(text, nodes, node);
 }
@@ -123,15 +163,6 @@ fn push_lawful(text: &mut Draft, account: &Account, nodes: &[NodeSheet]) {
         }
     }
     push_rest(text, nodes);
-}
-
-// The node at this place of a list of all nodes.
-fn node_at(place: usize) -> Option<Node> {
-    if place < usize::from(NODES_MAX) {
-        Node::new(place as u16 + 1)
-    } else {
-        None
-    }
 }
 
 // Appends which nodes aren't at rest: those that are up, and not Normal under the highest node that is up.
@@ -221,17 +252,6 @@ fn push_since(text: &mut Draft, notes: &[Note]) {
     } else if let Some(note) = notes.first() {
         text.push_behind(" since before row ", note.row);
     }
-}
-
-// The last of these rows that moved the node to another point.
-fn last_move(notes: &[Note]) -> Option<u32> {
-    let mut last = None;
-    for note in notes {
-        if note.moved {
-            last = Some(note.row);
-        }
-    }
-    last
 }
 
 // Appends the line of the node's slot.

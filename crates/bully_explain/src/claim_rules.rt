@@ -1,0 +1,376 @@
+//! The rule that a false claim breaks, in a sentence with what would be right: one for each part of a vector that differs.
+
+use crate::differing::task_of;
+use crate::draft::Draft;
+use crate::point_words::push_where;
+use crate::rules::{RULE, push_needs_crash, push_needs_recover};
+use crate::scene::{Run, Scene, last_halt, last_row, push_down};
+use crate::words::push_members;
+use bully_account::EventKind;
+use bully_base::{NODES_MAX, Node, NodeSet, Status};
+use bully_calls::CallKind;
+use bully_rows::{Claim, WholeClaim, status_word};
+use bully_steps::Point;
+use bully_table::Table;
+use bully_trace::same_task;
+
+// What a node lacks to be as it is claimed.
+#[derive(Clone, Copy, PartialEq, Eq)]
+enum Lack {
+    /// A recover.
+    Recover,
+    /// A crash.
+    Crash,
+    /// What a crash empties.
+    Vector,
+    /// What leads to Election.
+    Halt,
+    /// A NewCoordinator that takes effect.
+    NewCoordinator,
+    /// A Ready that takes effect.
+    Ready,
+    /// Its own move to Reorganization.
+    Lead,
+    /// Its own move to Normal.
+    Finish,
+    /// What empties its coordinator.
+    Reset,
+}
+
+/// Appends a blank line, and that of the rule for the status and for the coordinator that are claimed, where they differ.
+pub fn push_claim_rules(text: &mut Draft, scene: &Scene, claim: Claim) {
+    let status = lack_of_status(scene, claim);
+    let coordinator = lack_of_coordinator(scene, claim);
+    text.push_str("\n");
+    push_lack(text, scene, status);
+    if coordinator != status {
+        push_lack(text, scene, coordinator);
+    }
+}
+
+/// Appends the same of a claim that tells all of a vector, and that of the rule for each of its other parts that differs. Of a node
+/// that is down, or claimed to be so, one rule has them all but the owners.
+pub fn push_whole_rules(text: &mut Draft, scene: &Scene, whole: &WholeClaim) {
+    let claim = whole.claim();
+    let shown = scene.shown;
+    push_claim_rules(text, scene, claim);
+    let is_halter = whole.halter() == shown.halter;
+    let is_up = whole.up() == &shown.up;
+    if shown.status == Status::Down {
+        let are_all = is_halter && is_up;
+        if !are_all && claim.status == shown.status && claim.coordinator == shown.coordinator {
+            push_lack(text, scene, Some(Lack::Vector));
+        }
+    } else if claim.status != Status::Down {
+        push_rest_rules(text, scene, whole, is_halter, is_up);
+    }
+    push_task_rule(text, scene, whole);
+}
+
+// Appends the lines of the rules for the halter and the up set, where they differ, of a node that is up.
+fn push_rest_rules(
+    text: &mut Draft,
+    scene: &Scene,
+    whole: &WholeClaim,
+    is_halter: bool,
+    is_up: bool,
+) {
+    if !is_halter {
+        push_halter_rule(text, scene);
+    }
+    if !is_up {
+        push_up_rule(text, scene, whole.up());
+    }
+}
+
+// What the node lacks to have the status that is claimed.
+fn lack_of_status(scene: &Scene, claim: Claim) -> Option<Lack> {
+    let shown = scene.shown.status;
+    if claim.status == shown {
+        return None;
+    }
+    if shown == Status::Down {
+        return Some(Lack::Recover);
+    }
+    let leads = claim.coordinator == Some(scene.node);
+    Some(match claim.status {
+        Status::Down => Lack::Crash,
+        Status::Election => Lack::Halt,
+        Status::Reorganization if leads => Lack::Lead,
+        Status::Reorganization => Lack::NewCoordinator,
+        Status::Normal if leads && vain_ready(scene).is_none() => Lack::Finish,
+        Status::Normal => Lack::Ready,
+    })
+}
+
+// What the node lacks to have the coordinator that is claimed, beside what it lacks to be up or down.
+fn lack_of_coordinator(scene: &Scene, claim: Claim) -> Option<Lack> {
+    let shown = scene.shown;
+    if claim.coordinator == shown.coordinator {
+        return None;
+    }
+    if claim.status == Status::Down && shown.status == Status::Down {
+        return Some(Lack::Vector);
+    }
+    if claim.status == Status::Down || shown.status == Status::Down {
+        return None;
+    }
+    match claim.coordinator {
+        None => Some(Lack::Reset),
+        Some(node) if node == scene.node => Some(Lack::Lead),
+        Some(_) => Some(Lack::NewCoordinator),
+    }
+}
+
+// Appends the line of the rule for what the node lacks.
+fn push_lack(text: &mut Draft, scene: &Scene, lack: Option<Lack>) {
+    let Some(lack) = lack else {
+        return;
+    };
+    text.push_str(RULE);
+    match lack {
+        Lack::Recover => push_needs_recover(text, scene),
+        Lack::Crash => {
+            text.push_str("a node is down before its first recover and behind a crash: ");
+            push_needs_crash(text, scene);
+        }
+        Lack::Vector => push_empty(text, scene),
+        Lack::Halt => push_needs_halt(text, scene),
+        Lack::NewCoordinator => push_announcing(text, scene),
+        Lack::Ready => push_readying(text, scene),
+        Lack::Lead => {
+            text.push_str("a node makes itself coordinator by its move of step 4: ");
+            push_where(text, scene);
+        }
+        Lack::Finish => {
+            text.push_str("a coordinator gets normal by its move of step 9: ");
+            push_where(text, scene);
+        }
+        Lack::Reset => push_kept_coordinator(text, scene),
+    }
+    text.push_str("\n");
+}
+
+// Appends what a node has that is down.
+fn push_empty(text: &mut Draft, scene: &Scene) {
+    text.push_str("a node that is down has nothing but owners that are kept: ");
+    push_down(text, scene, scene.node);
+}
+
+// Appends what leads to Election.
+fn push_needs_halt(text: &mut Draft, scene: &Scene) {
+    text.push_str("a node gets into election by a recover, its move of step 2 or a Halt: ");
+    text.push_between(
+        "node ",
+        scene.number(),
+        " has had none of these since its status is ",
+    );
+    text.push_str(status_word(scene.shown.status));
+}
+
+// Appends where a NewCoordinator takes effect, and why none did at the node.
+fn push_announcing(text: &mut Draft, scene: &Scene) {
+    text.push_str(
+        "a NewCoordinator takes effect only at a node in election whose halter is its caller: ",
+    );
+    push_state(text, scene, "halter", scene.shown.halter);
+    let is_due = scene.shown.status == Status::Election;
+    match scene.last_run(CallKind::NewCoordinator) {
+        Some(run) if !is_follower(scene, &run, Status::Reorganization) => push_vain(text, &run),
+        _ => push_due(text, scene, scene.shown.halter, is_due),
+    }
+}
+
+// Appends where a Ready takes effect, and why none did at the node.
+fn push_readying(text: &mut Draft, scene: &Scene) {
+    text.push_str(
+        "a Ready takes effect only at a node in reorganization whose coordinator is its caller: ",
+    );
+    push_state(text, scene, "coordinator", scene.shown.coordinator);
+    let is_due = scene.shown.status == Status::Reorganization;
+    match vain_ready(scene) {
+        Some(run) => push_vain(text, &run),
+        None => push_due(text, scene, scene.shown.coordinator, is_due),
+    }
+}
+
+// The Ready that ran last at the node, where it changed nothing.
+fn vain_ready(scene: &Scene) -> Option<Run> {
+    let run = scene.last_run(CallKind::Ready)?;
+    if is_follower(scene, &run, Status::Normal) {
+        return None;
+    }
+    Some(run)
+}
+
+// Whether the node has this status under the caller of the run.
+fn is_follower(scene: &Scene, run: &Run, status: Status) -> bool {
+    scene.shown.status == status && scene.shown.coordinator == Some(run.caller)
+}
+
+// Appends the status of the node and another part of its vector.
+fn push_state(text: &mut Draft, scene: &Scene, part: &'static str, node: Option<Node>) {
+    text.push_between("node ", scene.number(), "'s status is ");
+    text.push_str(status_word(scene.shown.status));
+    text.push_str(", its ");
+    text.push_str(part);
+    push_number(text, node);
+}
+
+// Appends the number of the node behind a space, or that there is none.
+fn push_number(text: &mut Draft, node: Option<Node>) {
+    match node {
+        Some(node) => text.push_behind(" ", node.number()),
+        None => text.push_str(" none"),
+    }
+}
+
+// Appends that the call which ran changes nothing.
+fn push_vain(text: &mut Draft, run: &Run) {
+    text.push_between(", so that of node ", run.caller.number(), " in row ");
+    text.push_between("", run.row, " changes nothing");
+}
+
+// Appends that only a call of this other node takes effect, where one is due; else that none does.
+fn push_due(text: &mut Draft, scene: &Scene, caller: Option<Node>, is_due: bool) {
+    match caller {
+        Some(caller) if is_due && caller != scene.node => {
+            text.push_between(", so only one of node ", caller.number(), " takes effect")
+        }
+        _ => text.push_str(", so none takes effect"),
+    }
+}
+
+// Appends how long a coordinator is kept.
+fn push_kept_coordinator(text: &mut Draft, scene: &Scene) {
+    text.push_str(
+        "a node keeps its coordinator until it follows another one, leads, crashes or recovers: ",
+    );
+    text.push_between("node ", scene.number(), "'s is");
+    push_number(text, scene.shown.coordinator);
+}
+
+// Appends the line of the rule for a halter, and of which Halt it is.
+fn push_halter_rule(text: &mut Draft, scene: &Scene) {
+    let halter = scene.shown.halter;
+    text.push_str(RULE);
+    text.push_str(
+        "a halter is the caller of the last Halt that ran at the node, or since its move of step 2 itself: ",
+    );
+    text.push_between("node ", scene.number(), "'s is");
+    push_number(text, halter);
+    match last_halt(scene.notes(scene.node)) {
+        Some((caller, row)) if halter == Some(caller) => {
+            text.push_behind(", by the Halt in row ", row)
+        }
+        _ => {}
+    }
+    text.push_str("\n");
+}
+
+// Appends the line of the rule for an up set, and where what is told goes by it.
+fn push_up_rule(text: &mut Draft, scene: &Scene, told: &NodeSet) {
+    let shown = &scene.shown.up;
+    text.push_str(RULE);
+    text.push_str(
+        "an up set has the lower nodes whose Halt returned with yes since the move of step 2: ",
+    );
+    text.push_between("node ", scene.number(), "'s is");
+    if shown.is_empty() {
+        text.push_str(" empty");
+    } else {
+        push_members(text, shown);
+    }
+    text.push_str(", so the row");
+    push_parted(text, " adds", told, shown);
+    push_parted(text, " leaves out", shown, told);
+    text.push_str("\n");
+}
+
+// Appends the members of a set that another one lacks, behind a word, where there are any.
+fn push_parted(text: &mut Draft, word: &'static str, set: &NodeSet, other: &NodeSet) {
+    let mut parted = *set;
+    for before in 0..NODES_MAX {
+        match Node::new(before + 1) {
+            Some(node) if other.has(node) => parted.remove(node),
+            _ => {}
+        }
+    }
+    if !parted.is_empty() {
+        text.push_str(word);
+        push_members(text, &parted);
+    }
+}
+
+// Appends the line of the rule for the owners that are told, where they differ and no rule above says it.
+fn push_task_rule(text: &mut Draft, scene: &Scene, whole: &WholeClaim) {
+    let shown = task_of(scene.account.world(), whole);
+    if same_task(whole.task(), shown) {
+        return;
+    }
+    let is_said = lack_of_status(scene, whole.claim()) == Some(Lack::Ready);
+    if is_said {
+        return;
+    }
+    if vain_ready(scene).is_some() {
+        return push_lack(text, scene, Some(Lack::Ready));
+    }
+    text.push_str(RULE);
+    match (whole.task(), shown) {
+        (_, None) => push_no_owners(text, scene),
+        (None, Some(shown)) => push_kept_owners(text, scene, shown),
+        (Some(_), Some(shown)) => push_owners(text, scene, shown),
+    }
+    text.push_str("\n");
+}
+
+// Appends where owners come from, of a node that has none.
+fn push_no_owners(text: &mut Draft, scene: &Scene) {
+    text.push_str(
+        "a node has owners from its plan of step 7 on, or from a Ready that takes effect: node ",
+    );
+    text.push_value(scene.number());
+    text.push_str(if scene.shown.status == Status::Down {
+        " is down, and kept none"
+    } else {
+        " has had neither since it came up"
+    });
+}
+
+// Appends how long a node keeps its owners, which are these.
+fn push_kept_owners(text: &mut Draft, scene: &Scene, shown: &Table) {
+    text.push_str("a node keeps its owners until others come by a plan or a Ready, ");
+    text.push_str(if scene.setup().keeps() {
+        "and here over a crash"
+    } else {
+        "or until it crashes"
+    });
+    text.push_between(": node ", scene.number(), " has ");
+    text.push_task(Some(shown));
+}
+
+// Appends which owners a node has, and where these come from.
+fn push_owners(text: &mut Draft, scene: &Scene, shown: &Table) {
+    text.push_str(
+        "a node has the owners of its last plan, or of the last Ready that took effect: node ",
+    );
+    text.push_between("", scene.number(), " has ");
+    text.push_task(Some(shown));
+    if leads_with_plan(scene) {
+        if let Some(row) = last_row(scene.notes(scene.node), EventKind::Plan) {
+            text.push_behind(" by its plan in row ", row);
+        }
+    } else if scene.shown.status == Status::Normal {
+        text.push_str(" by the Ready of node");
+        push_number(text, scene.shown.coordinator);
+    }
+}
+
+// Whether the node is its own coordinator and planned in its last election.
+fn leads_with_plan(scene: &Scene) -> bool {
+    let is_planned = match scene.shown.point {
+        Point::Readying(_) => true,
+        _ => scene.shown.status == Status::Normal,
+    };
+    is_planned && scene.shown.coordinator == Some(scene.node)
+}

@@ -1,0 +1,261 @@
+//! The rule that a row breaks, in a sentence with what would be right: here that of each cause of a refusal.
+
+use crate::claim_rules::{push_claim_rules, push_whole_rules};
+use crate::detail_rules::push_detail_rules;
+use crate::draft::Draft;
+use crate::point_words::{push_point_told, push_step_line, push_where};
+use crate::scene::{Scene, push_down, push_start, push_up};
+use crate::words::{push_call, push_members, push_offer};
+use bully_account::{CallSummary, EventKind, Note, What};
+use bully_base::Setup;
+use bully_calls::{NodeEventKind, Phase};
+use bully_rows::Row;
+use bully_steps::Point;
+use bully_trace::Verdict;
+use bully_world::{Event, Refused};
+
+/// The title of a rule's line.
+pub const RULE: &str = "  the rule      ";
+
+/// Appends the lines of the rules that the row breaks, and that of the step at which its node stands.
+pub fn push_rules(text: &mut Draft, scene: &Scene, row: &Row) {
+    let verdict = scene.account.verdict();
+    match row {
+        Row::Event(event) => push_cause_rule(text, scene, event, verdict),
+        Row::Detailed(event) if matches!(verdict, Verdict::Differs(_)) => {
+            push_detail_rules(text, scene, event)
+        }
+        Row::Detailed(event) => push_cause_rule(text, scene, &event.event(), verdict),
+        Row::Claim(claim) => push_claim_rules(text, scene, *claim),
+        Row::Whole(whole) => push_whole_rules(text, scene, whole),
+    }
+    push_step_line(text, scene);
+}
+
+/// Appends the line of the rule that a row breaks whose node the group doesn't have.
+pub fn push_nodes_rule(text: &mut Draft, setup: &Setup) {
+    text.push_str(RULE);
+    push_nodes(text, setup);
+    text.push_str("\n");
+}
+
+// Appends which nodes a row may name.
+fn push_nodes(text: &mut Draft, setup: &Setup) {
+    text.push_str("a row names a node that the group has, here one from 1 to ");
+    text.push_value(setup.nodes());
+}
+
+// Appends the line of the rule by which the event was refused, as the verdict says.
+fn push_cause_rule(text: &mut Draft, scene: &Scene, event: &Event, verdict: Verdict) {
+    let Verdict::Refused(_, cause) = verdict else {
+        return;
+    };
+    text.push_str(RULE);
+    match cause {
+        Refused::Full => push_full(text, scene.setup()),
+        Refused::BadNode => push_nodes(text, scene.setup()),
+        Refused::IsDown => push_is_down(text, scene, event),
+        Refused::IsUp => {
+            text.push_str("only a node that is down recovers: ");
+            push_needs_crash(text, scene);
+        }
+        Refused::Busy => push_one_procedure(text, scene, event),
+        Refused::NoStep => push_steps(text, scene, event),
+        Refused::SlotBusy => push_one_call(text, scene),
+        Refused::NoCall => push_life(text, scene, event),
+        Refused::CalleeDown => push_callee_down(text, scene),
+        Refused::CalleeUp => push_callee_up(text, scene),
+        Refused::BadTable => push_members_rule(text, scene),
+        Refused::NotOrphan => push_orphans(text, scene),
+    }
+    text.push_str("\n");
+}
+
+// Appends how many events a group takes.
+fn push_full(text: &mut Draft, setup: &Setup) {
+    text.push_str("a group takes as many events as it is set up for: here ");
+    text.push_value(setup.events_max());
+}
+
+// Appends that a node which is down has no call, where the event is of one, or else what it may do.
+fn push_is_down(text: &mut Draft, scene: &Scene, event: &Event) {
+    match event {
+        Event::Run(_) | Event::Lose(_) | Event::Return(_) | Event::Drop(_) => {
+            text.push_str("a node that is down has no call, as a crash ends it: ");
+            push_down(text, scene, scene.node);
+        }
+        _ => push_needs_recover(text, scene),
+    }
+}
+
+/// Appends what a node that is down may do.
+pub fn push_needs_recover(text: &mut Draft, scene: &Scene) {
+    text.push_str("a node that is down does nothing but recover: ");
+    push_down(text, scene, scene.node);
+    text.push_between(", and needs a recover,", scene.number(), " before this row");
+}
+
+/// Appends that the node, which is up, has to crash first.
+pub fn push_needs_crash(text: &mut Draft, scene: &Scene) {
+    push_up(text, scene);
+    text.push_between(", and needs a crash,", scene.number(), " before this row");
+}
+
+// Appends that the procedure which runs at the node has to end before the event.
+fn push_one_procedure(text: &mut Draft, scene: &Scene, event: &Event) {
+    text.push_str("a node runs one procedure at a time: a ");
+    text.push_str(event.kind().word());
+    text.push_str(match scene.shown.point {
+        Point::Checking(_) => " waits until the check of node ",
+        Point::Inquiring => " waits until the timeout of node ",
+        _ => " waits until the election of node ",
+    });
+    text.push_between("", scene.number(), ", at ");
+    push_point_told(text, scene.setup(), &scene.shown.point);
+    text.push_str(", ends or is stopped by a Halt");
+}
+
+// Appends at which steps of an election the event comes, where the node is, and what comes next there.
+fn push_steps(text: &mut Draft, scene: &Scene, event: &Event) {
+    text.push_str(match event {
+        Event::Start(_) => "an election has a call at its steps 1, 3, 5 and 8 alone: ",
+        Event::Move(_) => "an election has a move at its steps 2, 4, 6 and 9 alone: ",
+        _ => "an election has a plan at its step 7 alone: ",
+    });
+    push_where(text, scene);
+    if !matches!(scene.shown.point, Point::Idle) {
+        text.push_str(", where ");
+        push_offer(text, scene.shown.offer);
+        text.push_str(" comes next");
+    }
+}
+
+// Appends that the call in the slot has to leave it first.
+fn push_one_call(text: &mut Draft, scene: &Scene) {
+    text.push_str("a node has one call under way at most: ");
+    if let Some(held) = scene.shown.call {
+        push_own_call(text, scene, held);
+        text.push_str(if held.is_live {
+            " has to return first"
+        } else {
+            " has to return or be dropped first"
+        });
+    }
+}
+
+/// Appends the call in the slot of the row's node, as `node 2's Ready to 1, started in row 17,`.
+pub fn push_own_call(text: &mut Draft, scene: &Scene, held: CallSummary) {
+    text.push_between("node ", scene.number(), "'s ");
+    push_call(text, held.call);
+    if let Some(row) = scene.started() {
+        text.push_between(", started in row ", row, ",");
+    }
+}
+
+// Appends when the event comes in the life of a call, and how far the node's call came.
+fn push_life(text: &mut Draft, scene: &Scene, event: &Event) {
+    text.push_str(match event {
+        Event::Run(_) => "a call runs once, behind its start: ",
+        Event::Lose(_) => "a call is lost once, before it returns: ",
+        Event::Return(_) => "a call returns behind its run or its loss: ",
+        _ => "only a call that is under way is dropped: ",
+    });
+    match scene.shown.call {
+        Some(held) => {
+            push_own_call(text, scene, held);
+            text.push_str(match held.phase {
+                Phase::Sent => " has had neither",
+                Phase::Ran(_) => " ran already",
+                Phase::Failed => " was lost already",
+            });
+        }
+        None => push_no_call(text, scene),
+    }
+}
+
+// Appends that the node has no call under way, and what ended its last one, where it had one and that is remembered.
+fn push_no_call(text: &mut Draft, scene: &Scene) {
+    text.push_behind("node ", scene.number());
+    if scene.started().is_none() {
+        return text.push_str(" has started none");
+    }
+    text.push_str(" has none under way");
+    if let Some((words, row)) = last_end(scene.notes(scene.node)) {
+        text.push_behind(words, row);
+    }
+}
+
+// The last of these rows behind which no call was under way, behind words that say what it was.
+fn last_end(notes: &[Note]) -> Option<(&'static str, u32)> {
+    let mut last = None;
+    for note in notes {
+        if let Some(words) = end_words(&note.what) {
+            last = Some((words, note.row));
+        }
+    }
+    last
+}
+
+// Says which end of a call a row was, where it was one.
+fn end_words(what: &What) -> Option<&'static str> {
+    let What::Did(EventKind::Node(kind)) = what else {
+        return None;
+    };
+    match kind {
+        NodeEventKind::Crash => Some(" since its crash in row "),
+        NodeEventKind::Return => Some(" since its return in row "),
+        NodeEventKind::Drop => Some(" since its drop in row "),
+        _ => None,
+    }
+}
+
+// Appends that a call whose callee is down doesn't run.
+fn push_callee_down(text: &mut Draft, scene: &Scene) {
+    text.push_str("a call runs only while its callee is up: ");
+    if let Some(held) = scene.shown.call {
+        push_down(text, scene, held.call.callee);
+        text.push_between(", so this call is lost (lose,", scene.number(), ")");
+        text.push_behind(", or waits for a recover,", held.call.callee.number());
+    }
+}
+
+// Appends that a call whose callee is up isn't lost.
+fn push_callee_up(text: &mut Draft, scene: &Scene) {
+    text.push_str("a call fails only while its callee is down: ");
+    if let Some(held) = scene.shown.call {
+        let callee = held.call.callee.number();
+        text.push_between("node ", callee, " is up, so this call can't be lost: it ");
+        text.push_str(match held.phase {
+            Phase::Ran(_) => "ran, and returns",
+            _ => "runs, or its caller waits",
+        });
+        text.push_between("; had node ", callee, " crashed, ");
+        text.push_between("a crash,", callee, " would stand above");
+    }
+}
+
+// Appends over whom a plan shares the partitions out, and a table that does so.
+fn push_members_rule(text: &mut Draft, scene: &Scene) {
+    text.push_str("a plan shares the partitions out by weight, over node ");
+    text.push_value(scene.number());
+    if scene.shown.up.is_empty() {
+        text.push_str(" alone, whose up set is empty");
+    } else {
+        text.push_str(" and its up set");
+        push_members(text, &scene.shown.up);
+    }
+    if scene.plan.is_some() {
+        text.push_str(": as the table ");
+        text.push_task(scene.plan);
+        text.push_str(" does");
+    }
+}
+
+// Appends which call may be dropped.
+fn push_orphans(text: &mut Draft, scene: &Scene) {
+    text.push_str("only an orphan is dropped, a call whose caller was halted since its start: ");
+    if let Some(held) = scene.shown.call {
+        text.push_between("node ", scene.number(), " wasn't halted since it ");
+        push_start(text, scene, held.call);
+    }
+}
