@@ -14,11 +14,12 @@ use bully_trace::said_of;
 
 /// Appends a blank line, and that of the rule for each part of what is said beside the event that differs.
 pub fn push_detail_rules(text: &mut Draft, scene: &Scene, event: &DetailedEvent) {
+    let world = scene.account.world();
     text.push_str("\n");
-    if event.node.number() > scene.setup().nodes() {
+    if event.node.number() > world.setup().nodes() {
         return;
     }
-    if let Some(shown) = said_of(scene.account.world(), &event.event()) {
+    if let Some(shown) = said_of(world, &event.event()) {
         push_differences(text, scene, &event.detail, &shown.detail);
     }
 }

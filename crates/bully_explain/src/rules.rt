@@ -1,36 +1,18 @@
-//! The rule that a row breaks, in a sentence with what would be right: here that of each cause of a refusal.
+//! The rule that a refused row breaks, in a sentence with what would be right: one for each of the causes.
 
-use crate::claim_rules::{push_claim_rules, push_whole_rules};
-use crate::detail_rules::push_detail_rules;
 use crate::draft::Draft;
-use crate::point_words::{push_point_told, push_step_line, push_where};
+use crate::point_words::{push_point_told, push_where};
 use crate::scene::{Scene, push_down, push_start, push_up};
 use crate::words::{push_call, push_members, push_offer};
 use bully_account::{CallSummary, EventKind, Note, What};
 use bully_base::Setup;
 use bully_calls::{NodeEventKind, Phase};
-use bully_rows::Row;
 use bully_steps::Point;
 use bully_trace::Verdict;
 use bully_world::{Event, Refused};
 
 /// The title of a rule's line.
 pub const RULE: &str = "  the rule      ";
-
-/// Appends the lines of the rules that the row breaks, and that of the step at which its node stands.
-pub fn push_rules(text: &mut Draft, scene: &Scene, row: &Row) {
-    let verdict = scene.account.verdict();
-    match row {
-        Row::Event(event) => push_cause_rule(text, scene, event, verdict),
-        Row::Detailed(event) if matches!(verdict, Verdict::Differs(_)) => {
-            push_detail_rules(text, scene, event)
-        }
-        Row::Detailed(event) => push_cause_rule(text, scene, &event.event(), verdict),
-        Row::Claim(claim) => push_claim_rules(text, scene, *claim),
-        Row::Whole(whole) => push_whole_rules(text, scene, whole),
-    }
-    push_step_line(text, scene);
-}
 
 /// Appends the line of the rule that a row breaks whose node the group doesn't have.
 pub fn push_nodes_rule(text: &mut Draft, setup: &Setup) {
@@ -45,8 +27,8 @@ fn push_nodes(text: &mut Draft, setup: &Setup) {
     text.push_value(setup.nodes());
 }
 
-// Appends the line of the rule by which the event was refused, as the verdict says.
-fn push_cause_rule(text: &mut Draft, scene: &Scene, event: &Event, verdict: Verdict) {
+/// Appends the line of the rule by which the event was refused, as the verdict says.
+pub fn push_cause_rule(text: &mut Draft, scene: &Scene, event: &Event, verdict: Verdict) {
     let Verdict::Refused(_, cause) = verdict else {
         return;
     };

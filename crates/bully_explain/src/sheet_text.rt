@@ -1,6 +1,9 @@
+use crate::claim_rules::{push_claim_rules, push_whole_rules};
+use crate::detail_rules::push_detail_rules;
 use crate::differing::{push_claimed, push_detailed, push_whole_claimed};
 use crate::draft::Draft;
-use crate::rules::{push_nodes_rule, push_rules};
+use crate::point_words::push_step_line;
+use crate::rules::{push_cause_rule, push_nodes_rule};
 use crate::scene::{Scene, last_move, node_at};
 use crate::sentences::push_refused;
 use crate::words::{push_held, push_offer, push_point, push_row_place, push_vector, push_what};
@@ -115,6 +118,21 @@ fn push_reason(
         Row::Claim(claim) => push_claimed(text, setup, *claim, sheet),
         Row::Whole(whole) => push_whole_claimed(text, world, whole, sheet),
     }
+}
+
+// Appends the lines of the rules that the row breaks, and that of the step at which its node stands.
+fn push_rules(text: &mut Draft, scene: &Scene, row: &Row) {
+    let verdict = scene.account.verdict();
+    match row {
+        Row::Event(event) => push_cause_rule(text, scene, event, verdict),
+        Row::Detailed(event) if matches!(verdict, Verdict::Differs(_)) => {
+            push_detail_rules(text, scene, event)
+        }
+        Row::Detailed(event) => push_cause_rule(text, scene, &event.event(), verdict),
+        Row::Claim(claim) => push_claim_rules(text, scene, *claim),
+        Row::Whole(whole) => push_whole_rules(text, scene, whole),
+    }
+    push_step_line(text, scene);
 }
 
 /// Why the row decided, by this verdict, in the world before it: its text, the cause, and what it speaks of, as a sheet has them. Refused
