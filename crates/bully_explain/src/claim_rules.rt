@@ -52,33 +52,29 @@ pub fn push_claim_rules(text: &mut Draft, scene: &Scene, claim: Claim) {
 /// that is down, or claimed to be so, one rule has them all but the owners.
 pub fn push_whole_rules(text: &mut Draft, scene: &Scene, whole: &WholeClaim) {
     let claim = whole.claim();
-    let shown = scene.shown;
     push_claim_rules(text, scene, claim);
-    let is_halter = whole.halter() == shown.halter;
-    let is_up = whole.up() == &shown.up;
-    if shown.status == Status::Down {
-        let are_all = is_halter && is_up;
-        if !are_all && claim.status == shown.status && claim.coordinator == shown.coordinator {
-            push_lack(text, scene, Some(Lack::Vector));
-        }
-    } else if claim.status != Status::Down {
-        push_rest_rules(text, scene, whole, is_halter, is_up);
+    match (claim.status, scene.shown.status) {
+        (Status::Down, Status::Down) => push_empty_rule(text, scene, whole),
+        (Status::Down, _) | (_, Status::Down) => {}
+        _ => push_rest_rules(text, scene, whole),
     }
     push_task_rule(text, scene, whole);
 }
 
+// Appends the line of the rule for what a node has that is down, where only a halter or an up set is claimed against it.
+fn push_empty_rule(text: &mut Draft, scene: &Scene, whole: &WholeClaim) {
+    let has_rest = whole.halter().is_some() || !whole.up().is_empty();
+    if has_rest && whole.claim().coordinator.is_none() {
+        push_lack(text, scene, Some(Lack::Vector));
+    }
+}
+
 // Appends the lines of the rules for the halter and the up set, where they differ, of a node that is up.
-fn push_rest_rules(
-    text: &mut Draft,
-    scene: &Scene,
-    whole: &WholeClaim,
-    is_halter: bool,
-    is_up: bool,
-) {
-    if !is_halter {
+fn push_rest_rules(text: &mut Draft, scene: &Scene, whole: &WholeClaim) {
+    if whole.halter() != scene.shown.halter {
         push_halter_rule(text, scene);
     }
-    if !is_up {
+    if whole.up() != &scene.shown.up {
         push_up_rule(text, scene, whole.up());
     }
 }
