@@ -1,11 +1,11 @@
-//! The words of a trace and of a verdict, each once: for reading and for writing. Those of events stand in bully_calls, and are read here.
+//! The words of a trace and of a verdict, each once: for reading and for writing. Those of events and refusals stand in bully_calls.
 ghost use Rattle.std.specs.Prelude.{◌≡◌};
 ghost use Rattle.std.specs.Str.{bytes_eq};
 ghost use Rattle.bully_rows.specs.Kinds.{kind_named};
-ghost use Rattle.bully_rows.specs.Words.{answer_word, call_named, call_word, cause_word, keeps_named, keeps_word, outcome_named, reply_named, status_named, status_word};
+ghost use Rattle.bully_rows.specs.Words.{answer_word, call_named, call_word, keeps_named, keeps_word, outcome_named, reply_named, status_named, status_word};
 
 use bully_base::Status;
-use bully_calls::{Answer, CallKind, NodeEventKind, Refused};
+use bully_calls::{Answer, CallKind, NodeEventKind};
 
 /// The word of a claim.
 pub const SAW: &str = "saw";
@@ -52,26 +52,6 @@ pub fn answer_word(answer: Answer) -> &'static str
         Answer::No => "no",
         Answer::Failed => "failed",
         Answer::Discarded => "discarded",
-    }
-}
-
-/// The cause of a refusal as a verdict spells it.
-pub fn cause_word(cause: Refused) -> &'static str
-    ensures { result.now ≡ cause_word cause }
-{
-    match cause {
-        Refused::Full => "Full",
-        Refused::BadNode => "BadNode",
-        Refused::IsDown => "IsDown",
-        Refused::IsUp => "IsUp",
-        Refused::Busy => "Busy",
-        Refused::NoStep => "NoStep",
-        Refused::SlotBusy => "SlotBusy",
-        Refused::NoCall => "NoCall",
-        Refused::CalleeDown => "CalleeDown",
-        Refused::CalleeUp => "CalleeUp",
-        Refused::BadTable => "BadTable",
-        Refused::NotOrphan => "NotOrphan",
     }
 }
 
