@@ -1,16 +1,14 @@
 -- An annotated trace is one that a text can tell, and has the events of the trace that it is made of.
-use Rattle.std.proofs.Common.{◌≡◌, ◌∙◌, ℕ, ◌+◌, ◌≤◌, ◌++◌, Bool, true, false, List, [], ◌∷◌, length, Option, Some, None, MatchOption, Result, Ok, All, if◌then◌else◌, arith, refl, sym, ap, subst}
-use Rattle.std.specs.Prelude.{◌&&◌, Err, IfOk, IfSome}
+use Rattle.std.proofs.Common.{◌≡◌, ◌∙◌, ℕ, ◌+◌, ◌++◌, Bool, true, false, List, [], ◌∷◌, length, Option, Some, None, MatchOption, Result, Ok, All, if◌then◌else◌, arith, refl, sym, ap, subst}
+use Rattle.std.specs.Prelude.{◌&&◌, Err, IfOk, IfSome, option_map}
 use Rattle.std.specs.Io.KnownBytes.{Appends}
 use Rattle.std.specs.Bool.{MatchBool}
 use Rattle.std.proofs.lemmas.Bool.{and_parts}
-use Rattle.std.proofs.lemmas.List.Elements.{All-append, All-cons, All-nil}
-use Rattle.bully_base.specs.NodeSet.{IsFallingBelow}
+use Rattle.std.proofs.lemmas.List.Elements.{All-cons, All-nil}
 use Rattle.bully_base.specs.Setup.{IsNode, IsSetup, Setup, is_node}
 use Rattle.bully_base.proofs.NodeSetLemmas.{IsFallingBelow-more}
 use Rattle.bully_calls.specs.declared.call.Answer.{Answer}
 use Rattle.bully_calls.specs.declared.call.Answer.TheVariants.{Yes, No}
-use Rattle.bully_calls.specs.declared.call.Call.{Call}
 use Rattle.bully_calls.specs.declared.call.CallKind.{CallKind}
 use Rattle.bully_calls.specs.declared.call.CallKind.TheVariants.{AreYouUp, AreYouNormal, Halt, NewCoordinator, Ready}
 use Rattle.bully_calls.specs.declared.event.Event.{Event}
@@ -21,7 +19,6 @@ use Rattle.bully_calls.specs.Events.{node_of}
 use Rattle.bully_calls.specs.Pending.{Pending}
 use Rattle.bully_handlers.specs.Handler.{reply}
 use Rattle.bully_handlers.specs.Vector.{Vector, is_normal}
-use Rattle.bully_rows.specs.declared.TheConstants.{ROWS_MAX}
 use Rattle.bully_rows.specs.declared.detail.Detail.{Detail}
 use Rattle.bully_rows.specs.declared.detail.DetailedEvent.{DetailedEvent}
 use Rattle.bully_rows.specs.declared.header.Version.{Version}
@@ -29,10 +26,10 @@ use Rattle.bully_rows.specs.declared.trace.Claim.{Claim}
 use Rattle.bully_rows.specs.declared.trace.Row.{Row}
 use Rattle.bully_rows.specs.EventsTold.{answered, event_of_detailed, unanswered}
 use Rattle.bully_rows.specs.Kinds.{node_saying}
-use Rattle.bully_rows.specs.ReadBack.{AreOwners, IsAnswerTold, IsDetailTold, IsEventTold, IsNamed, IsReply, IsRowTold, IsTold}
+use Rattle.bully_rows.specs.ReadBack.{AreOwners, IsAnswerTold, IsDetailTold, IsNamed, IsReply, IsRowTold, IsTold}
 use Rattle.bully_rows.specs.Rows.{IsTraceOf, OfTrace, records_of}
 use Rattle.bully_rows.specs.Trace.{Trace}
-use Rattle.bully_rows.specs.Whole.{Whole, whole_of}
+use Rattle.bully_rows.specs.Whole.{Whole}
 use Rattle.bully_rows.proofs.ReadBackLemmas.{written-means}
 use Rattle.bully_rows.proofs.ToldRows.{found, made}
 use Rattle.bully_rows.proofs.SetupTold.{event-told, node-named}
@@ -40,7 +37,6 @@ use Rattle.bully_rows.proofs.ToldTraces.{reads-told}
 use Rattle.bully_trace.specs.declared.verdict.Verdict.{Verdict}
 use Rattle.bully_trace.specs.Details.{brought, call_at, is_said, is_so, is_true, is_whole, offered_call, said_by, said_of, same_answers, same_call, says}
 use Rattle.bully_trace.specs.Verdict.{IsJudged, IsVerdict, events_of}
-use Rattle.bully_trace.proofs.JudgeLemmas.{events-append}
 use Rattle.bully_trace.proofs.SameLemmas.{answers-is, node-within}
 use Rattle.bully_world.specs.Cause.{cause}
 use Rattle.bully_world.specs.NodeInvariant.{WorldInvariant}
