@@ -1,5 +1,6 @@
 -- What an event is, and what is so of all events of a kind; the words and numbers of refusals.
-use Rattle.std.specs.Prelude.{ℕ, List, [], ◌∷◌, ◌++◌, Option, Some, None, codes, map}
+use Rattle.std.specs.Prelude.{ℕ, List, [], ◌∷◌, ◌++◌, Option, Some, None, codes, find, map}
+use Rattle.std.specs.Str.{bytes_eq}
 use Rattle.bully_calls.specs.declared.event.Event.{Event}
 use Rattle.bully_calls.specs.declared.event.Refused.{Refused}
 use Rattle.bully_calls.specs.declared.kind.EventKind.{EventKind}
@@ -93,6 +94,17 @@ whose_of kind = (facts_of kind).whose
 
 abbrev pub saying_of : EventKind → Saying
 saying_of kind = (facts_of kind).saying
+
+-- of a kind that names a node and no more: the word of its rows, and what they may say beside the event
+abbrev pub node_word : NodeEventKind → List ℕ
+node_word kind = word_of (EventKind.Node kind)
+
+abbrev pub node_saying : NodeEventKind → Saying
+node_saying kind = saying_of (EventKind.Node kind)
+
+-- the kind of this word, of those that name a node and no more
+abbrev pub kind_named : List ℕ → Option NodeEventKind
+kind_named word = find (λ kind. bytes_eq word (node_word kind)) every_node_event_kind
 
 -- why an event is refused, as a verdict spells it
 abbrev pub refusal_word : Refused → List ℕ
