@@ -159,7 +159,10 @@ fn misfit_of_detail(version: Version, fields: &ByteRecord) -> Misfit {
 
 // Whether the event of this word says what its call is answered where it runs.
 fn is_replied(word: &[u8]) -> bool {
-    matches!(NodeEventKind::named(word), Some(kind) if kind.saying() == Saying::Replied)
+    match NodeEventKind::named(word) {
+        Some(kind) => kind.saying() == Saying::Replied,
+        None => false,
+    }
 }
 
 /// Where a first row, which is no header, breaks the form of one.
