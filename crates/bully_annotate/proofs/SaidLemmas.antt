@@ -91,7 +91,7 @@ offered-node setup w i call fits there = by_want (offer setup w i) refl there
     up : (c : Call) → offer setup w i ≡ Want.Start c → (node_state w i).vector.status ≢ Down
     up c offers down =
         let idle : offered setup (node_state w i).vector.coordinator Point.Idle ≡ Want.Start c =
-            subst (λ p. offered setup (node_state w i).vector.coordinator p ≡ Want.Start c) ((fits.fits i).down_idle down) offers in
+        subst (λ p. offered setup (node_state w i).vector.coordinator p ≡ Want.Start c) ((fits.fits i).down_idle down) offers in
         cc idle
 
     by_want : (want : Want) → offer setup w i ≡ want → offered_call want ≡ Some call → IsNode setup call.callee
