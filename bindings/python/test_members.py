@@ -1083,7 +1083,8 @@ class Configurations(unittest.TestCase):
     """What a configuration has, and its faults."""
 
     def test_examples(self) -> None:
-        for path in sorted((ROOT / 'examples').rglob('*.toml')):
+        places = (ROOT / 'examples').rglob('*.toml')
+        for path in sorted(place for place in places if place.name != 'Cargo.toml'):
             with self.subTest(path=path.name):
                 read = settings.read_settings(path.read_bytes())
                 self.assertEqual(len(read.names), read.setup.nodes)

@@ -1,4 +1,5 @@
 pub mod PartLemmas
+pub mod EventLemmas
 pub mod AloneLemmas
 pub mod RefusalLemmas
 pub mod ServeLemmas

@@ -13,27 +13,16 @@ use Rattle.bully_calls.specs.Events.{kind_of, node_of}
 use Rattle.bully_world.specs.Cause.{cause, refuses, first_of, later_refusals, is_pending, is_live_in, is_down_at}
 use Rattle.bully_world.specs.State.{StoredNode, node_state_of}
 use Rattle.bully_world.specs.StateAfter.{phased_state}
-use Rattle.bully_world.specs.World.{World, NodeState, node_state, vector}
+use Rattle.bully_world.specs.World.{World, node_state, vector}
 use Rattle.bully_world.proofs.CauseAt.{cause-recover, cause-later, down-test}
-use Rattle.bully_world.proofs.Events.Checking.{check-cause, timeout-cause}
-use Rattle.bully_world.proofs.Events.Dropping.{drop-cause}
-use Rattle.bully_world.proofs.Events.Moving.{move-cause}
-use Rattle.bully_world.proofs.Events.Planning.{plan-cause}
-use Rattle.bully_world.proofs.Events.Starting.{start-cause}
 use Rattle.bully_agent.specs.Agent.{IsAlone}
 use Rattle.bully_agent.specs.Part.{IsLike, IsPart}
 use Rattle.bully_agent.proofs.PartLemmas.{alone, alone_here, like_vector}
+use Rattle.bully_agent.proofs.EventLemmas.{IsReadAlike, same_refusals}
 
 -- no event is taken behind the bound
 pub full_cause : (setup : Setup) (w : World) (count : ℕ) (e : Event) → setup.events_max ≤ count → cause setup w count e ≡ Some Refused.Full
 full_cause setup w count e full = grind (arith, nat_tests, full)
-
--- the states are alike in all that the refusals of such an event read
-record IsReadAlike (x y : NodeState) : Type 0 where
-  vector : x.vector ≡ y.vector
-  point : x.point ≡ y.point
-  pending : is_pending x.pending ≡ is_pending y.pending
-  live : is_live_in x.pending ≡ is_live_in y.pending
 
 ahead_alike : (m : StoredNode) (f : Phase) → IsReadAlike (node_state_of (phased_state f m)) (node_state_of m)
 ahead_alike m f = record { vector = refl; point = refl; pending = same_pending m.slot.content; live = same_live m.slot.content }
@@ -45,18 +34,6 @@ ahead_alike m f = record { vector = refl; point = refl; pending = same_pending m
     same_live : (q : Option SlotCall) → is_live_in (option_map (pending_of m.generation) (option_map (phased f) q)) ≡ is_live_in (option_map (pending_of m.generation) q)
     same_live None = refl
     same_live (Some p) = refl
-
-same_refusals : (setup : Setup) (w v : World) (count : ℕ) (e : Event) (x y : NodeState) → IsAlone (kind_of e) → node_state w (node_of e) ≡ x → node_state v (node_of e) ≡ y → IsReadAlike x y
-    → first_of (refuses setup w count e) later_refusals ≡ first_of (refuses setup v count e) later_refusals
-same_refusals setup w v count (Event.Recover i) x y own there here alike = refl
-same_refusals setup w v count (Event.Crash i) x y own there here alike = refl
-same_refusals setup w v count (Event.Check i) x y own there here alike = grind (arith, check-cause setup w count i x there, check-cause setup v count i y here, alike.point)
-same_refusals setup w v count (Event.Timeout i) x y own there here alike = grind (arith, timeout-cause setup w count i x there, timeout-cause setup v count i y here, alike.point)
-same_refusals setup w v count (Event.Start i) x y own there here alike = grind (arith, start-cause setup w count i x there, start-cause setup v count i y here, alike.vector, alike.point, alike.pending)
-same_refusals setup w v count (Event.Drop i) x y own there here alike = grind (arith, drop-cause setup w count i x there, drop-cause setup v count i y here, alike.pending, alike.live)
-same_refusals setup w v count (Event.Move i) x y own there here alike = grind (arith, move-cause setup w count i x there, move-cause setup v count i y here, alike.vector, alike.point, alike.pending)
-same_refusals setup w v count (Event.Plan i table) x y own there here alike = grind (arith, plan-cause setup w count i x table there, plan-cause setup v count i y table here, alike.vector, alike.point, alike.pending)
-same_refusals setup w v count e x y own there here alike = elim own [ ]
 
 module _ (setup : Setup) (e : Event) (count : ℕ) (m : StoredNode) (node : IsNode setup (node_of e)) (room : count < setup.events_max) where
   abbrev i : ℕ

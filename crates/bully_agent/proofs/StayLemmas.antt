@@ -1,12 +1,10 @@
 -- A call that ran stays so, whatever others do.
-use Rattle.std.proofs.Common.{◌≡◌, ◌≢◌, ℕ, ◌⊎◌, inl, inr, false, Some, None, refl, sym, ◌∙◌, ap, subst, arith}
-use Rattle.std.specs.Prelude.{◌==◌, option_map}
-use Rattle.std.proofs.lemmas.Bool.Decides.{nat_tests}
-use Rattle.bully_base.specs.Setup.{Setup, IsNode}
+use Rattle.std.proofs.Common.{◌≡◌, ◌≢◌, ℕ, ◌⊎◌, inl, inr, false, Some, sym, ap, subst, arith}
+use Rattle.std.specs.Prelude.{option_map}
+use Rattle.bully_base.specs.Setup.{Setup}
 use Rattle.bully_calls.specs.declared.call.Answer.{Answer}
 use Rattle.bully_calls.specs.declared.call.CallKind.{CallKind}
 use Rattle.bully_calls.specs.declared.call.CallKind.TheVariants.{AreYouUp, AreYouNormal, Halt, NewCoordinator, Ready}
-use Rattle.bully_calls.specs.declared.call.Phase.{Phase}
 use Rattle.bully_calls.specs.Pending.{Pending, orphan_of}
 use Rattle.bully_handlers.specs.Handler.{callee_after}
 use Rattle.bully_handlers.specs.Vector.{Vector}
@@ -14,18 +12,12 @@ use Rattle.bully_calls.specs.declared.event.Event.{Event}
 use Rattle.bully_calls.specs.Events.{node_of}
 use Rattle.bully_world.specs.NodeInvariant.{WorldInvariant}
 use Rattle.bully_world.specs.Step.{Step, IsUp, called, ran, stopped_by}
-use Rattle.bully_world.specs.World.{World, NodeState, node_state, pending, with_node_state}
+use Rattle.bully_world.specs.World.{World, NodeState, node_state, pending}
 use Rattle.bully_world.proofs.Events.{own_other}
-use Rattle.bully_world.proofs.NodeStateLemmas.{node_state_here, node_of_pending}
 use Rattle.bully_world.proofs.RunInvariant.{ran_other, ran_there}
 use Rattle.bully_agent.specs.Calls.{HasRun}
 use Rattle.bully_agent.specs.Laws.{RunsStay, ends_call}
-
--- the state's call ran with this answer
-record Ran (answer : Answer) (x : NodeState) : Type 0 where
-  call : Pending
-  is : x.pending ≡ Some call
-  phase : call.phase ≡ Phase.Ran answer
+use Rattle.bully_agent.proofs.EventLemmas.{Ran, here, own_stays}
 
 stays : (i : ℕ) (answer : Answer) (w w' : World) → HasRun i answer w → (Ran answer (node_state w i) → Ran answer (node_state w' i)) → HasRun i answer w'
 stays i answer w w' h more =
@@ -43,49 +35,13 @@ heard_ran j c answer x r = by_kind c.call.kind (callee_after j c.call.kind c.tab
     by_kind NewCoordinator v = record { call = r.call; is = r.is; phase = r.phase }
     by_kind Ready v = record { call = r.call; is = r.is; phase = r.phase }
 
--- what a node with such a call can't do, and what leaves its call as it is
-no_call : (answer : Answer) (x : NodeState) → Ran answer x → x.pending ≡ None → ⊥
-no_call answer x r none = grind (arith, r.is, none)
-
-not_sent : (answer : Answer) (x : NodeState) (c : Pending) → Ran answer x → x.pending ≡ Some c → c.phase ≡ Phase.Sent → ⊥
-not_sent answer x c r is sent = grind (arith, r.is, r.phase, is, sent)
-
-same_pending : (answer : Answer) (x y : NodeState) → y.pending ≡ x.pending → Ran answer x → Ran answer y
-same_pending answer x y same r = record { call = r.call; is = same ∙ r.is; phase = r.phase }
-
 module _ (setup : Setup) (w : World) (i : ℕ) (answer : Answer) (all : WorldInvariant setup w) (h : HasRun i answer w) where
-  abbrev here : Ran answer (node_state w i)
-  here = record { call = h.call; is = h.is; phase = h.ran }
-
-  node : IsNode setup i
-  node = (node_of_pending setup w i h.call all h.is).0
-
-  -- its node is written, and its call stays
-  written : (w' : World) (m : NodeState) → w' ≡ with_node_state w i m → m.pending ≡ pending w i → Ran answer (node_state w' i)
-  written w' m becomes same = same_pending answer (node_state w i) (node_state w' i) (ap (λ (v : World). pending v i) becomes ∙ (ap (λ (x : NodeState). x.pending) (node_state_here setup w i m all node) ∙ same)) here
-
   -- another call runs
   other_ran : (j : ℕ) (c : Pending) → pending w j ≡ Some c → IsUp w c.call.callee → i ≢ j → (i ≡ c.call.callee) ⊎ (i ≢ c.call.callee) → Ran answer (node_state (ran w j c) i)
   other_ran j c is up d (inl same) =
       subst (λ k. Ran answer (node_state (ran w j c) k)) (sym same)
-      (subst (Ran answer) (sym (ran_there setup w j c all is up)) (heard_ran j c answer (node_state w c.call.callee) (subst (λ k. Ran answer (node_state w k)) same here)))
-  other_ran j c is up d (inr e) = subst (Ran answer) (sym (ran_other setup w j c all is up i d e)) here
-
-is_itself : (i : ℕ) → i == i ≡ false → ⊥
-is_itself i e = absurd (grind (arith, nat_tests, e))
-
-own_stays : (setup : Setup) (w w' : World) (e : Event) (a : Answer) (answer : Answer) → WorldInvariant setup w → Step setup w e w' a → ends_call e (node_of e) ≡ false → HasRun (node_of e) answer w → Ran answer (node_state w' (node_of e))
-own_stays setup w w' (Event.Recover i) a answer all s ends h = written setup w i answer all h w' _ s.2 refl
-own_stays setup w w' (Event.Crash i) a answer all s ends h = absurd (is_itself i ends)
-own_stays setup w w' (Event.Check i) a answer all s ends h = written setup w i answer all h w' _ s.2 refl
-own_stays setup w w' (Event.Timeout i) a answer all s ends h = written setup w i answer all h w' _ s.2 refl
-own_stays setup w w' (Event.Start i) a answer all s ends h = absurd (no_call answer (node_state w i) (here setup w i answer all h) s.1)
-own_stays setup w w' (Event.Run i) a answer all s ends h = absurd (not_sent answer (node_state w i) s.0 (here setup w i answer all h) s.1 s.2)
-own_stays setup w w' (Event.Lose i) a answer all s ends h = absurd (is_itself i ends)
-own_stays setup w w' (Event.Return i) a answer all s ends h = absurd (is_itself i ends)
-own_stays setup w w' (Event.Drop i) a answer all s ends h = absurd (is_itself i ends)
-own_stays setup w w' (Event.Move i) a answer all s ends h = absurd (no_call answer (node_state w i) (here setup w i answer all h) s.1)
-own_stays setup w w' (Event.Plan i table) a answer all s ends h = absurd (no_call answer (node_state w i) (here setup w i answer all h) s.1)
+      (subst (Ran answer) (sym (ran_there setup w j c all is up)) (heard_ran j c answer (node_state w c.call.callee) (subst (λ k. Ran answer (node_state w k)) same (here setup w i answer all h))))
+  other_ran j c is up d (inr e) = subst (Ran answer) (sym (ran_other setup w j c all is up i d e)) (here setup w i answer all h)
 
 other_stays : (setup : Setup) (w w' : World) (e : Event) (a : Answer) (i : ℕ) (answer : Answer) → WorldInvariant setup w → Step setup w e w' a → i ≢ node_of e → HasRun i answer w → Ran answer (node_state w' i)
 other_stays setup w w' (Event.Run j) a i answer all s d h = subst (λ (v : World). Ran answer (node_state v i)) (sym s.4) (other_ran setup w i answer all h j s.0 s.1 s.3 d (grind arith))

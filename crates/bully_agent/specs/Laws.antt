@@ -1,5 +1,5 @@
 -- The laws of nodes on their own: what a step leaves of the others, and what they agree on.
-use Rattle.std.specs.Prelude.{◌≡◌, ◌≢◌, ◌<◌, ◌==◌, ℕ, Bool, false, List, [], ◌∷◌, ◌++◌, length, Option, Some, None, IsSome, if◌then◌else◌}
+use Rattle.std.specs.Prelude.{◌≡◌, ◌≢◌, ◌<◌, ◌==◌, ℕ, Bool, false, List, [], ◌∷◌, ◌++◌, length, IsSome, if◌then◌else◌}
 use Rattle.bully_base.specs.declared.node.Status.TheVariants.{Normal}
 use Rattle.bully_base.specs.Setup.{Setup, IsNode}
 use Rattle.bully_calls.specs.declared.call.Answer.{Answer}

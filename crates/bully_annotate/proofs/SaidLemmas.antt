@@ -21,7 +21,7 @@ use Rattle.bully_calls.specs.declared.event.Refused.{Refused}
 use Rattle.bully_calls.specs.declared.kind.EventKind.{EventKind}
 use Rattle.bully_calls.specs.declared.kind.NodeEventKind.{NodeEventKind}
 use Rattle.bully_calls.specs.declared.kind.Saying.{Saying}
-use Rattle.bully_calls.specs.Events.{event_at, kind_of, node_of}
+use Rattle.bully_calls.specs.Events.{event_at, kind_of, node_of, node_saying}
 use Rattle.bully_calls.proofs.KindLemmas.{same_event}
 use Rattle.bully_world.specs.Cause.{cause}
 use Rattle.bully_world.specs.Lawful.{IsLawful}
@@ -41,7 +41,6 @@ use Rattle.bully_rows.specs.declared.trace.Claim.{Claim}
 use Rattle.bully_rows.specs.declared.trace.Row.{Row}
 use Rattle.bully_trace.specs.declared.verdict.Verdict.{Verdict}
 use Rattle.bully_rows.specs.EventsTold.{answered, event_of_detailed, unanswered}
-use Rattle.bully_rows.specs.Kinds.{node_saying}
 use Rattle.bully_rows.proofs.ToldRows.{found, made}
 use Rattle.bully_trace.specs.Details.{brought, call_at, callee_or, is_said, is_so, is_true, is_whole, offered_call, said_at, said_by, said_of, same_answers, same_call, same_status, same_task, says}
 use Rattle.bully_rows.specs.Trace.{Trace}
@@ -92,7 +91,7 @@ offered-node setup w i call fits there = by_want (offer setup w i) refl there
     up : (c : Call) → offer setup w i ≡ Want.Start c → (node_state w i).vector.status ≢ Down
     up c offers down =
         let idle : offered setup (node_state w i).vector.coordinator Point.Idle ≡ Want.Start c =
-            subst (λ p. offered setup (node_state w i).vector.coordinator p ≡ Want.Start c) ((fits.fits i).down_idle down) offers in
+        subst (λ p. offered setup (node_state w i).vector.coordinator p ≡ Want.Start c) ((fits.fits i).down_idle down) offers in
         cc idle
 
     by_want : (want : Want) → offer setup w i ≡ want → offered_call want ≡ Some call → IsNode setup call.callee

@@ -15,7 +15,7 @@ use Rattle.bully_calls.specs.declared.event.Event.{Event}
 use Rattle.bully_calls.specs.declared.event.Refused.{Refused}
 use Rattle.bully_calls.specs.declared.kind.NodeEventKind.{NodeEventKind}
 use Rattle.bully_calls.specs.declared.kind.Saying.{Saying}
-use Rattle.bully_calls.specs.Events.{node_of}
+use Rattle.bully_calls.specs.Events.{node_of, node_saying}
 use Rattle.bully_calls.specs.Pending.{Pending}
 use Rattle.bully_handlers.specs.Handler.{reply}
 use Rattle.bully_handlers.specs.Vector.{Vector, is_normal}
@@ -25,7 +25,6 @@ use Rattle.bully_rows.specs.declared.header.Version.{Version}
 use Rattle.bully_rows.specs.declared.trace.Claim.{Claim}
 use Rattle.bully_rows.specs.declared.trace.Row.{Row}
 use Rattle.bully_rows.specs.EventsTold.{answered, event_of_detailed, unanswered}
-use Rattle.bully_rows.specs.Kinds.{node_saying}
 use Rattle.bully_rows.specs.ReadBack.{AreOwners, IsAnswerTold, IsDetailTold, IsNamed, IsReply, IsRowTold, IsTold}
 use Rattle.bully_rows.specs.Rows.{IsTraceOf, OfTrace, records_of}
 use Rattle.bully_rows.specs.Trace.{Trace}

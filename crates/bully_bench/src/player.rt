@@ -85,6 +85,9 @@ fn prepare<L: Naming>(alloc: Global, locked: &Locked<L>, procedure: &mut Procedu
     requires { (state_of procedure.old).setup ≡ L.setup }
     ensures { (state_of procedure.new).setup ≡ (state_of procedure.old).setup }
 {
+    if !matches!(procedure, Procedure::Planning(_)) {
+        return;
+    }
     let _setup = locked.setup();
     let task = locked.world().vector(procedure.node()).task();
     let _ = procedure.prepare(alloc, task);

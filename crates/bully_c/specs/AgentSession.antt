@@ -13,6 +13,9 @@ use Rattle.bully_rows.specs.EventsTold.{answered, unanswered}
 use Rattle.bully_rows.specs.declared.trace.Row.{Row}
 use Rattle.bully_calls.specs.declared.event.Event.{Event}
 use Rattle.bully_calls.specs.declared.kind.NodeEventKind.{NodeEventKind}
+use Rattle.bully_calls.specs.declared.kind.EventKind.{EventKind}
+use Rattle.bully_calls.specs.declared.kind.Saying.{Saying}
+use Rattle.bully_calls.specs.Events.{event_at, saying_of}
 use Rattle.bully_calls.specs.declared.event.Refused.{Refused}
 use Rattle.bully_c.specs.declared.session.AgentSession.{AgentSession}
 use Rattle.bully_c.specs.declared.session.StepRows.{StepRows}
@@ -49,17 +52,23 @@ Takes event Tells old (Ok answer) new =
     IsTaken old.agent (event old.agent.node) new.agent (record { event = event old.agent.node; answer = answer }) × Tells old.agent new.agent new.told
 Takes event Tells old (Err why) new = IsRefused Always old.agent (event old.agent.node) why × (new ≡ old)
 
--- what is told is the event
-abbrev pub TellsEvent : (ℕ → Event) → AgentState → AgentState → StepRows → Type 0
-TellsEvent event old new told = told ≡ StepRows.Event (event old.node)
+-- what is told of an event that node i takes by itself, with this call in its slot before it, and that one behind it: what its row may
+-- say of the one that was offered, which is there then, or of the one that was there, or the event and no more
+abbrev pub told_by : Saying → NodeEventKind → ℕ → Option Call → Option Call → StepRows
+told_by Saying.Offered kind i before after = detail_told i (option_map (unanswered kind) after)
+told_by Saying.Held kind i before after = detail_told i (option_map (unanswered kind) before)
+told_by saying kind i before after = StepRows.Event (event_at kind i)
 
--- or the start of the call that is in the slot then
-abbrev pub TellsStart : AgentState → AgentState → StepRows → Type 0
-TellsStart old new told = told ≡ detail_told old.node (option_map (unanswered NodeEventKind.Start) (call_in new.node_state.slot))
+abbrev pub own_told : NodeEventKind → ℕ → Option Call → Option Call → StepRows
+own_told kind = told_by (saying_of (EventKind.Node kind)) kind
 
--- or that the call which was in the slot is dropped
-abbrev pub TellsDrop : AgentState → AgentState → StepRows → Type 0
-TellsDrop old new told = told ≡ detail_told old.node (option_map (unanswered NodeEventKind.Drop) (call_in old.node_state.slot))
+-- that is told
+abbrev pub TellsOwn : NodeEventKind → AgentState → AgentState → StepRows → Type 0
+TellsOwn kind old new told = told ≡ own_told kind old.node (call_in old.node_state.slot) (call_in new.node_state.slot)
+
+-- the plan of the table is told
+abbrev pub TellsPlan : List ℕ → AgentState → AgentState → StepRows → Type 0
+TellsPlan table old new told = told ≡ StepRows.Event (Event.Plan old.node table)
 
 -- a request runs at the agent, and its run is told with the answer, or it is refused
 abbrev pub ServesRequest : Request → AgentSession → Result Reply Refused → AgentSession → Type 0

@@ -20,8 +20,10 @@ use Rattle.bully_steps.specs.declared.point.Want.{Want}
 use Rattle.bully_table.specs.Planning.{planned}
 use Rattle.bully_calls.specs.declared.event.Event.{Event}
 use Rattle.bully_calls.specs.declared.event.Refused.{Refused}
+use Rattle.bully_calls.specs.declared.kind.NodeEventKind.{NodeEventKind}
+use Rattle.bully_calls.specs.Events.{event_at}
 use Rattle.bully_c.specs.Arguments.{AreGiven, IsCopied, IsSetupRefusal, RefusesGiven, RefusesOwners, table_given}
-use Rattle.bully_c.specs.AgentSession.{ServesRequest, call_in, Takes, TakesFailure, TakesReply, TellsEvent}
+use Rattle.bully_c.specs.AgentSession.{ServesRequest, call_in, Takes, TakesFailure, TakesReply, TellsOwn, TellsPlan}
 use Rattle.bully_c.specs.Numbers.{answer_number, kind_number, reply_number, request_number, status_number, step_number, want_number}
 use Rattle.bully_c.specs.declared.status.TheConstants.{BAD_NODE, CLOSED, LINE_WORD, OK, OPEN, OUT_OF_MEMORY, SHORT, TABLE_LENGTH}
 use Rattle.bully_c.specs.declared.session.AgentSession.{AgentSession}
@@ -41,14 +43,14 @@ AtOpen = AtOpenOf AgentSession
 abbrev pub IsStep : {A : Type 0} → (AgentSession → Result A Refused → AgentSession → Type 0) → AgentSession → ℕ → AgentSession → Type 0
 IsStep {A} Steps session status after = (said : Result A Refused) × (status ≡ step_number said) × Steps session said after
 
--- an event that the node takes by itself
-abbrev pub IsEvent : (ℕ → Event) → (AgentState → AgentState → StepRows → Type 0) → AgentSession → ℕ → AgentSession → Type 0
-IsEvent event Tells = IsStep (Takes event Tells)
+-- an event of this kind, which the node takes by itself
+abbrev pub IsOwn : NodeEventKind → AgentSession → ℕ → AgentSession → Type 0
+IsOwn kind = IsStep (Takes (event_at kind) (TellsOwn kind))
 
 -- the plan of these owners, or why they are none of the setup
 abbrev pub IsPlan : List ℕ → AgentSession → ℕ → AgentSession → Type 0
 IsPlan owners session status after =
-    (AreOwners session.agent.setup owners × IsEvent (λ i. Event.Plan i owners) (TellsEvent (λ i. Event.Plan i owners)) session status after)
+    (AreOwners session.agent.setup owners × IsStep (Takes (λ i. Event.Plan i owners) (TellsPlan owners)) session status after)
     ⊎ (RefusesOwners session.agent.setup owners status × (after ≡ session))
 
 -- why a line is no request, by its number

@@ -11,7 +11,8 @@ use Rattle.bully_trace.specs.Verdict.{AgreesAfterEachRow, IsLawfulCount}
 use Rattle.bully_trace.specs.VerdictText.{IsJudgedAs}
 use Rattle.bully_trace.specs.declared.verdict.Verdict.{Verdict}
 use Rattle.bully_c.specs.Arguments.{AreGiven, IsSetupRefusal, RefusesGiven, table_given}
-use Rattle.bully_c.specs.Numbers.{refusal_number, trace_number}
+use Rattle.bully_calls.specs.Events.{refusal_number}
+use Rattle.bully_c.specs.Numbers.{trace_number}
 use Rattle.bully_c.specs.declared.status.TheConstants.{BAD_NODE, NO_MEMBER, OK, OUT_OF_MEMORY, TABLE_LENGTH}
 use Rattle.bully_c.specs.declared.traces.CVerdict.{CVerdict}
 

@@ -11,22 +11,9 @@ use Rattle.bully_steps.specs.declared.point.Want.{Want}
 use Rattle.bully_table.specs.declared.table.TableFault.{TableFault}
 use Rattle.bully_calls.specs.declared.event.Event.{Event}
 use Rattle.bully_calls.specs.declared.event.Refused.{Refused}
+use Rattle.bully_calls.specs.Events.{refusal_number}
 use Rattle.bully_replica.specs.declared.follower.FollowFault.{FollowFault}
 use Rattle.bully_trace.specs.declared.verdict.Violation.{Violation}
-
-abbrev pub refusal_number : Refused → ℕ
-refusal_number Refused.Full = 1
-refusal_number Refused.BadNode = 2
-refusal_number Refused.IsDown = 3
-refusal_number Refused.IsUp = 4
-refusal_number Refused.Busy = 5
-refusal_number Refused.NoStep = 6
-refusal_number Refused.SlotBusy = 7
-refusal_number Refused.NoCall = 8
-refusal_number Refused.CalleeDown = 9
-refusal_number Refused.CalleeUp = 10
-refusal_number Refused.BadTable = 11
-refusal_number Refused.NotOrphan = 12
 
 abbrev pub setup_number : SetupFault → ℕ
 setup_number SetupFault.BadNodes = 25

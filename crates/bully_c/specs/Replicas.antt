@@ -21,7 +21,8 @@ use Rattle.bully_rows.specs.declared.trace.TraceCause.{TraceCause}
 use Rattle.bully_world.specs.State.{WorldState, cause_in, state_at}
 use Rattle.bully_c.specs.Arguments.{IsCopied, IsSetupRefusal}
 use Rattle.bully_c.specs.Exports.{AtOpenOf, ShowsOf, number_or_none, shown}
-use Rattle.bully_c.specs.Numbers.{event_numbered, follow_number, refusal_number, trace_number}
+use Rattle.bully_calls.specs.Events.{refusal_number}
+use Rattle.bully_c.specs.Numbers.{event_numbered, follow_number, trace_number}
 use Rattle.bully_c.specs.declared.logs.LogSession.{LogSession}
 use Rattle.bully_c.specs.declared.replicas.CGroup.{CGroup}
 use Rattle.bully_c.specs.declared.shown.CState.{CState}

@@ -1,14 +1,15 @@
 //! Agents behind their handles.
 ghost use Rattle.std.specs.Prelude.{◌≡◌, ◌≤◌, [], IfErr, IfOk, IfSome, length, None, unwrap_or, reverse};
 ghost use Rattle.std.specs.Option.{option_copied};
-ghost use Rattle.bully_agent.specs.Agent.{new_agent};
+ghost use Rattle.bully_agent.specs.Agent.{IsAlone, new_agent};
 ghost use Rattle.bully_rows.specs.TraceText.{line_of, row_fields, rows_text};
 ghost use Rattle.bully_rows.specs.Whole.{whole_of};
 ghost use Rattle.bully_rows.specs.declared.trace.Row.{Row as RowState};
-ghost use Rattle.bully_calls.specs.declared.event.Event.{Event as EventState};
+ghost use Rattle.bully_calls.specs.declared.kind.EventKind.{EventKind};
+ghost use Rattle.bully_calls.specs.declared.kind.NodeEventKind.{NodeEventKind as KindState};
 ghost use Rattle.bully_c.specs.Arguments.{IsCopied, IsMadeAndCopied, setup_given};
-ghost use Rattle.bully_c.specs.Exports.{AtOpen, CanOpen, IsClosing, IsEvent, IsOpening, IsPlan, IsPrepared, IsPreparedTable, RefusesOpening, RefusesPrepare, Shows, opened, shown};
-ghost use Rattle.bully_c.specs.AgentSession.{TellsDrop, TellsEvent, TellsStart, rows_told};
+ghost use Rattle.bully_c.specs.Exports.{AtOpen, CanOpen, IsClosing, IsOpening, IsOwn, IsPlan, IsPrepared, IsPreparedTable, RefusesOpening, RefusesPrepare, Shows, opened, shown};
+ghost use Rattle.bully_c.specs.AgentSession.{rows_told};
 ghost use Rattle.bully_c.specs.Numbers.{step_number};
 ghost use Rattle.bully_c.specs.declared.status.TheConstants.{OK as OkNumber};
 ghost use Rattle.bully_c.specs.declared.session.StepRows.{StepRows as StepRowsState};
@@ -20,7 +21,7 @@ use crate::status::{self, CLOSED, OK, OPEN, OUT_OF_MEMORY, TABLE_LENGTH};
 use crate::tables::{CSetup, node_of, put_owners, read_table, setup_of, table_of};
 use bully_agent::Agent;
 use bully_base::{Node, OutOfMemory, Setup};
-use bully_calls::Answer;
+use bully_calls::{Answer, NodeEventKind};
 use bully_rows::push_vector;
 use bully_table::Table;
 use bully_world::Refused;
@@ -111,95 +112,73 @@ pub extern "C" fn bully_c_agent_close(alloc: Global, agent: &mut AgentHandle) ->
     }
 }
 
-/// The node recovers: [`Agent::recover`].
+// The node takes the event of this kind by itself: [`Agent::take`].
+fn take(alloc: Global, agent: &mut AgentHandle, kind: NodeEventKind) -> u32
+    requires { IsAlone (EventKind.Node kind) }
+    ensures { AtOpen (IsOwn kind) agent.old.value result agent.new.value }
+{
+    let Some(mut session) = agent.take(alloc) else {
+        return CLOSED;
+    };
+    let status = done(session.take(kind));
+    agent.put(alloc, session);
+    status
+}
+
+/// The node recovers.
 #[unsafe(no_mangle)]
 pub extern "C" fn bully_c_agent_recover(alloc: Global, agent: &mut AgentHandle) -> u32
-    ensures { AtOpen (IsEvent EventState.Recover (TellsEvent EventState.Recover)) agent.old.value result agent.new.value }
+    ensures { AtOpen (IsOwn KindState.Recover) agent.old.value result agent.new.value }
 {
-    let Some(mut session) = agent.take(alloc) else {
-        return CLOSED;
-    };
-    let status = done(session.recover());
-    agent.put(alloc, session);
-    status
+    take(alloc, agent, NodeEventKind::Recover)
 }
 
-/// The node crashes: [`Agent::crash`].
+/// The node crashes.
 #[unsafe(no_mangle)]
 pub extern "C" fn bully_c_agent_crash(alloc: Global, agent: &mut AgentHandle) -> u32
-    ensures { AtOpen (IsEvent EventState.Crash (TellsEvent EventState.Crash)) agent.old.value result agent.new.value }
+    ensures { AtOpen (IsOwn KindState.Crash) agent.old.value result agent.new.value }
 {
-    let Some(mut session) = agent.take(alloc) else {
-        return CLOSED;
-    };
-    let status = done(session.crash());
-    agent.put(alloc, session);
-    status
+    take(alloc, agent, NodeEventKind::Crash)
 }
 
-/// The idle node begins to check: [`Agent::check`].
+/// The idle node begins to check.
 #[unsafe(no_mangle)]
 pub extern "C" fn bully_c_agent_check(alloc: Global, agent: &mut AgentHandle) -> u32
-    ensures { AtOpen (IsEvent EventState.Check (TellsEvent EventState.Check)) agent.old.value result agent.new.value }
+    ensures { AtOpen (IsOwn KindState.Check) agent.old.value result agent.new.value }
 {
-    let Some(mut session) = agent.take(alloc) else {
-        return CLOSED;
-    };
-    let status = done(session.check());
-    agent.put(alloc, session);
-    status
+    take(alloc, agent, NodeEventKind::Check)
 }
 
-/// The idle node heard nothing for too long: [`Agent::timeout`].
+/// The idle node heard nothing for too long.
 #[unsafe(no_mangle)]
 pub extern "C" fn bully_c_agent_timeout(alloc: Global, agent: &mut AgentHandle) -> u32
-    ensures { AtOpen (IsEvent EventState.Timeout (TellsEvent EventState.Timeout)) agent.old.value result agent.new.value }
+    ensures { AtOpen (IsOwn KindState.Timeout) agent.old.value result agent.new.value }
 {
-    let Some(mut session) = agent.take(alloc) else {
-        return CLOSED;
-    };
-    let status = done(session.timeout());
-    agent.put(alloc, session);
-    status
+    take(alloc, agent, NodeEventKind::Timeout)
 }
 
-/// The node starts its call: [`Agent::start`].
+/// The node starts its call.
 #[unsafe(no_mangle)]
 pub extern "C" fn bully_c_agent_start(alloc: Global, agent: &mut AgentHandle) -> u32
-    ensures { AtOpen (IsEvent EventState.Start TellsStart) agent.old.value result agent.new.value }
+    ensures { AtOpen (IsOwn KindState.Start) agent.old.value result agent.new.value }
 {
-    let Some(mut session) = agent.take(alloc) else {
-        return CLOSED;
-    };
-    let status = done(session.start());
-    agent.put(alloc, session);
-    status
+    take(alloc, agent, NodeEventKind::Start)
 }
 
-/// The node moves on without a call: [`Agent::advance`].
+/// The node moves on without a call.
 #[unsafe(no_mangle)]
 pub extern "C" fn bully_c_agent_advance(alloc: Global, agent: &mut AgentHandle) -> u32
-    ensures { AtOpen (IsEvent EventState.Move (TellsEvent EventState.Move)) agent.old.value result agent.new.value }
+    ensures { AtOpen (IsOwn KindState.Move) agent.old.value result agent.new.value }
 {
-    let Some(mut session) = agent.take(alloc) else {
-        return CLOSED;
-    };
-    let status = done(session.advance());
-    agent.put(alloc, session);
-    status
+    take(alloc, agent, NodeEventKind::Move)
 }
 
-/// The node's call, an orphan, is given up: [`Agent::drop_orphan`].
+/// The node's call, an orphan, is given up.
 #[unsafe(no_mangle)]
 pub extern "C" fn bully_c_agent_drop_orphan(alloc: Global, agent: &mut AgentHandle) -> u32
-    ensures { AtOpen (IsEvent EventState.Drop TellsDrop) agent.old.value result agent.new.value }
+    ensures { AtOpen (IsOwn KindState.Drop) agent.old.value result agent.new.value }
 {
-    let Some(mut session) = agent.take(alloc) else {
-        return CLOSED;
-    };
-    let status = done(session.drop_orphan());
-    agent.put(alloc, session);
-    status
+    take(alloc, agent, NodeEventKind::Drop)
 }
 
 /// The node has planned the table of these owners: [`Agent::plan`].

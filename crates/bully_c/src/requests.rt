@@ -1,7 +1,5 @@
 //! The requests and replies of agents, as lines.
 ghost use Rattle.std.specs.Prelude.{◌≡◌, [], IsUtf8, Ok, IfErr, IfOk, None, string_bytes};
-ghost use Rattle.bully_calls.specs.declared.call.CallKind.{CallKind as CallKindState};
-ghost use Rattle.bully_handlers.specs.Handler.{reply};
 ghost use Rattle.bully_lines.specs.Texts.{reply_of_text, reply_text};
 ghost use Rattle.bully_c.specs.Arguments.{IsMadeAndCopied};
 ghost use Rattle.bully_c.specs.Exports.{AtOpen, IsFailure, IsReply, IsRequestLine, IsServe, RefusesReplyLine, RefusesRequestLine, Shows, request_line, told_answer};
@@ -12,9 +10,8 @@ use crate::session::AgentSession;
 use crate::shown::copy_text;
 use crate::status::{self, CLOSED, LINE_WORD, OK, OUT_OF_MEMORY, SHORT};
 use bully_agent::Agent;
-use bully_base::{OutOfMemory, Setup, Status};
-use bully_calls::{Answer, CallKind, Reply, Request};
-use bully_handlers::Vector;
+use bully_base::{OutOfMemory, Setup};
+use bully_calls::{Answer, Reply, Request};
 use bully_lines::{push_reply, push_request, read_reply, read_request};
 use bully_world::Refused;
 use std::alloc::Global;
@@ -105,7 +102,7 @@ fn served(
         Ok(request) => request,
         Err(status) => return status,
     };
-    let answer = answer_to(&request, session.agent.vector());
+    let answer = session.agent.vector().reply(request.call.kind);
     let Ok(text) = reply_line(alloc, &request, answer) else {
         return OUT_OF_MEMORY;
     };
@@ -116,27 +113,6 @@ fn served(
     match session.serve(&request) {
         Ok(_) => copy_text(&text, reply, length),
         Err(why) => status::of_refusal(why),
-    }
-}
-
-// What the request is answered by a node of this vector, where it runs.
-fn answer_to(request: &Request, vector: &Vector) -> Answer
-    ensures { result ≡ reply request.now.call.kind vector.now.vector }
-{
-    match request.call.kind {
-        CallKind::AreYouNormal => if_normal(vector),
-        CallKind::AreYouUp | CallKind::Halt | CallKind::NewCoordinator | CallKind::Ready =>
-            Answer::Yes,
-    }
-}
-
-// Whether a node of this vector, which may be Down, is Normal, as it answers.
-fn if_normal(vector: &Vector) -> Answer
-    ensures { result ≡ reply CallKindState.AreYouNormal vector.now.vector }
-{
-    match vector.status() {
-        Status::Down => Answer::No,
-        Status::Election | Status::Reorganization | Status::Normal => vector.are_you_normal(),
     }
 }
 

@@ -2,13 +2,16 @@
 ghost use Rattle.std.specs.Prelude.{◌≡◌, ◌++◌, ◌∷◌, [], OnOk, string_bytes};
 ghost use Rattle.bully_rows.specs.TraceText.{rows_text};
 ghost use Rattle.bully_rows.specs.declared.trace.Row.{Row as RowState};
+ghost use Rattle.bully_agent.specs.Agent.{IsAlone};
 ghost use Rattle.bully_calls.specs.declared.event.Event.{Event as EventState};
-ghost use Rattle.bully_c.specs.AgentSession.{ServesRequest, Takes, TakesFailure, TakesReply, TellsDrop, TellsEvent, TellsStart, detail_told, failure_told, rows_told};
+ghost use Rattle.bully_calls.specs.declared.kind.EventKind.{EventKind};
+ghost use Rattle.bully_calls.specs.Events.{event_at};
+ghost use Rattle.bully_c.specs.AgentSession.{ServesRequest, Takes, TakesFailure, TakesReply, TellsOwn, TellsPlan, detail_told, failure_told, own_told, rows_told};
 ghost use Rattle.bully_c.specs.declared.session.StepRows.{StepRows as StepRowsState};
 
 use bully_agent::Agent;
 use bully_base::{Node, OutOfMemory};
-use bully_calls::{Answer, Call, NodeEventKind, Reply, Request};
+use bully_calls::{Answer, Call, NodeEventKind, Reply, Request, Saying};
 use bully_rows::{Detail, DetailedEvent, push_detailed, push_event};
 use bully_table::Table;
 use bully_world::{Event, Refused};
@@ -44,83 +47,24 @@ impl AgentSession {
         }
     }
 
-    /// [`Agent::recover`].
-    pub fn recover(&mut self) -> Result<Answer, Refused>
-        ensures { Takes EventState.Recover (TellsEvent EventState.Recover) self.old result self.new }
+    /// [`Agent::take`].
+    pub fn take(&mut self, kind: NodeEventKind) -> Result<Answer, Refused>
+        requires { IsAlone (EventKind.Node kind) }
+        ensures { Takes (event_at kind) (TellsOwn kind) self.old result self.new }
     {
-        let taken = self.agent.recover()?;
-        self.told = StepRows::Event(taken.event);
-        Ok(taken.answer)
-    }
-
-    /// [`Agent::crash`].
-    pub fn crash(&mut self) -> Result<Answer, Refused>
-        ensures { Takes EventState.Crash (TellsEvent EventState.Crash) self.old result self.new }
-    {
-        let taken = self.agent.crash()?;
-        self.told = StepRows::Event(taken.event);
-        Ok(taken.answer)
-    }
-
-    /// [`Agent::check`].
-    pub fn check(&mut self) -> Result<Answer, Refused>
-        ensures { Takes EventState.Check (TellsEvent EventState.Check) self.old result self.new }
-    {
-        let taken = self.agent.check()?;
-        self.told = StepRows::Event(taken.event);
-        Ok(taken.answer)
-    }
-
-    /// [`Agent::timeout`].
-    pub fn timeout(&mut self) -> Result<Answer, Refused>
-        ensures { Takes EventState.Timeout (TellsEvent EventState.Timeout) self.old result self.new }
-    {
-        let taken = self.agent.timeout()?;
-        self.told = StepRows::Event(taken.event);
-        Ok(taken.answer)
-    }
-
-    /// [`Agent::advance`].
-    pub fn advance(&mut self) -> Result<Answer, Refused>
-        ensures { Takes EventState.Move (TellsEvent EventState.Move) self.old result self.new }
-    {
-        let taken = self.agent.advance()?;
-        self.told = StepRows::Event(taken.event);
+        let before = self.agent.slot().call();
+        let taken = self.agent.take(kind)?;
+        let after = self.agent.slot().call();
+        self.told = own_told(kind, self.agent.node(), before, after);
         Ok(taken.answer)
     }
 
     /// [`Agent::plan`].
     pub fn plan(&mut self, table: Table) -> Result<Answer, Refused>
-        ensures { Takes (λ i. EventState.Plan i table) (TellsEvent (λ i. EventState.Plan i table)) self.old result self.new }
+        ensures { Takes (λ i. EventState.Plan i table) (TellsPlan table) self.old result self.new }
     {
         let taken = self.agent.plan(table)?;
         self.told = StepRows::Event(taken.event);
-        Ok(taken.answer)
-    }
-
-    /// [`Agent::start`].
-    pub fn start(&mut self) -> Result<Answer, Refused>
-        ensures { Takes EventState.Start TellsStart self.old result self.new }
-    {
-        let taken = self.agent.start()?;
-        let call = self.agent.slot().call();
-        self.told = told_of(
-            self.agent.node(),
-            call.map(|call| Detail::unanswered(NodeEventKind::Start, call)),
-        );
-        Ok(taken.answer)
-    }
-
-    /// [`Agent::drop_orphan`].
-    pub fn drop_orphan(&mut self) -> Result<Answer, Refused>
-        ensures { Takes EventState.Drop TellsDrop self.old result self.new }
-    {
-        let call = self.agent.slot().call();
-        let taken = self.agent.drop_orphan()?;
-        self.told = told_of(
-            self.agent.node(),
-            call.map(|call| Detail::unanswered(NodeEventKind::Drop, call)),
-        );
         Ok(taken.answer)
     }
 
@@ -168,6 +112,17 @@ impl AgentSession {
             StepRows::Call(event) => push_detailed(text, event),
             StepRows::Failure(node, call, answer) => push_failure(text, *node, *call, *answer),
         }
+    }
+}
+
+// What is told of an event that the node takes by itself, with these calls in its slot before and behind it.
+fn own_told(kind: NodeEventKind, node: Node, before: Option<Call>, after: Option<Call>) -> StepRows
+    ensures { result ≡ own_told kind node before after }
+{
+    match kind.saying() {
+        Saying::Offered => told_of(node, after.map(|call| Detail::unanswered(kind, call))),
+        Saying::Held => told_of(node, before.map(|call| Detail::unanswered(kind, call))),
+        _ => StepRows::Event(kind.event(node)),
     }
 }
 

@@ -3,7 +3,8 @@ ghost use Rattle.std.specs.Prelude.{◌≡◌};
 ghost use Rattle.bully_calls.specs.declared.event.Refused.{Refused};
 ghost use Rattle.bully_lines.specs.declared.fault.RequestFault.{RequestFault};
 ghost use Rattle.bully_c.specs.declared.status.TheConstants.{BAD_EVENT, BAD_HEADER, BAD_NODE, BAD_ROW, CLOSED, LINE_WORD, NO_MEMBER, OK, OPEN, OUT_OF_MEMORY, ROW_DIFFERS, ROW_END, SHORT, TABLE_LENGTH, TABLE_OWNER};
-ghost use Rattle.bully_c.specs.Numbers.{answer_number, event_numbered, follow_number, kind_number, refusal_number, reply_number, request_number, setup_number, status_number, trace_number, want_number};
+ghost use Rattle.bully_calls.specs.Events.{refusal_number};
+ghost use Rattle.bully_c.specs.Numbers.{answer_number, event_numbered, follow_number, kind_number, reply_number, request_number, setup_number, status_number, trace_number, want_number};
 
 use bully_base::{Node, SetupFault, Status};
 use bully_calls::{Answer, CallKind};
@@ -68,20 +69,7 @@ pub fn numbers()
 pub fn of_refusal(why: Refused) -> u32
     ensures { result ≡ refusal_number why }
 {
-    match why {
-        Refused::Full => 1,
-        Refused::BadNode => 2,
-        Refused::IsDown => 3,
-        Refused::IsUp => 4,
-        Refused::Busy => 5,
-        Refused::NoStep => 6,
-        Refused::SlotBusy => 7,
-        Refused::NoCall => 8,
-        Refused::CalleeDown => 9,
-        Refused::CalleeUp => 10,
-        Refused::BadTable => 11,
-        Refused::NotOrphan => 12,
-    }
+    why.number()
 }
 
 /// Of a setup that is refused.

@@ -1,6 +1,8 @@
--- What an event is, and what is so of all events of a kind.
-use Rattle.std.specs.Prelude.{ℕ, List, [], ◌∷◌, ◌++◌, Option, Some, None, codes, map}
+-- What an event is, and what is so of all events of a kind; the words and numbers of refusals.
+use Rattle.std.specs.Prelude.{ℕ, List, [], ◌∷◌, ◌++◌, Option, Some, None, codes, find, map}
+use Rattle.std.specs.Str.{bytes_eq}
 use Rattle.bully_calls.specs.declared.event.Event.{Event}
+use Rattle.bully_calls.specs.declared.event.Refused.{Refused}
 use Rattle.bully_calls.specs.declared.kind.EventKind.{EventKind}
 use Rattle.bully_calls.specs.declared.kind.NodeEventKind.{NodeEventKind}
 use Rattle.bully_calls.specs.declared.kind.NodeEventKind.TheVariants.{Recover, Crash, Check, Timeout, Start, Run, Lose, Return, Drop, Move}
@@ -92,3 +94,44 @@ whose_of kind = (facts_of kind).whose
 
 abbrev pub saying_of : EventKind → Saying
 saying_of kind = (facts_of kind).saying
+
+-- of a kind that names a node and no more: the word of its rows, and what they may say beside the event
+abbrev pub node_word : NodeEventKind → List ℕ
+node_word kind = word_of (EventKind.Node kind)
+
+abbrev pub node_saying : NodeEventKind → Saying
+node_saying kind = saying_of (EventKind.Node kind)
+
+-- the kind of this word, of those that name a node and no more
+abbrev pub kind_named : List ℕ → Option NodeEventKind
+kind_named word = find (λ kind. bytes_eq word (node_word kind)) every_node_event_kind
+
+-- why an event is refused, as a verdict spells it
+abbrev pub refusal_word : Refused → List ℕ
+refusal_word Refused.Full = codes "Full"
+refusal_word Refused.BadNode = codes "BadNode"
+refusal_word Refused.IsDown = codes "IsDown"
+refusal_word Refused.IsUp = codes "IsUp"
+refusal_word Refused.Busy = codes "Busy"
+refusal_word Refused.NoStep = codes "NoStep"
+refusal_word Refused.SlotBusy = codes "SlotBusy"
+refusal_word Refused.NoCall = codes "NoCall"
+refusal_word Refused.CalleeDown = codes "CalleeDown"
+refusal_word Refused.CalleeUp = codes "CalleeUp"
+refusal_word Refused.BadTable = codes "BadTable"
+refusal_word Refused.NotOrphan = codes "NotOrphan"
+
+-- its number in the order of refusals, from 1
+abbrev pub refusal_number : Refused → ℕ
+refusal_number Refused.Full = 1
+refusal_number Refused.BadNode = 2
+refusal_number Refused.IsDown = 3
+refusal_number Refused.IsUp = 4
+refusal_number Refused.Busy = 5
+refusal_number Refused.NoStep = 6
+refusal_number Refused.SlotBusy = 7
+refusal_number Refused.NoCall = 8
+refusal_number Refused.CalleeDown = 9
+refusal_number Refused.CalleeUp = 10
+refusal_number Refused.BadTable = 11
+refusal_number Refused.NotOrphan = 12

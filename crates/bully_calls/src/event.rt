@@ -48,6 +48,51 @@ pub enum Refused {
     NotOrphan,
 }
 
+impl Refused {
+    ghost use Rattle.std.specs.Prelude.{◌≡◌};
+    ghost use Rattle.bully_calls.specs.Events.{refusal_number, refusal_word};
+
+    /// Its word, as a verdict spells it.
+    pub fn word(self) -> &'static str
+        ensures { result.now ≡ refusal_word self }
+    {
+        match self {
+            Refused::Full => "Full",
+            Refused::BadNode => "BadNode",
+            Refused::IsDown => "IsDown",
+            Refused::IsUp => "IsUp",
+            Refused::Busy => "Busy",
+            Refused::NoStep => "NoStep",
+            Refused::SlotBusy => "SlotBusy",
+            Refused::NoCall => "NoCall",
+            Refused::CalleeDown => "CalleeDown",
+            Refused::CalleeUp => "CalleeUp",
+            Refused::BadTable => "BadTable",
+            Refused::NotOrphan => "NotOrphan",
+        }
+    }
+
+    /// Its number in the order of refusals, from 1.
+    pub fn number(self) -> u32
+        ensures { result ≡ refusal_number self }
+    {
+        match self {
+            Refused::Full => 1,
+            Refused::BadNode => 2,
+            Refused::IsDown => 3,
+            Refused::IsUp => 4,
+            Refused::Busy => 5,
+            Refused::NoStep => 6,
+            Refused::SlotBusy => 7,
+            Refused::NoCall => 8,
+            Refused::CalleeDown => 9,
+            Refused::CalleeUp => 10,
+            Refused::BadTable => 11,
+            Refused::NotOrphan => 12,
+        }
+    }
+}
+
 impl Event {
     ghost use Rattle.std.specs.Prelude.{◌≡◌, ◌↔◌, IsTrue, IfOk};
     ghost use Rattle.bully_calls.specs.Events.{kind_of, node_of};

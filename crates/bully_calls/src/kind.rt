@@ -1,9 +1,10 @@
 //! What an event is, and the one table of events.
 ghost use Rattle.std.specs.Prelude.{◌≡◌};
 ghost use Rattle.bully_calls.specs.declared.kind.EventKind.{EventKind};
-ghost use Rattle.bully_calls.specs.Events.{event_at, event_of_kind, saying_of, whose_of, word_of};
+ghost use Rattle.bully_calls.specs.Events.{event_at, event_of_kind, kind_named, saying_of, whose_of, word_of};
 
 use crate::Event;
+use crate::words::is_word;
 use bully_base::Node;
 
 /// The kind of an event that names a node and no more.
@@ -133,6 +134,37 @@ impl NodeEventKind {
         ensures { result ≡ saying_of (EventKind.Node self) }
     {
         self.facts().saying
+    }
+
+    /// The kind of this word.
+    // (the words that come most are tried first; inlined, so that each reader of rows has a copy of its own)
+    #[inline(always)]
+    pub fn named(word: &[u8]) -> Option<NodeEventKind>
+        ensures { result ≡ kind_named word.now }
+    {
+        if is_word(word, NodeEventKind::Start.word()) {
+            Some(NodeEventKind::Start)
+        } else if is_word(word, NodeEventKind::Run.word()) {
+            Some(NodeEventKind::Run)
+        } else if is_word(word, NodeEventKind::Return.word()) {
+            Some(NodeEventKind::Return)
+        } else if is_word(word, NodeEventKind::Check.word()) {
+            Some(NodeEventKind::Check)
+        } else if is_word(word, NodeEventKind::Timeout.word()) {
+            Some(NodeEventKind::Timeout)
+        } else if is_word(word, NodeEventKind::Move.word()) {
+            Some(NodeEventKind::Move)
+        } else if is_word(word, NodeEventKind::Lose.word()) {
+            Some(NodeEventKind::Lose)
+        } else if is_word(word, NodeEventKind::Drop.word()) {
+            Some(NodeEventKind::Drop)
+        } else if is_word(word, NodeEventKind::Crash.word()) {
+            Some(NodeEventKind::Crash)
+        } else if is_word(word, NodeEventKind::Recover.word()) {
+            Some(NodeEventKind::Recover)
+        } else {
+            None
+        }
     }
 }
 

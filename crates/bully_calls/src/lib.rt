@@ -12,6 +12,7 @@ mod kind;
 mod message;
 mod slot;
 mod waiting;
+mod words;
 
 pub use call::{Answer, Call, CallKind, Outcome, Phase, Tag};
 pub use event::{Event, Refused};
@@ -19,3 +20,4 @@ pub use kind::{EVERY_EVENT_KIND, EventKind, KindFacts, NodeEventKind, Saying, Wh
 pub use message::{Reply, Request};
 pub use slot::Slot;
 pub use waiting::Waiting;
+pub use words::is_word;

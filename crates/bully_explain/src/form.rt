@@ -1,10 +1,10 @@
 //! Where a row breaks its form.
 
 use bully_base::NODES_MAX;
-use bully_calls::{EventKind, Saying};
+use bully_calls::{EventKind, NodeEventKind, Saying, is_word};
 use bully_rows::{
-    SAW, Version, call_named, is_word, kind_named, number_within, read_coordinator, read_node,
-    read_set, read_weights, status_named,
+    SAW, Version, call_named, number_within, read_coordinator, read_node, read_set, read_weights,
+    status_named,
 };
 use csv::ByteRecord;
 
@@ -94,7 +94,7 @@ fn counts_wanted(version: Version, word: &[u8]) -> Option<FieldCounts> {
 
 // How many fields a row of this word has where it says no more than in every version; none where there is no such word.
 fn fields_wanted(word: &[u8]) -> Option<usize> {
-    if kind_named(word).is_some() {
+    if NodeEventKind::named(word).is_some() {
         Some(2)
     } else if is_word(word, EventKind::Plan.word()) {
         Some(3)
@@ -107,7 +107,7 @@ fn fields_wanted(word: &[u8]) -> Option<usize> {
 
 // How many it has where it says more; none where it never does.
 fn more_wanted(word: &[u8]) -> Option<usize> {
-    match kind_named(word) {
+    match NodeEventKind::named(word) {
         Some(kind) => fields_saying(kind.saying()),
         None if is_word(word, SAW) => Some(7),
         None => None,
@@ -159,7 +159,10 @@ fn misfit_of_detail(version: Version, fields: &ByteRecord) -> Misfit {
 
 // Whether the event of this word says what its call is answered where it runs.
 fn is_replied(word: &[u8]) -> bool {
-    matches!(kind_named(word), Some(kind) if kind.saying() == Saying::Replied)
+    match NodeEventKind::named(word) {
+        Some(kind) => kind.saying() == Saying::Replied,
+        None => false,
+    }
 }
 
 /// Where a first row, which is no header, breaks the form of one.

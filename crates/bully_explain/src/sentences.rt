@@ -5,7 +5,7 @@ use crate::draft::Draft;
 use crate::words::{push_held, push_offer, push_point};
 use bully_account::{NodeSheet, NodeSummary};
 use bully_base::{NODES_MAX, Node, NodeSet, Setup};
-use bully_rows::{cause_word, status_word};
+use bully_rows::status_word;
 use bully_table::Table;
 use bully_trace::Verdict;
 use bully_world::{Event, Refused};
@@ -23,7 +23,7 @@ pub fn push_refused(
         return;
     };
     text.push_str("refused, ");
-    text.push_str(cause_word(cause));
+    text.push_str(cause.word());
     text.push_str(": ");
     match sheet {
         Some(sheet) => push_cause(text, setup, event, cause, &sheet.shown),

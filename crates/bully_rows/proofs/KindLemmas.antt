@@ -3,7 +3,7 @@ use Rattle.std.proofs.Common.{◌≡◌, false, Some, refl}
 use Rattle.std.specs.Prelude.{codes}
 use Rattle.std.specs.Str.{bytes_eq}
 use Rattle.bully_calls.specs.declared.kind.NodeEventKind.{NodeEventKind}
-use Rattle.bully_rows.specs.Kinds.{kind_named, node_word}
+use Rattle.bully_calls.specs.Events.{kind_named, node_word}
 use Rattle.bully_rows.proofs.LineTexts.{IsBare}
 
 pub word-read : (kind : NodeEventKind) → kind_named (node_word kind) ≡ Some kind

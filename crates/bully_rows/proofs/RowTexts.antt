@@ -11,7 +11,7 @@ use Rattle.bully_calls.specs.declared.call.Call.{Call}
 use Rattle.bully_calls.specs.declared.call.CallKind.{CallKind}
 use Rattle.bully_calls.specs.declared.call.CallKind.TheVariants.{AreYouUp, AreYouNormal, Halt, NewCoordinator, Ready}
 use Rattle.bully_calls.specs.declared.event.Event.{Event}
-use Rattle.bully_calls.specs.Events.{node_of}
+use Rattle.bully_calls.specs.Events.{node_of, node_saying}
 use Rattle.bully_calls.specs.declared.kind.NodeEventKind.{NodeEventKind}
 use Rattle.bully_calls.specs.declared.kind.Saying.{Saying}
 use Rattle.bully_rows.specs.declared.header.Version.{Version}
@@ -19,7 +19,6 @@ use Rattle.bully_rows.specs.declared.trace.Claim.{Claim}
 use Rattle.bully_rows.specs.declared.trace.Row.{Row}
 use Rattle.bully_rows.specs.Headers.{says_more}
 use Rattle.bully_rows.specs.ReadBack.{IsAnswerTold, IsClaimTold, IsDetailTold, IsEventTold, IsNamed, IsReply, IsRowTold, IsWholeTold}
-use Rattle.bully_rows.specs.Kinds.{node_saying}
 use Rattle.bully_rows.specs.Rows.{answer_in, call_in, claim_in, is_unanswered, row_of}
 use Rattle.bully_rows.specs.Trace.{is_short}
 use Rattle.bully_rows.specs.TraceText.{claim_fields, event_fields, node_text, row_fields}

@@ -21,7 +21,7 @@ use Rattle.bully_table.specs.declared.table.TableFault.{TableFault}
 use Rattle.bully_calls.specs.declared.event.Event.{Event}
 use Rattle.bully_calls.specs.declared.kind.NodeEventKind.{NodeEventKind}
 use Rattle.bully_calls.specs.declared.kind.Saying.{Saying}
-use Rattle.bully_calls.specs.Events.{event_at}
+use Rattle.bully_calls.specs.Events.{event_at, kind_named, node_saying}
 use Rattle.bully_rows.specs.declared.detail.Detail.{Detail}
 use Rattle.bully_rows.specs.declared.header.Version.{Version}
 use Rattle.bully_rows.specs.declared.trace.Claim.{Claim}
@@ -30,7 +30,7 @@ use Rattle.bully_rows.specs.Headers.{Record, node_in, nodes_max, says_more}
 use Rattle.bully_rows.specs.ReadBack.{AreOwners, IsAnswerTold, IsClaimTold, IsDetailTold, IsEventTold, IsNamed, IsReply, IsRowTold, IsWholeTold}
 use Rattle.bully_rows.specs.Rows.{answer_in, answered_in, call_in, claim_in, coordinator_in, detailed, is_above, is_unanswered, plan_in, row_of, set_from, set_in, task_in, unanswered_in, unanswered_row, whole_of, whole_row}
 use Rattle.bully_rows.specs.EventsTold.{answered, unanswered}
-use Rattle.bully_rows.specs.Kinds.{event_named, kind_named, node_saying, plan_word}
+use Rattle.bully_rows.specs.Kinds.{event_named, plan_word}
 use Rattle.bully_rows.specs.Words.{answer_word, call_named, first_named, reply_named, status_named}
 use Rattle.bully_rows.proofs.HeaderLemmas.{told-within}
 

@@ -7,14 +7,13 @@ use Rattle.bully_calls.specs.declared.call.Answer.{Answer}
 use Rattle.bully_calls.specs.declared.call.Answer.TheVariants.{Done, Yes, No, Failed, Discarded}
 use Rattle.bully_calls.specs.declared.event.Event.{Event}
 use Rattle.bully_calls.specs.declared.kind.Saying.{Saying}
-use Rattle.bully_calls.specs.Events.{node_of}
+use Rattle.bully_calls.specs.Events.{node_of, node_saying}
 use Rattle.bully_rows.specs.declared.TheConstants.{ROWS_MAX}
 use Rattle.bully_rows.specs.declared.detail.Detail.{Detail}
 use Rattle.bully_rows.specs.declared.header.Version.{Version}
 use Rattle.bully_rows.specs.declared.trace.Claim.{Claim}
 use Rattle.bully_rows.specs.declared.trace.Row.{Row}
 use Rattle.bully_rows.specs.Headers.{IsVersionFor, Record, nodes_max}
-use Rattle.bully_rows.specs.Kinds.{node_saying}
 use Rattle.bully_rows.specs.Rows.{records_of, trace_of}
 use Rattle.bully_rows.specs.Trace.{AreRowsFor, Trace, upgraded}
 use Rattle.bully_rows.specs.TraceText.{trace_text}

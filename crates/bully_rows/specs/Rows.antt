@@ -21,7 +21,8 @@ use Rattle.bully_rows.specs.declared.trace.TraceFault.{TraceFault}
 use Rattle.bully_rows.specs.EventsTold.{answered, unanswered}
 use Rattle.bully_rows.specs.Headers.{Record, header_of, node_in, says_more}
 use Rattle.bully_rows.specs.Trace.{Trace, headed}
-use Rattle.bully_rows.specs.Kinds.{event_named, kind_named, node_saying, plan_word}
+use Rattle.bully_calls.specs.Events.{kind_named, node_saying}
+use Rattle.bully_rows.specs.Kinds.{event_named, plan_word}
 use Rattle.bully_rows.specs.Words.{call_named, outcome_named, reply_named, status_named}
 
 -- the number is above all members of the set

@@ -7,14 +7,14 @@ use Rattle.bully_table.specs.TableText.{owners_text}
 use Rattle.bully_calls.specs.declared.call.Answer.{Answer}
 use Rattle.bully_calls.specs.declared.call.Call.{Call}
 use Rattle.bully_calls.specs.declared.event.Event.{Event}
-use Rattle.bully_calls.specs.Events.{kind_of, node_of, word_of}
+use Rattle.bully_calls.specs.Events.{kind_of, node_of, node_word, word_of}
 use Rattle.bully_rows.specs.declared.detail.DetailedEvent.{DetailedEvent}
 use Rattle.bully_rows.specs.declared.header.Version.{Version}
 use Rattle.bully_rows.specs.declared.trace.Claim.{Claim}
 use Rattle.bully_rows.specs.declared.trace.Row.{Row}
 use Rattle.bully_rows.specs.declared.trace.TraceCause.{TraceCause}
 use Rattle.bully_rows.specs.Trace.{Trace}
-use Rattle.bully_rows.specs.Kinds.{node_word, plan_word}
+use Rattle.bully_rows.specs.Kinds.{plan_word}
 use Rattle.bully_rows.specs.Words.{answer_word, call_word, keeps_word, status_word}
 
 -- the cause of a trace's fault as the program tells it

@@ -1,4 +1,4 @@
--- The words of a trace and of a verdict, each once: for reading and for writing. Those of events stand in bully_calls.
+-- The words of a trace and of a verdict, each once: for reading and for writing. Those of events and refusals stand in bully_calls.
 use Rattle.std.specs.Prelude.{ℕ, Bool, true, false, List, [], ◌∷◌, Option, Some, None, codes, if◌then◌else◌}
 use Rattle.std.specs.Str.{bytes_eq}
 use Rattle.bully_base.specs.declared.node.Status.{Status}
@@ -7,8 +7,6 @@ use Rattle.bully_calls.specs.declared.call.Answer.{Answer}
 use Rattle.bully_calls.specs.declared.call.Answer.TheVariants.{Done, Yes, No, Failed, Discarded}
 use Rattle.bully_calls.specs.declared.call.CallKind.{CallKind}
 use Rattle.bully_calls.specs.declared.call.CallKind.TheVariants.{AreYouUp, AreYouNormal, Halt, NewCoordinator, Ready}
-use Rattle.bully_calls.specs.declared.event.Refused.{Refused}
-use Rattle.bully_calls.specs.declared.event.Refused.TheVariants.{Full, BadNode, IsDown, IsUp, Busy, NoStep, SlotBusy, NoCall, CalleeDown, CalleeUp, BadTable, NotOrphan}
 
 abbrev pub status_word : Status → List ℕ
 status_word Down = codes "down"
@@ -34,20 +32,6 @@ answer_word Yes = codes "yes"
 answer_word No = codes "no"
 answer_word Failed = codes "failed"
 answer_word Discarded = codes "discarded"
-
-abbrev pub cause_word : Refused → List ℕ
-cause_word Full = codes "Full"
-cause_word BadNode = codes "BadNode"
-cause_word IsDown = codes "IsDown"
-cause_word IsUp = codes "IsUp"
-cause_word Busy = codes "Busy"
-cause_word NoStep = codes "NoStep"
-cause_word SlotBusy = codes "SlotBusy"
-cause_word NoCall = codes "NoCall"
-cause_word CalleeDown = codes "CalleeDown"
-cause_word CalleeUp = codes "CalleeUp"
-cause_word BadTable = codes "BadTable"
-cause_word NotOrphan = codes "NotOrphan"
 
 -- the first of these that has the word
 abbrev pub first_named : {A : Type 0} → (A → List ℕ) → List ℕ → List A → Option A

@@ -7,7 +7,7 @@ use bully_base::Node;
 use bully_calls::{Answer, Call, Event, NodeEventKind};
 
 /// What is said beside an event of a call: of which kind the event is, which call it is, and the answer, where the table of events
-/// says that one is told. A row that says else than that table is no form, and so of no world.
+/// has one told. What that table doesn't have told isn't so of any world, and no row of a text means it.
 #[derive(Clone, Copy, Debug)]
 pub struct Detail {
     pub kind: NodeEventKind,

@@ -6,9 +6,10 @@ ghost use Rattle.bully_base.specs.declared.TheConstants.{NODES_MAX, PARTITIONS_M
 ghost use Rattle.bully_rows.specs.Headers.{header_of, later_version, nodes_max, partitions_max, says_more, setup_in, version_for, weighted_in, weights_from, weights_in};
 
 use crate::row::{field, number_within};
-use crate::words::{is_word, keeps_named};
+use crate::words::keeps_named;
 use crate::{FIRST_NODES_MAX, FIRST_PARTITIONS_MAX};
 use bully_base::{EVENTS_MAX, NODES_MAX, PARTITIONS_MAX, Setup, WEIGHT_MAX};
+use bully_calls::is_word;
 use bully_table::Pieces;
 use csv::ByteRecord;
 

@@ -37,8 +37,7 @@ pub use text::{
 pub use trace::{Claim, Row, Rows, Trace, TraceCause, TraceFault, WholeClaim};
 pub use trace_taking::{Started, TraceTaker, take_text, take_trace};
 pub use words::{
-    SAW, answer_word, call_named, call_word, cause_word, is_word, kind_named, outcome_named,
-    reply_named, status_named, status_word,
+    SAW, answer_word, call_named, call_word, outcome_named, reply_named, status_named, status_word,
 };
 pub use writing::{not_written, write_trace};
 

@@ -12,9 +12,9 @@ use crate::header::Version;
 use crate::node_event::NodeEvent;
 use crate::saying::{answered_row, unanswered_row, whole_row};
 use crate::trace::{Claim, Row};
-use crate::words::{SAW, is_word, kind_named, status_named};
+use crate::words::{SAW, status_named};
 use bully_base::{Node, OutOfMemory, Setup};
-use bully_calls::{Event, EventKind};
+use bully_calls::{Event, EventKind, NodeEventKind, is_word};
 use bully_table::{Table, TableFault, read_number};
 use csv::ByteRecord;
 use std::alloc::{AllocError, Global};
@@ -93,7 +93,7 @@ fn node_event(version: Version, word: &[u8], node: &[u8]) -> Option<NodeEvent>
     ensures { (setup : SetupState) → option_map (λ e. Row.Event (event_at e.kind e.node)) result ≡ row_of version setup (word.now ∷ node.now ∷ []) }
 {
     let node = read_node(version, node)?;
-    let kind = kind_named(word)?;
+    let kind = NodeEventKind::named(word)?;
     Some(NodeEvent { kind, node })
 }
 

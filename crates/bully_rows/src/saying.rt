@@ -6,9 +6,9 @@ use crate::detail::{Detail, DetailedEvent};
 use crate::header::Version;
 use crate::row::{read_coordinator, read_node};
 use crate::trace::{Claim, Row, WholeClaim};
-use crate::words::{call_named, is_word, kind_named, outcome_named, reply_named};
+use crate::words::{call_named, outcome_named, reply_named};
 use bully_base::{Node, NodeSet, OutOfMemory, Setup};
-use bully_calls::{Answer, Call, Saying};
+use bully_calls::{Answer, Call, NodeEventKind, Saying, is_word};
 use bully_table::{Pieces, Table, TableFault};
 use std::alloc::{AllocError, Global};
 
@@ -66,7 +66,7 @@ fn read_call(version: Version, kind: &[u8], callee: &[u8]) -> Option<Call>
 fn unanswered(word: &[u8], call: Call) -> Option<Detail>
     ensures { result ≡ unanswered_in word.now call }
 {
-    let kind = kind_named(word)?;
+    let kind = NodeEventKind::named(word)?;
     match kind.saying() {
         Saying::Offered | Saying::Held => Some(Detail::unanswered(kind, call)),
         Saying::Nothing | Saying::Replied | Saying::Brought => None,
@@ -77,7 +77,7 @@ fn unanswered(word: &[u8], call: Call) -> Option<Detail>
 fn answered(word: &[u8], answer: &[u8], call: Call) -> Option<Detail>
     ensures { result ≡ answered_in word.now answer.now call }
 {
-    let kind = kind_named(word)?;
+    let kind = NodeEventKind::named(word)?;
     let answer = read_answer(kind.saying(), answer)?;
     Some(Detail::answered(kind, call, answer))
 }

@@ -1,11 +1,9 @@
-//! The words of a trace and of a verdict, each once: for reading and for writing. Those of events stand in bully_calls, and are read here.
+//! The words of a trace and of a verdict, each once: for reading and for writing. Those of events and refusals stand in bully_calls.
 ghost use Rattle.std.specs.Prelude.{◌≡◌};
-ghost use Rattle.std.specs.Str.{bytes_eq};
-ghost use Rattle.bully_rows.specs.Kinds.{kind_named};
-ghost use Rattle.bully_rows.specs.Words.{answer_word, call_named, call_word, cause_word, keeps_named, keeps_word, outcome_named, reply_named, status_named, status_word};
+ghost use Rattle.bully_rows.specs.Words.{answer_word, call_named, call_word, keeps_named, keeps_word, outcome_named, reply_named, status_named, status_word};
 
 use bully_base::Status;
-use bully_calls::{Answer, CallKind, NodeEventKind, Refused};
+use bully_calls::{Answer, CallKind, is_word};
 
 /// The word of a claim.
 pub const SAW: &str = "saw";
@@ -52,26 +50,6 @@ pub fn answer_word(answer: Answer) -> &'static str
         Answer::No => "no",
         Answer::Failed => "failed",
         Answer::Discarded => "discarded",
-    }
-}
-
-/// The cause of a refusal as a verdict spells it.
-pub fn cause_word(cause: Refused) -> &'static str
-    ensures { result.now ≡ cause_word cause }
-{
-    match cause {
-        Refused::Full => "Full",
-        Refused::BadNode => "BadNode",
-        Refused::IsDown => "IsDown",
-        Refused::IsUp => "IsUp",
-        Refused::Busy => "Busy",
-        Refused::NoStep => "NoStep",
-        Refused::SlotBusy => "SlotBusy",
-        Refused::NoCall => "NoCall",
-        Refused::CalleeDown => "CalleeDown",
-        Refused::CalleeUp => "CalleeUp",
-        Refused::BadTable => "BadTable",
-        Refused::NotOrphan => "NotOrphan",
     }
 }
 
@@ -139,37 +117,6 @@ pub fn outcome_named(word: &[u8]) -> Option<Answer>
     }
 }
 
-/// The kind of this word, of those that name a node and no more.
-// (the words that come most are tried first; inlined as `row::read_node_event` is)
-#[inline(always)]
-pub fn kind_named(word: &[u8]) -> Option<NodeEventKind>
-    ensures { result ≡ kind_named word.now }
-{
-    if is_word(word, NodeEventKind::Start.word()) {
-        Some(NodeEventKind::Start)
-    } else if is_word(word, NodeEventKind::Run.word()) {
-        Some(NodeEventKind::Run)
-    } else if is_word(word, NodeEventKind::Return.word()) {
-        Some(NodeEventKind::Return)
-    } else if is_word(word, NodeEventKind::Check.word()) {
-        Some(NodeEventKind::Check)
-    } else if is_word(word, NodeEventKind::Timeout.word()) {
-        Some(NodeEventKind::Timeout)
-    } else if is_word(word, NodeEventKind::Move.word()) {
-        Some(NodeEventKind::Move)
-    } else if is_word(word, NodeEventKind::Lose.word()) {
-        Some(NodeEventKind::Lose)
-    } else if is_word(word, NodeEventKind::Drop.word()) {
-        Some(NodeEventKind::Drop)
-    } else if is_word(word, NodeEventKind::Crash.word()) {
-        Some(NodeEventKind::Crash)
-    } else if is_word(word, NodeEventKind::Recover.word()) {
-        Some(NodeEventKind::Recover)
-    } else {
-        None
-    }
-}
-
 /// What this word says of the tasks: whether they are kept over a crash.
 pub fn keeps_named(word: &[u8]) -> Option<bool>
     ensures { result ≡ keeps_named word.now }
@@ -181,13 +128,4 @@ pub fn keeps_named(word: &[u8]) -> Option<bool>
     } else {
         None
     }
-}
-
-/// Whether the text is this word.
-// (by its start: `==` calls a function for what is behind the first four bytes)
-#[inline(always)]
-pub fn is_word(text: &[u8], word: &str) -> bool
-    ensures { result ≡ bytes_eq text.now word.now }
-{
-    text.len() == word.len() && word.as_bytes().starts_with(text)
 }

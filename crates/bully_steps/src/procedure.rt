@@ -32,7 +32,8 @@ pub enum Procedure {
 }
 
 impl Procedure {
-    /// No procedure runs at the node, which is at most the setup's last, in this of its generations.
+    /// No procedure runs at the node, which is at most the setup's last, in this of its generations. It is for a caller's
+    /// own loop, as [`Procedure::at`] and [`Procedure::resume`] are: the program's own turns go on where a procedure lies.
     pub fn idle(setup: Setup, node: Node, generation: u32) -> Procedure
         requires { node ≤ setup.nodes }
         ensures { state_of result ≡ procedure_state setup node generation Point.Idle [] None false }
@@ -221,7 +222,7 @@ impl Procedure {
     }
 
     /// The procedure that goes on by the outcome, one that its want can have: a call is started, moves and plans
-    /// are done, and a call under way is answered or fails; No comes at Checking alone.
+    /// are done, and a call under way is answered or fails; No comes at Checking alone. It is for a caller's own loop.
     pub fn resume(self, outcome: Outcome) -> Procedure
         requires { CanResume (state_of self) outcome }
         ensures state { state_of result ≡ resumed (state_of self) outcome }

@@ -10,14 +10,13 @@ use Rattle.bully_calls.specs.declared.call.Call.{Call}
 use Rattle.bully_calls.specs.declared.call.Outcome.{Outcome}
 use Rattle.bully_calls.specs.declared.kind.NodeEventKind.{NodeEventKind}
 use Rattle.bully_calls.specs.declared.kind.Saying.{Saying}
-use Rattle.bully_calls.specs.Events.{event_at}
+use Rattle.bully_calls.specs.Events.{event_at, node_saying}
 use Rattle.bully_calls.specs.Pending.{Pending, answer_of, outcome_of}
 use Rattle.bully_handlers.specs.Handler.{reply}
 use Rattle.bully_world.specs.Step.{Returns, Step, offer}
 use Rattle.bully_world.specs.World.{World, pending, vector}
 use Rattle.bully_rows.specs.declared.detail.Detail.{Detail}
 use Rattle.bully_rows.specs.EventsTold.{answered}
-use Rattle.bully_rows.specs.Kinds.{node_saying}
 use Rattle.bully_trace.specs.Details.{brought, call_at, is_said, offered_call, said_by, same_answers, same_call, says}
 use Rattle.bully_trace.specs.StepTold.{HasStep, IsOfStep, TellsTheStep}
 use Rattle.bully_trace.proofs.SameLemmas.{answers-is, answers-itself, call-is, call-itself, is-node, node-within}

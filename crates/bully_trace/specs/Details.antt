@@ -13,7 +13,7 @@ use Rattle.bully_calls.specs.declared.call.CallKind.TheVariants.{AreYouUp, AreYo
 use Rattle.bully_calls.specs.declared.kind.EventKind.{EventKind}
 use Rattle.bully_calls.specs.declared.kind.NodeEventKind.{NodeEventKind}
 use Rattle.bully_calls.specs.declared.kind.Saying.{Saying}
-use Rattle.bully_calls.specs.Events.{kind_of, node_of}
+use Rattle.bully_calls.specs.Events.{kind_of, node_of, node_saying}
 use Rattle.bully_calls.specs.Pending.{Pending, answer_of, outcome_of}
 use Rattle.bully_handlers.specs.Handler.{reply}
 use Rattle.bully_handlers.specs.Vector.{is_down, is_election, is_reorganization, is_normal}
@@ -26,7 +26,6 @@ use Rattle.bully_rows.specs.declared.detail.Detail.{Detail}
 use Rattle.bully_rows.specs.declared.detail.DetailedEvent.{DetailedEvent}
 use Rattle.bully_rows.specs.declared.trace.Claim.{Claim}
 use Rattle.bully_rows.specs.EventsTold.{answered, unanswered}
-use Rattle.bully_rows.specs.Kinds.{node_saying}
 use Rattle.bully_rows.specs.Whole.{Whole}
 
 abbrev pub same_kind : CallKind → CallKind → Bool

@@ -10,7 +10,7 @@ use Rattle.bully_world.specs.World.{World, node_state, vector, with_node_state}
 use Rattle.bully_rows.specs.declared.detail.Detail.{Detail}
 use Rattle.bully_rows.specs.declared.detail.DetailedEvent.{DetailedEvent}
 use Rattle.bully_rows.specs.EventsTold.{event_of_detailed}
-use Rattle.bully_rows.specs.Kinds.{node_saying}
+use Rattle.bully_calls.specs.Events.{node_saying}
 use Rattle.bully_trace.specs.Details.{call_at, is_so}
 
 -- what a row says, the call and the answer, of an event of node i, which leads from w to w' with this answer: of a call that is

@@ -9,7 +9,8 @@ use Rattle.bully_rows.specs.Rows.{records_of, trace_of}
 use Rattle.bully_rows.specs.Trace.{Trace}
 use Rattle.bully_rows.specs.TraceText.{node_text, task_text}
 use Rattle.bully_trace.specs.Verdict.{IsVerdict}
-use Rattle.bully_rows.specs.Words.{cause_word, status_word}
+use Rattle.bully_calls.specs.Events.{refusal_word}
+use Rattle.bully_rows.specs.Words.{status_word}
 
 abbrev pub node_line : ℕ → Vector → List ℕ
 node_line i v =
@@ -24,7 +25,7 @@ node_lines w (suc n) = node_lines w n ++ node_line (n + 1) (vector w (n + 1))
 -- the line of the verdict itself
 abbrev pub verdict_head : Verdict → List ℕ
 verdict_head (Verdict.Lawful count) = codes "lawful " ++ decimal count ++ codes "\n"
-verdict_head (Verdict.Refused row why) = codes "refused " ++ decimal row ++ codes " " ++ cause_word why ++ codes "\n"
+verdict_head (Verdict.Refused row why) = codes "refused " ++ decimal row ++ codes " " ++ refusal_word why ++ codes "\n"
 verdict_head (Verdict.Differs row) = codes "differs " ++ decimal row ++ codes "\n"
 
 -- with the vectors of the last world, where the trace is lawful

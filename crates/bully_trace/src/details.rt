@@ -6,9 +6,8 @@ ghost use Rattle.bully_handlers.specs.Handler.{reply};
 ghost use Rattle.bully_handlers.specs.Vector.{is_normal};
 ghost use Rattle.bully_steps.specs.Point.{offered};
 ghost use Rattle.bully_rows.specs.EventsTold.{answered};
-ghost use Rattle.bully_rows.specs.Kinds.{node_saying};
 ghost use Rattle.bully_trace.specs.Details.{brought, call_at, is_so, is_true, is_whole, offered_call, said_by, said_of, same_answers, same_task, says};
-ghost use Rattle.bully_calls.specs.Events.{node_of};
+ghost use Rattle.bully_calls.specs.Events.{node_of, node_saying};
 ghost use Rattle.bully_world.specs.State.{IsReached, state_at, world_of};
 ghost use Rattle.bully_world.specs.World.{pending, vector};
 

@@ -24,10 +24,10 @@ mod verdict_text;
 pub use bully_rows::{
     Claim, Detail, DetailedEvent, FIRST_NODES_MAX, FIRST_PARTITIONS_MAX, Header, NodeEvent,
     ROWS_MAX, Row, Rows, SAW, Trace, TraceCause, TraceFault, Version, WholeClaim, answer_word,
-    call_named, call_word, cause_word, is_word, kind_named, limits, number_within, outcome_named,
-    push_detailed, push_event, push_header, push_node, push_row, push_set, push_task, push_vector,
-    read_coordinator, read_node, read_set, read_trace, read_weights, reply_named, status_named,
-    status_word, write_trace,
+    call_named, call_word, limits, number_within, outcome_named, push_detailed, push_event,
+    push_header, push_node, push_row, push_set, push_task, push_vector, read_coordinator,
+    read_node, read_set, read_trace, read_weights, reply_named, status_named, status_word,
+    write_trace,
 };
 pub use checking::{check, verdict_lines};
 pub use details::{call_at, offer_of, reached, said_of, same_task};

@@ -5,7 +5,7 @@ ghost use Rattle.bully_trace.specs.VerdictText.{node_line, verdict_head};
 use crate::Verdict;
 use bully_base::{Node, OutOfMemory};
 use bully_handlers::Vector;
-use bully_rows::{cause_word, push_node, push_task, status_word};
+use bully_rows::{push_node, push_task, status_word};
 
 /// Appends the line of a node and its vector.
 pub fn push_node_line(text: &mut String, node: Node, vector: &Vector) -> Result<(), OutOfMemory>
@@ -29,7 +29,7 @@ pub fn push_verdict_head(text: &mut String, verdict: Verdict) -> Result<(), OutO
     match verdict {
         Verdict::Lawful(count) => writeln!(text, "lawful {count}"),
         Verdict::Refused(row, cause) => {
-            let cause = cause_word(cause);
+            let cause = cause.word();
             writeln!(text, "refused {row} {cause}")
         }
         Verdict::Differs(row) => writeln!(text, "differs {row}"),

@@ -111,7 +111,7 @@ impl<L: Naming> Locked<L> {
         ensures unchanged { IfErr result (λ _. (self.new ≡ self.old) × (seat.new ≡ seat.old) × (state_of procedure.new ≡ state_of procedure.old)) }
         ensures pass { pass.new ≡ (if is_ok result then pass.old + 1 else pass.old) }
     {
-        if self.world.events() >= self.world.setup().events_max() {
+        if self.world.is_full() {
             return Err(StepFault::Refused(Refused::Full));
         }
         let Ok(logged) = event_with_room(kind, procedure, &mut self.history, &mut seat.log) else {

@@ -69,7 +69,8 @@ impl Planning {
 
     /// Plans the table over the node and those that are up, with the fewest moves from the old table, which has
     /// the setup's partitions. Refused as `OutOfMemory`, and then the planning is handed back as it was;
-    /// `NoMember` never comes, since the node is a member. The rule: docs/ALGORITHM.md.
+    /// `NoMember` never comes, since the node is a member. It is for a caller's own loop, which holds the planning by
+    /// value. The rule: docs/ALGORITHM.md.
     pub fn prepare(
         self,
         alloc: Global,

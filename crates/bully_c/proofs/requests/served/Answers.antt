@@ -14,7 +14,7 @@ returns-in-Err c =
 pub returns-in-Ok-serve : goal.returns-in-Ok-serve
 returns-in-Ok-serve c =
     let request = c.in-Ok.request in let told = c.in-Ok-serve.field-0 in let room = c.args.reply.now in
-    let answer : c.answer_to-answer.result ≡ reply request.call.kind c.args.session.now.agent.node_state.vector.vector = grind (arith, c.answer_to-answer.ensures, c.vector.ensures.vector) in
+    let answer : c.reply-answer.result ≡ reply request.call.kind c.args.session.now.agent.node_state.vector.vector = grind (arith, c.reply-answer.ensures, c.vector.ensures.vector) in
     let line : c.deref.result.now ≡ reply_text told =
     c.deref.ensures ∙ (c.in-Ok-reply_line.ensures
     ∙ (ap (λ (a : Answer). reply_text (record { caller = request.caller; number = request.number; answer = a })) answer ∙ sym (ap reply_text c.in-Ok-serve.ensures.0.answered))) in

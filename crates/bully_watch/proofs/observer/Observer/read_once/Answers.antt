@@ -1,5 +1,3 @@
-use Rattle.std.proofs.Common.{ap}
-use Rattle.left_right.specs.Sides.{view}
 use Rattle.bully_watch.proofs.StepLemmas.{looks as turns}
 use Rattle.bully_watch.proofs.observer.Observer.read_once.Goals as goal
 
