@@ -8,8 +8,7 @@ use bully_account::{CallSummary, EventKind, Note, What};
 use bully_base::Setup;
 use bully_calls::{NodeEventKind, Phase};
 use bully_steps::Point;
-use bully_trace::Verdict;
-use bully_world::{Event, Refused};
+use bully_world::Event;
 
 /// The title of a rule's line.
 pub const RULE: &str = "  the rule      ";
@@ -21,46 +20,20 @@ pub fn push_nodes_rule(text: &mut Draft, setup: &Setup) {
     text.push_str("\n");
 }
 
-// Appends which nodes a row may name.
-fn push_nodes(text: &mut Draft, setup: &Setup) {
+/// Appends which nodes a row may name.
+pub fn push_nodes(text: &mut Draft, setup: &Setup) {
     text.push_str("a row names a node that the group has, here one from 1 to ");
     text.push_value(setup.nodes());
 }
 
-/// Appends the line of the rule by which the event was refused, as the verdict says.
-pub fn push_cause_rule(text: &mut Draft, scene: &Scene, event: &Event, verdict: Verdict) {
-    let Verdict::Refused(_, cause) = verdict else {
-        return;
-    };
-    text.push_str(RULE);
-    match cause {
-        Refused::Full => push_full(text, scene.setup()),
-        Refused::BadNode => push_nodes(text, scene.setup()),
-        Refused::IsDown => push_is_down(text, scene, event),
-        Refused::IsUp => {
-            text.push_str("only a node that is down recovers: ");
-            push_needs_crash(text, scene);
-        }
-        Refused::Busy => push_one_procedure(text, scene, event),
-        Refused::NoStep => push_steps(text, scene, event),
-        Refused::SlotBusy => push_one_call(text, scene),
-        Refused::NoCall => push_life(text, scene, event),
-        Refused::CalleeDown => push_callee_down(text, scene),
-        Refused::CalleeUp => push_callee_up(text, scene),
-        Refused::BadTable => push_members_rule(text, scene),
-        Refused::NotOrphan => push_orphans(text, scene),
-    }
-    text.push_str("\n");
-}
-
-// Appends how many events a group takes.
-fn push_full(text: &mut Draft, setup: &Setup) {
+/// Appends how many events a group takes.
+pub fn push_full(text: &mut Draft, setup: &Setup) {
     text.push_str("a group takes as many events as it is set up for: here ");
     text.push_value(setup.events_max());
 }
 
-// Appends that a node which is down has no call, where the event is of one, or else what it may do.
-fn push_is_down(text: &mut Draft, scene: &Scene, event: &Event) {
+/// Appends that a node which is down has no call, where the event is of one, or else what it may do.
+pub fn push_is_down(text: &mut Draft, scene: &Scene, event: &Event) {
     match event {
         Event::Run(_) | Event::Lose(_) | Event::Return(_) | Event::Drop(_) => {
             text.push_str("a node that is down has no call, as a crash ends it: ");
@@ -83,8 +56,8 @@ pub fn push_needs_crash(text: &mut Draft, scene: &Scene) {
     text.push_between(", and needs a crash,", scene.number(), " before this row");
 }
 
-// Appends that the procedure which runs at the node has to end before the event.
-fn push_one_procedure(text: &mut Draft, scene: &Scene, event: &Event) {
+/// Appends that the procedure which runs at the node has to end before the event.
+pub fn push_one_procedure(text: &mut Draft, scene: &Scene, event: &Event) {
     text.push_str("a node runs one procedure at a time: a ");
     text.push_str(event.kind().word());
     text.push_str(match scene.shown.point {
@@ -97,8 +70,8 @@ fn push_one_procedure(text: &mut Draft, scene: &Scene, event: &Event) {
     text.push_str(", ends or is stopped by a Halt");
 }
 
-// Appends at which steps of an election the event comes, where the node is, and what comes next there.
-fn push_steps(text: &mut Draft, scene: &Scene, event: &Event) {
+/// Appends at which steps of an election the event comes, where the node is, and what comes next there.
+pub fn push_steps(text: &mut Draft, scene: &Scene, event: &Event) {
     text.push_str(match event {
         Event::Start(_) => "an election has a call at its steps 1, 3, 5 and 8 alone: ",
         Event::Move(_) => "an election has a move at its steps 2, 4, 6 and 9 alone: ",
@@ -112,8 +85,8 @@ fn push_steps(text: &mut Draft, scene: &Scene, event: &Event) {
     }
 }
 
-// Appends that the call in the slot has to leave it first.
-fn push_one_call(text: &mut Draft, scene: &Scene) {
+/// Appends that the call in the slot has to leave it first.
+pub fn push_one_call(text: &mut Draft, scene: &Scene) {
     text.push_str("a node has one call under way at most: ");
     if let Some(held) = scene.shown.call {
         push_own_call(text, scene, held);
@@ -134,8 +107,8 @@ pub fn push_own_call(text: &mut Draft, scene: &Scene, held: CallSummary) {
     }
 }
 
-// Appends when the event comes in the life of a call, and how far the node's call came.
-fn push_life(text: &mut Draft, scene: &Scene, event: &Event) {
+/// Appends when the event comes in the life of a call, and how far the node's call came.
+pub fn push_life(text: &mut Draft, scene: &Scene, event: &Event) {
     text.push_str(match event {
         Event::Run(_) => "a call runs once, behind its start: ",
         Event::Lose(_) => "a call is lost once, before it returns: ",
@@ -191,8 +164,8 @@ fn end_words(what: &What) -> Option<&'static str> {
     }
 }
 
-// Appends that a call whose callee is down doesn't run.
-fn push_callee_down(text: &mut Draft, scene: &Scene) {
+/// Appends that a call whose callee is down doesn't run.
+pub fn push_callee_down(text: &mut Draft, scene: &Scene) {
     text.push_str("a call runs only while its callee is up: ");
     if let Some(held) = scene.shown.call {
         push_down(text, scene, held.call.callee);
@@ -201,8 +174,8 @@ fn push_callee_down(text: &mut Draft, scene: &Scene) {
     }
 }
 
-// Appends that a call whose callee is up isn't lost.
-fn push_callee_up(text: &mut Draft, scene: &Scene) {
+/// Appends that a call whose callee is up isn't lost.
+pub fn push_callee_up(text: &mut Draft, scene: &Scene) {
     text.push_str("a call fails only while its callee is down: ");
     if let Some(held) = scene.shown.call {
         let callee = held.call.callee.number();
@@ -216,8 +189,8 @@ fn push_callee_up(text: &mut Draft, scene: &Scene) {
     }
 }
 
-// Appends over whom a plan shares the partitions out, and a table that does so.
-fn push_members_rule(text: &mut Draft, scene: &Scene) {
+/// Appends over whom a plan shares the partitions out, and a table that does so.
+pub fn push_members_rule(text: &mut Draft, scene: &Scene) {
     text.push_str("a plan shares the partitions out by weight, over node ");
     text.push_value(scene.number());
     if scene.shown.up.is_empty() {
@@ -233,8 +206,8 @@ fn push_members_rule(text: &mut Draft, scene: &Scene) {
     }
 }
 
-// Appends which call may be dropped.
-fn push_orphans(text: &mut Draft, scene: &Scene) {
+/// Appends which call may be dropped.
+pub fn push_orphans(text: &mut Draft, scene: &Scene) {
     text.push_str("only an orphan is dropped, a call whose caller was halted since its start: ");
     if let Some(held) = scene.shown.call {
         text.push_between("node ", scene.number(), " wasn't halted since it ");

@@ -3,9 +3,9 @@ use crate::detail_rules::push_detail_rules;
 use crate::differing::{push_claimed, push_detailed, push_whole_claimed};
 use crate::draft::Draft;
 use crate::point_words::push_step_line;
-use crate::rules::{push_cause_rule, push_nodes_rule};
+use crate::rules::push_nodes_rule;
 use crate::scene::{Scene, last_move, node_at};
-use crate::sentences::push_refused;
+use crate::sentences::{push_cause_rule, push_refused};
 use crate::words::{push_held, push_offer, push_point, push_row_place, push_vector, push_what};
 use bully_account::{
     Account, CallSummary, EventKind, Memory, NodeSheet, NodeSummary, Note, Stop, node_sheet,
