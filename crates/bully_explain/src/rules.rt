@@ -27,7 +27,7 @@ pub fn push_nodes(text: &mut Draft, setup: &Setup) {
 }
 
 /// Appends how many events a group takes.
-pub fn push_full(text: &mut Draft, setup: &Setup) {
+pub fn push_room(text: &mut Draft, setup: &Setup) {
     text.push_str("a group takes as many events as it is set up for: here ");
     text.push_value(setup.events_max());
 }

@@ -3,8 +3,9 @@ ghost use Rattle.std.specs.Prelude.{◌<◌, length, IfSome};
 
 use crate::draft::Draft;
 use crate::rules::{
-    RULE, push_callee_down, push_callee_up, push_full, push_is_down, push_life, push_members_rule,
-    push_needs_crash, push_nodes, push_one_call, push_one_procedure, push_orphans, push_steps,
+    RULE, push_callee_down, push_callee_up, push_is_down, push_life, push_members_rule,
+    push_needs_crash, push_nodes, push_one_call, push_one_procedure, push_orphans, push_room,
+    push_steps,
 };
 use crate::scene::Scene;
 use crate::words::{push_held, push_offer, push_point};
@@ -44,7 +45,7 @@ pub fn push_cause_rule(text: &mut Draft, scene: &Scene, event: &Event, verdict: 
     };
     text.push_str(RULE);
     match cause {
-        Refused::Full => push_full(text, scene.setup()),
+        Refused::Full => push_room(text, scene.setup()),
         Refused::BadNode => push_nodes(text, scene.setup()),
         Refused::IsDown => push_is_down(text, scene, event),
         Refused::IsUp => {
