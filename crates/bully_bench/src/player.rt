@@ -52,6 +52,8 @@ impl<L: Naming> Player<L> {
 
     /// The node's turn in this round, in one hold of the lock: it serves, or else does what it chooses. What the world
     /// refuses, as a full history, is passed over. Whether the turn could be taken.
+    // (inlined, as the plain turn is into its loop)
+    #[inline(always)]
     pub fn turn<R: Wait>(&mut self, rt: &R, group: &Group<L>, round: u32) -> bool {
         let choice = Driver::choose(round, &self.procedure);
         let mut guard = group.locked.lock(rt);

@@ -53,6 +53,8 @@ impl<L: Naming> Team<L> {
     }
 
     /// The turn of this number, from 0 on. The operator comes before node 1. Whether it could be taken.
+    // (inlined, as the plain turn is into its loop)
+    #[inline(always)]
     pub fn turn<R: Wait>(&mut self, rt: &R, group: &Group<L>, turn: u32) -> bool {
         let nodes = u32::from(self.limits.nodes());
         let round = (turn / nodes).saturating_add(1);
