@@ -39,21 +39,20 @@ enum Lack {
 
 /// Appends a blank line, and that of the rule for the status and for the coordinator that are claimed, where they differ.
 pub fn push_claim_rules(text: &mut Draft, scene: &Scene, claim: Claim) {
-    let status = lack_of_status(scene, claim);
-    let coordinator = lack_of_coordinator(scene, claim);
+    let status = lack_of_status(scene, &claim);
+    let coordinator = lack_of_coordinator(scene, &claim);
     text.push_str("\n");
-    push_lack(text, scene, status);
+    push_lack(text, scene, &status);
     if coordinator != status {
-        push_lack(text, scene, coordinator);
+        push_lack(text, scene, &coordinator);
     }
 }
 
 /// Appends the same of a claim that tells all of a vector, and that of the rule for each of its other parts that differs. Of a node
 /// that is down, or claimed to be so, one rule has them all but the owners.
 pub fn push_whole_rules(text: &mut Draft, scene: &Scene, whole: &WholeClaim) {
-    let claim = whole.claim();
-    push_claim_rules(text, scene, claim);
-    match (claim.status, scene.shown.status) {
+    push_claim_rules(text, scene, whole.claim());
+    match (whole.claim().status, scene.shown.status) {
         (Status::Down, Status::Down) => push_empty_rule(text, scene, whole),
         (Status::Down, _) | (_, Status::Down) => {}
         _ => push_rest_rules(text, scene, whole),
@@ -65,7 +64,7 @@ pub fn push_whole_rules(text: &mut Draft, scene: &Scene, whole: &WholeClaim) {
 fn push_empty_rule(text: &mut Draft, scene: &Scene, whole: &WholeClaim) {
     let has_rest = whole.halter().is_some() || !whole.up().is_empty();
     if has_rest && whole.claim().coordinator.is_none() {
-        push_lack(text, scene, Some(Lack::Vector));
+        push_lack(text, scene, &Some(Lack::Vector));
     }
 }
 
@@ -80,7 +79,7 @@ fn push_rest_rules(text: &mut Draft, scene: &Scene, whole: &WholeClaim) {
 }
 
 // What the node lacks to have the status that is claimed.
-fn lack_of_status(scene: &Scene, claim: Claim) -> Option<Lack> {
+fn lack_of_status(scene: &Scene, claim: &Claim) -> Option<Lack> {
     let shown = scene.shown.status;
     if claim.status == shown {
         return None;
@@ -100,7 +99,7 @@ fn lack_of_status(scene: &Scene, claim: Claim) -> Option<Lack> {
 }
 
 // What the node lacks to have the coordinator that is claimed, beside what it lacks to be up or down.
-fn lack_of_coordinator(scene: &Scene, claim: Claim) -> Option<Lack> {
+fn lack_of_coordinator(scene: &Scene, claim: &Claim) -> Option<Lack> {
     let shown = scene.shown;
     if claim.coordinator == shown.coordinator {
         return None;
@@ -119,7 +118,7 @@ fn lack_of_coordinator(scene: &Scene, claim: Claim) -> Option<Lack> {
 }
 
 // Appends the line of the rule for what the node lacks.
-fn push_lack(text: &mut Draft, scene: &Scene, lack: Option<Lack>) {
+fn push_lack(text: &mut Draft, scene: &Scene, lack: &Option<Lack>) {
     let Some(lack) = lack else {
         return;
     };
@@ -304,12 +303,12 @@ fn push_task_rule(text: &mut Draft, scene: &Scene, whole: &WholeClaim) {
     if same_task(whole.task(), shown) {
         return;
     }
-    let is_said = lack_of_status(scene, whole.claim()) == Some(Lack::Ready);
+    let is_said = lack_of_status(scene, &whole.claim()) == Some(Lack::Ready);
     if is_said {
         return;
     }
     if vain_ready(scene).is_some() {
-        return push_lack(text, scene, Some(Lack::Ready));
+        return push_lack(text, scene, &Some(Lack::Ready));
     }
     text.push_str(RULE);
     match (whole.task(), shown) {

@@ -168,9 +168,10 @@ fn end_words(what: &What) -> Option<&'static str> {
 pub fn push_callee_down(text: &mut Draft, scene: &Scene) {
     text.push_str("a call runs only while its callee is up: ");
     if let Some(held) = scene.shown.call {
-        push_down(text, scene, held.call.callee);
+        let callee = held.call.callee;
+        push_down(text, scene, callee);
         text.push_between(", so this call is lost (lose,", scene.number(), ")");
-        text.push_behind(", or waits for a recover,", held.call.callee.number());
+        text.push_behind(", or waits for a recover,", callee.number());
     }
 }
 
