@@ -42,12 +42,13 @@ use Rattle.bully_rows.specs.declared.trace.Row.{Row}
 use Rattle.bully_trace.specs.declared.verdict.Verdict.{Verdict}
 use Rattle.bully_rows.specs.EventsTold.{answered, event_of_detailed, unanswered}
 use Rattle.bully_rows.proofs.ToldRows.{found, made}
-use Rattle.bully_trace.specs.Details.{brought, call_at, callee_or, is_said, is_so, is_true, is_whole, offered_call, said_at, said_by, said_of, same_answers, same_call, same_status, same_task, says}
+use Rattle.bully_trace.specs.Details.{brought, call_at, is_said, is_so, is_true, is_whole, offered_call, said_at, said_by, said_of, same_answers, same_call, same_status, same_task, says}
 use Rattle.bully_rows.specs.Trace.{Trace}
 use Rattle.bully_trace.specs.Verdict.{IsJudged, IsVerdict}
 use Rattle.bully_rows.specs.Whole.{Whole, whole_of}
 use Rattle.bully_trace.proofs.SameLemmas.{answers-itself, call-itself, is-node, node-itself, status-itself, task-itself}
-use Rattle.bully_annotate.specs.Annotated.{annotated, event_rows, place_of, rows_said, said_row, same_vector, shown_change, shown_row}
+use Rattle.bully_annotate.specs.Annotated.{annotated, event_rows, rows_said, said_row, same_vector, shown_change, shown_row}
+use Rattle.bully_world.specs.Place.{callee_or, place_of}
 
 -- ---- what is shown is true
 

@@ -20,9 +20,10 @@ use Rattle.bully_world.proofs.Events.{own_other}
 use Rattle.bully_world.proofs.NodeInvariantLemmas.{lawful_fits, step_fits}
 use Rattle.bully_world.proofs.RunInvariant.{ran_here, ran_other}
 use Rattle.bully_rows.specs.Whole.{Whole, whole_of}
-use Rattle.bully_trace.specs.Details.{callee_or, is_true, is_whole, same_status, same_task}
+use Rattle.bully_trace.specs.Details.{is_true, is_whole, same_status, same_task}
 use Rattle.bully_trace.proofs.SameLemmas.{node-is, node-itself, node-within, status-is, status-itself, task-is, task-itself}
-use Rattle.bully_annotate.specs.Annotated.{place_of, same_vector, shown_change, shown_row, shown_unless}
+use Rattle.bully_annotate.specs.Annotated.{same_vector, shown_change, shown_row, shown_unless}
+use Rattle.bully_world.specs.Place.{callee_or, place_of}
 use Rattle.bully_annotate.specs.Shown.{ShowsEachChange, ShowsNoMore, TellsTheVector}
 use Rattle.bully_annotate.proofs.SaidLemmas.{set-itself, shown-true}
 

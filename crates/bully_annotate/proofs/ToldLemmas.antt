@@ -45,7 +45,8 @@ use Rattle.bully_world.proofs.ApplyLemmas.{node_in_setup}
 use Rattle.bully_world.proofs.NamedLemmas.{AllNameNodes, IsEventOf, OwnedByNodes, lawful-names, step-event}
 use Rattle.bully_world.proofs.NodeInvariantLemmas.{lawful_fits}
 use Rattle.bully_annotate.specs.declared.annotation.Annotation.{Annotation}
-use Rattle.bully_annotate.specs.Annotated.{annotated, event_rows, place_of, rows_said, said_row, same_vector, shown_change, shown_row, shown_unless}
+use Rattle.bully_annotate.specs.Annotated.{annotated, event_rows, rows_said, said_row, same_vector, shown_change, shown_row, shown_unless}
+use Rattle.bully_world.specs.Place.{place_of}
 use Rattle.bully_annotate.specs.Annotation.{IsAnnotationOf, is_written}
 use Rattle.bully_annotate.specs.Told.{AnnotatedHasEvents, AnnotatedIsTold}
 use Rattle.bully_annotate.proofs.SaidLemmas.{IsReachedBy, IsSaid, claim-node, place-node, reached-more, said-event, said-so, whole-claim}

@@ -7,11 +7,11 @@ use Rattle.bully_rows.specs.declared.detail.DetailedEvent.{DetailedEvent}
 use Rattle.bully_rows.specs.declared.header.Version.{Version}
 use Rattle.bully_rows.specs.declared.trace.Row.{Row}
 use Rattle.bully_rows.specs.EventsTold.{event_of_detailed}
-use Rattle.bully_trace.specs.Details.{call_at, callee_or, said_of, same_status, same_task}
+use Rattle.bully_trace.specs.Details.{said_of, same_status, same_task}
 use Rattle.bully_rows.specs.Trace.{Trace}
 use Rattle.bully_rows.specs.Whole.{whole_of}
 use Rattle.bully_calls.specs.declared.event.Event.{Event}
-use Rattle.bully_calls.specs.Events.{node_of}
+use Rattle.bully_world.specs.Place.{place_of}
 use Rattle.bully_world.specs.StepOf.{step_of}
 use Rattle.bully_world.specs.Turn.{same_node}
 use Rattle.bully_world.specs.World.{World, first_world, vector}
@@ -20,11 +20,6 @@ use Rattle.bully_world.specs.World.{World, first_world, vector}
 abbrev pub said_row : Event → Option DetailedEvent → Row
 said_row e None = Row.Event e
 said_row e (Some detailed) = Row.Detailed detailed
-
--- the node whose vector the event may change: the callee of a Run, and else the node that it names
-abbrev pub place_of : World → Event → ℕ
-place_of w (Event.Run i) = callee_or i (call_at w i)
-place_of w e = node_of e
 
 abbrev pub same_vector : Vector → Vector → Bool
 same_vector a b =

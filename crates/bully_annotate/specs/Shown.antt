@@ -9,7 +9,8 @@ use Rattle.bully_world.specs.Step.{Step}
 use Rattle.bully_world.specs.World.{World, vector}
 use Rattle.bully_rows.specs.Whole.{Whole, whole_of}
 use Rattle.bully_trace.specs.Details.{is_whole}
-use Rattle.bully_annotate.specs.Annotated.{place_of, shown_change, shown_row}
+use Rattle.bully_annotate.specs.Annotated.{shown_change, shown_row}
+use Rattle.bully_world.specs.Place.{place_of}
 
 -- behind each event that is possible after a lawful list the vector of each node that it changed is shown
 abbrev pub ShowsEachChange : Type 0

@@ -1,16 +1,17 @@
 //! What is written of a row with everything said.
 ghost use Rattle.std.specs.Prelude.{◌≡◌, ◌≤◌, ◌+◌, ◌++◌, ◌∷◌, [], length, IfOk, OnOk, string_bytes};
-ghost use Rattle.bully_annotate.specs.Annotated.{place_of, said_row, same_vector, shown_row, shown_unless};
+ghost use Rattle.bully_annotate.specs.Annotated.{said_row, same_vector, shown_row, shown_unless};
 ghost use Rattle.bully_trace.specs.Details.{said_of};
 ghost use Rattle.bully_rows.specs.TraceText.{line_of, row_fields, rows_text};
 ghost use Rattle.bully_calls.specs.Events.{node_of};
+ghost use Rattle.bully_world.specs.Place.{place_of};
 ghost use Rattle.bully_world.specs.State.{world_of};
 ghost use Rattle.bully_world.specs.World.{vector};
 
 use crate::seen::Seen;
 use bully_base::{Node, OutOfMemory};
 use bully_rows::{push_detailed, push_event, push_vector};
-use bully_trace::{call_at, reached, said_of};
+use bully_trace::said_of;
 use bully_world::{Event, World};
 
 /// Appends the event with all that there is to say of it in the world before it. Its node is at most the setup's last.
@@ -21,24 +22,6 @@ pub fn push_said(text: &mut String, world: &World, event: &Event) -> Result<(), 
     match said_of(world, event) {
         Some(detailed) => push_detailed(text, &detailed),
         None => push_event(text, event),
-    }
-}
-
-/// The node whose vector the event may change: the callee of a Run, and else the node that it names, which is at most the
-/// setup's last.
-pub fn place_of(world: &World, event: &Event) -> Node
-    requires { node_of event.now ≤ world.now.setup.nodes }
-    ensures place { result ≡ place_of (world_of world.now) event.now }
-    ensures within { result ≤ world.now.setup.nodes }
-{
-    reached(world);
-    let node = event.node();
-    match event {
-        Event::Run(_) => match call_at(world, node) {
-            Some(call) => call.callee,
-            None => node,
-        },
-        _ => node,
     }
 }
 
@@ -57,7 +40,7 @@ pub fn begin(
     ensures room { seen.new.room ≡ seen.old.room }
     ensures written { OnOk result (string_bytes text.new ≡ string_bytes text.old ++ line_of (row_fields (said_row event.now (said_of world.now.setup (world_of world.now) event.now)))) }
 {
-    let place = place_of(world, event);
+    let place = world.place_at(event.node(), event.kind());
     seen.see(world.vector(place));
     push_said(text, world, event)?;
     Ok(place)

@@ -13,7 +13,7 @@ use Rattle.bully_world.specs.State.{is_halt}
 use Rattle.bully_world.specs.World.{NodeState, World, node_state, point, vector}
 use Rattle.bully_rows.specs.declared.trace.Row.{Row}
 use Rattle.bully_rows.specs.EventsTold.{event_of_detailed}
-use Rattle.bully_trace.specs.Details.{call_at, callee_or}
+use Rattle.bully_world.specs.Place.{call_at, place_at as place_of_kind}
 use Rattle.bully_film.specs.declared.TheConstants.{OWNERS_SHOWN}
 use Rattle.bully_film.specs.declared.scene.Change.{Change}
 use Rattle.bully_film.specs.declared.scene.SceneStart.{SceneStart}
@@ -59,9 +59,10 @@ abbrev pub is_run : Option EventKind → Bool
 is_run (Some (EventKind.Node NodeEventKind.Run)) = true
 is_run _ = false
 
--- the node whose vector a kind of event of node i may change: the callee of a Run, and else node i
+-- the node at which the event of a row takes place, if it is of this kind and of node i; without one node i
 abbrev pub place_at : World → ℕ → Option EventKind → ℕ
-place_at w i event_kind = if is_run event_kind then callee_or i (call_at w i) else i
+place_at w i None = i
+place_at w i (Some kind) = place_of_kind w i kind
 
 abbrev pub is_halting : Option Call → Bool
 is_halting None = false

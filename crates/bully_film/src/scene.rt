@@ -3,7 +3,7 @@ ghost use Rattle.std.specs.Prelude.{◌≡◌, ℕ, true, IfOk};
 ghost use Rattle.bully_handlers.specs.Vector.{is_normal};
 ghost use Rattle.bully_calls.specs.Events.{event_at, kind_of};
 ghost use Rattle.bully_rows.specs.declared.trace.Row.{Row as RowState};
-ghost use Rattle.bully_trace.specs.Details.{call_at};
+ghost use Rattle.bully_world.specs.Place.{call_at};
 ghost use Rattle.bully_film.specs.Scene.{IsSceneStart, cuts, event_kind_in, gets_table, is_halting, is_quiet, is_run, node_in, place_at, scene_of, snapshot, table_shown};
 ghost use Rattle.bully_world.specs.Cause.{is_idle};
 ghost use Rattle.bully_world.specs.State.{is_halt, world_of};
@@ -12,7 +12,7 @@ ghost use Rattle.bully_world.specs.World.{World as WorldOf, point, vector};
 use crate::OWNERS_SHOWN;
 use crate::snapshot::{NodeSnapshot, snapshot_beside, snapshot_of};
 use bully_base::{Node, OutOfMemory, Status};
-use bully_calls::{CallKind, EventKind, NodeEventKind};
+use bully_calls::{CallKind, EventKind, NodeEventKind, Whose};
 use bully_rows::{NodeEvent, Row};
 use bully_steps::Point;
 use bully_table::Table;
@@ -222,16 +222,16 @@ fn is_run(event_kind: Option<EventKind>) -> bool
     matches!(event_kind, Some(EventKind::Node(NodeEventKind::Run)))
 }
 
-// The node whose vector an event of this kind may change, if it is of the node of which this is seen.
+// The node at which an event of this kind takes place, if it is of the node of which this is seen.
 fn place_at(shown: &NodeSnapshot, node: Node, event_kind: Option<EventKind>) -> Node
     ensures { (w : WorldOf) → shown.now ≡ snapshot w node → result ≡ place_at w node event_kind }
 {
-    if !is_run(event_kind) {
+    let Some(kind) = event_kind else {
         return node;
-    }
-    match shown.call {
-        Some(held) => held.call.callee,
-        None => node,
+    };
+    match (kind.whose(), shown.call) {
+        (Whose::Callee, Some(held)) => held.call.callee,
+        _ => node,
     }
 }
 

@@ -1,5 +1,5 @@
 use Rattle.std.proofs.Common.{◌≡◌, true, false, rules, refl}
-use Rattle.bully_trace.specs.Details.{call_at}
+use Rattle.bully_world.specs.Place.{call_at}
 use Rattle.bully_film.specs.Scene.{is_halting, is_run}
 use Rattle.bully_world.specs.State.{world_of}
 use Rattle.bully_film.proofs.scene.cuts.Goals as goal
