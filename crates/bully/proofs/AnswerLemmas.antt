@@ -1,17 +1,21 @@
 -- From what `check` and `upgrade` of bully_trace ensure to what the program answers.
-use Rattle.std.proofs.Common.{◌≡◌, ◌≢◌, ◌⊎◌, inl, inr, ℕ, Some, None, Ok, Err, refl, ap, arith}
+use Rattle.std.proofs.Common.{◌≡◌, ◌≢◌, ◌⊎◌, inl, inr, ℕ, true, List, Some, None, Ok, Err, refl, ap, arith}
 use Rattle.std.specs.Prelude.{IfSome, IsOk, IsTrue}
 use Rattle.std.specs.Io.KnownBytes.{Appends, Keeps}
-use Rattle.bully_world.specs.World.{World}
+use Rattle.bully_base.specs.Setup.{Setup}
+use Rattle.bully_world.specs.State.{world_of}
+use Rattle.bully_world.specs.World.{World, first_world}
 use Rattle.bully_rows.specs.declared.trace.TraceCause.{TraceCause}
 use Rattle.bully_rows.specs.declared.trace.TraceFault.{TraceFault}
 use Rattle.bully_trace.specs.declared.verdict.Verdict.{Verdict}
 use Rattle.bully_rows.specs.Rows.{OfTrace, records_of, trace_of, is_of_form}
-use Rattle.bully_rows.specs.Trace.{Trace, upgraded}
+use Rattle.bully_rows.specs.declared.trace.Row.{Row}
+use Rattle.bully_rows.specs.Trace.{Trace, headed, upgraded}
 use Rattle.bully_rows.specs.TraceText.{trace_text}
-use Rattle.bully_trace.specs.Verdict.{IsVerdict}
+use Rattle.bully_trace.specs.Judging.{AreAllJudged, HasJudged, JudgeState}
+use Rattle.bully_trace.specs.Verdict.{IsJudged, IsVerdict}
 use Rattle.bully_trace.specs.VerdictText.{verdict_text}
-use Rattle.bully.specs.Answer.{KnownBytes, Tells, IsAnswer, IsUntaken, IsUpgradeAnswer, verdict_status, stop_of, stop_line, row_line}
+use Rattle.bully.specs.Answer.{KnownBytes, Tells, IsAnswer, IsCheckAnswer, IsUntaken, IsUpgradeAnswer, verdict_status, stop_of, stop_line, row_line}
 use Rattle.bully.specs.declared.telling.Stop.{Stop}
 use Rattle.bully.proofs.KnownBytesLemmas.{appends-keeps, keeps-same}
 
@@ -43,6 +47,12 @@ pub none-judged : (remaining : KnownBytes) (output output' errors errors' : Know
     → IfSome remaining (λ bytes. IsAnswer bytes output output' errors errors' status)
 none-judged None output output' errors errors' status untaken = tt
 none-judged (Some bytes) output output' errors errors' status untaken = inr untaken
+
+pub none-told : (remaining : KnownBytes) (output output' errors errors' : KnownBytes) (status : ℕ)
+    → IfSome remaining (λ bytes. IsUntaken bytes output output' errors errors' status)
+    → IfSome remaining (λ bytes. IsCheckAnswer true bytes output output' errors errors' status)
+none-told None output output' errors errors' status untaken = tt
+none-told (Some bytes) output output' errors errors' status untaken = inr untaken
 
 pub none-upgraded : (remaining : KnownBytes) (output output' errors errors' : KnownBytes) (status : ℕ)
     → IfSome remaining (λ bytes. IsUntaken bytes output output' errors errors' status)
@@ -88,3 +98,21 @@ fault-answer TraceCause.Write remaining fault output output' errors errors' stat
     stop-case remaining Stop.Write output output' errors errors' status (λ write. absurd (write refl)) (λ _. whole refl) (other Stop.Write refl)
 fault-answer TraceCause.OutOfMemory remaining fault output output' errors errors' status read kept whole form other =
     stop-case remaining Stop.OutOfMemory output output' errors errors' status (λ _. kept (λ e. grind (arith, e))) (λ e. absurd (grind (arith, e))) (other Stop.OutOfMemory refl)
+
+-- what all rows of a text come to was told
+pub told-answer : {E : Type 0} (contents : E → KnownBytes) (known : KnownBytes) (judge : JudgeState) (verdict : Verdict) (text : List ℕ) (output output' : KnownBytes) (errors errors' : E) (status : ℕ)
+    → AreAllJudged known judge
+    → ((setup : Setup) (rows : List Row) → HasJudged setup rows judge → IsJudged setup (first_world setup) 0 2 rows verdict (world_of judge.world))
+    → (((status ≡ verdict_status verdict) × Appends output output' text × (errors' ≡ errors)) ⊎ ((status ≡ 4) × Tells (contents errors) (contents errors') (stop_line Stop.Write)))
+    → IfSome known (λ bytes. IsCheckAnswer true bytes output output' (contents errors) (contents errors') status)
+told-answer contents None judge verdict text output output' errors errors' status all says written = tt
+told-answer contents (Some bytes) judge verdict text output output' errors errors' status (header, rows, trace, within, judged) says (inl (done, appended, same)) =
+    inl (headed header rows, verdict, world_of judge.world, text, trace, says header.setup rows judged.0, appended, keeps-same _ _ (ap contents same), done)
+told-answer contents (Some bytes) judge verdict text output output' errors errors' status (header, rows, trace, within, judged) says (inr (stopped, told)) =
+    inr (inr (Stop.Write, (λ other. absurd (other refl)), (λ _. rw trace refl), told, stopped))
+
+-- or there was no memory for that
+pub untold-check : (known : KnownBytes) (output output' errors errors' : KnownBytes) (status : ℕ) → Keeps output output' → (status ≡ 4) × Tells errors errors' (stop_line Stop.OutOfMemory)
+    → IfSome known (λ bytes. IsCheckAnswer true bytes output output' errors errors' status)
+untold-check None output output' errors errors' status kept told = tt
+untold-check (Some bytes) output output' errors errors' status kept (done, told) = inr (inr (Stop.OutOfMemory, (λ _. kept), (λ e. absurd (grind (arith, e))), told, done))

@@ -1,5 +1,5 @@
 -- From what is read and planned to what the program answers to `play`, to `run` and to `table`.
-use Rattle.std.proofs.Common.{◌≡◌, ◌≢◌, ◌⊎◌, inl, inr, ℕ, List, [], ◌∷◌, Option, Some, None, Result, Ok, Err, IsOk, refl, sym, ap, subst, ◌∙◌, arith}
+use Rattle.std.proofs.Common.{◌≡◌, ◌≢◌, ◌⊎◌, inl, inr, ℕ, Bool, List, [], ◌∷◌, Option, Ok, Err, refl, ap, subst, ◌∙◌, arith}
 use Rattle.std.specs.Io.KnownBytes.{Appends, Keeps}
 use Rattle.bully_base.specs.Setup.{Setup}
 use Rattle.bully_config.specs.Configuration.{Configuration}
@@ -9,17 +9,14 @@ use Rattle.bully_nodes.specs.Run.{IsNodesFault}
 use Rattle.bully_play.specs.Turns.{IsScheduled}
 use Rattle.bully_nodes.specs.declared.running.NodesFault.{NodesFault}
 use Rattle.bully_table.specs.Planning.{IsFewest, IsMostKept, moves_from, planned}
-use Rattle.bully_table.specs.TableText.{table_of_text}
-use Rattle.bully_table.specs.declared.planning.PlanFault.{PlanFault}
 use Rattle.bully_table.specs.declared.planning.TablePlan.{TablePlan}
-use Rattle.bully_table.specs.declared.table.TableFault.{TableFault}
 use Rattle.bully_rows.specs.TraceText.{trace_text}
 use Rattle.bully_calls.specs.declared.event.Event.{Event}
 use Rattle.bully.specs.Answer.{KnownBytes, Tells, stop_line}
 use Rattle.bully.specs.ConfigAnswer.{IsNotDone, IsPlayAnswer, IsRefused, IsRunAnswer, IsStopped, IsTableAnswer, nodes_line}
-use Rattle.bully.specs.PlanText.{plan_text}
-use Rattle.bully.specs.RefusalText.{refusal_line, refusal_of_config, refusal_of_plan, refusal_of_table, refusal_status}
-use Rattle.bully.specs.Wanted.{IsPlanOf, ReadsAs, Wanted, Wants, wanted_after, wanted_for, wanted_from, wanted_in, wanted_over}
+use Rattle.bully.specs.PlanText.{IsPlanTold}
+use Rattle.bully.specs.RefusalText.{refusal_line, refusal_of_config, refusal_status}
+use Rattle.bully.specs.Wanted.{IsPlanOf, ReadsAs, Wants, wanted_for}
 use Rattle.bully.specs.declared.refusals.Refusal.{Refusal}
 use Rattle.bully.specs.declared.telling.Stop.{Stop}
 use Rattle.bully.proofs.KnownBytesLemmas.{keeps-same}
@@ -35,55 +32,7 @@ of-config ConfigFault.DoubleName = inr ((λ e. grind (arith, e)), refl)
 of-config ConfigFault.UnknownKey = inr ((λ e. grind (arith, e)), refl)
 of-config ConfigFault.OutOfMemory = inl refl
 
-of-table : (fault : TableFault) → (refusal_of_table fault ≡ Refusal.Stop Stop.OutOfMemory) ⊎ ((fault ≢ TableFault.OutOfMemory) × (refusal_of_table fault ≡ Refusal.Old fault))
-of-table TableFault.Length = inr ((λ e. grind (arith, e)), refl)
-of-table TableFault.Owner = inr ((λ e. grind (arith, e)), refl)
-of-table TableFault.Syntax = inr ((λ e. grind (arith, e)), refl)
-of-table TableFault.OutOfMemory = inl refl
-
 -- ---- the plan of what is wanted
-
--- the configuration isn't read
-pub plan-unread : (bytes : List ℕ) (names : List (List ℕ)) (old : Option (List ℕ)) (fault : ConfigFault) (refusal : Refusal)
-    → (fault ≢ ConfigFault.OutOfMemory → ReadsAs bytes (Err fault)) → refusal ≡ refusal_of_config fault
-    → IsPlanOf (Wants bytes names old) (Err refusal)
-plan-unread bytes names old fault refusal reads is = elim (of-config fault) [
-  | inl memory ↦ inl (is ∙ memory)
-  | inr form ↦ inr (inr (fault, reads form.0, ap Err (sym (is ∙ form.1))))
-]
-
--- the configuration is read
-pub plan-read : (bytes : List ℕ) (names : List (List ℕ)) (old : Option (List ℕ)) (config : Configuration) (r : Result TablePlan Refusal)
-    → ReadsAs bytes (Ok config) → IsPlanOf (λ answer. wanted_in config names old ≡ answer) r → IsPlanOf (Wants bytes names old) r
-plan-read bytes names old config (Ok plan) reads (wanted, wants, is) = (wanted, inl (config, reads, wants), is)
-plan-read bytes names old config (Err refusal) reads (inl memory) = inl memory
-plan-read bytes names old config (Err refusal) reads (inr wants) = inr (inl (config, reads, wants))
-
--- the same is wanted
-pub plan-same : (r : Result TablePlan Refusal) (x y : Result Wanted Refusal) → y ≡ x → IsPlanOf (λ answer. x ≡ answer) r → IsPlanOf (λ answer. y ≡ answer) r
-plan-same r x y same is = subst (λ z. IsPlanOf (λ answer. z ≡ answer) r) (sym same) is
-
--- the members are found
-pub over-members : (config : Configuration) (found : Option (List ℕ)) (members : List ℕ) (old : Option (List ℕ)) → found ≡ Some members → wanted_over config.setup found old ≡ wanted_after config.setup members old
-over-members config found members old is = ap (λ x. wanted_over config.setup x old) is
-
--- a name is no node's
-pub over-nobody : (config : Configuration) (found : Option (List ℕ)) (old : Option (List ℕ)) (refusal : Refusal) → refusal ≡ Refusal.Member → found ≡ None
-    → wanted_over config.setup found old ≡ Err refusal
-over-nobody config found old refusal is none = ap (λ x. wanted_over config.setup x old) none ∙ ap Err (sym is)
-
--- the old table is read, or isn't
-pub from-table : (setup : Setup) (members : List ℕ) (text table : List ℕ) → table_of_text setup text ≡ Ok table → wanted_after setup members (Some text) ≡ wanted_for setup members (Some table)
-from-table setup members text table is = ap (wanted_from setup members) is
-
-pub from-fault : (setup : Setup) (members text : List ℕ) (fault : TableFault) (refusal : Refusal)
-    → (table_of_text setup text ≡ Err fault) ⊎ ((fault ≡ TableFault.OutOfMemory) × IsOk (table_of_text setup text)) → refusal ≡ refusal_of_table fault
-    → IsPlanOf (λ answer. wanted_after setup members (Some text) ≡ answer) (Err refusal)
-from-fault setup members text fault refusal (inr (memory, good)) is = inl (is ∙ ap refusal_of_table memory)
-from-fault setup members text fault refusal (inl told) is = elim (of-table fault) [
-  | inl memory ↦ inl (is ∙ memory)
-  | inr form ↦ inr (ap (wanted_from setup members) told ∙ ap Err (sym (is ∙ form.1)))
-]
 
 -- there is a plan
 pub plan-made : (setup : Setup) (old : Option (List ℕ)) (members : List ℕ) (plan : TablePlan) → members ≢ []
@@ -92,13 +41,6 @@ pub plan-made : (setup : Setup) (old : Option (List ℕ)) (members : List ℕ) (
 plan-made setup old [] plan some table fewest moves bound = absurd (some refl)
 plan-made setup old (m ∷ ms) plan some table fewest moves bound =
     (record { setup = setup; old = old; members = m ∷ ms }, refl, record { planned = table; fewest = fewest; moves = moves; bound = bound })
-
--- there is none
-pub plan-refused : (setup : Setup) (old : Option (List ℕ)) (members : List ℕ) (fault : PlanFault) (refusal : Refusal)
-    → (fault ≡ PlanFault.NoMember → members ≡ []) → refusal ≡ refusal_of_plan fault
-    → IsPlanOf (λ answer. wanted_for setup members old ≡ answer) (Err refusal)
-plan-refused setup old members PlanFault.NoMember refusal none is = inr (ap (λ ms. wanted_for setup ms old) (none refl) ∙ ap Err (sym is))
-plan-refused setup old members PlanFault.OutOfMemory refusal none is = inl is
 
 -- ---- the answers
 
@@ -133,12 +75,12 @@ config-refused bytes fault refusal output output' errors errors' status reads is
 ]
 
 -- the table isn't planned
-pub table-refused : (bytes : List ℕ) (names : List (List ℕ)) (old : Option (List ℕ)) (refusal : Refusal) (output output' errors errors' : KnownBytes) (status : ℕ)
+pub table-refused : (is_json : Bool) (bytes : List ℕ) (names : List (List ℕ)) (old : Option (List ℕ)) (refusal : Refusal) (output output' errors errors' : KnownBytes) (status : ℕ)
     → IsPlanOf (Wants bytes names old) (Err refusal) → Keeps output output' → IsTold refusal errors errors' status
-    → IsTableAnswer bytes names old output output' errors errors' status
-table-refused bytes names old refusal output output' errors errors' status (inl memory) kept told =
+    → IsTableAnswer is_json bytes names old output output' errors errors' status
+table-refused is_json bytes names old refusal output output' errors errors' status (inl memory) kept told =
     inr (inr (memory-stops output output' errors errors' status kept (subst (λ r. IsTold r errors errors' status) memory told)))
-table-refused bytes names old refusal output output' errors errors' status (inr wants) kept told = elim (told-or-stopped refusal output output' errors errors' status kept told) [
+table-refused is_json bytes names old refusal output output' errors errors' status (inr wants) kept told = elim (told-or-stopped refusal output output' errors errors' status kept told) [
   | inl refused ↦ inr (inl (refusal, wants, refused))
   | inr stopped ↦ inr (inr stopped)
 ]
@@ -176,12 +118,12 @@ run-answered written told bytes config output output' errors errors' status read
     inr (inr (inr (stopped-from written told output output' errors errors' status stopped)))
 
 -- the table is planned
-pub table-answered : {W E : Type 0} (written : W → KnownBytes) (told : E → KnownBytes) (bytes : List ℕ) (names : List (List ℕ)) (old : Option (List ℕ)) (plan : TablePlan) (output output' : W) (errors errors' : E) (status : ℕ)
+pub table-answered : {W E : Type 0} (written : W → KnownBytes) (told : E → KnownBytes) (is_json : Bool) (bytes : List ℕ) (names : List (List ℕ)) (old : Option (List ℕ)) (plan : TablePlan) (output output' : W) (errors errors' : E) (status : ℕ)
     → IsPlanOf (Wants bytes names old) (Ok plan)
-    → ((status ≡ 0) × Appends (written output) (written output') (plan_text plan.table plan.moves plan.bound) × (errors' ≡ errors))
+    → ((status ≡ 0) × ((text : List ℕ) × IsPlanTold is_json plan text × Appends (written output) (written output') text) × (errors' ≡ errors))
     ⊎ ((status ≡ 4) × (stop : Stop) × (stop ≢ Stop.Write → output' ≡ output) × Tells (told errors) (told errors') (stop_line stop))
-    → IsTableAnswer bytes names old (written output) (written output') (told errors) (told errors') status
-table-answered written told bytes names old plan output output' errors errors' status (wanted, wants, is) (inl (done, text, same)) =
-    inl (wanted, plan, wants, is, text, keeps-same _ _ (ap told same), done)
-table-answered written told bytes names old plan output output' errors errors' status planned (inr stopped) =
+    → IsTableAnswer is_json bytes names old (written output) (written output') (told errors) (told errors') status
+table-answered written told is_json bytes names old plan output output' errors errors' status (wanted, wants, is) (inl (done, (text, says, appended), same)) =
+    inl (wanted, plan, text, wants, is, says, appended, keeps-same _ _ (ap told same), done)
+table-answered written told is_json bytes names old plan output output' errors errors' status wanted (inr stopped) =
     inr (inr (stopped-from written told output output' errors errors' status stopped))

@@ -4,7 +4,6 @@ use Rattle.std.specs.Prelude.{IfSome}
 use Rattle.std.specs.Str.{IsUtf8, chars}
 use Rattle.std.specs.Io.KnownBytes.{Appends, Keeps}
 use Rattle.bully_world.specs.State.{world_of}
-use Rattle.bully_rows.specs.declared.trace.TraceCause.{TraceCause}
 use Rattle.bully_rows.specs.declared.trace.TraceFault.{TraceFault}
 use Rattle.bully_trace.specs.declared.verdict.Verdict.{Verdict}
 use Rattle.bully_rows.specs.RecordsLeft.{EndsReading}
@@ -12,11 +11,12 @@ use Rattle.bully_rows.specs.Rows.{OfTrace, is_of_form}
 use Rattle.bully_config.specs.Configuration.{Configuration}
 use Rattle.bully_config.specs.declared.fault.ConfigFault.{ConfigFault}
 use Rattle.bully_account.specs.declared.showing.NodeSheet.{NodeSheet}
-use Rattle.bully_account.specs.TraceReport.{Explains, IsUntold}
+use Rattle.bully_account.specs.TraceReport.{Explains}
 use Rattle.bully_explain.specs.ConfigTold.{IsConfigText}
 use Rattle.bully_explain.specs.Shown.{AllPlain, shown}
 use Rattle.bully_explain.proofs.ShownLemmas.{shown-plain}
-use Rattle.bully.specs.Answer.{KnownBytes, Tells, row_line, stop_line, stop_of, verdict_status}
+use Rattle.bully.specs.Answer.{KnownBytes, Tells, row_line, stop_line, verdict_status}
+use Rattle.bully.specs.ConfigAnswer.{IsStopped}
 use Rattle.bully.specs.ExplainAnswer.{IsConfigExplainAnswer, IsExplainAnswer}
 use Rattle.bully.specs.RefusalText.{refusal_line}
 use Rattle.bully.specs.Wanted.{ReadsAs}
@@ -25,15 +25,15 @@ use Rattle.bully.specs.declared.telling.Stop.{Stop}
 use Rattle.bully.proofs.KnownBytesLemmas.{keeps-refl, keeps-same}
 
 -- the sheet of the verdict was written
-pub explained-answer : {E : Type 0} (contents : E → KnownBytes) (remaining : KnownBytes) (verdict : Verdict) (sheets : List NodeSheet) (text : List ℕ) (output output' : KnownBytes) (errors errors' : E) (status : ℕ)
+pub explained-answer : {E : Type 0} (contents : E → KnownBytes) (remaining : KnownBytes) (verdict : Verdict) (sheets : List NodeSheet) (output output' : KnownBytes) (errors errors' : E) (status : ℕ)
     → OfTrace remaining (Explains verdict sheets)
-    → (((status ≡ verdict_status verdict) × Appends output output' text × (errors' ≡ errors)) ⊎ ((status ≡ 4) × Tells (contents errors) (contents errors') (stop_line Stop.Write)))
+    → (((status ≡ verdict_status verdict) × ((text : List ℕ) × Appends output output' text) × (errors' ≡ errors)) ⊎ IsStopped output output' (contents errors) (contents errors') status)
     → IfSome remaining (λ bytes. IsExplainAnswer bytes output output' (contents errors) (contents errors') status)
-explained-answer contents None verdict sheets text output output' errors errors' status explained written = tt
-explained-answer contents (Some bytes) verdict sheets text output output' errors errors' status (trace, is, e) (inl (done, appended, same)) =
+explained-answer contents None verdict sheets output output' errors errors' status explained written = tt
+explained-answer contents (Some bytes) verdict sheets output output' errors errors' status (trace, is, e) (inl (done, (text, appended), same)) =
     inl (trace, verdict, world_of e.world, text, is, e.judged, appended, keeps-same _ _ (ap contents same), done)
-explained-answer contents (Some bytes) verdict sheets text output output' errors errors' status (trace, is, e) (inr (stopped, told)) =
-    inr (inr (Stop.Write, (λ other. absurd (other refl)), (λ _. rw is refl), told, stopped))
+explained-answer contents (Some bytes) verdict sheets output output' errors errors' status (trace, is, e) (inr (stop, kept, told, stopped)) =
+    inr (inr (stop, kept, (λ _. rw is refl), told, stopped))
 
 -- the first faulty row was told with its sheet, or there was no memory for that
 pub form-answer : (remaining : KnownBytes) (fault : TraceFault) (text : List ℕ) (output errors errors' : KnownBytes) (status : ℕ)
@@ -45,26 +45,6 @@ form-answer (Some bytes) fault text output errors errors' status ends form (inl 
     inr (inl (fault, text, ends.first form, keeps-same _ _ refl, told, done))
 form-answer (Some bytes) fault text output errors errors' status ends form (inr (done, told)) =
     inr (inr (Stop.OutOfMemory, (λ _. keeps-same _ _ refl), (λ e. absurd (grind (arith, e))), told, done))
-
--- the reader failed, or memory was short
-stopped-answer : (remaining : KnownBytes) (stop : Stop) (output errors errors' : KnownBytes) (status : ℕ) → (stop ≡ Stop.Write → ⊥)
-    → (status ≡ 4) × Tells errors errors' (stop_line stop) → IfSome remaining (λ bytes. IsExplainAnswer bytes output output errors errors' status)
-stopped-answer None stop output errors errors' status other told = tt
-stopped-answer (Some bytes) stop output errors errors' status other (done, told) =
-    inr (inr (stop, (λ _. keeps-same _ _ refl), (λ e. absurd (other e)), told, done))
-
-pub untold-answer : (cause : TraceCause) (remaining : KnownBytes) (fault : TraceFault) (output errors errors' : KnownBytes) (status : ℕ)
-    → fault.cause ≡ cause → EndsReading remaining fault → IsUntold fault
-    → ((stop : Stop) → stop_of fault.cause ≡ Some stop → (status ≡ 4) × Tells errors errors' (stop_line stop))
-    → IfSome remaining (λ bytes. IsExplainAnswer bytes output output errors errors' status)
-untold-answer TraceCause.BadHeader remaining fault output errors errors' status is ends untold other = absurd (cc (rw is at untold))
-untold-answer TraceCause.BadRow remaining fault output errors errors' status is ends untold other = absurd (cc (rw is at untold))
-untold-answer TraceCause.TooManyRows remaining fault output errors errors' status is ends untold other = absurd (cc (rw is at untold))
-untold-answer TraceCause.Read remaining fault output errors errors' status is ends untold other =
-    stopped-answer remaining Stop.Read output errors errors' status (λ e. absurd (grind (arith, e))) (other Stop.Read (rw is refl))
-untold-answer TraceCause.Write remaining fault output errors errors' status is ends untold other = absurd (ends.read is)
-untold-answer TraceCause.OutOfMemory remaining fault output errors errors' status is ends untold other =
-    stopped-answer remaining Stop.OutOfMemory output errors errors' status (λ e. absurd (grind (arith, e))) (other Stop.OutOfMemory (rw is refl))
 
 -- there was no memory for the words
 pub unparsed-answer : (remaining : KnownBytes) (output output' errors errors' : KnownBytes) (status : ℕ) → Keeps output output'

@@ -6,4 +6,5 @@ mod MemberLemmas
 mod ConfigLemmas
 mod DrawLemmas
 mod AskedLemmas
+mod FollowLemmas
 mod PipeLemmas

@@ -1,10 +1,7 @@
 -- The set of the nodes of some names, name by name.
-use Rattle.std.proofs.Common.{◌≡◌, ◌∙◌, ℕ, ◌+◌, ◌<◌, ◌≤◌, List, [], ◌∷◌, length, drop, map, All, Option, Some, None, bytes_eq, refl, sym, ap, subst, arith}
-use Rattle.std.specs.Prelude.{option_and_then, option_map, slice_index_or}
-use Rattle.std.specs.Borrow.{Bor}
+use Rattle.std.proofs.Common.{◌≡◌, ◌∙◌, ℕ, ◌≤◌, List, [], ◌∷◌, length, All, Option, Some, None, bytes_eq, refl, ap, subst, arith}
+use Rattle.std.specs.Prelude.{option_and_then, option_map}
 use Rattle.std.proofs.lemmas.Bool.Decides.{nat_tests}
-use Rattle.std.proofs.lemmas.Grind.{common_steps}
-use Rattle.std.proofs.lemmas.List.{drop_more}
 use Rattle.std.proofs.lemmas.List.Elements.{All-nil}
 use Rattle.std.proofs.lemmas.Option.{same_Some}
 use Rattle.bully_base.specs.NodeSet.{with_node}
@@ -45,26 +42,6 @@ onto-none names (word ∷ words) = go (node_named names word) (onto-more names w
         → option_and_then (λ k. named_onto names words (with_node k [])) o ≡ option_and_then (λ k. option_map (with_node k) (members_named names words)) o
     go None more rest = refl
     go (Some k) more rest = more k [] ∙ ap (option_map (with_node k)) rest
-
--- the texts from a place on, at that place and at the end
-pub texts-next : (xs : List (Bor (List ℕ))) (i : ℕ) (x : Bor (List ℕ)) → i < length xs → x ≡ slice_index_or xs i x
-    → map (λ s. s.now) (drop i xs) ≡ x.now ∷ map (λ s. s.now) (drop (i + 1) xs)
-texts-next xs i x h e = ap (map (λ s. s.now)) (drop_more xs i x h) ∙ ap (λ y. y.now ∷ map (λ s. s.now) (drop (i + 1) xs)) (sym e)
-
-pub texts-end : (xs : List (Bor (List ℕ))) (i : ℕ) → length xs ≤ i → map (λ s. s.now) (drop i xs) ≡ []
-texts-end [] i h = grind (arith, common_steps)
-texts-end (x ∷ xs) i h = grind (arith, common_steps)
-
--- one name more, whose node there is or isn't
-pub onto-node : (names : List (List ℕ)) (all rest : List (List ℕ)) (word : List ℕ) (node : ℕ) (members : List ℕ) → all ≡ word ∷ rest → node_named names word ≡ Some node
-    → named_onto names all members ≡ named_onto names rest (with_node node members)
-onto-node names all rest word node members is named =
-    ap (λ l. named_onto names l members) is ∙ ap (option_and_then (λ k. named_onto names rest (with_node k members))) named
-
-pub onto-nobody : (names : List (List ℕ)) (all rest : List (List ℕ)) (word : List ℕ) (members : List ℕ) → all ≡ word ∷ rest → node_named names word ≡ None
-    → named_onto names all members ≡ None
-onto-nobody names all rest word members is named =
-    ap (λ l. named_onto names l members) is ∙ ap (option_and_then (λ k. named_onto names rest (with_node k members))) named
 
 -- ---- all of them are nodes of the configuration
 

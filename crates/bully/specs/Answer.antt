@@ -1,5 +1,6 @@
 -- What the program answers to `check` and to `upgrade`: the status, and what then stands on the output and on the errors.
-use Rattle.std.specs.Prelude.{◌≡◌, ◌≢◌, ◌⊎◌, ℕ, List, ◌++◌, Option, Some, None, Ok, Err, IsOk, codes, take}
+use Rattle.std.specs.Prelude.{◌≡◌, ◌≢◌, ◌⊎◌, ℕ, Bool, true, false, List, ◌++◌, Option, Some, None, Ok, Err, IsOk, codes, take}
+use Rattle.std.specs.Str.{bytes_eq}
 use Rattle.std.specs.Fmt.{decimal}
 use Rattle.std.specs.Io.KnownBytes.{Appends, Keeps}
 use Rattle.bully_world.specs.World.{World}
@@ -46,6 +47,11 @@ stop_line Stop.Read = codes "bully: Read\n"
 stop_line Stop.Write = codes "bully: Write\n"
 stop_line Stop.OutOfMemory = codes "bully: OutOfMemory\n"
 
+-- a flag was given
+abbrev pub is_given : Option (List ℕ) → Bool
+is_given None = false
+is_given (Some flag) = bytes_eq flag (codes "true")
+
 -- the rows of the input have a verdict: it stands on the output
 abbrev pub IsJudgedAnswer : List ℕ → KnownBytes → KnownBytes → KnownBytes → KnownBytes → ℕ → Type 0
 IsJudgedAnswer bytes output output' errors errors' status =
@@ -74,6 +80,27 @@ abbrev pub IsAnswer : List ℕ → KnownBytes → KnownBytes → KnownBytes → 
 IsAnswer bytes output output' errors errors' status =
     IsJudgedAnswer bytes output output' errors errors' status
     ⊎ IsUntaken bytes output output' errors errors' status
+
+-- the rows of the input have a verdict, and a text that tells it stands on the output
+abbrev pub IsTold : List ℕ → KnownBytes → KnownBytes → KnownBytes → KnownBytes → ℕ → Type 0
+IsTold bytes output output' errors errors' status =
+    (trace : Trace) × (verdict : Verdict) × (w : World) × (text : List ℕ) × (trace_of (records_of bytes) ≡ Ok trace) × IsVerdict trace verdict w
+    × Appends output output' text × Keeps errors errors' × (status ≡ verdict_status verdict)
+
+-- a word is told to be bad, and nothing is done
+abbrev pub IsBadWord : List ℕ → KnownBytes → KnownBytes → KnownBytes → KnownBytes → ℕ → Type 0
+IsBadWord line output output' errors errors' status = Keeps output output' × Tells errors errors' line × (status ≡ 2)
+
+-- there is no memory for the words
+abbrev pub IsShort : KnownBytes → KnownBytes → KnownBytes → KnownBytes → ℕ → Type 0
+IsShort output output' errors errors' status = Keeps output output' × Tells errors errors' (stop_line Stop.OutOfMemory) × (status ≡ 4)
+
+-- the answer to `check`, as JSON or not
+abbrev pub IsCheckAnswer : Bool → List ℕ → KnownBytes → KnownBytes → KnownBytes → KnownBytes → ℕ → Type 0
+IsCheckAnswer true bytes output output' errors errors' status =
+    IsTold bytes output output' errors errors' status
+    ⊎ IsUntaken bytes output output' errors errors' status
+IsCheckAnswer false bytes output output' errors errors' status = IsAnswer bytes output output' errors errors' status
 
 -- the input means a trace: the text of the upgraded one stands on the output
 abbrev pub IsUpgradedAnswer : List ℕ → KnownBytes → KnownBytes → KnownBytes → KnownBytes → ℕ → Type 0

@@ -1,6 +1,6 @@
 -- What the program answers to `play`, `run` and `table` where the configuration's file holds these bytes: the status,
 -- and what then stands on the output and on the errors.
-use Rattle.std.specs.Prelude.{◌≡◌, ◌≢◌, ◌⊎◌, ℕ, List, Option, Ok, Err, codes}
+use Rattle.std.specs.Prelude.{◌≡◌, ◌≢◌, ◌⊎◌, ℕ, Bool, List, Option, Ok, Err, codes}
 use Rattle.std.specs.Io.KnownBytes.{Appends, Keeps}
 use Rattle.bully_config.specs.Configuration.{Configuration}
 use Rattle.bully_config.specs.declared.fault.ConfigFault.{ConfigFault}
@@ -13,7 +13,7 @@ use Rattle.bully_table.specs.declared.planning.TablePlan.{TablePlan}
 use Rattle.bully_rows.specs.TraceText.{trace_text}
 use Rattle.bully_calls.specs.declared.event.Event.{Event}
 use Rattle.bully.specs.Answer.{KnownBytes, Tells, stop_line}
-use Rattle.bully.specs.PlanText.{plan_text}
+use Rattle.bully.specs.PlanText.{IsPlanTold}
 use Rattle.bully.specs.RefusalText.{refusal_line, refusal_status}
 use Rattle.bully.specs.Wanted.{ReadsAs, Wanted, Wants, IsPlanFor}
 use Rattle.bully.specs.declared.refusals.Refusal.{Refusal}
@@ -78,15 +78,15 @@ IsRunAnswer bytes output output' errors errors' status =
     ⊎ IsUnfinished bytes output output' errors errors' status
     ⊎ IsNotDone bytes output output' errors errors' status
 
--- the table is planned, and its plan stands on the output
-abbrev pub IsPlanned : List ℕ → List (List ℕ) → Option (List ℕ) → KnownBytes → KnownBytes → KnownBytes → KnownBytes → ℕ → Type 0
-IsPlanned bytes names old output output' errors errors' status =
-    (wanted : Wanted) × (plan : TablePlan) × Wants bytes names old (Ok wanted) × IsPlanFor wanted plan
-    × Appends output output' (plan_text plan.table plan.moves plan.bound) × Keeps errors errors' × (status ≡ 0)
+-- the table is planned, and its plan stands on the output, as JSON or not
+abbrev pub IsPlanned : Bool → List ℕ → List (List ℕ) → Option (List ℕ) → KnownBytes → KnownBytes → KnownBytes → KnownBytes → ℕ → Type 0
+IsPlanned is_json bytes names old output output' errors errors' status =
+    (wanted : Wanted) × (plan : TablePlan) × (text : List ℕ) × Wants bytes names old (Ok wanted) × IsPlanFor wanted plan
+    × IsPlanTold is_json plan text × Appends output output' text × Keeps errors errors' × (status ≡ 0)
 
--- the answer to `table` with these names of members and this text of an old table
-abbrev pub IsTableAnswer : List ℕ → List (List ℕ) → Option (List ℕ) → KnownBytes → KnownBytes → KnownBytes → KnownBytes → ℕ → Type 0
-IsTableAnswer bytes names old output output' errors errors' status =
-    IsPlanned bytes names old output output' errors errors' status
+-- the answer to `table` with these names of members and this text of an old table, as JSON or not
+abbrev pub IsTableAnswer : Bool → List ℕ → List (List ℕ) → Option (List ℕ) → KnownBytes → KnownBytes → KnownBytes → KnownBytes → ℕ → Type 0
+IsTableAnswer is_json bytes names old output output' errors errors' status =
+    IsPlanned is_json bytes names old output output' errors errors' status
     ⊎ ((refusal : Refusal) × Wants bytes names old (Err refusal) × IsRefused refusal output output' errors errors' status)
     ⊎ IsStopped output output' errors errors' status

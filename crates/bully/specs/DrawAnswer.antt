@@ -1,6 +1,5 @@
 -- What the program answers to `draw`: the status, and what then stands on the output and on the errors.
-use Rattle.std.specs.Prelude.{◌≡◌, ◌⊎◌, ℕ, Bool, true, false, List, [], Option, Some, None, MatchOption, Ok, codes, length, slice_get}
-use Rattle.std.specs.Str.{bytes_eq}
+use Rattle.std.specs.Prelude.{◌≡◌, ◌⊎◌, ℕ, Bool, true, false, List, [], Option, Some, None, MatchOption, Ok, codes, length, slice_get, if◌then◌else◌}
 use Rattle.std.specs.Io.KnownBytes.{Appends, Keeps}
 use Rattle.bully_rows.specs.declared.trace.Row.{Row}
 use Rattle.bully_rows.specs.Rows.{records_of, trace_of}
@@ -13,23 +12,22 @@ use Rattle.bully_film.specs.Film.{IsFilmOf}
 use Rattle.bully_film.specs.Lane.{row_before}
 use Rattle.bully_film.specs.Scene.{lane_of}
 use Rattle.bully_film.specs.Window.{WindowState, at_the_end, window_in}
-use Rattle.bully_picture.specs.Drawn.{HasBelow, HasCalls, HasNodes, HasRows}
+use Rattle.bully_picture.specs.Drawn.{HasBelow, HasCalls, HasNodes, HasRows, HasSaid, scenes_shown}
 use Rattle.bully_picture.specs.Title.{Begins, Ends, Has, IsDocument, title_text}
 use Rattle.bully_picture.specs.Told.{HasToldAbove}
-use Rattle.bully.specs.Answer.{IsUntaken, KnownBytes, Tells, stop_line, verdict_status}
+use Rattle.bully_cli.specs.Words.{Drawn}
+use Rattle.bully_page.specs.Page.{HasLines, HasSummaries, IsPage, headed, titled}
+use Rattle.bully_picture.specs.declared.claims.Claims.{Claims}
+use Rattle.bully.specs.declared.drawing.Drawing.{Drawing}
+use Rattle.bully.specs.declared.drawing.Form.{Form}
+use Rattle.bully.specs.Answer.{IsBadWord, IsShort, IsUntaken, KnownBytes, is_given, verdict_status}
 use Rattle.bully.specs.ConfigAnswer.{IsNotDone}
 use Rattle.bully.specs.Wanted.{ReadsAs}
-use Rattle.bully.specs.declared.telling.Stop.{Stop}
 
 -- the window of the rows that are asked for; of the last ones where none are
 abbrev pub window_asked : Option (List ℕ) → Option WindowState
 window_asked None = Some at_the_end
 window_asked (Some rows) = window_in rows
-
--- a flag was given
-abbrev pub is_given : Option (List ℕ) → Bool
-is_given None = false
-is_given (Some flag) = bytes_eq flag (codes "true")
 
 -- the names of the nodes, from node 1 on: those of a configuration; none without one
 abbrev pub names_in : Option Configuration → List (List ℕ)
@@ -47,59 +45,91 @@ pub record IsTextOf (finished : FinishedFilm) (text picture : List ℕ) : Type 0
   pub rows : HasToldAbove picture text finished.verdict finished.scenes.items
   pub below : Ends picture text
 
--- a picture as SVG: a document with its title, the numbers of all rows, a name or a number of each node, an arrow of each call in a slot,
--- and this text below
-pub record IsSvgOf (finished : FinishedFilm) (names : List (List ℕ)) (text picture : List ℕ) : Type 0 where
+-- a picture as SVG: a document with its title, the numbers of all rows that are shown, and what they say, a name or a number of each node,
+-- an arrow of each call in a slot, and this text below
+pub record IsSvgOf (claims : Claims) (finished : FinishedFilm) (names : List (List ℕ)) (text picture : List ℕ) : Type 0 where
   pub document : IsDocument picture
   pub title : Has picture (title_text finished.verdict finished.setup.nodes finished.setup.partitions (row_before finished.scenes.items) (length finished.scenes.items))
-  pub rows : HasRows picture finished.verdict finished.scenes.items
+  pub rows : HasRows picture finished.verdict (scenes_shown claims finished.verdict finished.scenes.items)
+  pub says : HasSaid picture finished.verdict (scenes_shown claims finished.verdict finished.scenes.items)
   pub nodes : HasNodes picture finished.setup.nodes (slice_get names)
   pub calls : (window : WindowState) (trace : Trace) (is : IsFilmOf window finished trace)
       → HasCalls picture finished.setup.nodes (row_before finished.scenes.items) (λ i. lane_of trace.setup is.before i is.shown)
   pub below : HasBelow picture text
 
--- a picture of what a film shows, as text or as SVG. Text has no names
-abbrev pub IsPictureOf : Bool → FinishedFilm → List (List ℕ) → List ℕ → Type 0
-IsPictureOf true finished names picture = (below : List ℕ) × IsBelow finished.stop below × IsTextOf finished below picture
-IsPictureOf false finished names picture = (below : List ℕ) × IsBelow finished.stop below × IsSvgOf finished names below picture
+-- a page: a document with its title and heading, this picture, this text below it, and the lines of the rows
+pub record IsPageOf (claims : Claims) (finished : FinishedFilm) (text svg page : List ℕ) : Type 0 where
+  pub document : IsPage page
+  pub title : Has page (titled (title_text finished.verdict finished.setup.nodes finished.setup.partitions (row_before finished.scenes.items) (length finished.scenes.items)))
+  pub heading : Has page (headed (title_text finished.verdict finished.setup.nodes finished.setup.partitions (row_before finished.scenes.items) (length finished.scenes.items)))
+  pub picture : Has page svg
+  pub below : HasLines page text
+  pub rows : HasSummaries page claims finished.verdict finished.scenes.items
 
--- the input means a trace: what its film shows in the window stands on the output, as text or as SVG with these names, and the verdict
+-- a picture of what a film shows, above this text: as text, as SVG, or as a page around that. Text has no names
+abbrev pub IsPictureIn : Form → Claims → FinishedFilm → List (List ℕ) → List ℕ → List ℕ → Type 0
+IsPictureIn Form.Text claims finished names below picture = IsTextOf finished below picture
+IsPictureIn Form.Svg claims finished names below picture = IsSvgOf claims finished names below picture
+IsPictureIn Form.Page claims finished names below picture = (svg : List ℕ) × IsSvgOf claims finished names below svg × IsPageOf claims finished below svg picture
+
+-- the same above the row that decided
+abbrev pub IsPictureOf : Drawing → FinishedFilm → List (List ℕ) → List ℕ → Type 0
+IsPictureOf drawing finished names picture =
+    (below : List ℕ) × IsBelow finished.stop below × IsPictureIn drawing.form drawing.claims finished names below picture
+
+-- the input means a trace: what its film shows in the window stands on the output, in the form asked for and with these names, and the verdict
 -- gives the status of `check`
-abbrev pub IsDrawn : List ℕ → WindowState → Bool → List (List ℕ) → KnownBytes → KnownBytes → KnownBytes → KnownBytes → ℕ → Type 0
-IsDrawn bytes window is_text names output output' errors errors' status =
-    (trace : Trace) × (finished : FinishedFilm) × (picture : List ℕ) × (trace_of (records_of bytes) ≡ Ok trace) × IsFilmOf window finished trace
-    × IsPictureOf is_text finished names picture × Appends output output' picture × Keeps errors errors' × (status ≡ verdict_status finished.verdict)
+abbrev pub IsDrawn : List ℕ → Drawing → List (List ℕ) → KnownBytes → KnownBytes → KnownBytes → KnownBytes → ℕ → Type 0
+IsDrawn bytes drawing names output output' errors errors' status =
+    (trace : Trace) × (finished : FinishedFilm) × (picture : List ℕ) × (trace_of (records_of bytes) ≡ Ok trace) × IsFilmOf drawing.window finished trace
+    × IsPictureOf drawing finished names picture × Appends output output' picture × Keeps errors errors' × (status ≡ verdict_status finished.verdict)
 
 -- a picture of the input, or what `check` answers where no trace is taken from it
-abbrev pub IsPictureAnswer : List ℕ → WindowState → Bool → List (List ℕ) → KnownBytes → KnownBytes → KnownBytes → KnownBytes → ℕ → Type 0
-IsPictureAnswer bytes window is_text names output output' errors errors' status =
-    IsDrawn bytes window is_text names output output' errors errors' status
+abbrev pub IsPictureAnswer : List ℕ → Drawing → List (List ℕ) → KnownBytes → KnownBytes → KnownBytes → KnownBytes → ℕ → Type 0
+IsPictureAnswer bytes drawing names output output' errors errors' status =
+    IsDrawn bytes drawing names output output' errors errors' status
     ⊎ IsUntaken bytes output output' errors errors' status
 
 -- the same with the names of the configuration that these bytes of a file are; or that is refused
-abbrev pub IsPictureBy : List ℕ → List ℕ → WindowState → Bool → KnownBytes → KnownBytes → KnownBytes → KnownBytes → ℕ → Type 0
-IsPictureBy bytes file window is_text output output' errors errors' status =
-    ((config : Configuration) × ReadsAs file (Ok config) × IsPictureAnswer bytes window is_text (names_in (Some config)) output output' errors errors' status)
+abbrev pub IsPictureBy : List ℕ → List ℕ → Drawing → KnownBytes → KnownBytes → KnownBytes → KnownBytes → ℕ → Type 0
+IsPictureBy bytes file drawing output output' errors errors' status =
+    ((config : Configuration) × ReadsAs file (Ok config) × IsPictureAnswer bytes drawing (names_in (Some config)) output output' errors errors' status)
     ⊎ IsNotDone file output output' errors errors' status
 
 -- by the configuration at a path, of some bytes; without names, where no path is given
-abbrev pub IsNamedPicture : List ℕ → Option (List ℕ) → WindowState → Bool → KnownBytes → KnownBytes → KnownBytes → KnownBytes → ℕ → Type 0
-IsNamedPicture bytes None window is_text output output' errors errors' status = IsPictureAnswer bytes window is_text (names_in None) output output' errors errors' status
-IsNamedPicture bytes (Some path) window is_text output output' errors errors' status =
-    (file : List ℕ) × IsPictureBy bytes file window is_text output output' errors errors' status
+abbrev pub IsNamedPicture : List ℕ → Option (List ℕ) → Drawing → KnownBytes → KnownBytes → KnownBytes → KnownBytes → ℕ → Type 0
+IsNamedPicture bytes None drawing output output' errors errors' status = IsPictureAnswer bytes drawing (names_in None) output output' errors errors' status
+IsNamedPicture bytes (Some path) drawing output output' errors errors' status =
+    (file : List ℕ) × IsPictureBy bytes file drawing output output' errors errors' status
 
--- the rows that are asked for can't be shown
-abbrev pub IsNoWindow : KnownBytes → KnownBytes → KnownBytes → KnownBytes → ℕ → Type 0
-IsNoWindow output output' errors errors' status = Keeps output output' × Tells errors errors' (codes "bully: words: Rows\n") × (status ≡ 2)
+-- the form that is asked for; none where two are
+abbrev pub form_asked : Bool → Bool → Option Form
+form_asked true true = None
+form_asked true false = Some Form.Text
+form_asked false true = Some Form.Page
+form_asked false false = Some Form.Svg
 
--- there is no memory for the words
-abbrev pub IsShort : KnownBytes → KnownBytes → KnownBytes → KnownBytes → ℕ → Type 0
-IsShort output output' errors errors' status = Keeps output output' × Tells errors errors' (stop_line Stop.OutOfMemory) × (status ≡ 4)
+-- whether claims are left out
+abbrev pub claims_asked : Bool → Claims
+claims_asked without = if without then Claims.LeftOut else Claims.Shown
 
--- the answer to `draw` with these bytes on the input. Exactly the rows that can't be shown are refused, before all else; then may be the
--- configuration whose names are asked for
-abbrev pub IsDrawAnswer : List ℕ → Option (List ℕ) → Option (List ℕ) → Option (List ℕ) → KnownBytes → KnownBytes → KnownBytes → KnownBytes → ℕ → Type 0
-IsDrawAnswer bytes rows text names output output' errors errors' status =
-    MatchOption (window_asked rows)
-    (IsNoWindow output output' errors errors' status ⊎ IsShort output output' errors errors' status)
-    (λ window. IsNamedPicture bytes names window (is_given text) output output' errors errors' status)
+-- this window is drawn in this form, as words say
+abbrev pub drawing_asked : Drawn → Form → WindowState → Drawing
+drawing_asked words form window = record { window = window; form = form; claims = claims_asked (is_given words.without_claims) }
+
+-- a bad word is told, or that there is no memory
+abbrev pub IsWordRefused : List ℕ → KnownBytes → KnownBytes → KnownBytes → KnownBytes → ℕ → Type 0
+IsWordRefused line output output' errors errors' status = IsBadWord line output output' errors errors' status ⊎ IsShort output output' errors errors' status
+
+-- the answer to `draw` in this form
+abbrev pub IsFormAnswer : List ℕ → Drawn → Form → KnownBytes → KnownBytes → KnownBytes → KnownBytes → ℕ → Type 0
+IsFormAnswer bytes words form output output' errors errors' status =
+    MatchOption (window_asked words.rows) (IsWordRefused (codes "bully: words: Rows\n") output output' errors errors' status)
+    (λ window. IsNamedPicture bytes words.names (drawing_asked words form window) output output' errors errors' status)
+
+-- the answer to `draw` with these bytes on the input. Exactly two forms at once and the rows that can't be shown are refused, before all
+-- else; then may be the configuration whose names are asked for
+abbrev pub IsDrawAnswer : List ℕ → Drawn → KnownBytes → KnownBytes → KnownBytes → KnownBytes → ℕ → Type 0
+IsDrawAnswer bytes words output output' errors errors' status =
+    MatchOption (form_asked (is_given words.text) (is_given words.html)) (IsWordRefused (codes "bully: words: Html\n") output output' errors errors' status)
+    (λ form. IsFormAnswer bytes words form output output' errors errors' status)

@@ -1,26 +1,16 @@
 -- What the program answers to `explain`: the status, and what then stands on the output and on the errors.
-use Rattle.std.specs.Prelude.{◌≡◌, ◌⊎◌, ℕ, List, ◌++◌, None, Some, Ok, Err}
+use Rattle.std.specs.Prelude.{◌≡◌, ◌⊎◌, ℕ, Bool, true, false, List, ◌++◌, None, Some, Ok, Err, codes}
 use Rattle.std.specs.Io.KnownBytes.{Appends, Keeps}
-use Rattle.bully_world.specs.World.{World}
 use Rattle.bully_rows.specs.declared.trace.TraceFault.{TraceFault}
-use Rattle.bully_trace.specs.declared.verdict.Verdict.{Verdict}
 use Rattle.bully_rows.specs.Rows.{records_of, trace_of}
-use Rattle.bully_rows.specs.Trace.{Trace}
-use Rattle.bully_trace.specs.Verdict.{IsVerdict}
 use Rattle.bully_config.specs.Configuration.{Configuration}
 use Rattle.bully_config.specs.declared.fault.ConfigFault.{ConfigFault}
 use Rattle.bully_explain.specs.ConfigTold.{IsConfigText}
-use Rattle.bully.specs.Answer.{IsStopAnswer, KnownBytes, Tells, row_line, verdict_status}
+use Rattle.bully.specs.Answer.{IsBadWord, IsShort, IsStopAnswer, IsTold, KnownBytes, Tells, row_line}
 use Rattle.bully.specs.ConfigAnswer.{IsStopped}
 use Rattle.bully.specs.RefusalText.{refusal_line}
 use Rattle.bully.specs.Wanted.{ReadsAs}
 use Rattle.bully.specs.declared.refusals.Refusal.{Refusal}
-
--- the rows of the input have a verdict, that of `check`: its sheet stands on the output
-abbrev pub IsExplainedAnswer : List ℕ → KnownBytes → KnownBytes → KnownBytes → KnownBytes → ℕ → Type 0
-IsExplainedAnswer bytes output output' errors errors' status =
-    (trace : Trace) × (verdict : Verdict) × (w : World) × (sheet : List ℕ) × (trace_of (records_of bytes) ≡ Ok trace) × IsVerdict trace verdict w
-    × Appends output output' sheet × Keeps errors errors' × (status ≡ verdict_status verdict)
 
 -- a row of the input is faulty: the first such row is told on the errors, with its sheet behind the line, and nothing stands
 -- on the output
@@ -32,7 +22,7 @@ IsUnexplainedAnswer bytes output output' errors errors' status =
 -- the answer to `explain` with these bytes on the input; where a read fails, nothing stands on the output
 abbrev pub IsExplainAnswer : List ℕ → KnownBytes → KnownBytes → KnownBytes → KnownBytes → ℕ → Type 0
 IsExplainAnswer bytes output output' errors errors' status =
-    IsExplainedAnswer bytes output output' errors errors' status
+    IsTold bytes output output' errors errors' status
     ⊎ IsUnexplainedAnswer bytes output output' errors errors' status
     ⊎ IsStopAnswer bytes output output' errors errors' status
 
@@ -45,3 +35,11 @@ IsConfigExplainAnswer bytes output output' errors errors' status =
     ⊎ ((fault : ConfigFault) × (sheet : List ℕ) × ReadsAs bytes (Err fault) × IsConfigText (Some fault) sheet × Keeps output output'
     × Tells errors errors' (refusal_line (Refusal.Config fault) ++ sheet) × (status ≡ 3))
     ⊎ IsStopped output output' errors errors' status
+
+-- the answer to `explain --config`, where a FILE may be given, and `--json`: each is a bad word
+abbrev pub IsConfigExplained : Bool → Bool → KnownBytes → KnownBytes → KnownBytes → KnownBytes → ℕ → Type 0
+IsConfigExplained true is_json output output' errors errors' status =
+    IsBadWord (codes "bully: words: File\n") output output' errors errors' status ⊎ IsShort output output' errors errors' status
+IsConfigExplained false true output output' errors errors' status =
+    IsBadWord (codes "bully: words: Json\n") output output' errors errors' status ⊎ IsShort output output' errors errors' status
+IsConfigExplained false false output output' errors errors' status = (bytes : List ℕ) × IsConfigExplainAnswer bytes output output' errors errors' status

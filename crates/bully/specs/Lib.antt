@@ -6,5 +6,8 @@ pub mod RefusalText
 pub mod Wanted
 pub mod ConfigAnswer
 pub mod DrawAnswer
+pub mod FollowAnswer
+pub mod Inputs
 pub mod AskedAnswer
 pub mod Pipes
+pub mod People

@@ -1,17 +1,18 @@
-ghost use Rattle.std.specs.Prelude.{◌≡◌, ◌≤◌, ◌⊎◌, ◌∷◌, ℕ, List, [], None, Some, true, false, codes, map, IfSome};
+ghost use Rattle.std.specs.Prelude.{◌≡◌, ◌≤◌, ◌⊎◌, ◌∷◌, [], Some, true, false, codes, map, IfSome};
 ghost use Rattle.clap.specs.Words.{kind_of};
-ghost use Rattle.bully_cli.specs.Words.{texts_of, ParsesAsAnnotate, ParsesAsCheck, ParsesAsDraw, ParsesAsExplain, ParsesAsPlay, ParsesAsRun, ParsesAsTable, ParsesAsUpgrade, is_help, is_mistake, asks_for_help};
-ghost use Rattle.bully.specs.Answer.{IsAnswer, IsUpgradeAnswer, Tells, stop_line};
-ghost use Rattle.bully.specs.AnnotateAnswer.{IsAnnotateAnswer};
-ghost use Rattle.bully.specs.AskedAnswer.{IsAnswerTo};
-ghost use Rattle.bully.specs.DrawAnswer.{IsDrawAnswer};
-ghost use Rattle.bully.specs.ExplainAnswer.{IsConfigExplainAnswer, IsExplainAnswer};
-ghost use Rattle.bully.specs.ConfigAnswer.{IsPlayAnswer, IsRunAnswer, IsTableAnswer};
+ghost use Rattle.bully_cli.specs.Words.{Asked, ParsesAs, asked_for, asks_for_help, is_help, is_mistake, text_of, texts_of};
+ghost use Rattle.bully.specs.Answer.{IsAnswer, Tells, stop_line};
+ghost use Rattle.bully.specs.AskedAnswer.{IsAnswerFrom, IsAnswerTo, follows, path_asked};
+ghost use Rattle.bully.specs.Inputs.{remaining_in};
 
 use crate::annotating::answer_annotate;
 use crate::checking::answer_check;
+use crate::completing::answer_completion;
 use crate::drawing::answer_draw;
-use crate::explaining::{answer_explain, answer_explain_config};
+use crate::explaining::answer_explain;
+use crate::flags::is_given;
+use crate::following::answer_follow;
+use crate::input::{Input, answer_unopened};
 use crate::playing::answer_play;
 use crate::running::answer_run;
 use crate::tables::answer_table;
@@ -21,8 +22,9 @@ use bully_cli::{Action, action_of};
 use clap::Error;
 use clap::error::ErrorKind;
 use std::convert::AsStr;
+use std::fs::{File, OpenFile};
 use std::io::{Read, Write};
-use std::rt::Files;
+use std::rt::{Clock, Files};
 use std::sync::Wait;
 use std::thread::Threads;
 
@@ -32,30 +34,24 @@ use std::thread::Threads;
 /// written, or help was asked for and stands on the output. 1: an event of the trace is refused, or a claim or a detail of it
 /// differs. 2: bad
 /// words, a member that is no name, or owners that are no table; the message stands on `errors` and nothing on the output.
-/// 3: a fault of form in the trace or in the configuration, or an annotated trace that would be too long; its line stands on `errors` and nothing on the output. 4: Read,
+/// 3: a fault of form in the trace or in the configuration, or an annotated trace that would be too long; its line stands on `errors` and
+/// nothing on the output, but for the changes that `follow` told before. 4: a trace's file that can't be opened, Read,
 /// Write, Spawn, Finish or OutOfMemory, which a line on `errors` tells. A line on `errors` that can't be written changes no
 /// status. The words are looked at first; then the trace, or the configuration, the members and the old owners. Only words
-/// of `run` wait, for the group's threads. The rule: docs/FORMATS.md.
+/// of `run` wait, for the group's threads, and those of `follow`, for more of a file. The rule: docs/FORMATS.md.
 pub fn answer<
-    H: Files + AllocGlobal + Threads + Wait + Sync,
+    H: Files + AllocGlobal + Clock + Threads + Wait + Sync,
     S: AsStr,
     R: Read + Drop,
     W: Write,
     E: Write,
 >(rt: &H, words: &[S], input: R, output: &mut W, errors: &mut E) -> u8
     ensures check { map S.text words.now ≡ codes "check" ∷ [] → IfSome (R.remaining input) (λ bytes. IsAnswer bytes (W.contents output.old) (W.contents output.new) (E.contents errors.old) (E.contents errors.new) result) }
-    ensures parsed { ParsesAsCheck (map S.text words.now) → IfSome (R.remaining input) (λ bytes. IsAnswer bytes (W.contents output.old) (W.contents output.new) (E.contents errors.old) (E.contents errors.new) result) }
-    ensures explain { ParsesAsExplain (map S.text words.now) None → IfSome (R.remaining input) (λ bytes. IsExplainAnswer bytes (W.contents output.old) (W.contents output.new) (E.contents errors.old) (E.contents errors.new) result) }
-    ensures explain_config { (path : _) → ParsesAsExplain (map S.text words.now) (Some path) → (bytes : List ℕ) × IsConfigExplainAnswer bytes (W.contents output.old) (W.contents output.new) (E.contents errors.old) (E.contents errors.new) result }
-    ensures upgrade { ParsesAsUpgrade (map S.text words.now) → IfSome (R.remaining input) (λ bytes. IsUpgradeAnswer bytes (W.contents output.old) (W.contents output.new) (E.contents errors.old) (E.contents errors.new) result) }
-    ensures annotate { ParsesAsAnnotate (map S.text words.now) → IfSome (R.remaining input) (λ bytes. IsAnnotateAnswer bytes (W.contents output.old) (W.contents output.new) (E.contents errors.old) (E.contents errors.new) result) }
-    ensures draw { (rows : _) (text : _) (names : _) → ParsesAsDraw (map S.text words.now) rows text names → IfSome (R.remaining input) (λ bytes. IsDrawAnswer bytes rows text names (W.contents output.old) (W.contents output.new) (E.contents errors.old) (E.contents errors.new) result) }
-    ensures play { (path : _) → ParsesAsPlay (map S.text words.now) path → (bytes : List ℕ) × IsPlayAnswer bytes (W.contents output.old) (W.contents output.new) (E.contents errors.old) (E.contents errors.new) result }
-    ensures run { (path : _) → ParsesAsRun (map S.text words.now) path → (bytes : List ℕ) × IsRunAnswer bytes (W.contents output.old) (W.contents output.new) (E.contents errors.old) (E.contents errors.new) result }
-    ensures table { (path : _) (members : _) (old : _) → ParsesAsTable (map S.text words.now) path members old → (bytes : List ℕ) × IsTableAnswer bytes members old (W.contents output.old) (W.contents output.new) (E.contents errors.old) (E.contents errors.new) result }
+    ensures asked { (what : Asked) → ParsesAs (map S.text words.now) what → IsAnswerFrom (λ known. (file : H.File) × (known ≡ H.File.remaining file)) what (R.remaining input) (W.contents output.old) (W.contents output.new) (E.contents errors.old) (E.contents errors.new) result }
     ensures mistake { is_mistake (map S.text words.now) ≡ true → ((result ≡ 2) ⊎ ((result ≡ 4) × Tells (E.contents errors.old) (E.contents errors.new) (stop_line Stop.OutOfMemory))) × (output.new ≡ output.old) }
     ensures help { asks_for_help (map S.text words.now) ≡ true → ((result ≡ 0) × (errors.new ≡ errors.old)) ⊎ ((result ≡ 4) × (stop : Stop) × Tells (E.contents errors.old) (E.contents errors.new) (stop_line stop)) }
-    ensures silent { (result ≡ 2) ⊎ (result ≡ 3) → output.new ≡ output.old }
+    ensures silent { result ≡ 2 → output.new ≡ output.old }
+    ensures unwritten { result ≡ 3 → (output.new ≡ output.old) ⊎ follows (asked_for (map S.text words.now)) }
     ensures status { result ≤ 4 }
 {
     match action_of(rt.alloc(), words) {
@@ -64,28 +60,79 @@ pub fn answer<
     }
 }
 
-// Does this, and tells the status.
-fn act<H: Files + AllocGlobal + Threads + Wait + Sync, R: Read + Drop, W: Write, E: Write>(
+// Does this, and tells the status. Its trace stands on the input, or in the file that its words name.
+fn act<H: Files + AllocGlobal + Clock + Threads + Wait + Sync, R: Read + Drop, W: Write, E: Write>(
     rt: &H,
     action: &Action<'_>,
     input: R,
     output: &mut W,
     errors: &mut E,
 ) -> u8
-    ensures answer { IsAnswerTo (texts_of action.now) (R.remaining input) (W.contents output.old) (W.contents output.new) (E.contents errors.old) (E.contents errors.new) result }
-    ensures silent { (result ≡ 2) ⊎ (result ≡ 3) → output.new ≡ output.old }
+    ensures answer { IsAnswerFrom (λ known. (file : H.File) × (known ≡ H.File.remaining file)) (texts_of action.now) (R.remaining input) (W.contents output.old) (W.contents output.new) (E.contents errors.old) (E.contents errors.new) result }
+    ensures silent { result ≡ 2 → output.new ≡ output.old }
+    ensures unwritten { result ≡ 3 → (output.new ≡ output.old) ⊎ follows (Some (texts_of action.now)) }
     ensures status { result ≤ 4 }
 {
+    let Some(path) = path_of(action) else {
+        return act_on::<H, R, H::File, W, E>(rt, action, Input::Given(input), output, errors);
+    };
+    match File::open(rt, path) {
+        Ok(file) => act_on(
+            rt,
+            action,
+            Input::<R, H::File>::Opened(file),
+            output,
+            errors,
+        ),
+        Err(error) => answer_unopened(rt.alloc(), path, &error, errors),
+    }
+}
+
+// The path of the trace, where it doesn't stand on the input.
+fn path_of<'a>(action: &Action<'a>) -> Option<&'a str>
+    ensures path { text_of result ≡ path_asked (texts_of action.now) }
+{
+    let path = match action {
+        Action::Check(words) | Action::Follow(words) => words.file,
+        Action::Explain(words) if words.config.is_none() => words.file,
+        Action::Upgrade(file) | Action::Annotate(file) => *file,
+        Action::Draw(words) => words.file,
+        Action::Explain(_)
+        | Action::Play(_)
+        | Action::Run(_)
+        | Action::Table(_)
+        | Action::Completion(_) => None,
+    }?;
+    if path == "-" { None } else { Some(path) }
+}
+
+// Does this with the trace on the input, and tells the status.
+fn act_on<
+    H: Files + AllocGlobal + Clock + Threads + Wait + Sync,
+    R: Read + Drop,
+    F: Read + OpenFile + Drop,
+    W: Write,
+    E: Write,
+>(rt: &H, action: &Action<'_>, input: Input<R, F>, output: &mut W, errors: &mut E) -> u8
+    ensures answer { IsAnswerTo (texts_of action.now) (remaining_in R.remaining F.remaining input) (W.contents output.old) (W.contents output.new) (E.contents errors.old) (E.contents errors.new) result }
+    ensures silent { result ≡ 2 → output.new ≡ output.old }
+    ensures unwritten { result ≡ 3 → (output.new ≡ output.old) ⊎ follows (Some (texts_of action.now)) }
+    ensures status { result ≤ 4 }
+{
+    let alloc = rt.alloc();
     match action {
-        Action::Check => answer_check(rt.alloc(), input, output, errors),
-        Action::Explain(None) => answer_explain(rt.alloc(), input, output, errors),
-        Action::Explain(Some(path)) => answer_explain_config(rt, path, output, errors),
-        Action::Upgrade => answer_upgrade(rt.alloc(), input, output, errors),
-        Action::Annotate => answer_annotate(rt.alloc(), input, output, errors),
+        Action::Check(words) => answer_check(alloc, is_given(words.json), input, output, errors),
+        Action::Explain(words) => answer_explain(rt, words, input, output, errors),
+        Action::Follow(words) => {
+            answer_follow(rt, alloc, is_given(words.json), input, output, errors)
+        }
+        Action::Upgrade(_) => answer_upgrade(alloc, input, output, errors),
+        Action::Annotate(_) => answer_annotate(alloc, input, output, errors),
         Action::Draw(words) => answer_draw(rt, words, input, output, errors),
         Action::Play(path) => answer_play(rt, path, output, errors),
         Action::Run(path) => answer_run(rt, path, output, errors),
         Action::Table(words) => answer_table(rt, words, output, errors),
+        Action::Completion(shell) => answer_completion(alloc, shell, output, errors),
     }
 }
 

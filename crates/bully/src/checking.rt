@@ -1,25 +1,69 @@
-ghost use Rattle.std.specs.Prelude.{◌≡◌, ◌≤◌, ◌⊎◌, IfSome};
-ghost use Rattle.bully.specs.Answer.{IsAnswer, verdict_status};
+ghost use Rattle.std.specs.Prelude.{◌≡◌, ◌≤◌, ◌⊎◌, ℕ, List, Option, IfSome, true};
+ghost use Rattle.bully.specs.Answer.{IsCheckAnswer, verdict_status};
+ghost use Rattle.bully_trace.specs.Judging.{AreAllJudged};
 
-use crate::telling::{answer_fault, finish};
-use bully_trace::{Verdict, check};
+use crate::explaining::write_sheet;
+use crate::telling::{Stop, answer_fault, answer_stop, finish};
+use bully_json::{json_line, verdict_object};
+use bully_trace::{Judge, Verdict, check, judge_text};
 use std::alloc::Global;
 use std::io::{Read, Write};
 
-/// Judges the trace on the input, with the verdict on the output, and tells the status.
+/// Judges the trace on the input, with the verdict on the output, as text or as JSON, and tells the status.
 pub fn answer_check<R: Read + Drop, W: Write, E: Write>(
+    alloc: Global,
+    is_json: bool,
+    input: R,
+    output: &mut W,
+    errors: &mut E,
+) -> u8
+    ensures answer { IfSome (R.remaining input) (λ bytes. IsCheckAnswer is_json bytes (W.contents output.old) (W.contents output.new) (E.contents errors.old) (E.contents errors.new) result) }
+    ensures silent { (result ≡ 2) ⊎ (result ≡ 3) → output.new ≡ output.old }
+    ensures status { result ≤ 4 }
+{
+    if is_json {
+        return check_for_tools(alloc, input, output, errors);
+    }
+    match check(alloc, input, output) {
+        Ok(verdict) => finish(verdict_status(verdict), output, errors),
+        Err(fault) => answer_fault(alloc, fault, errors),
+    }
+}
+
+// The same with the verdict as JSON.
+fn check_for_tools<R: Read + Drop, W: Write, E: Write>(
     alloc: Global,
     input: R,
     output: &mut W,
     errors: &mut E,
 ) -> u8
-    ensures answer { IfSome (R.remaining input) (λ bytes. IsAnswer bytes (W.contents output.old) (W.contents output.new) (E.contents errors.old) (E.contents errors.new) result) }
+    ensures answer { IfSome (R.remaining input) (λ bytes. IsCheckAnswer true bytes (W.contents output.old) (W.contents output.new) (E.contents errors.old) (E.contents errors.new) result) }
     ensures silent { (result ≡ 2) ⊎ (result ≡ 3) → output.new ≡ output.old }
     ensures status { result ≤ 4 }
 {
-    match check(alloc, input, output) {
-        Ok(verdict) => finish(verdict_status(verdict), output, errors),
+    match judge_text(alloc, input) {
+        Ok(judge) => answer_judged(alloc, &judge, output, errors),
         Err(fault) => answer_fault(alloc, fault, errors),
+    }
+}
+
+// The status of a judge's verdict, which stands on the output as JSON.
+fn answer_judged<W: Write, E: Write>(
+    alloc: Global,
+    judge: &Judge,
+    output: &mut W,
+    errors: &mut E,
+) -> u8
+    ensures answer { (known : Option (List ℕ)) → AreAllJudged known judge.now → IfSome known (λ bytes. IsCheckAnswer true bytes (W.contents output.old) (W.contents output.new) (E.contents errors.old) (E.contents errors.new) result) }
+    ensures status { (result ≤ 1) ⊎ (result ≡ 4) }
+{
+    let verdict = judge.verdict();
+    let Ok(object) = verdict_object(alloc, verdict, judge.world()) else {
+        return answer_stop(Stop::OutOfMemory, errors);
+    };
+    match json_line(alloc, &object) {
+        Some(line) => write_sheet(verdict_status(verdict), line.as_str(), output, errors),
+        None => answer_stop(Stop::OutOfMemory, errors),
     }
 }
 

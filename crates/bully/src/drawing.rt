@@ -1,13 +1,15 @@
 ghost use Rattle.std.specs.Prelude.{◌≡◌, ◌≤◌, ◌⊎◌, ℕ, List, IfOk, IfSome, OnOk, map, option_map, string_bytes};
 ghost use Rattle.std.specs.Io.KnownBytes.{Appends};
 ghost use Rattle.bully.specs.Answer.{Tells, stop_line, verdict_status};
-ghost use Rattle.bully.specs.DrawAnswer.{IsBelow, IsDrawAnswer, IsNamedPicture, IsPictureAnswer, IsPictureBy, IsPictureOf, is_given, names_in, window_asked};
+ghost use Rattle.bully_cli.specs.Words.{drawn_of, text_of};
+ghost use Rattle.bully.specs.DrawAnswer.{IsBelow, IsDrawAnswer, IsFormAnswer, IsNamedPicture, IsPictureAnswer, IsPictureBy, IsPictureIn, IsPictureOf, IsSvgOf, claims_asked, form_asked, names_in, window_asked};
 ghost use Rattle.bully_picture.specs.Title.{Begins};
 ghost use Rattle.bully_rows.specs.TraceText.{line_of, row_fields};
 
 use crate::checking::verdict_status;
 use crate::configs::{bytes_at, config_of};
 use crate::explaining::write_sheet;
+use crate::flags::is_given;
 use crate::refusals::{Refusal, answer_refusal};
 use crate::telling::{Stop, answer_fault, answer_stop, tell};
 use bully_base::{Node, OutOfMemory};
@@ -15,21 +17,31 @@ use bully_cli::DrawWords;
 use bully_config::Config;
 use bully_explain::reason;
 use bully_film::{FinishedFilm, Window, film_of};
-use bully_picture::{svg_picture, text_picture};
+use bully_page::html_page;
+use bully_picture::{Claims, svg_picture, text_picture};
 use bully_rows::{Row, push_row};
 use std::alloc::Global;
 use std::io::{Read, Write};
 use std::rt::Files;
 
-/// How a picture is drawn: which rows, and whether as text for a terminal.
+/// What is drawn: an SVG picture, text for a terminal, or a page with the picture and the rows.
 #[derive(Clone, Copy)]
-struct Drawing {
-    window: Window,
-    is_text: bool,
+pub enum Form {
+    Svg,
+    Text,
+    Page,
+}
+
+/// How a picture is drawn: which rows, in which form, and whether with claims.
+#[derive(Clone, Copy)]
+pub struct Drawing {
+    pub window: Window,
+    pub form: Form,
+    pub claims: Claims,
 }
 
 /// Draws the trace on the input, with the picture on the output, and tells the status, which is that of `check`. The words are looked at
-/// first, then the configuration with the names, then the trace.
+/// first, then the configuration with the names, then the trace. Bad words are `--html` beside `--text`, and rows that can't be shown.
 pub fn answer_draw<H: Files + AllocGlobal, R: Read + Drop, W: Write, E: Write>(
     rt: &H,
     words: &DrawWords<'_>,
@@ -38,12 +50,54 @@ pub fn answer_draw<H: Files + AllocGlobal, R: Read + Drop, W: Write, E: Write>(
     errors: &mut E,
 ) -> u8
     ensures answer { IfSome (R.remaining input) (λ bytes.
-        IsDrawAnswer bytes (option_map (λ s. s.now) words.now.rows) (option_map (λ s. s.now) words.now.text) (option_map (λ s. s.now) words.now.names) (W.contents output.old) (W.contents output.new) (E.contents errors.old) (E.contents errors.new) result) }
+        IsDrawAnswer bytes (drawn_of words.now) (W.contents output.old) (W.contents output.new) (E.contents errors.old) (E.contents errors.new) result) }
+    ensures silent { (result ≡ 2) ⊎ (result ≡ 3) → output.new ≡ output.old }
+    ensures status { result ≤ 4 }
+{
+    match form_of(is_given(words.text), is_given(words.html)) {
+        Some(form) => draw_as(rt, words, form, input, output, errors),
+        None => {
+            tell(errors, "bully: words: Html\n");
+            2
+        }
+    }
+}
+
+// The form that the words ask for. None where they ask for two.
+fn form_of(text: bool, html: bool) -> Option<Form>
+    ensures { result ≡ form_asked text html }
+{
+    match (text, html) {
+        (true, true) => None,
+        (true, false) => Some(Form::Text),
+        (false, true) => Some(Form::Page),
+        (false, false) => Some(Form::Svg),
+    }
+}
+
+// Draws the trace on the input in this form, as the other words say.
+fn draw_as<H: Files + AllocGlobal, R: Read + Drop, W: Write, E: Write>(
+    rt: &H,
+    words: &DrawWords<'_>,
+    form: Form,
+    input: R,
+    output: &mut W,
+    errors: &mut E,
+) -> u8
+    ensures answer { IfSome (R.remaining input) (λ bytes.
+        IsFormAnswer bytes (drawn_of words.now) form (W.contents output.old) (W.contents output.new) (E.contents errors.old) (E.contents errors.new) result) }
     ensures silent { (result ≡ 2) ⊎ (result ≡ 3) → output.new ≡ output.old }
     ensures status { result ≤ 4 }
 {
     match window_of(words.rows) {
-        Some(window) => draw_words(rt, words, window, input, output, errors),
+        Some(window) => {
+            let drawing = Drawing {
+                window,
+                form,
+                claims: claims_of(is_given(words.without_claims)),
+            };
+            draw_words(rt, words.names, drawing, input, output, errors)
+        }
         None => {
             tell(errors, "bully: words: Rows\n");
             2
@@ -51,37 +105,34 @@ pub fn answer_draw<H: Files + AllocGlobal, R: Read + Drop, W: Write, E: Write>(
     }
 }
 
-// Draws these rows of the trace on the input, as the other words say.
+// Whether claims are drawn.
+fn claims_of(without: bool) -> Claims
+    ensures { result ≡ claims_asked without }
+{
+    if without {
+        Claims::LeftOut
+    } else {
+        Claims::Shown
+    }
+}
+
+// Draws the trace on the input, with the names of the configuration at the path, where there is one.
 fn draw_words<H: Files + AllocGlobal, R: Read + Drop, W: Write, E: Write>(
     rt: &H,
-    words: &DrawWords<'_>,
-    window: Window,
+    names: Option<&str>,
+    drawing: Drawing,
     input: R,
     output: &mut W,
     errors: &mut E,
 ) -> u8
     ensures answer { IfSome (R.remaining input) (λ bytes.
-        IsNamedPicture bytes (option_map (λ s. s.now) words.now.names) window (is_given (option_map (λ s. s.now) words.now.text)) (W.contents output.old) (W.contents output.new) (E.contents errors.old) (E.contents errors.new) result) }
+        IsNamedPicture bytes (text_of names.entry) drawing (W.contents output.old) (W.contents output.new) (E.contents errors.old) (E.contents errors.new) result) }
     ensures silent { (result ≡ 2) ⊎ (result ≡ 3) → output.new ≡ output.old }
     ensures status { result ≤ 4 }
 {
-    let drawing = Drawing {
-        window,
-        is_text: is_given(words.text),
-    };
-    match words.names {
+    match names {
         Some(path) => draw_named(rt, path, drawing, input, output, errors),
         None => draw_input(rt.alloc(), drawing, None, input, output, errors),
-    }
-}
-
-// Whether the flag was given.
-fn is_given(flag: Option<&str>) -> bool
-    ensures { result ≡ is_given (option_map (λ s. s.now) flag.entry) }
-{
-    match flag {
-        Some(flag) => flag == "true",
-        None => false,
     }
 }
 
@@ -104,7 +155,7 @@ fn draw_named<H: Files + AllocGlobal, R: Read + Drop, W: Write, E: Write>(
     output: &mut W,
     errors: &mut E,
 ) -> u8
-    ensures answer { (file : List ℕ) × IfSome (R.remaining input) (λ bytes. IsPictureBy bytes file drawing.window drawing.is_text (W.contents output.old) (W.contents output.new) (E.contents errors.old) (E.contents errors.new) result) }
+    ensures answer { (file : List ℕ) × IfSome (R.remaining input) (λ bytes. IsPictureBy bytes file drawing (W.contents output.old) (W.contents output.new) (E.contents errors.old) (E.contents errors.new) result) }
     ensures silent { (result ≡ 2) ⊎ (result ≡ 3) → output.new ≡ output.old }
     ensures status { result ≤ 4 }
 {
@@ -123,7 +174,7 @@ fn draw_with<R: Read + Drop, W: Write, E: Write>(
     output: &mut W,
     errors: &mut E,
 ) -> u8
-    ensures answer { IfSome (R.remaining input) (λ bytes. IsPictureBy bytes file.now drawing.window drawing.is_text (W.contents output.old) (W.contents output.new) (E.contents errors.old) (E.contents errors.new) result) }
+    ensures answer { IfSome (R.remaining input) (λ bytes. IsPictureBy bytes file.now drawing (W.contents output.old) (W.contents output.new) (E.contents errors.old) (E.contents errors.new) result) }
     ensures silent { (result ≡ 2) ⊎ (result ≡ 3) → output.new ≡ output.old }
     ensures status { result ≤ 4 }
 {
@@ -142,12 +193,12 @@ fn draw_input<R: Read + Drop, W: Write, E: Write>(
     output: &mut W,
     errors: &mut E,
 ) -> u8
-    ensures answer { IfSome (R.remaining input) (λ bytes. IsPictureAnswer bytes drawing.window drawing.is_text (names_in (option_map (λ c. c.now) names.entry)) (W.contents output.old) (W.contents output.new) (E.contents errors.old) (E.contents errors.new) result) }
+    ensures answer { IfSome (R.remaining input) (λ bytes. IsPictureAnswer bytes drawing (names_in (option_map (λ c. c.now) names.entry)) (W.contents output.old) (W.contents output.new) (E.contents errors.old) (E.contents errors.new) result) }
     ensures silent { (result ≡ 2) ⊎ (result ≡ 3) → output.new ≡ output.old }
     ensures status { result ≤ 4 }
 {
     match film_of(alloc, input, drawing.window) {
-        Ok(finished) => draw_finished(alloc, &finished, drawing.is_text, names, output, errors),
+        Ok(finished) => draw_finished(alloc, &finished, drawing, names, output, errors),
         Err(fault) => answer_fault(alloc, fault, errors),
     }
 }
@@ -156,17 +207,17 @@ fn draw_input<R: Read + Drop, W: Write, E: Write>(
 fn draw_finished<W: Write, E: Write>(
     alloc: Global,
     finished: &FinishedFilm,
-    is_text: bool,
+    drawing: Drawing,
     names: Option<&Config>,
     output: &mut W,
     errors: &mut E,
 ) -> u8
-    ensures answer { ((picture : List ℕ) × IsPictureOf is_text finished.now (names_in (option_map (λ c. c.now) names.entry)) picture × (((result ≡ verdict_status finished.now.verdict) × Appends (W.contents output.old) (W.contents output.new) picture × (errors.new ≡ errors.old))
+    ensures answer { ((picture : List ℕ) × IsPictureOf drawing finished.now (names_in (option_map (λ c. c.now) names.entry)) picture × (((result ≡ verdict_status finished.now.verdict) × Appends (W.contents output.old) (W.contents output.new) picture × (errors.new ≡ errors.old))
         ⊎ ((result ≡ 4) × Tells (E.contents errors.old) (E.contents errors.new) (stop_line Stop.Write))))
         ⊎ ((result ≡ 4) × (output.new ≡ output.old) × Tells (E.contents errors.old) (E.contents errors.new) (stop_line Stop.OutOfMemory)) }
     ensures status { (result ≤ 1) ⊎ (result ≡ 4) }
 {
-    match picture_of(alloc, finished, is_text, names) {
+    match picture_of(alloc, finished, drawing, names) {
         Ok(picture) => write_sheet(
             verdict_status(finished.verdict),
             picture.as_str(),
@@ -181,17 +232,58 @@ fn draw_finished<W: Write, E: Write>(
 fn picture_of(
     alloc: Global,
     finished: &FinishedFilm,
-    is_text: bool,
+    drawing: Drawing,
     names: Option<&Config>,
 ) -> Result<String, OutOfMemory>
-    ensures { IfOk result (λ picture. IsPictureOf is_text finished.now (names_in (option_map (λ c. c.now) names.entry)) (string_bytes picture)) }
+    ensures { IfOk result (λ picture. IsPictureOf drawing finished.now (names_in (option_map (λ c. c.now) names.entry)) (string_bytes picture)) }
 {
     let below = below(alloc, finished)?;
-    if is_text {
-        return text_picture(alloc, finished, below.as_str());
-    }
     let names = names_of(alloc, names)?;
-    svg_picture(alloc, finished, names.as_slice(), below.as_str())
+    picture_in(alloc, finished, drawing, names.as_slice(), below.as_str())
+}
+
+// The same above this text, with these names.
+fn picture_in(
+    alloc: Global,
+    finished: &FinishedFilm,
+    drawing: Drawing,
+    names: &[&str],
+    below: &str,
+) -> Result<String, OutOfMemory>
+    ensures { IfOk result (λ picture. IsPictureIn drawing.form drawing.claims finished.now (map (λ s. s.now) names.now) below.now (string_bytes picture)) }
+{
+    match drawing.form {
+        Form::Text => text_picture(alloc, finished, below),
+        Form::Svg => svg_of(alloc, finished, drawing.claims, names, below),
+        Form::Page => page_of(alloc, finished, drawing.claims, names, below),
+    }
+}
+
+// The picture as SVG.
+fn svg_of(
+    alloc: Global,
+    finished: &FinishedFilm,
+    claims: Claims,
+    names: &[&str],
+    below: &str,
+) -> Result<String, OutOfMemory>
+    ensures { IfOk result (λ picture. IsSvgOf claims finished.now (map (λ s. s.now) names.now) below.now (string_bytes picture)) }
+{
+    svg_picture(alloc, finished, names, claims, below)
+}
+
+// The page with that.
+fn page_of(
+    alloc: Global,
+    finished: &FinishedFilm,
+    claims: Claims,
+    names: &[&str],
+    below: &str,
+) -> Result<String, OutOfMemory>
+    ensures { IfOk result (λ page. IsPictureIn Form.Page claims finished.now (map (λ s. s.now) names.now) below.now (string_bytes page)) }
+{
+    let picture = svg_of(alloc, finished, claims, names, below)?;
+    html_page(alloc, finished, picture.as_str(), names, claims, below)
 }
 
 // The line of the row that decided, and why it did; nothing of a lawful trace.

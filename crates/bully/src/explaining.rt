@@ -1,17 +1,22 @@
-ghost use Rattle.std.specs.Prelude.{◌≡◌, ◌≤◌, ◌⊎◌, ◌++◌, ℕ, List, IfOk, IfSome, string_bytes};
+ghost use Rattle.std.specs.Prelude.{◌≡◌, ◌≤◌, ◌⊎◌, ◌++◌, ℕ, List, None, IfOk, IfSome, MatchOption, is_some, string_bytes};
 ghost use Rattle.std.specs.Io.KnownBytes.{Appends};
-ghost use Rattle.bully.specs.Answer.{Tells, row_line, stop_line, verdict_status};
+ghost use Rattle.bully.specs.Answer.{Tells, is_given, row_line, stop_line, verdict_status};
+ghost use Rattle.bully.specs.ConfigAnswer.{IsStopped};
+ghost use Rattle.bully_cli.specs.Words.{text_of};
 ghost use Rattle.bully.specs.RefusalText.{refusal_line};
 ghost use Rattle.std.specs.Str.{IsUtf8};
-ghost use Rattle.bully.specs.ExplainAnswer.{IsConfigExplainAnswer, IsExplainAnswer};
+ghost use Rattle.bully.specs.ExplainAnswer.{IsConfigExplainAnswer, IsConfigExplained, IsExplainAnswer};
 
 use crate::checking::verdict_status;
 use crate::configs::bytes_at;
+use crate::flags::is_given;
 use crate::refusals::Refusal;
 use crate::telling::{Stop, answer_fault, answer_stop, finish, row_line, tell};
 use bully_base::OutOfMemory;
+use bully_cli::ExplainWords;
 use bully_config::ConfigFault;
 use bully_explain::{explain, explain_config};
+use bully_json::{SheetObject, head_object, json_line};
 use bully_rows::TraceFault;
 use bully_trace::Verdict;
 use std::alloc::Global;
@@ -19,10 +24,39 @@ use std::io::{Read, Write};
 use std::rt::Files;
 use std::str;
 
-/// Explains the verdict on the trace on the input, with its sheet on the output, and tells the status, which is that of
-/// `check`. The sheet of a fault of form stands on the errors, behind the line of the fault.
-pub fn answer_explain<R: Read + Drop, W: Write, E: Write>(
+/// Explains the verdict on the trace on the input, or the first fault of a configuration, as the words say, and tells the status. Bad words
+/// are a FILE or `--json` beside `--config`.
+pub fn answer_explain<H: Files + AllocGlobal, R: Read + Drop, W: Write, E: Write>(
+    rt: &H,
+    words: &ExplainWords<'_>,
+    input: R,
+    output: &mut W,
+    errors: &mut E,
+) -> u8
+    ensures answer { MatchOption (text_of words.now.config) (IfSome (R.remaining input) (λ bytes. IsExplainAnswer bytes (W.contents output.old) (W.contents output.new) (E.contents errors.old) (E.contents errors.new) result)) (λ _. IsConfigExplained (is_some (text_of words.now.file)) (is_given (text_of words.now.json)) (W.contents output.old) (W.contents output.new) (E.contents errors.old) (E.contents errors.new) result) }
+    ensures silent { (result ≡ 2) ⊎ (result ≡ 3) → output.new ≡ output.old }
+    ensures status { result ≤ 4 }
+{
+    let is_json = is_given(words.json);
+    let Some(path) = words.config else {
+        return explain_trace(rt.alloc(), is_json, input, output, errors);
+    };
+    if words.file.is_some() {
+        tell(errors, "bully: words: File\n");
+        return 2;
+    }
+    if is_json {
+        tell(errors, "bully: words: Json\n");
+        return 2;
+    }
+    answer_explain_config(rt, path, output, errors)
+}
+
+// Explains the verdict on the trace on the input, with its sheet on the output, as text or as JSON, and tells the status, which is that of
+// `check`. The sheet of a fault of form stands on the errors, behind the line of the fault.
+fn explain_trace<R: Read + Drop, W: Write, E: Write>(
     alloc: Global,
+    is_json: bool,
     input: R,
     output: &mut W,
     errors: &mut E,
@@ -33,25 +67,47 @@ pub fn answer_explain<R: Read + Drop, W: Write, E: Write>(
 {
     match &explain(alloc, input) {
         Ok(sheet) => match sheet.told {
-            Ok(verdict) => answer_sheet(verdict, sheet.text.as_str(), output, errors),
+            Ok(verdict) => answer_sheet(
+                alloc,
+                is_json,
+                verdict,
+                sheet.text.as_str(),
+                output,
+                errors,
+            ),
             Err(fault) => answer_form(alloc, fault, sheet.text.as_str(), errors),
         },
         Err(fault) => answer_fault(alloc, *fault, errors),
     }
 }
 
-// The status of a verdict, whose sheet stands on the output.
+// The status of a verdict, whose sheet stands on the output, as text or as JSON.
 fn answer_sheet<W: Write, E: Write>(
+    alloc: Global,
+    is_json: bool,
     verdict: Verdict,
     sheet: &str,
     output: &mut W,
     errors: &mut E,
 ) -> u8
-    ensures answer { ((result ≡ verdict_status verdict) × Appends (W.contents output.old) (W.contents output.new) sheet.now × (errors.new ≡ errors.old))
-        ⊎ ((result ≡ 4) × Tells (E.contents errors.old) (E.contents errors.new) (stop_line Stop.Write)) }
+    ensures answer { ((result ≡ verdict_status verdict) × ((text : List ℕ) × Appends (W.contents output.old) (W.contents output.new) text) × (errors.new ≡ errors.old))
+        ⊎ IsStopped (W.contents output.old) (W.contents output.new) (E.contents errors.old) (E.contents errors.new) result }
     ensures status { (result ≤ 1) ⊎ (result ≡ 4) }
 {
-    write_sheet(verdict_status(verdict), sheet, output, errors)
+    let status = verdict_status(verdict);
+    if !is_json {
+        return write_sheet(status, sheet, output, errors);
+    }
+    match json_line(
+        alloc,
+        &SheetObject {
+            verdict: head_object(verdict),
+            sheet,
+        },
+    ) {
+        Some(line) => write_sheet(status, line.as_str(), output, errors),
+        None => answer_stop(Stop::OutOfMemory, errors),
+    }
 }
 
 /// Writes the text, and tells this status.

@@ -1,7 +1,8 @@
-//! The program `bully`: it judges, upgrades and annotates recorded traces, explains verdicts, plays groups, runs them in threads,
-//! and plans tables.
+//! The program `bully`: it judges, follows, explains, draws, upgrades and annotates recorded traces, plays groups, runs them in threads,
+//! plans tables, and completes its own words.
 //!
-//! It stands on bully_nodes, bully_explain, bully_annotate, bully_config, bully_table, the crates below them, and bully_cli.
+//! It stands on bully_nodes, bully_follow, bully_explain, bully_page, bully_picture, bully_annotate, bully_json, bully_config, bully_table,
+//! the crates below them, bully_paint and bully_cli.
 //! No crate stands on it; its callers rely on the statuses: 0 done, lawful or help asked for; 1 refused or differs; 2 bad
 //! words; 3 a fault of form in a trace or a configuration, or a trace too long to annotate; 4 what stops it from outside, as
 //! Read, Write, Spawn, Finish or OutOfMemory.
@@ -10,9 +11,15 @@
 mod annotating;
 mod answering;
 mod checking;
+mod colours;
+mod completing;
 mod configs;
 mod drawing;
 mod explaining;
+mod flags;
+mod following;
+mod growing;
+mod input;
 mod pipes;
 mod playing;
 mod refusals;
@@ -22,21 +29,27 @@ mod telling;
 mod upgrading;
 
 use crate::answering::answer;
+use crate::colours::{are_wanted, ask_for_people};
 use crate::telling::{Stop, answer_stop, answer_unread};
-use std::io::BufWriter;
+use bully_paint::Painted;
+use std::io::{BufWriter, IsTerminal};
 use std::process::ExitCode;
 use std::{env, io};
 
 fn main(rt: HostRuntime) -> ExitCode {
-    let mut errors = rt.stderr();
+    let mut errors = Painted::new(rt.stderr(), rt.stderr().is_terminal() && are_wanted(&rt));
     let words = match words_after_name(&rt) {
         Ok(words) => words,
         Err(error) => return ExitCode::from(answer_unread(&error, &mut errors)),
     };
-    let Ok(mut output) = BufWriter::new(rt.alloc(), rt.stdout()) else {
+    let words = words.as_slice();
+    let Ok(output) = BufWriter::new(rt.alloc(), rt.stdout()) else {
         return ExitCode::from(answer_stop(Stop::OutOfMemory, &mut errors));
     };
-    let words = words.as_slice();
+    let is_coloured = rt.stdout().is_terminal()
+        && are_wanted(&rt)
+        && ask_for_people(rt.alloc(), words);
+    let mut output = Painted::new(output, is_coloured);
     ExitCode::from(answer(&rt, words, rt.stdin(), &mut output, &mut errors))
 }
 

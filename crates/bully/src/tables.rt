@@ -1,17 +1,20 @@
 ghost use Rattle.std.specs.Prelude.{◌≡◌, ◌≢◌, ◌≤◌, ◌⊎◌, ℕ, List, All, None, Some, length, map, option_map, IfOk, IfErr, IfSome, string_bytes};
 ghost use Rattle.std.specs.Option.{option_copied};
 ghost use Rattle.std.specs.Io.KnownBytes.{Appends};
-ghost use Rattle.bully.specs.Answer.{Tells, stop_line};
+ghost use Rattle.bully.specs.Answer.{Tells, is_given, stop_line};
 ghost use Rattle.bully.specs.ConfigAnswer.{IsTableAnswer};
-ghost use Rattle.bully.specs.PlanText.{plan_text};
+ghost use Rattle.bully.specs.PlanText.{IsPlanTold, plan_text};
+ghost use Rattle.bully_cli.specs.Words.{text_of as words_text};
 ghost use Rattle.bully.specs.Wanted.{IsPlanOf, Wants, members_named, wanted_after, wanted_for, wanted_in};
 
 use crate::configs::{bytes_at, config_of};
+use crate::flags::is_given;
 use crate::refusals::{Refusal, answer_refusal};
 use crate::telling::{Stop, answer_stop, finish};
 use bully_base::{NodeSet, OutOfMemory, Setup};
 use bully_cli::TableWords;
 use bully_config::Config;
+use bully_json::{json_line, plan_object};
 use bully_table::{Table, TablePlan, plan_in, push_owners};
 use std::alloc::Global;
 use std::io::Write;
@@ -25,7 +28,7 @@ pub fn answer_table<H: Files + AllocGlobal, W: Write, E: Write>(
     output: &mut W,
     errors: &mut E,
 ) -> u8
-    ensures answer { (bytes : List ℕ) × IsTableAnswer bytes (map (λ s. s.now) words.now.members.items) (option_map (λ s. s.now) words.now.old) (W.contents output.old) (W.contents output.new) (E.contents errors.old) (E.contents errors.new) result }
+    ensures answer { (bytes : List ℕ) × IsTableAnswer (is_given (words_text words.now.json)) bytes (map (λ s. s.now) words.now.members.items) (option_map (λ s. s.now) words.now.old) (W.contents output.old) (W.contents output.new) (E.contents errors.old) (E.contents errors.new) result }
     ensures silent { (result ≡ 2) ⊎ (result ≡ 3) → output.new ≡ output.old }
     ensures status { result ≤ 4 }
 {
@@ -44,12 +47,12 @@ pub fn plan_bytes<W: Write, E: Write>(
     output: &mut W,
     errors: &mut E,
 ) -> u8
-    ensures answer { IsTableAnswer bytes.now (map (λ s. s.now) words.now.members.items) (option_map (λ s. s.now) words.now.old) (W.contents output.old) (W.contents output.new) (E.contents errors.old) (E.contents errors.new) result }
+    ensures answer { IsTableAnswer (is_given (words_text words.now.json)) bytes.now (map (λ s. s.now) words.now.members.items) (option_map (λ s. s.now) words.now.old) (W.contents output.old) (W.contents output.new) (E.contents errors.old) (E.contents errors.new) result }
     ensures silent { (result ≡ 2) ⊎ (result ≡ 3) → output.new ≡ output.old }
     ensures status { result ≤ 4 }
 {
     match plan_of(alloc, bytes, words) {
-        Ok(plan) => answer_plan(alloc, &plan, output, errors),
+        Ok(plan) => answer_plan(alloc, is_given(words.json), &plan, output, errors),
         Err(refusal) => answer_refusal(alloc, refusal, errors),
     }
 }
@@ -123,22 +126,34 @@ fn members_of(config: &Config, names: &[&str]) -> Result<NodeSet, Refusal>
     Ok(members)
 }
 
-// The status of a plan, which stands on the output.
+// The status of a plan, which stands on the output, as text or as JSON.
 fn answer_plan<W: Write, E: Write>(
     alloc: Global,
+    is_json: bool,
     plan: &TablePlan,
     output: &mut W,
     errors: &mut E,
 ) -> u8
-    ensures { ((result ≡ 0) × Appends (W.contents output.old) (W.contents output.new) (plan_text plan.now.table plan.now.moves plan.now.bound) × (errors.new ≡ errors.old)) ⊎ ((result ≡ 4) × (stop : Stop) × (stop ≢ Stop.Write → output.new ≡ output.old) × Tells (E.contents errors.old) (E.contents errors.new) (stop_line stop)) }
+    ensures { ((result ≡ 0) × ((text : List ℕ) × IsPlanTold is_json plan.now text × Appends (W.contents output.old) (W.contents output.new) text) × (errors.new ≡ errors.old)) ⊎ ((result ≡ 4) × (stop : Stop) × (stop ≢ Stop.Write → output.new ≡ output.old) × Tells (E.contents errors.old) (E.contents errors.new) (stop_line stop)) }
 {
-    let Ok(text) = text_of(alloc, plan) else {
+    let Some(text) = told_text(alloc, is_json, plan) else {
         return answer_stop(Stop::OutOfMemory, errors);
     };
     if output.write_all(text.as_bytes()).is_err() {
         return answer_stop(Stop::Write, errors);
     }
     finish(0, output, errors)
+}
+
+// What is told of a plan, as text or as JSON; none where an allocation fails.
+fn told_text(alloc: Global, is_json: bool, plan: &TablePlan) -> Option<String>
+    ensures { IfSome result (λ text. IsPlanTold is_json plan.now (string_bytes text)) }
+{
+    if !is_json {
+        return text_of(alloc, plan).ok();
+    }
+    let object = plan_object(alloc, plan).ok()?;
+    json_line(alloc, &object)
 }
 
 // The text of a plan: its owners, its moves and its bound, a line each.

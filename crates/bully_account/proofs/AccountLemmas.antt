@@ -1,10 +1,7 @@
 -- What an account comes to behind each row.
-use Rattle.std.proofs.Common.{◌≡◌, ℕ, ◌+◌, ◌++◌, List, [], ◌∷◌, Option, Some, None, length, refl}
-use Rattle.std.specs.Prelude.{IfSome, IsSomeAnd}
+use Rattle.std.proofs.Common.{◌≡◌, ℕ, ◌+◌, ◌++◌, List, [], ◌∷◌, Option, Some, None, length, refl, IfSome, IsSomeAnd}
 use Rattle.bully_base.specs.Setup.{Setup}
 use Rattle.bully_rows.specs.declared.trace.Row.{Row}
-use Rattle.bully_rows.specs.Rows.{OfTrace}
-use Rattle.bully_rows.specs.Trace.{headed}
 use Rattle.bully_trace.specs.Judging.{AreAllJudged, HasJudged, JudgeState}
 use Rattle.bully_account.specs.declared.account.Stop.{Stop}
 use Rattle.bully_account.specs.Accounts.{AccountState, AreAllTaken, HasTaken}
@@ -40,8 +37,3 @@ taken-more rows row setup judge after stop stop' memories memories' taken judged
 -- the judge's part of what was taken
 pub all-judged : (known : Option (List ℕ)) (account : AccountState) → AreAllTaken known account → AreAllJudged known account.judge
 all-judged known account (header, rows, is, within, (taken, version)) = (header, rows, is, within, (taken.judged, version))
-
--- the trace of the text is the one whose rows were taken
-pub taken-of-trace : (known : Option (List ℕ)) (account : AccountState) → AreAllTaken known account → OfTrace known (λ trace. HasTaken trace.setup trace.rows account)
-taken-of-trace None account all = tt
-taken-of-trace (Some bytes) account (header, rows, is, within, (taken, version)) = (headed header rows, is, taken)

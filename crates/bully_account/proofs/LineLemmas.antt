@@ -1,6 +1,6 @@
 -- How many line feeds there are within the first fields of a row.
 use Rattle.std.proofs.Common.{◌≡◌, ◌∙◌, ℕ, ◌+◌, ◌-◌, ◌<◌, ◌++◌, List, [], ◌∷◌, Some, length, take, ap, arith}
-use Rattle.std.proofs.lemmas.List.{take_all, take_more}
+use Rattle.std.proofs.lemmas.List.{take_more}
 use Rattle.csv.specs.Records.{field_at}
 use Rattle.csv.proofs.RecordFacts.{field-get}
 use Rattle.bully_account.specs.Lines.{feeds, feeds_within}
@@ -18,9 +18,3 @@ feeds-more line first next i fields field within is so_far one =
     let sum : feeds_within (take (i + 1) fields) ≡ feeds_within (take i fields) + feeds field =
     ap feeds_within all ∙ feeds-append (take i fields) field in
     omega (arith, so_far, one, sum)
-
--- all fields
-pub feeds-all : (line first i : ℕ) (fields : List (List ℕ)) → i ≡ length fields → first ≡ line - feeds_within (take i fields) → first ≡ line - feeds_within fields
-feeds-all line first i fields all so_far =
-    let whole : take i fields ≡ fields = take_all i fields (omega (arith, all)) in
-    rw whole at so_far

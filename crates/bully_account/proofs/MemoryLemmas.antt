@@ -1,6 +1,5 @@
 -- The last notes of a list.
-use Rattle.std.proofs.Common.{◌≡◌, ◌-◌, ◌<◌, List, [], ◌∷◌, ◌++◌, length, length-append, arith}
-use Rattle.std.specs.Prelude.{remove}
+use Rattle.std.proofs.Common.{◌≡◌, ◌-◌, ◌<◌, List, [], ◌∷◌, ◌++◌, length, length-append, arith, remove}
 use Rattle.std.proofs.lemmas.Grind.{common_steps}
 use Rattle.bully_account.specs.declared.TheConstants.{ROWS_KEPT}
 use Rattle.bully_account.specs.declared.memory.Note.{Note}

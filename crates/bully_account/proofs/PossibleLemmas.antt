@@ -1,7 +1,6 @@
 -- Which kinds of event of a node nothing refuses.
-use Rattle.std.proofs.Common.{◌≡◌, ◌≢◌, ◌↔◌, ◌∙◌, ◌<◌, ℕ, Bool, true, false, List, Option, Some, None, refl, sym, ap, subst}
+use Rattle.std.proofs.Common.{◌≡◌, ◌≢◌, ◌↔◌, ◌∙◌, ◌<◌, ℕ, Bool, true, false, List, Option, Some, None, refl, sym, ap, subst, is_none, filter, IfOk, IfSome, Ok, Err, Result}
 use Rattle.std.specs.Global.{Vec}
-use Rattle.std.specs.Prelude.{is_none, filter, IfOk, IfSome, Ok, Err, Result}
 use Rattle.std.specs.Option.{option_map_or}
 use Rattle.bully_base.specs.NodeSet.{with_node}
 use Rattle.bully_base.specs.Setup.{Setup}

@@ -1,6 +1,6 @@
 -- Which rows are remembered, behind one more row, and where one more is noted.
-use Rattle.std.proofs.Common.{◌≡◌, ◌∙◌, ℕ, ◌+◌, ◌-◌, ◌<◌, ◌≤◌, ◌++◌, Bool, true, false, List, [], ◌∷◌, Option, Some, None, length, drop, get_or, set, zero, suc, refl, sym, ap, subst, arith, length-drop, append_assoc}
-use Rattle.std.specs.Prelude.{IfSome, option_map, slice_get, if◌then◌else◌}
+use Rattle.std.proofs.Common.{◌≡◌, ◌∙◌, ℕ, ◌+◌, ◌-◌, ◌<◌, ◌≤◌, ◌++◌, Bool, true, false, List, [], ◌∷◌, Option, Some, None, length, drop, get_or, set, zero, suc, refl, sym, ap, subst, arith, length-drop, append_assoc, IfSome, option_map, slice_get, if◌then◌else◌}
+use Rattle.std.proofs.lemmas.Option.{same_Some}
 use Rattle.bully_base.specs.Setup.{Setup}
 use Rattle.bully_calls.specs.declared.call.Call.{Call}
 use Rattle.bully_calls.specs.declared.call.CallKind.{CallKind}
@@ -14,13 +14,6 @@ use Rattle.bully_account.specs.declared.memory.Note.{Note}
 use Rattle.bully_account.specs.declared.memory.What.{What}
 use Rattle.bully_account.specs.Remembered.{Remembered, noted}
 use Rattle.bully_account.specs.RowsOf.{AreNotesOf, AreRemembered, IsEventAt, IsNoteOf, IsRemembered, IsRowAt, IsStepAt}
-
-abbrev value-or : {A : Type 0} → A → Option A → A
-value-or d None = d
-value-or d (Some x) = x
-
-some-same : {A : Type 0} {x y : A} → Some x ≡ Some y → x ≡ y
-some-same {A} {x} {y} e = ap (value-or x) e
 
 -- one more row
 pub row-more : (rows : List Row) (last : Row) (number : ℕ) (row : Row) → IsRowAt rows number row → IsRowAt (rows ++ last ∷ []) number row
@@ -148,7 +141,7 @@ pub remembered-at : (setup : Setup) (rows : List Row) (i j k : ℕ) (memories : 
 remembered-at setup rows i j k [] m all is place = absurd (cc is)
 remembered-at setup rows i j zero (first ∷ others) m (head, all) is place =
     let same : i ≡ j = omega (arith, place) in
-    let one : first ≡ m = some-same is in
+    let one : first ≡ m = same_Some first m is in
     subst (λ x. IsRemembered setup rows j x) one (subst (λ x. IsRemembered setup rows x first) same head)
 remembered-at setup rows i j (suc k) (first ∷ others) m (head, all) is place = remembered-at setup rows (i + 1) j k others m all is (omega (arith, place))
 

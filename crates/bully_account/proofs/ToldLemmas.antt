@@ -1,6 +1,5 @@
 -- What is told of a text, from what its rows came to.
-use Rattle.std.proofs.Common.{◌≡◌, ℕ, List, Option, Some, None, Result, Ok, Err, refl}
-use Rattle.std.specs.Prelude.{IfOk, IfErr}
+use Rattle.std.proofs.Common.{◌≡◌, ℕ, List, Option, Some, None, Result, Ok, Err, refl, IfOk, IfErr}
 use Rattle.bully_base.specs.Setup.{Setup}
 use Rattle.bully_world.specs.State.{IsReached, world_of}
 use Rattle.bully_world.specs.World.{first_world}

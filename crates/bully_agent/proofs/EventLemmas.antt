@@ -1,8 +1,7 @@
 -- What each event needs of a node on its own, case by case: what it leaves of a call that ran, what its refusals read, and what becomes
 -- of a reply that is under way.
-use Rattle.std.proofs.Common.{None, Some, ap, arith, false, inl, inr, refl, true, ℕ, ◌∙◌, ◌≡◌}
+use Rattle.std.proofs.Common.{None, Some, ap, arith, false, inl, inr, refl, true, ℕ, ◌∙◌, ◌≡◌, ◌==◌}
 use Rattle.std.proofs.lemmas.Bool.Decides.{nat_tests}
-use Rattle.std.specs.Prelude.{◌==◌}
 use Rattle.bully_agent.specs.Agent.{IsAlone}
 use Rattle.bully_agent.specs.Calls.{HasRun}
 use Rattle.bully_agent.specs.Laws.{ends_call}

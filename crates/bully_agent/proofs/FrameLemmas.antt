@@ -1,15 +1,15 @@
 -- A step leaves what is kept of every node but the one at which it takes place a part of the world.
-use Rattle.std.proofs.Common.{◌≡◌, ◌≢◌, ℕ, ◌⊎◌, inl, inr, true, false, Some, refl, sym, ◌∙◌, ap, subst, arith}
-use Rattle.std.specs.Prelude.{◌==◌, option_map, if◌then◌else◌}
+use Rattle.std.proofs.Common.{◌≡◌, ◌≢◌, ℕ, ◌⊎◌, inl, inr, true, false, Some, refl, sym, ◌∙◌, ap, subst, arith, ◌==◌, option_map, if◌then◌else◌}
 use Rattle.std.specs.Option.{option_map_or}
 use Rattle.std.proofs.lemmas.Bool.Decides.{nat_tests}
+use Rattle.std.proofs.lemmas.Option.{same_Some}
 use Rattle.bully_base.specs.Setup.{Setup}
 use Rattle.bully_calls.specs.declared.call.Answer.{Answer}
 use Rattle.bully_calls.specs.declared.call.Phase.{Phase}
 use Rattle.bully_calls.specs.Pending.{Pending, is_sent}
 use Rattle.bully_calls.specs.Slot.{SlotCall, pending_of}
-use Rattle.bully_handlers.specs.Handler.{reply}
 use Rattle.bully_calls.specs.declared.event.Event.{Event}
+use Rattle.bully_handlers.specs.Handler.{reply}
 use Rattle.bully_world.specs.Cause.{in_phase}
 use Rattle.bully_world.specs.Place.{callee_or, place_of}
 use Rattle.bully_world.specs.State.{StoredNode, node_state_of}
@@ -27,9 +27,6 @@ use Rattle.bully_agent.proofs.ReturnLemmas.{sent_call}
 
 -- A call that runs: its caller's reply is under way from then on.
 
-same_call : (x y : Pending) → Some x ≡ Some y → x ≡ y
-same_call x y e = cc e
-
 not_sent : (x c : Pending) (a : Answer) → Some x ≡ Some c → x.phase ≡ Phase.Ran a → c.phase ≡ Phase.Sent → ⊥
 not_sent x c a same ran sent = grind (arith, same, ran, sent)
 
@@ -41,7 +38,7 @@ module _ (setup : Setup) (w : World) (i : ℕ) (c : Pending) (all : WorldInvaria
   caller_ran : (m : StoredNode) → node_state w i ≡ node_state_of m → IsUnderWay m (record (node_state w i) { pending = Some (record c { phase = f }) })
   caller_ran m here =
       let there = call_in_slot w i m here is_sent (ap (in_phase is_sent) is ∙ ap is_sent sent) in
-      let same : c ≡ pending_of m.generation there.0 = same_call c (pending_of m.generation there.0) (sym is ∙ pending_there w i m here there.0 there.1) in
+      let same : c ≡ pending_of m.generation there.0 = same_Some c (pending_of m.generation there.0) (sym is ∙ pending_there w i m here there.0 there.1) in
       record {
         answer = reply c.call.kind (vector w c.call.callee);
         sent = ap (λ q. option_map_or (λ (x : SlotCall). is_sent x.phase) q false) there.1 ∙ there.2;

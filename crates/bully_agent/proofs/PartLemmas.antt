@@ -1,6 +1,5 @@
 -- What is kept of a node, and a world that has just that of it.
-use Rattle.std.proofs.Common.{◌≡◌, ℕ, ◌+◌, ◌<◌, ◌^◌, inl, inr, List, length, Option, Some, None, refl, sym, ◌∙◌, ap, subst, arith}
-use Rattle.std.specs.Prelude.{option_map, IfSome}
+use Rattle.std.proofs.Common.{◌≡◌, ℕ, ◌+◌, ◌<◌, ◌^◌, inl, inr, List, length, Option, Some, None, refl, sym, ◌∙◌, ap, subst, arith, option_map, IfSome}
 use Rattle.bully_base.specs.Setup.{Setup, IsNode}
 use Rattle.bully_calls.specs.declared.call.Phase.{Phase}
 use Rattle.bully_calls.specs.Slot.{SlotCall, pending_of}
@@ -28,10 +27,6 @@ use Rattle.bully_agent.specs.Part.{IsLike, IsPart}
 pub like_vector : (m : StoredNode) (x : NodeState) → IsLike m x → x.vector ≡ m.vector.vector
 like_vector m x (inl e) = ap (λ (y : NodeState). y.vector) e
 like_vector m x (inr u) = ap (λ (y : NodeState). y.vector) u.ran
-
-pub like_point : (m : StoredNode) (x : NodeState) → IsLike m x → x.point ≡ m.point
-like_point m x (inl e) = ap (λ (y : NodeState). y.point) e
-like_point m x (inr u) = ap (λ (y : NodeState). y.point) u.ran
 
 -- the world where this is node i, and all others are as at first
 abbrev pub alone : Setup → ℕ → StoredNode → World

@@ -1,15 +1,15 @@
 -- What agents give out meets the premises of those that take it.
-use Rattle.std.proofs.Common.{◌≡◌, Bool, true, false, Option, Some, None, refl, sym, ◌∙◌, ap, subst}
-use Rattle.std.specs.Prelude.{IfSome, if◌then◌else◌}
+use Rattle.std.proofs.Common.{◌≡◌, Bool, true, false, Option, Some, None, refl, sym, ◌∙◌, ap, subst, IfSome, if◌then◌else◌}
 use Rattle.std.specs.Option.{option_map_or}
+use Rattle.std.proofs.lemmas.Option.{same_Some}
 use Rattle.bully_calls.specs.declared.call.Call.{Call}
 use Rattle.bully_calls.specs.declared.call.Phase.{Phase}
 use Rattle.bully_calls.specs.Pending.{Pending, is_sent}
 use Rattle.bully_calls.specs.Slot.{SlotCall}
-use Rattle.bully_handlers.specs.Handler.{reply}
-use Rattle.bully_handlers.specs.Vector.{Vector}
 use Rattle.bully_calls.specs.declared.message.Reply.{Reply}
 use Rattle.bully_calls.specs.declared.message.Request.{Request}
+use Rattle.bully_handlers.specs.Handler.{reply}
+use Rattle.bully_handlers.specs.Vector.{Vector}
 use Rattle.bully_world.specs.NodeInvariant.{SuitsPhase}
 use Rattle.bully_world.specs.World.{World, NodeState, node_state, pending, vector}
 use Rattle.bully_world.proofs.RunInvariant.{ran_here, reply_suits}
@@ -17,14 +17,11 @@ use Rattle.bully_agent.specs.Agent.{AgentState}
 use Rattle.bully_agent.specs.Calls.{IsDue, IsReplyTo, TellsRun, request_in}
 use Rattle.bully_agent.proofs.PartLemmas.{like_vector}
 
-same_pending : (x y : Pending) → Some x ≡ Some y → x ≡ y
-same_pending x y e = cc e
-
 -- a served reply tells what its run comes to
 pub tells_run : (a : AgentState) (r : Request) (told : Reply) → told.caller ≡ r.caller → told.answer ≡ reply r.call.kind a.node_state.vector.vector → TellsRun a r told
 tells_run a r told caller answered = λ w w' answer part q step.
     let c = step.0 in
-    let same : c ≡ q.call = same_pending c q.call (sym step.1 ∙ q.is) in
+    let same : c ≡ q.call = same_Some c q.call (sym step.1 ∙ q.is) in
     let call : c.call ≡ r.call = ap (λ (x : Pending). x.call) same ∙ q.same in
     let to_node : c.call.callee ≡ a.node = ap (λ (k : Call). k.callee) call ∙ q.goes in
     let vectors : vector w c.call.callee ≡ a.node_state.vector.vector = ap (vector w) to_node ∙ like_vector a.node_state (node_state w a.node) part.like in

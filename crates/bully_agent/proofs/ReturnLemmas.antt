@@ -1,6 +1,5 @@
 -- A reply that comes back to its caller, and a call that fails: the call comes to its last phase, and returns.
-use Rattle.std.proofs.Common.{◌≡◌, ℕ, ◌+◌, ◌<◌, ◌⊎◌, inl, inr, true, false, Option, Some, None, refl, sym, ◌∙◌, ap, subst, arith}
-use Rattle.std.specs.Prelude.{not, option_map, option_and_then, IfSome, IsSome}
+use Rattle.std.proofs.Common.{◌≡◌, ℕ, ◌+◌, ◌<◌, ◌⊎◌, inl, inr, true, false, Option, Some, None, refl, sym, ◌∙◌, ap, subst, arith, not, option_map, option_and_then, IfSome, IsSome}
 use Rattle.std.specs.Option.{option_map_or}
 use Rattle.bully_base.specs.declared.node.Status.TheVariants.{Down}
 use Rattle.bully_base.specs.Setup.{Setup}

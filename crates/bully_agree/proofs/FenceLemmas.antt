@@ -1,6 +1,5 @@
 -- The laws of fencing, from the invariant.
-use Rattle.std.proofs.Common.{◌≡◌, ◌≢◌, ◌≤◌, ◌++◌, ℕ, List, Option, Some, None, arith, refl, sym, ap, ◌∙◌}
-use Rattle.std.specs.Prelude.{IsSome}
+use Rattle.std.proofs.Common.{◌≡◌, ◌≢◌, ◌≤◌, ◌++◌, ℕ, List, Option, Some, None, arith, refl, sym, ap, ◌∙◌, IsSome}
 use Rattle.bully_base.specs.Setup.{Setup}
 use Rattle.bully_base.specs.declared.node.Status.TheVariants.{Normal}
 use Rattle.bully_calls.specs.declared.call.Answer.{Answer}

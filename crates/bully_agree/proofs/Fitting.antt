@@ -1,6 +1,5 @@
 -- What the invariant reads of a world, and that it is sound of each node that fits.
-use Rattle.std.proofs.Common.{◌≡◌, ◌≢◌, ℕ, ◌+◌, Bool, false, List, Option, Some, None, arith, ap, ◌⊎◌, inl, inr}
-use Rattle.std.specs.Prelude.{◌&&◌, not, if◌then◌else◌}
+use Rattle.std.proofs.Common.{◌≡◌, ◌≢◌, ℕ, ◌+◌, Bool, false, List, Option, Some, None, arith, ap, ◌⊎◌, inl, inr, ◌&&◌, not, if◌then◌else◌}
 use Rattle.bully_base.specs.Setup.{Setup, IsNode}
 use Rattle.bully_calls.specs.declared.call.CallKind.{CallKind}
 use Rattle.bully_calls.specs.declared.call.CallKind.TheVariants.{NewCoordinator, Ready}

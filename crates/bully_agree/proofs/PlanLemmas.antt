@@ -1,6 +1,6 @@
 -- The last plan of a list, found from the front.
-use Rattle.std.proofs.Common.{◌≡◌, ◌+◌, ◌≤◌, ◌++◌, ◌⊎◌, inl, inr, ℕ, Bool, true, false, List, [], ◌∷◌, Option, Some, None, length, length-append, add-zero, arith, refl, sym, ap, ◌∙◌}
-use Rattle.std.specs.Prelude.{◌||◌}
+use Rattle.std.proofs.Common.{◌≡◌, ◌+◌, ◌≤◌, ◌++◌, ◌⊎◌, inl, inr, ℕ, false, List, [], ◌∷◌, Option, Some, None, length, length-append, add-zero, arith, refl, sym, ap, ◌∙◌}
+use Rattle.std.proofs.lemmas.Bool.{or_parts}
 use Rattle.bully_calls.specs.declared.event.Event.{Event}
 use Rattle.bully_agree.specs.Fencing.{is_plan, has_plan, Planned, IsLastPlan, plan_then, IsLast}
 
@@ -8,10 +8,6 @@ use Rattle.bully_agree.specs.Fencing.{is_plan, has_plan, Planned, IsLastPlan, pl
 abbrev pub last_of : ℕ → Option Planned → List Event → Option Planned
 last_of count last [] = last
 last_of count last (e ∷ events) = last_of (count + 1) (plan_then count last e) events
-
-neither : (a b : Bool) → (a || b) ≡ false → (a ≡ false) × (b ≡ false)
-neither false b none = (refl, none)
-neither true b none = absurd (cc)
 
 plan_stays : (count : ℕ) (last : Option Planned) (e : Event) → is_plan e ≡ false → plan_then count last e ≡ last
 plan_stays count last (Event.Plan i table) other = absurd (cc)
@@ -21,7 +17,7 @@ plan_stays count last e other = refl
 stays : (count : ℕ) (last : Option Planned) (events : List Event) → has_plan events ≡ false → last_of count last events ≡ last
 stays count last [] none = refl
 stays count last (e ∷ events) none =
-    let apart = neither (is_plan e) (has_plan events) none in
+    let apart = or_parts (is_plan e) (has_plan events) none in
     stays (count + 1) (plan_then count last e) events apart.1 ∙ plan_stays count last e apart.0
 
 -- one list, then another

@@ -1,6 +1,5 @@
 -- The view of a world shows what the world has, so it agrees.
-use Rattle.std.proofs.Common.{◌≡◌, ℕ, zero, suc, List, [], ◌∷◌, map, length, arith, refl, sym, ap, ◌∙◌}
-use Rattle.std.specs.Prelude.{slice_index_or}
+use Rattle.std.proofs.Common.{◌≡◌, ℕ, zero, suc, List, [], ◌∷◌, map, length, arith, refl, sym, ap, ◌∙◌, slice_index_or}
 use Rattle.std.proofs.lemmas.List.{length-map}
 use Rattle.bully_base.specs.Setup.{Setup}
 use Rattle.bully_calls.specs.declared.call.Answer.{Answer}

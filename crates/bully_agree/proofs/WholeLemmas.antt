@@ -1,9 +1,6 @@
 -- What is left of a list, with the call at hand, decides whether the list is whole.
-use Rattle.std.proofs.Common.{◌≡◌, ◌+◌, ◌++◌, inl, inr, ℕ, suc, Bool, true, false, List, [], ◌∷◌, Some, None, take, drop, length, append_assoc, refl, sym, ap, subst, ◌∙◌}
-use Rattle.std.specs.Prelude.{◌&&◌, ◌==◌, slice_get, if◌then◌else◌}
+use Rattle.std.proofs.Common.{◌≡◌, ◌+◌, ◌++◌, inl, inr, ℕ, suc, Bool, true, false, List, [], ◌∷◌, Some, None, take, drop, length, append_assoc, refl, sym, ap, subst, ◌∙◌, ◌&&◌, ◌==◌, slice_get, if◌then◌else◌, eq-eqb, append-nil}
 use Rattle.std.proofs.Math.Seq.{take-length}
-use Rattle.std.proofs.lemmas.Bool.{eq-eqb}
-use Rattle.std.proofs.lemmas.List.{append-nil}
 use Rattle.std.proofs.lemmas.Option.{slice_get_within}
 use Rattle.bully_calls.specs.declared.event.Event.{Event}
 use Rattle.bully_agree.specs.Progress.{may_stand, progress_after}

@@ -1,10 +1,8 @@
 -- What is said of an event that is possible is so, and what is shown behind it is true: so rows with everything said are as lawful.
-use Rattle.std.proofs.Common.{◌≡◌, ◌≢◌, ◌∙◌, ℕ, ◌+◌, ◌++◌, ◌&&◌, Bool, true, false, List, [], ◌∷◌, Option, Some, None, MatchOption, if◌then◌else◌, length, refl, sym, ap, subst, arith}
-use Rattle.std.specs.Prelude.{option_map}
+use Rattle.std.proofs.Common.{◌≡◌, ◌≢◌, ◌∙◌, ℕ, ◌+◌, ◌++◌, ◌&&◌, Bool, true, false, List, [], ◌∷◌, Option, Some, None, MatchOption, if◌then◌else◌, length, refl, sym, ap, subst, arith, option_map, length-append}
 use Rattle.std.specs.Bool.{MatchBool}
 use Rattle.std.proofs.lemmas.Bool.{and_from}
 use Rattle.std.proofs.lemmas.Bool.Decides.{nat_tests}
-use Rattle.std.proofs.lemmas.List.{length-append}
 use Rattle.std.proofs.lemmas.Option.{same_Some}
 use Rattle.bully_base.specs.NodeSetEq.{same_set}
 use Rattle.bully_base.specs.Setup.{IsNode, Setup, is_node}
@@ -12,16 +10,16 @@ use Rattle.bully_base.specs.declared.node.Status.TheVariants.{Down}
 use Rattle.bully_calls.specs.declared.call.Answer.{Answer}
 use Rattle.bully_calls.specs.declared.call.Call.{Call}
 use Rattle.bully_calls.specs.Pending.{Pending}
-use Rattle.bully_handlers.specs.Handler.{reply}
-use Rattle.bully_steps.specs.declared.point.Point.{Point}
-use Rattle.bully_steps.specs.declared.point.Want.{Want}
-use Rattle.bully_steps.specs.Point.{offered}
 use Rattle.bully_calls.specs.declared.event.Event.{Event}
 use Rattle.bully_calls.specs.declared.event.Refused.{Refused}
 use Rattle.bully_calls.specs.declared.kind.EventKind.{EventKind}
 use Rattle.bully_calls.specs.declared.kind.NodeEventKind.{NodeEventKind}
 use Rattle.bully_calls.specs.declared.kind.Saying.{Saying}
 use Rattle.bully_calls.specs.Events.{event_at, kind_of, node_of, node_saying}
+use Rattle.bully_handlers.specs.Handler.{reply}
+use Rattle.bully_steps.specs.declared.point.Point.{Point}
+use Rattle.bully_steps.specs.declared.point.Want.{Want}
+use Rattle.bully_steps.specs.Point.{offered}
 use Rattle.bully_calls.proofs.KindLemmas.{same_event}
 use Rattle.bully_world.specs.Cause.{cause}
 use Rattle.bully_world.specs.Lawful.{IsLawful}
@@ -46,9 +44,10 @@ use Rattle.bully_trace.specs.Details.{brought, call_at, is_said, is_so, is_true,
 use Rattle.bully_rows.specs.Trace.{Trace}
 use Rattle.bully_trace.specs.Verdict.{IsJudged, IsVerdict}
 use Rattle.bully_rows.specs.Whole.{Whole, whole_of}
-use Rattle.bully_trace.proofs.SameLemmas.{answers-itself, call-itself, is-node, node-itself, status-itself, task-itself}
+use Rattle.bully_trace.proofs.SameLemmas.{answers-itself, call-itself, is-node, status-itself, task-itself}
 use Rattle.bully_annotate.specs.Annotated.{annotated, event_rows, rows_said, said_row, same_vector, shown_change, shown_row}
 use Rattle.bully_world.specs.Place.{callee_or, place_of}
+use Rattle.bully_world.proofs.AgreeLemmas.{node_itself}
 
 -- ---- what is shown is true
 
@@ -58,7 +57,7 @@ set-itself s = grind (arith, nat_tests)
 pub shown-true : (setup : Setup) (w : World) (i : ℕ) → IsNode setup i → is_whole setup w (whole_of i (vector w i)) ≡ true
 shown-true setup w i node =
     let v = vector w i in
-    rw (is-node setup i node, status-itself v.status, node-itself v.coordinator, node-itself v.halter, task-itself v.task) (set-itself v.up)
+    rw (is-node setup i node, status-itself v.status, node_itself v.coordinator, node_itself v.halter, task-itself v.task) (set-itself v.up)
 
 -- ---- what is said is so
 

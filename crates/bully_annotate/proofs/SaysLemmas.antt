@@ -1,7 +1,6 @@
 -- What is written of one row.
-use Rattle.std.proofs.Common.{add-one, drop-cons, suc, take, ◌<◌, ◌≤◌, ◌≡◌, ◌∙◌, ℕ, ◌+◌, ◌++◌, Bool, true, false, List, [], ◌∷◌, Option, Some, None, MatchOption, length, drop, refl, sym, ap, subst, arith}
+use Rattle.std.proofs.Common.{add-one, drop-cons, suc, take, ◌<◌, ◌≤◌, ◌≡◌, ◌∙◌, ℕ, ◌+◌, ◌++◌, Bool, true, false, List, [], ◌∷◌, Option, Some, None, MatchOption, length, drop, refl, sym, ap, subst, arith, IfOk, OnOk, Result, Ok, Err, slice_get}
 use Rattle.std.specs.Bool.{MatchBool}
-use Rattle.std.specs.Prelude.{IfOk, OnOk, Result, Ok, Err, slice_get}
 use Rattle.std.specs.Io.KnownBytes.{Appends}
 use Rattle.std.proofs.KnownBytes.{Appends-nil, Appends-trans}
 use Rattle.std.proofs.lemmas.Option.{slice_get_within, get_or_from_slice_get}
@@ -150,12 +149,6 @@ pub shown-text : {E : Type 0} (told : Result (Unit {0}) E) (old new : List ℕ) 
 shown-text (Ok done) old new i v w same is =
     is ∙ ap (λ (t : List ℕ). old ++ t) (ap (λ (v : Vector). line_of (row_fields (Row.Whole (whole_of i v)))) same ∙ sym (append-nil (line_of (row_fields (Row.Whole (whole_of i w))))))
 shown-text (Err why) old new i v w same is = tt
-
--- of an event: its own row, and then that of the vector that it changed, if it did
-pub event-written : (old mid new : List ℕ) (said : Row) (change : List Row) → mid ≡ old ++ line_of (row_fields said) → new ≡ mid ++ rows_text change
-    → new ≡ old ++ rows_text (said ∷ change)
-event-written old mid new said change first then =
-    then ∙ ap (λ (t : List ℕ). t ++ rows_text change) first ∙ append_assoc old (line_of (row_fields said)) (rows_text change)
 
 -- the node's vector in the world that the kept one stands for
 pub vector-there : (world : WorldState) (i : ℕ) (v : StoredVector) → v ≡ (state_at world i).vector → v.vector ≡ vector (world_of world) i

@@ -1,17 +1,16 @@
 -- An event changes the vector of one node at most, and that one is shown where it isn't the one before.
-use Rattle.std.proofs.Common.{◌≡◌, ◌≢◌, ◌⊎◌, inl, inr, ◌∙◌, ℕ, ◌+◌, ◌&&◌, Bool, true, false, List, [], ◌∷◌, Option, refl, sym, ap, subst, arith}
-use Rattle.std.specs.Prelude.{option_map}
+use Rattle.std.proofs.Common.{◌≡◌, ◌≢◌, ◌⊎◌, inl, inr, ◌∙◌, ℕ, ◌+◌, ◌&&◌, Bool, true, false, List, [], ◌∷◌, Option, refl, sym, ap, subst, arith, option_map}
 use Rattle.std.proofs.lemmas.Bool.{and_parts}
 use Rattle.std.proofs.lemmas.Slice.Eq.{bytes_eq-Decides}
 use Rattle.bully_base.specs.declared.node.Status.{Status}
 use Rattle.bully_base.specs.NodeSet.{IsFallingBelow}
-use Rattle.bully_base.specs.NodeSetEq.{same_set}
 use Rattle.bully_base.specs.Setup.{Setup, is_node}
+use Rattle.bully_base.specs.NodeSetEq.{same_set}
 use Rattle.bully_base.proofs.NodeSetLemmas.{IsFallingBelow-more, same_set_test}
 use Rattle.bully_calls.specs.declared.call.Answer.{Answer}
 use Rattle.bully_calls.specs.Pending.{Pending}
-use Rattle.bully_handlers.specs.Vector.{Vector}
 use Rattle.bully_calls.specs.declared.event.Event.{Event}
+use Rattle.bully_handlers.specs.Vector.{Vector}
 use Rattle.bully_world.specs.NodeInvariant.{WorldInvariant}
 use Rattle.bully_world.specs.Step.{Step, ran}
 use Rattle.bully_world.specs.Turn.{same_node}
@@ -21,9 +20,10 @@ use Rattle.bully_world.proofs.NodeInvariantLemmas.{lawful_fits, step_fits}
 use Rattle.bully_world.proofs.RunInvariant.{ran_here, ran_other}
 use Rattle.bully_rows.specs.Whole.{Whole, whole_of}
 use Rattle.bully_trace.specs.Details.{is_true, is_whole, same_status, same_task}
-use Rattle.bully_trace.proofs.SameLemmas.{node-is, node-itself, node-within, status-is, status-itself, task-is, task-itself}
+use Rattle.bully_trace.proofs.SameLemmas.{node-within, status-is, status-itself, task-is, task-itself}
 use Rattle.bully_annotate.specs.Annotated.{same_vector, shown_change, shown_row, shown_unless}
 use Rattle.bully_world.specs.Place.{callee_or, place_of}
+use Rattle.bully_world.proofs.AgreeLemmas.{node_is, node_itself}
 use Rattle.bully_annotate.specs.Shown.{ShowsEachChange, ShowsNoMore, TellsTheVector}
 use Rattle.bully_annotate.proofs.SaidLemmas.{set-itself, shown-true}
 
@@ -47,7 +47,7 @@ vector-is bound a b falls other e =
     let two = and_parts (same_status a.status b.status && same_node a.coordinator b.coordinator && same_node a.halter b.halter) (same_set a.up b.up) one.0 in
     let three = and_parts (same_status a.status b.status && same_node a.coordinator b.coordinator) (same_node a.halter b.halter) two.0 in
     let four = and_parts (same_status a.status b.status) (same_node a.coordinator b.coordinator) three.0 in
-    same-with (status-is a.status b.status four.0) (node-is a.coordinator b.coordinator four.1) (node-is a.halter b.halter three.1) (set-is bound a.up b.up falls other two.1)
+    same-with (status-is a.status b.status four.0) (node_is a.coordinator b.coordinator four.1) (node_is a.halter b.halter three.1) (set-is bound a.up b.up falls other two.1)
     (task-is a.task b.task one.1)
 
 -- ---- the others stay
@@ -97,13 +97,10 @@ shows-each-change setup events answers w e w' a lawful step j = by_case (grind a
     by_case (inr other) = inl (others-stay setup w e w' a j before step other)
 
 vector-itself : (v : Vector) → same_vector v v ≡ true
-vector-itself v = rw (status-itself v.status, node-itself v.coordinator, node-itself v.halter, task-itself v.task) (set-itself v.up)
+vector-itself v = rw (status-itself v.status, node_itself v.coordinator, node_itself v.halter, task-itself v.task) (set-itself v.up)
 
 pub shows-no-more : ShowsNoMore
 shows-no-more w w' i same = rw (same, vector-itself (vector w i)) refl
-
-abbrev whole_with : ℕ → Status → Option ℕ → Option ℕ → List ℕ → Option (List ℕ) → Whole
-whole_with i status coordinator halter up task = whole_of i (vector_with status coordinator halter up task)
 
 whole-same : (whole : Whole) (v : Vector) → whole.claim.status ≡ v.status → whole.claim.coordinator ≡ v.coordinator → v.halter ≡ whole.halter → v.up ≡ whole.up → v.task ≡ whole.task
     → whole ≡ whole_of whole.claim.node v
@@ -121,8 +118,8 @@ tells-the-vector setup events answers w whole bound lawful falls = (
         node-within setup whole.claim.node five.0,
         whole-same whole (vector w whole.claim.node)
             (status-is whole.claim.status (vector w whole.claim.node).status five.1)
-            (node-is whole.claim.coordinator (vector w whole.claim.node).coordinator four.1)
-            (node-is (vector w whole.claim.node).halter whole.halter three.1)
+            (node_is whole.claim.coordinator (vector w whole.claim.node).coordinator four.1)
+            (node_is (vector w whole.claim.node).halter whole.halter three.1)
             (set-is (whole.claim.node + bound) (vector w whole.claim.node).up whole.up
             (IsFallingBelow-more whole.claim.node (whole.claim.node + bound) (vector w whole.claim.node).up (omega arith) (fits.fits whole.claim.node).by_setup.up)
             (IsFallingBelow-more bound (whole.claim.node + bound) whole.up (omega arith) falls) two.1)

@@ -1,6 +1,5 @@
 -- An annotated trace is one that a text can tell, and has the events of the trace that it is made of.
-use Rattle.std.proofs.Common.{◌≡◌, ◌∙◌, ℕ, ◌+◌, ◌++◌, Bool, true, false, List, [], ◌∷◌, length, Option, Some, None, MatchOption, Result, Ok, All, if◌then◌else◌, arith, refl, sym, ap, subst}
-use Rattle.std.specs.Prelude.{◌&&◌, Err, IfOk, IfSome, option_map}
+use Rattle.std.proofs.Common.{◌≡◌, ◌∙◌, ℕ, ◌+◌, ◌++◌, Bool, true, false, List, [], ◌∷◌, length, Option, Some, None, MatchOption, Result, Ok, All, if◌then◌else◌, arith, refl, sym, ap, subst, ◌&&◌, Err, IfOk, IfSome, option_map}
 use Rattle.std.specs.Io.KnownBytes.{Appends}
 use Rattle.std.specs.Bool.{MatchBool}
 use Rattle.std.proofs.lemmas.Bool.{and_parts}

@@ -1,11 +1,9 @@
 -- Lists of members in falling order.
-use Rattle.std.proofs.Common.{◌≡◌, ◌≢◌, ℕ, zero, suc, ◌+◌, ◌<◌, ◌≤◌, Bool, true, false, List, [], ◌∷◌, length, is_none, arith, refl, sym, ap, ◌∙◌, ◌⊎◌, inl, inr}
-use Rattle.std.specs.Prelude.{◌-◌, ◌^◌, Contains, All, Option, IfSome, IsTrue, ◌↔◌, slice_index_or, nat_lt, ◌==◌, bytes_eq, not, if◌then◌else◌, Some, None}
+use Rattle.std.proofs.Common.{◌≡◌, ◌≢◌, ℕ, zero, suc, ◌+◌, ◌<◌, ◌≤◌, Bool, true, false, List, [], ◌∷◌, length, is_none, arith, refl, sym, ap, ◌∙◌, ◌⊎◌, inl, inr, ◌-◌, ◌^◌, Contains, All, Option, IfSome, IsTrue, ◌↔◌, slice_index_or, nat_lt, ◌==◌, bytes_eq, not, if◌then◌else◌, Some, None, pow_pos}
 use Rattle.std.specs.Bool.{Decides}
 use Rattle.std.proofs.Math.Nat.{pow-le-pow_right, pow-suc}
 use Rattle.std.proofs.lemmas.Bool.Decides.{nat_tests, Decides-eqb, Decides-ltb}
 use Rattle.std.proofs.lemmas.List.Elements.{All-nil, All-cons, All-tail, All-weaker, All-contains}
-use Rattle.std.proofs.lemmas.Nat.{pow_pos}
 use Rattle.std.proofs.lemmas.Slice.Eq.{bytes_eq-Decides}
 use Rattle.bully_base.specs.NodeSet.{with_node, without_node, below_node, highest_of, lowest_of, word_of, IsFallingBelow}
 
@@ -132,14 +130,6 @@ between k m p q = grind (arith, nat_tests)
 pub with_node-falling : (ms : List ℕ) (k bound : ℕ) → 0 < k → k < bound → IsFallingBelow bound ms → IsFallingBelow bound (with_node k ms)
 with_node-falling [] k bound pos l h = (pos, l, tt)
 with_node-falling (m ∷ ms) k bound pos l h = falling-cases k m bound ms (with_node k ms) (nat_lt m k) (m == k) (Decides-ltb m k).0 pos l h (λ p q. with_node-falling ms k m pos (between k m p q) h.2)
-
-pub without_node-falling : (ms : List ℕ) (k bound : ℕ) → IsFallingBelow bound ms → IsFallingBelow bound (without_node k ms)
-without_node-falling [] k bound h = tt
-without_node-falling (m ∷ ms) k bound h = by_test (m == k) (without_node-falling ms k m h.2)
-  where
-    by_test : (d : Bool) → IsFallingBelow m (without_node k ms) → IsFallingBelow bound (if not d then m ∷ without_node k ms else without_node k ms)
-    by_test true more = IsFallingBelow-more m bound (without_node k ms) (omega arith) more
-    by_test false more = (h.0, h.1, more)
 
 pub falling-below : (ms : List ℕ) (bound : ℕ) → IsFallingBelow bound ms → All (λ j. j < bound) ms
 falling-below [] bound h = All-nil (λ j. j < bound)

@@ -1,6 +1,5 @@
 -- Lists with a place for each node.
-use Rattle.std.proofs.Common.{◌≡◌, ◌≢◌, ℕ, zero, suc, ◌+◌, ◌<◌, ◌≤◌, List, [], ◌∷◌, length, arith, refl, get_or-set_other, get_or-set_same}
-use Rattle.std.specs.Prelude.{slice_index_or, slice_set, replicate}
+use Rattle.std.proofs.Common.{◌≡◌, ◌≢◌, ℕ, zero, suc, ◌+◌, ◌<◌, ◌≤◌, List, [], ◌∷◌, length, arith, refl, get_or-set_other, get_or-set_same, slice_index_or, slice_set, replicate}
 use Rattle.std.proofs.lemmas.Grind.{common_steps}
 use Rattle.std.proofs.Math.ListN.{length-set}
 use Rattle.bully_base.specs.Places.{at_node, put_node}

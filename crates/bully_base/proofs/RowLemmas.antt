@@ -1,21 +1,16 @@
 -- Rows of words, and the members that they stand for: node k + 1 has bit k % 64 of the word at place k / 64.
-use Rattle.std.proofs.Common.{◌≡◌, ◌≢◌, ℕ, zero, suc, ◌+◌, ◌<◌, ◌≤◌, Bool, true, false, List, [], ◌∷◌, length, take, replicate, Fits, arith, refl, sym, ap, mod-eq_of_lt, ◌∙◌, ◌⊎◌, inl, inr}
-use Rattle.std.specs.Prelude.{◌-◌, ◌*◌, ◌/◌, ◌%◌, ◌^◌, ◌↔◌, ◌==◌, Contains, Some, slice_index_or, slice_set, bytes_eq}
-use Rattle.std.specs.Bool.{Decides}
+use Rattle.std.proofs.Common.{◌≡◌, ◌≢◌, ℕ, zero, suc, ◌+◌, ◌<◌, ◌≤◌, List, [], ◌∷◌, length, take, replicate, Fits, arith, refl, sym, ap, mod-eq_of_lt, ◌∙◌, ◌⊎◌, inl, inr, ◌-◌, ◌*◌, ◌/◌, ◌%◌, ◌^◌, ◌↔◌, Contains, Some, slice_index_or, slice_set, get_or-set_same, get_or-set_other, get_or-take, length-set}
 use Rattle.std.specs.Int.{bit_at, bit_not, w64}
 use Rattle.std.specs.Int.RustNames.{bit_and, bit_or}
 use Rattle.std.specs.Int.Count.{ones, ones-ones}
 use Rattle.std.proofs.Math.Nat.{pow-le-pow_right}
-use Rattle.std.proofs.lemmas.Bool.Decides.{Decides-eqb}
-use Rattle.std.proofs.lemmas.List.{get_or-set_same, get_or-set_other, get_or-take, length-set}
 use Rattle.std.proofs.lemmas.Nat.{pow_pos, pow_below, or_lt, and_le_l, and_mask, ones_cat, ones-le}
 use Rattle.std.proofs.lemmas.Nat.Bits.{bit_at_above, bit_at_cat_low, bit_at_cat_high, bit_at-zero}
-use Rattle.std.proofs.lemmas.Slice.Eq.{bytes_eq-Decides}
 use Rattle.bully_base.specs.declared.TheConstants.{NODES_MAX}
 use Rattle.bully_base.specs.declared.node_set.TheConstants.{WORDS}
 use Rattle.bully_base.specs.Setup.{IsNodeNumber}
-use Rattle.bully_base.specs.NodeSet.{members_among, members_of, words_of, word_of, number_of, AreWords, IsHighestBit, IsLowestBit, with_node, without_node, below_node, highest_of, lowest_of}
-use Rattle.bully_base.specs.NodeSetLaws.{number_of-lt, word_of-members_of, words_of-members_of}
+use Rattle.bully_base.specs.NodeSet.{members_among, members_of, number_of, AreWords, IsHighestBit, IsLowestBit, with_node, without_node, below_node, highest_of, lowest_of}
+use Rattle.bully_base.specs.NodeSetLaws.{number_of-lt}
 use Rattle.bully_base.proofs.WordLemmas.{members-none, members-agree, members-cut, members-insert, members-remove, members-below, members-Has, no-members, highest-below, lowest-above, ones-members, or_same, or_other, and_not_same, and_not_other, mod_bit, mod_fits, has-bit}
 
 pub order : (a b : ℕ) → (a ≡ b) ⊎ ((a < b) ⊎ (b < a))
@@ -293,18 +288,3 @@ count-step ws size h =
     let room : 2 ^ (64 * length ws) ≤ 2 ^ NODES_MAX = pow-le (64 * length ws) NODES_MAX (omega arith) in
     let fits : number_of ws < 2 ^ NODES_MAX = below-bound (number_of ws) (2 ^ (64 * length ws)) (2 ^ NODES_MAX) (number_of-lt ws h) room in
     ap ones (sym (mod-eq_of_lt fits)) ∙ ones-members (number_of ws) NODES_MAX
-
--- When two rows are the same.
-
-same-row : (ws vs : List ℕ) → (length ws ≡ WORDS) × AreWords ws → (length vs ≡ WORDS) × AreWords vs → number_of ws ≡ number_of vs → ws ≡ vs
-same-row ws vs h k e = sym (words_of-members_of ws h.0 h.1) ∙ (ap (λ (n : ℕ). words_of (members_among n NODES_MAX)) e ∙ words_of-members_of vs k.0 k.1)
-
--- rows are the same exactly where their members are
-pub same-step : (ws vs : List ℕ) (b : Bool) → (length ws ≡ WORDS) × AreWords ws → (length vs ≡ WORDS) × AreWords vs → b ≡ bytes_eq ws vs → b ≡ (word_of (members_of ws) == word_of (members_of vs))
-same-step ws vs b h k e = rw (word_of-members_of ws h.0 h.1, word_of-members_of vs k.0 k.1) (by_test b (number_of ws == number_of vs) (rw e (bytes_eq-Decides ws vs)) (Decides-eqb (number_of ws) (number_of vs)))
-  where
-    by_test : (b t : Bool) → Decides b (ws ≡ vs) → Decides t (number_of ws ≡ number_of vs) → b ≡ t
-    by_test true true d e = refl
-    by_test false false d e = refl
-    by_test true false d e = sym (e.1 (ap number_of (d.0 refl)))
-    by_test false true d e = d.1 (same-row ws vs h k (e.0 refl))

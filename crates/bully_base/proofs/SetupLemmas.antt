@@ -1,6 +1,5 @@
 -- Setups and their weights.
-use Rattle.std.proofs.Common.{◌≡◌, Result, Ok, Err, ℕ, zero, suc, ◌-◌, ◌<◌, ◌≤◌, Bool, true, false, List, ◌++◌, length, replicate, take, drop, arith, sym, refl, ◌∙◌, ap}
-use Rattle.std.specs.Prelude.{◌==◌, ◌&&◌, ◌↔◌, bytes_eq, not}
+use Rattle.std.proofs.Common.{◌≡◌, Result, Ok, Err, ℕ, zero, suc, ◌-◌, ◌<◌, ◌≤◌, Bool, true, false, List, [], ◌∷◌, ◌++◌, length, replicate, take, drop, arith, sym, refl, ◌∙◌, ap, ◌==◌, ◌&&◌, ◌↔◌, bytes_eq, not}
 use Rattle.std.specs.Result.{IsOk}
 use Rattle.std.specs.Bool.{beq}
 use Rattle.std.specs.Cmp.{booleans_Decides}
@@ -61,6 +60,13 @@ weighted-made (Err SetupFault.BadWeights) n p e ws a b c d x y z w = absurd ((d.
 all-ones : (n : ℕ) → list_all (λ w. w == 1) (replicate n 1) ≡ true
 all-ones zero = refl
 all-ones (suc n) = all-ones n
+
+-- weights that are all 1
+pub ones-all : (ws : List ℕ) → list_all (λ w. w == 1) ws ≡ true → ws ≡ replicate (length ws) 1
+ones-all [] e = refl
+ones-all (w ∷ ws) e =
+    let (here, more) = and_parts (w == 1) (list_all (λ w. w == 1) ws) e in
+    ap (λ (v : ℕ). v ∷ ws) ((Decides-eqb w 1).0 here) ∙ ap (λ (vs : List ℕ). 1 ∷ vs) (ones-all ws more)
 
 pub even-is_even : (nodes partitions events_max : ℕ) → is_even (even_setup nodes partitions events_max) ≡ true
 even-is_even nodes partitions events_max = all-ones nodes

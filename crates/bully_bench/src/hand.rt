@@ -44,6 +44,7 @@ impl<L: Naming> Hand<L> {
     }
 
     /// The node serves, or else takes this event.
+    #[inline(always)]
     pub fn serve_or_step(&mut self, locked: &mut Locked<L>, event: Event) -> Result<(), StepFault> {
         match locked.serve(&mut self.seat, &mut self.pass) {
             Ok(true) => Ok(()),

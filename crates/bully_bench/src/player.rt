@@ -63,6 +63,8 @@ impl<L: Naming> Player<L> {
     }
 
     // It serves, or else does what it chose.
+    // (inlined, as `turn` is)
+    #[inline(always)]
     fn serve_or_do(&mut self, locked: &mut Locked<L>, choice: Choice) -> Result<(), StepFault> {
         match choice {
             Choice::Check => self.hand.serve_or_step(locked, Event::Check(self.node)),
@@ -72,6 +74,7 @@ impl<L: Naming> Player<L> {
     }
 
     // It serves, or else its procedure goes on by the turn rule, with a table where it is Planning.
+    #[inline(always)]
     fn serve_or_proceed(&mut self, locked: &mut Locked<L>) -> Result<(), StepFault> {
         prepare(self.alloc, locked, &mut self.procedure);
         let Hand { seat, pass } = &mut self.hand;

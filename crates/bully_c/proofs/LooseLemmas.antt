@@ -1,9 +1,8 @@
 -- A struct that is one pointer, and what a `Loose` owns. Assumes `Logic`.
 --     word_in         its fields are made of nothing
 --     loose_cases     null and nothing, or a box's block, which may be compared with null
-use Rattle.std.proofs.Common.{◌≡◌, ℕ, [], ◌∷◌, refl}
+use Rattle.std.proofs.Common.{◌≡◌, ℕ, [], ◌∷◌, refl, List, Option, None, Some}
 use seplogic.Ra.Ura.{Ura}
-use mathlib.Core.List.{List}
 use mir.Raw.{raw as bare}
 use base.Fml.{ftrue}
 use base.Logic.{via, fst∗, snd∗, never, never_e, guard_i}
@@ -15,7 +14,6 @@ use denote.RattleType.{RattleType}
 use denote.RawPtr.{Ptr, RawPtr, block_ptr, null_ptr, ptr_val, Testable, in_a_block}
 use denote.Shadow.{pure_i}
 use denote.Struct.Struct.{Struct}
-use Rattle.std.specs.Prelude.{Option, None, Some}
 use Rattle.core.specs.Ptr.{points_to}
 use Rattle.std.proofs.GlobalToken.{dealloc_token-Testable}
 use Rattle.std_alloc.specs.Box.Ownership.{box_owns}

@@ -1,6 +1,5 @@
 -- A setup in which each node weighs 1, and owners that are given.
-use Rattle.std.proofs.Common.{◌≡◌, ℕ, zero, suc, ◌≤◌, List, [], ◌∷◌, Result, Ok, Err, IfErr, IfOk, ap, arith, refl, replicate, subst, take}
-use Rattle.std.specs.Prelude.{IfSome, false, length, ◌==◌}
+use Rattle.std.proofs.Common.{◌≡◌, ℕ, zero, suc, ◌≤◌, List, [], ◌∷◌, Result, Ok, Err, IfErr, IfOk, ap, arith, refl, replicate, subst, take, IfSome, false, length, ◌==◌}
 use Rattle.bully_base.specs.Setup.{IsSetup, Setup}
 use Rattle.bully_base.specs.declared.TheConstants.{NODES_MAX}
 use Rattle.bully_base.specs.declared.setup.SetupFault.{SetupFault}

@@ -1,6 +1,5 @@
 -- What an event is, and its node, tell the event, but for the table of a plan.
-use Rattle.std.proofs.Common.{◌≡◌, ℕ, Option, Some, None, refl}
-use Rattle.std.specs.Prelude.{IfSome}
+use Rattle.std.proofs.Common.{◌≡◌, ℕ, Option, Some, None, refl, IfSome}
 use Rattle.bully_calls.specs.declared.event.Event.{Event}
 use Rattle.bully_calls.specs.declared.kind.EventKind.{EventKind}
 use Rattle.bully_calls.specs.declared.kind.NodeEventKind.{NodeEventKind}

@@ -1,5 +1,5 @@
 -- What the program makes of words that are written out, and of what clap finds in words.
-use Rattle.std.proofs.Common.{◌≡◌, ◌≢◌, ◌⊎◌, inl, inr, refl, ap, true, false, not, ◌&&◌, codes, [], ◌∷◌, arith}
+use Rattle.std.proofs.Common.{◌≡◌, ◌≢◌, ◌⊎◌, inl, inr, refl, ap, true, false, not, ◌&&◌, codes, [], ◌∷◌, None, Some, arith}
 use Rattle.std.specs.List.{list_all}
 use Rattle.std.proofs.lemmas.Grind.{common_steps}
 use Rattle.clap.specs.Words.{HasKind, IsAmong, Kinds, kind_of}
@@ -7,12 +7,12 @@ use Rattle.clap.specs.declared.error.Error.{Error}
 use Rattle.clap.specs.declared.error.kind.ErrorKind.{ErrorKind}
 use Rattle.clap.specs.declared.error.kind.ErrorKind.TheVariants as kind
 use Rattle.clap.proofs.OnLiterals.{clap_on_literals}
-use Rattle.bully_cli.specs.Words.{ParsesAsCheck, is_help, is_filled}
+use Rattle.bully_cli.specs.Words.{ParsesAs, checking, is_help, is_filled}
 
--- the one word `check` parses as `check`
-pub check-parses : ParsesAsCheck (codes "check" ∷ [])
+-- the one word `check` asks to judge the input, and for no JSON
+pub check-parses : ParsesAs (codes "check" ∷ []) (checking None (Some (codes "false")))
 unfolding clap_on_literals
-check-parses = (refl, refl)
+check-parses = record { good = refl; asks = refl }
 
 -- no kind of a list without help is one
 among-none : (kinds : Kinds) (k : ErrorKind) → list_all (λ x. not (is_help x)) kinds ≡ true → IsAmong k kinds → is_help k ≡ false

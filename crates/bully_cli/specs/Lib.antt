@@ -1,1 +1,2 @@
+pub mod Shells
 pub mod Words

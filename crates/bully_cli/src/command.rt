@@ -1,7 +1,7 @@
 ghost use Rattle.std.specs.Prelude.{◌≡◌, codes, false, IfOk, IsOkAnd, Ok};
 ghost use Rattle.clap.specs.Words.{app_of, new_app, rule_of, with_rule};
 ghost use Rattle.clap.specs.declared.builder.command.Command.TheViews.{out-Command as fields_of};
-ghost use Rattle.bully_cli.specs.Words.{bare, config_rule, draw_app, explain_app, explained_rule, member_rule, names_rule, old_rule, option_rule, play_app, program, rows_rule, run_app, table_app, text_rule, IsLocalCommand, ReadsAs};
+ghost use Rattle.bully_cli.specs.Words.{annotate_app, bare, check_app, claims_rule, completion_app, config_rule, draw_app, explain_app, explained_rule, file_rule, flag_rule, follow_app, html_rule, json_rule, member_rule, names_rule, old_rule, option_rule, play_app, program, rows_rule, run_app, shell_rule, table_app, text_rule, trace_app, upgrade_app, IsLocalCommand, ReadsAs};
 
 use crate::help;
 use clap::{Arg, ArgAction, Command};
@@ -11,20 +11,20 @@ use std::alloc::{AllocError, Global};
 pub fn command_line<'a>(alloc: Global) -> Result<Command<'a>, AllocError>
     ensures { ReadsAs program result }
 {
-    let about = "Judges the trace on standard input";
-    let check = described_command(alloc, "check", about, help::CHECK);
-    let about = "Upgrades the trace on standard input to version 2 or 3";
-    let upgrade = described_command(alloc, "upgrade", about, help::UPGRADE);
-    let about = "Annotates the lawful trace on standard input: each call, answer and vector";
-    let annotate = described_command(alloc, "annotate", about, help::ANNOTATE);
-    let command = joined(bare_command(alloc), Ok(check), Command::subcommand);
+    let command = joined(
+        bare_command(alloc),
+        check_command(alloc),
+        Command::subcommand,
+    );
     let command = joined(command, explain_command(alloc), Command::subcommand);
-    let command = joined(command, Ok(upgrade), Command::subcommand);
-    let command = joined(command, Ok(annotate), Command::subcommand);
+    let command = joined(command, follow_command(alloc), Command::subcommand);
+    let command = joined(command, upgrade_command(alloc), Command::subcommand);
+    let command = joined(command, annotate_command(alloc), Command::subcommand);
     let command = joined(command, draw_command(alloc), Command::subcommand);
     let command = joined(command, play_command(alloc), Command::subcommand);
     let command = joined(command, run_command(alloc), Command::subcommand);
-    joined(command, table_command(alloc), Command::subcommand)
+    let command = joined(command, table_command(alloc), Command::subcommand);
+    joined(command, completion_command(alloc), Command::subcommand)
 }
 
 // What the function makes of the two, where memory sufficed for both.
@@ -69,29 +69,72 @@ fn bare_command<'a>(alloc: Global) -> Result<Command<'a>, AllocError>
         .bin_name("bully")
 }
 
+// A command that reads a trace.
+fn trace_command<'a>(
+    alloc: Global,
+    name: &'a str,
+    about: &'a str,
+    after_help: &'a str,
+) -> Result<Command<'a>, AllocError>
+    ensures { IsLocalCommand (trace_app name.entry.now) result }
+{
+    described_command(alloc, name, about, after_help).arg(file_arg(alloc))
+}
+
+// The command that judges a trace.
+fn check_command<'a>(alloc: Global) -> Result<Command<'a>, AllocError>
+    ensures { IsLocalCommand check_app result }
+{
+    let command = trace_command(alloc, "check", "Judges a trace", help::CHECK);
+    joined(command, Ok(json_arg(alloc)), Command::arg)
+}
+
 // The command that explains a verdict, or a configuration's fault.
 fn explain_command<'a>(alloc: Global) -> Result<Command<'a>, AllocError>
     ensures { IsLocalCommand explain_app result }
 {
-    let about = "Explains the verdict on the trace on standard input";
-    described_command(alloc, "explain", about, help::EXPLAIN).arg(explained_arg(alloc))
+    let about = "Explains the verdict on a trace";
+    let command = trace_command(alloc, "explain", about, help::EXPLAIN);
+    let command = joined(command, Ok(explained_arg(alloc)), Command::arg);
+    joined(command, Ok(json_arg(alloc)), Command::arg)
+}
+
+// The command that judges a trace that grows.
+fn follow_command<'a>(alloc: Global) -> Result<Command<'a>, AllocError>
+    ensures { IsLocalCommand follow_app result }
+{
+    let about = "Judges a trace row by row while it grows";
+    let command = trace_command(alloc, "follow", about, help::FOLLOW);
+    joined(command, Ok(json_arg(alloc)), Command::arg)
+}
+
+// The command that upgrades a trace.
+fn upgrade_command<'a>(alloc: Global) -> Result<Command<'a>, AllocError>
+    ensures { IsLocalCommand upgrade_app result }
+{
+    let about = "Upgrades a trace to version 2 or 3";
+    trace_command(alloc, "upgrade", about, help::UPGRADE)
+}
+
+// The command that annotates a trace.
+fn annotate_command<'a>(alloc: Global) -> Result<Command<'a>, AllocError>
+    ensures { IsLocalCommand annotate_app result }
+{
+    let about = "Annotates a lawful trace: each call, answer and vector";
+    trace_command(alloc, "annotate", about, help::ANNOTATE)
 }
 
 // The command that draws a trace.
 fn draw_command<'a>(alloc: Global) -> Result<Command<'a>, AllocError>
     ensures { IsLocalCommand draw_app result }
 {
-    let command = rows_command(alloc);
+    let about = "Draws a trace as an SVG picture, a page or text";
+    let command = trace_command(alloc, "draw", about, help::DRAW);
+    let command = joined(command, Ok(rows_arg(alloc)), Command::arg);
     let command = joined(command, Ok(text_arg(alloc)), Command::arg);
-    joined(command, Ok(names_arg(alloc)), Command::arg)
-}
-
-// The same with the rows alone.
-fn rows_command<'a>(alloc: Global) -> Result<Command<'a>, AllocError>
-    ensures { IsLocalCommand (with_rule (new_app (codes "draw")) rows_rule) result }
-{
-    let about = "Draws the trace on standard input as an SVG picture";
-    described_command(alloc, "draw", about, help::DRAW).arg(rows_arg(alloc))
+    let command = joined(command, Ok(html_arg(alloc)), Command::arg);
+    let command = joined(command, Ok(names_arg(alloc)), Command::arg);
+    joined(command, Ok(claims_arg(alloc)), Command::arg)
 }
 
 // The command that plays a group.
@@ -117,7 +160,16 @@ fn table_command<'a>(alloc: Global) -> Result<Command<'a>, AllocError>
     let about = "Plans a table with the fewest moves";
     let command = config_command(alloc, "table", about, help::TABLE);
     let command = joined(command, Ok(member_arg(alloc)), Command::arg);
-    joined(command, Ok(old_arg(alloc)), Command::arg)
+    let command = joined(command, Ok(old_arg(alloc)), Command::arg);
+    joined(command, Ok(json_arg(alloc)), Command::arg)
+}
+
+// The command that writes the completion of a shell.
+fn completion_command<'a>(alloc: Global) -> Result<Command<'a>, AllocError>
+    ensures { IsLocalCommand completion_app result }
+{
+    let about = "Writes the completion of a shell";
+    described_command(alloc, "completion", about, help::COMPLETION).arg(shell_arg(alloc))
 }
 
 // A command with the path of a configuration.
@@ -176,14 +228,61 @@ fn old_arg<'a>(alloc: Global) -> Arg<'a>
     option_arg(alloc, "old", "OWNERS", help)
 }
 
+// An option without a value.
+fn flag_arg<'a>(alloc: Global, name: &'a str, help: &'a str) -> Arg<'a>
+    ensures rule { rule_of result ≡ flag_rule name.entry.now }
+    ensures local { result.global ≡ false }
+{
+    Arg::new(alloc, name)
+        .long(name)
+        .action(ArgAction::SetTrue)
+        .help(help)
+}
+
 fn text_arg<'a>(alloc: Global) -> Arg<'a>
     ensures rule { rule_of result ≡ text_rule }
     ensures local { result.global ≡ false }
 {
-    Arg::new(alloc, "text")
-        .long("text")
-        .action(ArgAction::SetTrue)
-        .help("Draws the trace as text, for a terminal")
+    flag_arg(alloc, "text", "Draws the trace as text, for a terminal")
+}
+
+fn html_arg<'a>(alloc: Global) -> Arg<'a>
+    ensures rule { rule_of result ≡ html_rule }
+    ensures local { result.global ≡ false }
+{
+    let help = "Draws the trace as a page, with its rows below the picture";
+    flag_arg(alloc, "html", help)
+}
+
+fn claims_arg<'a>(alloc: Global) -> Arg<'a>
+    ensures rule { rule_of result ≡ claims_rule }
+    ensures local { result.global ≡ false }
+{
+    let help = "Leaves claims out, except one at which the trace differs";
+    flag_arg(alloc, "without-claims", help)
+}
+
+fn json_arg<'a>(alloc: Global) -> Arg<'a>
+    ensures rule { rule_of result ≡ json_rule }
+    ensures local { result.global ≡ false }
+{
+    flag_arg(alloc, "json", "Writes JSON, for tools")
+}
+
+fn file_arg<'a>(alloc: Global) -> Arg<'a>
+    ensures rule { rule_of result ≡ file_rule }
+    ensures local { result.global ≡ false }
+{
+    Arg::new(alloc, "FILE").help("The path of the trace; without it, or as -, standard input")
+}
+
+fn shell_arg<'a>(alloc: Global) -> Arg<'a>
+    ensures rule { rule_of result ≡ shell_rule }
+    ensures local { result.global ≡ false }
+{
+    Arg::new(alloc, "SHELL")
+        .required(true)
+        .help("The shell: bash, zsh or fish")
 }
 
 fn config_arg<'a>(alloc: Global) -> Arg<'a>

@@ -8,72 +8,93 @@ pub const VERSION: &str = "0.5.0\n\
 
 /// What help tells of the program.
 pub const PROGRAM: &str = "\
-    A command reads a trace on standard input, or the configuration at a path. It\n\
-    writes the result on standard output, and a fault as one line on standard error.\n\
+    A command reads a trace in FILE or on standard input, or the configuration at a\n\
+    path. It writes the result on standard output, and a fault as one line on\n\
+    standard error.\n\
     \n\
     Statuses: 0 done, 1 the trace is refused or differs, 2 bad words, 3 a fault of\n\
     form in a trace or a configuration, or a trace too long to annotate, 4 something\n\
-    failed: Read, Write, Spawn, Finish or OutOfMemory.\n\
+    failed: FILE can't be opened, Read, Write, Spawn, Finish or OutOfMemory.\n\
     \n\
     Example: bully play examples/two_nodes.toml | bully check";
 
 /// What help tells of `check`.
 pub const CHECK: &str = "\
-    Reads a trace on standard input. Once all rows are read, writes its verdict on\n\
-    standard output: 'lawful', the number of events and a line for each node; or\n\
-    'refused', the row and the cause; or 'differs' and the row.\n\
+    Reads a trace in FILE or on standard input. Once all rows are read, writes its\n\
+    verdict on standard output: 'lawful', the number of events and a line for each\n\
+    node; or 'refused', the row and the cause; or 'differs' and the row. With --json\n\
+    it writes the same as one object.\n\
     \n\
-    Statuses: 0 lawful, 1 refused or differs, 3 a fault of the trace's form, 4 Read,\n\
-    Write or OutOfMemory.\n\
+    Statuses: 0 lawful, 1 refused or differs, 3 a fault of the trace's form, 4 FILE\n\
+    can't be opened, Read, Write or OutOfMemory.\n\
     \n\
-    Example: bully check < examples/alone.csv";
+    Example: bully check examples/alone.csv";
 
 /// What help tells of `explain`.
 pub const EXPLAIN: &str = "\
-    Reads a trace on standard input as 'check' does, and writes on standard output\n\
-    what the rule saw at the row that decided: where the node stood, what was in its\n\
-    slot, what it could have done, and its last rows. For a fault of form it says on\n\
-    standard error what may stand there. With --config it reads a configuration, and\n\
-    does the same for its first fault.\n\
+    Reads a trace in FILE or on standard input as 'check' does, and writes on\n\
+    standard output what the rule saw at the row that decided: which rule it broke,\n\
+    where the node stood, what was in its slot, what it could have done, and its last\n\
+    rows. For a fault of form it says on standard error what may stand there. With\n\
+    --json it writes an object. With --config it reads a configuration, and does the\n\
+    same for its first fault: then it takes neither FILE nor --json.\n\
     \n\
     Statuses: 0 lawful, or no fault in the configuration, 1 refused or differs, 3 a\n\
-    fault of form, 4 Read, Write or OutOfMemory.\n\
+    fault of form, 4 FILE can't be opened, Read, Write or OutOfMemory.\n\
     \n\
-    Example: bully explain < examples/orphan_ready.csv";
+    Example: bully explain examples/orphan_ready.csv";
+
+/// What help tells of `follow`.
+pub const FOLLOW: &str = "\
+    Reads a trace on standard input, or in FILE while it grows, and judges each row\n\
+    as it comes. Writes a line on standard output for each change of a node's status,\n\
+    coordinator or task: the time, the row, the node and what it shows now. With\n\
+    --json each line is an object. The first row that is refused or differs ends it,\n\
+    with what 'explain' says of it; the end of standard input, with what 'check' says.\n\
+    A FILE that is no pipe has no end: stop it by Ctrl-C.\n\
+    \n\
+    Statuses: 0 lawful, 1 refused or differs, 3 a fault of the trace's form, 4 FILE\n\
+    can't be opened, Read, Write or OutOfMemory.\n\
+    \n\
+    Example: bully play examples/two_nodes.toml | bully follow";
 
 /// What help tells of `upgrade`.
 pub const UPGRADE: &str = "\
-    Reads a trace of any version on standard input, and writes it on standard\n\
-    output as one of version 2, or of version 3 if a row says more, with the\n\
+    Reads a trace of any version in FILE or on standard input, and writes it on\n\
+    standard output as one of version 2, or of version 3 if a row says more, with the\n\
     same rows and the same verdict. It judges nothing.\n\
     \n\
-    Statuses: 0 written, 3 a fault of the trace's form, 4 Read, Write or OutOfMemory.\n\
+    Statuses: 0 written, 3 a fault of the trace's form, 4 FILE can't be opened, Read,\n\
+    Write or OutOfMemory.\n\
     \n\
-    Example: bully upgrade < examples/alone.csv | bully check";
+    Example: bully upgrade examples/alone.csv | bully check";
 
 /// What help tells of `annotate`.
 pub const ANNOTATE: &str = "\
-    Reads a lawful trace of any version on standard input, and writes it on standard\n\
-    output as one of version 3 that says everything: the call of each event, the\n\
-    answer to it, and behind each event the whole vector of the node that it changed.\n\
-    If the trace isn't lawful, it writes the verdict on standard error.\n\
+    Reads a lawful trace of any version in FILE or on standard input, and writes it\n\
+    on standard output as one of version 3 that says everything: the call of each\n\
+    event, the answer to it, and behind each event the whole vector of the node that\n\
+    it changed. If the trace isn't lawful, it writes the verdict on standard error.\n\
     \n\
     Statuses: 0 written, 1 refused or differs, 3 a fault of the trace's form, or more\n\
-    rows than a trace may have, 4 Read, Write or OutOfMemory.\n\
+    rows than a trace may have, 4 FILE can't be opened, Read, Write or OutOfMemory.\n\
     \n\
-    Example: bully annotate < examples/alone.csv | bully check";
+    Example: bully annotate examples/alone.csv | bully check";
 
 /// What help tells of `draw`.
 pub const DRAW: &str = "\
-    Reads a trace on standard input as 'check' does, and writes an SVG picture of it\n\
-    on standard output: a lane for each node, and arrows for the calls. It shows the\n\
-    200 rows that end at the verdict, or those of --rows. A row that is refused or\n\
-    differs is the last one, with a sentence below it.\n\
+    Reads a trace in FILE or on standard input as 'check' does, and writes an SVG\n\
+    picture of it on standard output: a lane for each node, and arrows for the calls.\n\
+    It shows the 200 rows that end at the verdict, or those of --rows. A row that is\n\
+    refused or differs is the last one, with a sentence below it. --html writes the\n\
+    picture as a page for a browser, with a search and what each row changes. --text\n\
+    draws for a terminal. --without-claims leaves the rows out that are no events.\n\
     \n\
     Statuses: 0 lawful, 1 refused or differs, 2 bad words, 3 a fault of form in the\n\
-    trace or in the configuration, 4 Read, Write or OutOfMemory.\n\
+    trace or in the configuration, 4 FILE can't be opened, Read, Write or\n\
+    OutOfMemory.\n\
     \n\
-    Example: bully draw < examples/all_up.csv > all_up.svg";
+    Example: bully draw examples/all_up.csv > all_up.svg";
 
 /// What help tells of `play`.
 pub const PLAY: &str = "\
@@ -100,9 +121,19 @@ pub const RUN: &str = "\
 pub const TABLE: &str = "\
     Reads the configuration, and plans a table over the members that is balanced by\n\
     their weights, with the fewest moves from the old one. Writes the owners, how\n\
-    many partitions move, and how many could stay, each on a line of standard output.\n\
+    many partitions move, and how many could stay, each on a line of standard output;\n\
+    with --json as one object.\n\
     \n\
     Statuses: 0 written, 2 no such member, or owners that are no table, 3 a fault in\n\
     the configuration, 4 Read, Write or OutOfMemory.\n\
     \n\
     Example: bully table examples/three_nodes.toml a b --old '1 2 2 2 3'";
+
+/// What help tells of `completion`.
+pub const COMPLETION: &str = "\
+    Writes on standard output what the shell reads to complete the program's commands\n\
+    and options: bash, zsh or fish.\n\
+    \n\
+    Statuses: 0 written, 2 another shell, 4 Write or OutOfMemory.\n\
+    \n\
+    Example: bully completion bash > bully.bash";

@@ -6,5 +6,7 @@
 mod action;
 mod command;
 mod help;
+mod shells;
 
-pub use action::{Action, DrawWords, TableWords, action_of};
+pub use action::{Action, DrawWords, ExplainWords, TableWords, TraceWords, action_of};
+pub use shells::{Shell, completion};

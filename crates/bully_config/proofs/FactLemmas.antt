@@ -1,5 +1,5 @@
 -- What is known of a document that nothing refuses.
-use Rattle.std.proofs.Common.{[], option_and_then, ◌≡◌, ◌≢◌, subst, ℕ, ◌<◌, ◌≤◌, Bool, true, false, List, length, refl, sym, ap, arith, ◌∙◌, Option, Some, None, option_map, if◌then◌else◌}
+use Rattle.std.proofs.Common.{[], option_and_then, ◌≡◌, ◌≢◌, subst, ℕ, ◌<◌, ◌≤◌, Bool, true, false, List, length, refl, sym, ap, arith, ◌∙◌, Option, Some, None, option_map, if◌then◌else◌, map}
 use Rattle.std.specs.Option.{option_or, is_some, unwrap_or}
 use Rattle.std.specs.List.{list_all, list_any}
 use Rattle.std.proofs.lemmas.Grind.{common_steps}
@@ -13,14 +13,12 @@ use Rattle.bully_config.specs.declared.fault.ConfigFault.{ConfigFault}
 use Rattle.bully_config.specs.declared.TheConstants.{TURNS_MAX, PERIOD_MIN, PERIOD_MAX, FAULTS_MAX}
 use Rattle.bully_config.specs.Answers.{refusal_of}
 use Rattle.bully_config.specs.Configuration.{Configuration, has_double, is_empty, IsConfiguration}
-use Rattle.bully_config.specs.Document.{list_of, value_at, items_at}
+use Rattle.bully_config.specs.Document.{list_of, value_at, items_at, text_of}
 use Rattle.bully_config.specs.Refusals.{are_names, are_weights, first_in, fits, is_table, fault_out_of_range, out_of_range_in, missing_in, misfit_in, has_double_in, has_unlisted_in}
-use Rattle.std.specs.Prelude.{map}
 use Rattle.std.proofs.lemmas.List.{length-map}
 use Rattle.toml.specs.declared.value.Value.{Value}
 use Rattle.toml.specs.View.{view}
 use Rattle.bully_base.specs.Setup.{Setup}
-use Rattle.bully_config.specs.Document.{text_of}
 use Rattle.std.proofs.lemmas.Bool.{false≢true}
 use Rattle.bully_base.specs.declared.TheConstants.{NODES_MAX, PARTITIONS_MAX, EVENTS_MAX}
 use Rattle.bully_config.proofs.FaultLemmas.{faults_all, number_within, period_within, faults_within, faults_few}

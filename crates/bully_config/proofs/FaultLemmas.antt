@@ -1,5 +1,5 @@
 -- The faults that a document tells are within the limits.
-use Rattle.std.proofs.Common.{◌≡◌, ℕ, ℤ, pos, negsuc, suc, ◌+◌, ◌<◌, ◌≤◌, Bool, true, false, List, [], ◌∷◌, length, refl, ap, arith, Option, Some, None, option_map, option_and_then}
+use Rattle.std.proofs.Common.{◌≡◌, ℕ, ℤ, pos, negsuc, suc, ◌+◌, ◌<◌, ◌≤◌, Bool, true, false, List, [], ◌∷◌, length, refl, ap, arith, Option, Some, None, option_map, option_and_then, not, if◌then◌else◌}
 use Rattle.std.specs.List.{list_all, position_from, AllByRecursion}
 use Rattle.std.proofs.lemmas.Grind.{common_steps}
 use Rattle.toml.specs.Data.{Data, Members, as_integer, as_table}
@@ -11,7 +11,6 @@ use Rattle.bully_config.specs.declared.config.Fault.{Fault}
 use Rattle.bully_config.specs.declared.fault.Key.{Key}
 use Rattle.bully_config.specs.declared.TheConstants.{PERIOD_MIN, PERIOD_MAX}
 use Rattle.bully_config.specs.Configuration.{IsFaultOf, node_named}
-use Rattle.std.specs.Prelude.{not, if◌then◌else◌}
 use Rattle.std.specs.Option.{is_some, option_or}
 use Rattle.std.proofs.lemmas.Bool.{false≢true, and_parts}
 use Rattle.bully_config.specs.Refusals.{first_in, is_table, fault_out_of_range}

@@ -1,6 +1,5 @@
 -- Names: the set that keeps them, and the places that they have.
-use Rattle.std.proofs.Common.{◌≡◌, ℕ, zero, suc, ◌+◌, ◌<◌, Bool, true, false, ◌||◌, List, [], ◌∷◌, length, take, get_or, map, refl, sym, ap, arith, ◌∙◌, String, Global, string_bytes, Option, Some, None, option_map, cond}
-use Rattle.std.specs.Prelude.{slice_index_or, slice_get, position}
+use Rattle.std.proofs.Common.{◌≡◌, ℕ, zero, suc, ◌+◌, ◌<◌, Bool, true, false, ◌||◌, List, [], ◌∷◌, length, take, get_or, map, refl, sym, ap, arith, ◌∙◌, String, Global, string_bytes, Option, Some, None, option_map, cond, slice_index_or, slice_get, position}
 use Rattle.std.specs.List.{list_any, position_from}
 use Rattle.std.specs.Str.{bytes_eq}
 use Rattle.std.specs.String.{string_eq}

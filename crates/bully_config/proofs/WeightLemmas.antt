@@ -1,6 +1,5 @@
 -- The weights that a document tells.
-use Rattle.std.proofs.Common.{◌≡◌, ◌∙◌, ◌⊎◌, inl, inr, ℕ, ℤ, min, ◌+◌, ◌-◌, ◌≤◌, ◌++◌, ◌==◌, Bool, true, not, List, [], ◌∷◌, length, take, drop, replicate, map, All, Option, Some, None, Result, Ok, IfOk, is_some, option_and_then, refl, sym, ap, arith}
-use Rattle.std.specs.Prelude.{◌&&◌, ◌||◌}
+use Rattle.std.proofs.Common.{◌≡◌, ◌∙◌, ◌⊎◌, inl, inr, ℕ, ℤ, min, ◌+◌, ◌-◌, ◌≤◌, ◌++◌, ◌==◌, Bool, true, not, List, [], ◌∷◌, length, take, drop, replicate, map, All, Option, Some, None, Result, Ok, IfOk, is_some, option_and_then, refl, sym, ap, arith, ◌&&◌, ◌||◌}
 use Rattle.std.specs.List.{list_all}
 use Rattle.std.proofs.lemmas.Bool.{and_parts, false≢true}
 use Rattle.std.proofs.lemmas.List.{length-append, length-drop, length-map, length-replicate, length-take, take_at, take-replicate}

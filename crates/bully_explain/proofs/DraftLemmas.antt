@@ -1,8 +1,6 @@
 -- What stands in a draft behind several pieces.
-use Rattle.std.proofs.Common.{◌≡◌, ◌∙◌, false, ℕ, zero, suc, ◌+◌, ◌++◌, List, [], ◌∷◌, Option, Some, refl, sym, ap, subst, arith, codes}
-use Rattle.std.specs.Prelude.{replicate}
+use Rattle.std.proofs.Common.{◌≡◌, ◌∙◌, false, ℕ, zero, suc, ◌+◌, ◌++◌, List, [], ◌∷◌, Option, Some, refl, sym, ap, subst, arith, codes, replicate, append_assoc, append-nil}
 use Rattle.std.specs.Str.{chars}
-use Rattle.std.proofs.lemmas.List.{append_assoc, append-nil}
 use Rattle.bully_config.specs.declared.fault.ConfigFault.{ConfigFault}
 use Rattle.bully_explain.specs.ConfigTold.{ArePlain, IsConfigText, lines_text}
 use Rattle.bully_explain.specs.Drafted.{Appends, AppendsLines, Drafted, blank}

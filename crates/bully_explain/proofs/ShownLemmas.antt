@@ -1,11 +1,9 @@
 -- Letters are shown one by one.
-use Rattle.std.proofs.Common.{◌≡◌, ◌∙◌, ℕ, ◌+◌, ◌<◌, ◌≤◌, ◌++◌, Bool, true, false, List, [], ◌∷◌, length, take, get_or, refl, sym, ap, subst, arith}
-use Rattle.std.specs.Prelude.{map, encode_utf8}
+use Rattle.std.proofs.Common.{◌≡◌, ◌∙◌, ℕ, ◌+◌, ◌<◌, ◌++◌, Bool, true, false, List, [], ◌∷◌, length, take, get_or, refl, sym, ap, subst, arith, map, encode_utf8}
 use Rattle.std.specs.Str.{IsUtf8, chars, encode_utf8_all}
 use Rattle.std.proofs.lemmas.List.{append_assoc, append-nil, map-append, take_all, take_more}
 use Rattle.std.proofs.lemmas.Bool.{and_from, and_parts}
-use Rattle.std.proofs.lemmas.Bool.Decides.{nat_tests}
-use Rattle.std.proofs.lemmas.Str.{chars-encodes, encode_ascii, encodes-append, scalars-chars}
+use Rattle.std.proofs.lemmas.Str.{chars-encodes, encodes-append, scalars-chars}
 use lib.Utf8.{scalar, scalars}
 use Rattle.bully_explain.specs.Shown.{AllPlain, AllPrinted, is_control, is_printed, shown, shown_byte, shown_letter}
 
@@ -62,20 +60,3 @@ byte-printed b false is = rw is refl
 pub bytes-printed : (bs : List ℕ) → AllPrinted (map shown_byte bs)
 bytes-printed [] = tt
 bytes-printed (b ∷ bs) = (byte-printed b (is_printed b) refl, bytes-printed bs)
-
--- so it is a letter of one byte
-printed-ascii : (b : ℕ) → is_printed b ≡ true → encode_utf8 b ≡ b ∷ []
-printed-ascii b is = encode_ascii b (grind (arith, nat_tests))
-
--- one more byte was appended
-pub byte-more : (start text new bs : List ℕ) (n b : ℕ) → text ≡ start ++ map shown_byte (take n bs) → n < length bs → b ≡ get_or bs n b
-    → new ≡ text ++ encode_utf8 (shown_byte b) → new ≡ start ++ map shown_byte (take (n + 1) bs)
-byte-more start text new bs n b so_far within is more =
-    let all : take (n + 1) bs ≡ take n bs ++ b ∷ [] = take_more bs n b within ∙ ap (λ x. take n bs ++ x ∷ []) (sym is) in
-    let one : new ≡ text ++ shown_byte b ∷ [] = more ∙ ap (λ l. text ++ l) (printed-ascii (shown_byte b) (byte-printed b (is_printed b) refl)) in
-    one ∙ ap (λ l. l ++ shown_byte b ∷ []) so_far ∙ append_assoc start (map shown_byte (take n bs)) (shown_byte b ∷ [])
-    ∙ ap (λ l. start ++ l) (sym (map-append shown_byte (take n bs) (b ∷ []))) ∙ ap (λ l. start ++ map shown_byte l) (sym all)
-
--- all bytes were appended
-pub bytes-all : (start text bs : List ℕ) (n : ℕ) → text ≡ start ++ map shown_byte (take n bs) → length bs ≤ n → text ≡ start ++ map shown_byte bs
-bytes-all start text bs n so_far all = so_far ∙ ap (λ l. start ++ map shown_byte l) (take_all n bs all)

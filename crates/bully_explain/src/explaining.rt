@@ -74,3 +74,9 @@ fn text_of<R: Read + Drop>(
         (Ok(_), None) => unreachable!(),
     }
 }
+
+/// The sheet of what these rows came to: of the row that decided, where one did. Refused where an allocation fails.
+pub fn account_sheet(alloc: Global, account: &Account) -> Result<String, OutOfMemory> {
+    let nodes = account.nodes(alloc)?;
+    sheet_text(alloc, account, nodes.as_slice())
+}

@@ -27,5 +27,5 @@ mod words;
 
 pub use bully_account::{CallSummary, EventKind, NodeSheet, NodeSummary};
 pub use config::{ConfigSheet, explain_config};
-pub use explaining::{Sheet, explain};
+pub use explaining::{Sheet, account_sheet, explain};
 pub use sheet_text::reason;

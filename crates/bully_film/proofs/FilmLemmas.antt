@@ -1,17 +1,15 @@
 -- One more row is filmed.
 use Rattle.std.proofs.Common.{zero, suc, ◌≡◌, ◌≢◌, ◌⊎◌, inl, inr, ◌∙◌, ℕ, ◌+◌, ◌-◌, ◌==◌, ◌<◌, ◌≤◌, ◌++◌, Bool, true, false, List, [], ◌∷◌, Option, Some, None, MatchOption, if◌then◌else◌, length, drop, refl, sym, ap, subst, arith}
 use Rattle.std.specs.declared.alloc.AllocError.{AllocError}
-use Rattle.std.specs.Prelude.{is_none, is_some, min, nat_lt, nat_le, option_map, slice_get, OnOk, Result, Ok, Err}
+use Rattle.std.specs.Prelude.{is_none, is_some, min, nat_lt, nat_le, slice_get, OnOk, Result, Ok, Err}
 use Rattle.std.proofs.lemmas.Bool.Decides.{nat_tests}
 use Rattle.std.proofs.lemmas.List.{append_assoc, append-nil, length-append}
 use Rattle.bully_base.specs.Setup.{Setup}
 use Rattle.bully_calls.specs.declared.kind.NodeEventKind.{NodeEventKind}
 use Rattle.bully_rows.specs.declared.trace.Row.{Row}
 use Rattle.bully_calls.specs.Events.{event_at}
-use Rattle.bully_calls.proofs.KindLemmas.{kind-node}
+use Rattle.bully_calls.proofs.KindLemmas.{kind-kind, kind-node}
 use Rattle.bully_trace.specs.declared.verdict.Verdict.{Verdict}
-use Rattle.bully_trace.specs.declared.verdict.Violation.{Violation}
-use Rattle.bully_trace.specs.OneRow.{IsTakenBy, verdict_at, violation_of}
 use Rattle.bully_trace.specs.Judging.{HasJudged, JudgeState}
 use Rattle.bully_trace.specs.Verdict.{IsJudged}
 use Rattle.bully_world.specs.State.{world_of}
@@ -21,7 +19,7 @@ use Rattle.bully_film.specs.declared.scene.Scene.{Scene}
 use Rattle.bully_film.specs.declared.snapshot.NodeSnapshot.{NodeSnapshot}
 use Rattle.bully_film.specs.Behind.{world_behind}
 use Rattle.bully_film.specs.Film.{FilmState, GoesOn, HasFilmed, HasShot, IsInWindow, IsLook, IsNoted, IsRowAt, closed, decided, kept, last_judged}
-use Rattle.bully_film.specs.Scene.{event_kind_in, node_in, scene_at, scene_of, scenes_from, snapshots_of}
+use Rattle.bully_film.specs.Scene.{event_kind_in, is_node_kind, node_in, said_in, scene_at, scene_of, scenes_from, snapshots_of}
 use Rattle.bully_film.specs.Window.{IsWindow, WindowState}
 use Rattle.bully_film.proofs.BehindLemmas.{judged-world}
 
@@ -147,19 +145,6 @@ get-last (first ∷ xs) x = get-last xs x
 row-stays : (rows : List Row) (row : Row) (number : Option ℕ) (stop : Option Row) → IsRowAt rows number stop → IsRowAt (rows ++ row ∷ []) number stop
 row-stays rows row None stop is = is
 row-stays rows row (Some number) stop (r, is, there) = (r, is, get-more rows (row ∷ []) (number - 2) r there)
-
--- it is kept where the judge stops at it
-pub noted-by : (number : ℕ) (row : Row) (film after : FilmState) (judge : JudgeState) → film.judge.stopped ≡ None → IsTakenBy number row film.judge judge
-    → after.judge ≡ judge → after.stop ≡ (if is_some judge.stopped then Some row else film.stop) → IsNoted number row film after
-noted-by number row film after judge going taken judged kept =
-    subst (λ (j : JudgeState). ((decided j.stopped ≡ Some number) × (after.stop ≡ Some row)) ⊎ ((j.stopped ≡ None) × (after.stop ≡ film.stop))) (sym judged)
-    (by_violation (violation_of film.judge.world row) (taken.decides going))
-  where
-    by_violation : (violation : Option Violation) → judge.stopped ≡ option_map (verdict_at number) violation
-        → ((decided judge.stopped ≡ Some number) × (after.stop ≡ Some row)) ⊎ ((judge.stopped ≡ None) × (after.stop ≡ film.stop))
-    by_violation None on = inr (on, kept ∙ ap (λ stopped. if is_some stopped then Some row else film.stop) on)
-    by_violation (Some Violation.Differs) on = inl (ap decided on, kept ∙ ap (λ stopped. if is_some stopped then Some row else film.stop) on)
-    by_violation (Some (Violation.Refused why)) on = inl (ap decided on, kept ∙ ap (λ stopped. if is_some stopped then Some row else film.stop) on)
 
 -- one more row was judged: whether it decided, which row did, and how far the rows go up to that
 noted-unlawful : (number : ℕ) (row : Row) (film after : FilmState) → IsNoted number row film after → decided after.judge.stopped ≡ None → after.judge.stopped ≡ None
@@ -436,17 +421,17 @@ filmed-over setup rows row film over filmed = by_stop film.judge.stopped refl ov
     by_stop (Some verdict) is some = filmed-stopped setup rows row film verdict is filmed
 
 -- in the window and behind it
-pub filmed-on : (setup : Setup) (rows : List Row) (row : Row) (number : ℕ) (film judged after : FilmState) (scene_start : Option SceneStart) (done : Result (Unit {0}) AllocError)
-    → is_some film.judge.stopped ≡ false → IsLook film (node_in row) (event_kind_in row) scene_start
+pub filmed-on : (setup : Setup) (rows : List Row) (row : Row) (number : ℕ) (film judged after : FilmState) (said : Option Row) (scene_start : Option SceneStart) (done : Result (Unit {0}) AllocError)
+    → said ≡ said_in row → is_some film.judge.stopped ≡ false → IsLook film (node_in row) (event_kind_in row) scene_start
     → judged.window ≡ film.window → judged.at_end ≡ film.at_end → judged.scenes ≡ film.scenes → IsNoted number row film judged
     → ((setup : Setup) (rows : List Row) → length rows + 2 ≡ number → HasJudged setup rows film.judge → HasJudged setup (rows ++ row ∷ []) judged.judge)
-    → OnOk done (GoesOn number scene_start judged after) → length rows + 2 ≡ number
+    → OnOk done (GoesOn number said scene_start judged after) → length rows + 2 ≡ number
     → HasFilmed setup rows film → OnOk done (HasFilmed setup (rows ++ row ∷ []) after)
-filmed-on setup rows row number film judged after scene_start (Err e) going look same_window same_at_end same_scenes taken judges on at filmed = tt
-filmed-on setup rows row number film judged after None (Ok x) going look same_window same_at_end same_scenes taken judges on at filmed =
+filmed-on setup rows row number film judged after said scene_start (Err e) says going look same_window same_at_end same_scenes taken judges on at filmed = tt
+filmed-on setup rows row number film judged after said None (Ok x) says going look same_window same_at_end same_scenes taken judges on at filmed =
     rw on (filmed-beyond setup rows row number film judged (going-is film.judge.stopped going) look same_at_end same_scenes same_window at taken (judges setup rows at filmed.judged) filmed)
-filmed-on setup rows row number film judged after (Some scene_start) (Ok x) going look same_window same_at_end same_scenes taken judges on at filmed =
-    let (shot, is, closes) = on (world_of film.judge.world) row look.1 in
+filmed-on setup rows row number film judged after said (Some scene_start) (Ok x) says going look same_window same_at_end same_scenes taken judges on at filmed =
+    let (shot, is, closes) = on (world_of film.judge.world) row says look.1 in
     let s = scene_of judged.judge.world.setup (world_of film.judge.world) (world_of judged.judge.world) number row in
     let keeps : shot.scenes ≡ kept film.window film.scenes (scene_of shot.judge.world.setup (world_of film.judge.world) (world_of shot.judge.world) number row) =
     rw is (ap (λ window. kept window judged.scenes s) same_window ∙ ap (λ scenes. kept film.window scenes s) same_scenes) in
@@ -456,3 +441,7 @@ filmed-on setup rows row number film judged after (Some scene_start) (Ok x) goin
 -- a row of an event that names a node and no more names that node
 pub node-told : (kind : NodeEventKind) (i : ℕ) → node_in (Row.Event (event_at kind i)) ≡ i
 node-told kind i = kind-node kind i
+
+-- and says no more
+pub node-bare : (kind : NodeEventKind) (i : ℕ) → None ≡ said_in (Row.Event (event_at kind i))
+node-bare kind i = sym (ap (λ k. if is_node_kind k then None else Some (Row.Event (event_at kind i))) (kind-kind kind i))

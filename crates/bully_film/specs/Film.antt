@@ -17,7 +17,7 @@ use Rattle.bully_film.specs.declared.scene.SceneStart.{SceneStart}
 use Rattle.bully_film.specs.declared.scene.Scene.{Scene}
 use Rattle.bully_film.specs.declared.snapshot.NodeSnapshot.{NodeSnapshot}
 use Rattle.bully_film.specs.Behind.{world_behind}
-use Rattle.bully_film.specs.Scene.{IsSceneStart, event_kind_in, node_in, scene_of, scenes_from, snapshots_of}
+use Rattle.bully_film.specs.Scene.{IsSceneStart, event_kind_in, node_in, said_in, scene_of, scenes_from, snapshots_of}
 use Rattle.bully_film.specs.Window.{IsWindow, WindowState}
 
 -- a film: the judge that takes the rows, the window, what each row that is kept shows, the row that decided, and, once the window's
@@ -79,11 +79,11 @@ IsNoted number row film after =
 abbrev pub noted : Row → FilmState → FilmState
 noted row film = if is_some film.judge.stopped then record film { stop = Some row } else film
 
--- behind a row of this number that was judged, of which this was seen before it, what it shows is kept, and how the nodes stand at the
--- window's last row; nothing of a row of which nothing was seen
-abbrev pub GoesOn : ℕ → Option SceneStart → FilmState → FilmState → Type 0
-GoesOn number None film after = after ≡ film
-GoesOn number (Some scene_start) film after = (w : World) (row : Row) → IsSceneStart w (node_in row) (event_kind_in row) scene_start
+-- behind a row of this number that was judged, of which this was seen before it, and which says this, what it shows is kept, and how the
+-- nodes stand at the window's last row; nothing of a row of which nothing was seen
+abbrev pub GoesOn : ℕ → Option Row → Option SceneStart → FilmState → FilmState → Type 0
+GoesOn number said None film after = after ≡ film
+GoesOn number said (Some scene_start) film after = (w : World) (row : Row) → said ≡ said_in row → IsSceneStart w (node_in row) (event_kind_in row) scene_start
     → (shot : FilmState)
     × (shot ≡ record film { scenes = kept film.window film.scenes (scene_of film.judge.world.setup w (world_of film.judge.world) number row) })
     × (after ≡ (if number == shot.window.to then closed shot else shot))

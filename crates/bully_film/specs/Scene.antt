@@ -97,6 +97,21 @@ is_quiet _ = true
 abbrev pub table_shown : Setup → Bool → Option (List ℕ) → Option (List ℕ)
 table_shown setup gets task = if gets && nat_le setup.partitions OWNERS_SHOWN then task else None
 
+-- the row is the word of its event and a node
+abbrev pub is_node_kind : EventKind → Bool
+is_node_kind (EventKind.Node kind) = true
+is_node_kind EventKind.Plan = false
+
+abbrev pub is_bare : Row → Bool
+is_bare (Row.Event e) = is_node_kind (kind_of e)
+is_bare (Row.Detailed d) = false
+is_bare (Row.Claim claim) = false
+is_bare (Row.Whole whole) = false
+
+-- the row, where it says more than that
+abbrev pub said_in : Row → Option Row
+said_in row = if is_bare row then None else Some row
+
 -- the row of this number, which leads from w to w'
 abbrev pub scene_of : Setup → World → World → ℕ → Row → Scene
 scene_of setup w w' number row =
@@ -111,6 +126,7 @@ scene_of setup w w' number row =
       cuts = cuts w i j (event_kind_in row);
       gets_table = gets;
       table = table_shown setup gets (vector w' j).task;
+      said = said_in row;
     }
 
 -- the row behind these first rows of a trace

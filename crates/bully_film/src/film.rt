@@ -1,6 +1,8 @@
-ghost use Rattle.std.specs.Prelude.{◌≡◌, IfSome, OnOk};
+ghost use Rattle.std.specs.Prelude.{◌≡◌, IfOk, IfSome, OnOk};
+ghost use Rattle.std.specs.Option.{option_copied};
 ghost use Rattle.bully_film.specs.Film.{kept};
 
+use crate::said::Said;
 use crate::scene::{
     Scene, SceneStart, event_kind_at, event_kind_in, is_quiet, node_in, open_on, quiet_shot, shot,
 };
@@ -8,7 +10,8 @@ use crate::snapshot::{NodeSnapshot, snapshots};
 use crate::window::Window;
 use bully_base::{Node, OutOfMemory, Setup};
 use bully_calls::{EventKind, NodeEventKind};
-use bully_rows::{Header, NodeEvent, Row, Version};
+use bully_rows::{Header, NodeEvent, Row, Version, WholeClaim};
+use bully_table::Table;
 use bully_trace::{Judge, Verdict};
 use bully_world::World;
 use std::alloc::Global;
@@ -52,7 +55,7 @@ impl Film {
     ghost use Rattle.std.specs.Prelude.{◌≡◌, ◌+◌, ◌++◌, ◌==◌, ◌∷◌, [], List, Option, None, Some, true, false, is_none, is_some, length, IfOk, IfSome, OnOk, if◌then◌else◌};
     ghost use Rattle.bully_base.specs.Setup.{Setup as SetupState};
     ghost use Rattle.bully_film.specs.Film.{GoesOn, HasFilmed, IsLook, IsNoted, closed, kept, noted};
-    ghost use Rattle.bully_film.specs.Scene.{IsSceneStart, event_kind_in, node_in, scene_of};
+    ghost use Rattle.bully_film.specs.Scene.{IsSceneStart, event_kind_in, node_in, said_in, scene_of};
     ghost use Rattle.bully_trace.specs.Judging.{HasJudged};
     ghost use Rattle.bully_trace.specs.Verdict.{IsJudged};
     ghost use Rattle.bully_world.specs.World.{World as WorldOf, first_world};
@@ -112,8 +115,8 @@ impl Film {
             return Ok(());
         }
         let scene_start = self.look(event_kind_in(&row), node_in(&row));
-        self.judge_row(number, row);
-        self.keep_shown(alloc, number, &scene_start)
+        self.judge_row(alloc, number, &row)?;
+        self.keep_said(alloc, number, &scene_start, row)
     }
 
     /// Takes the row of this number, which tells this event, as `take_row` does.
@@ -157,18 +160,19 @@ impl Film {
         Some(open_on(self.judge.world(), event_kind, node))
     }
 
-    // Has the row judged, and keeps it where it decided.
+    // Has the row judged, and keeps a copy where it decided.
     #[inline(always)]
-    fn judge_row(&mut self, number: u32, row: Row)
+    fn judge_row(&mut self, alloc: Global, number: u32, row: &Row) -> Result<(), OutOfMemory>
         ensures version { self.new.judge.version ≡ self.old.judge.version }
         ensures window { self.new.window ≡ self.old.window }
         ensures at_end { self.new.at_end ≡ self.old.at_end }
         ensures scenes { self.new.scenes ≡ self.old.scenes }
-        ensures noted { self.old.judge.stopped ≡ None → IsNoted number row self.old self.new }
-        ensures judged { (setup : SetupState) (rows : List RowState) → length rows + 2 ≡ number → HasJudged setup rows self.old.judge → HasJudged setup (rows ++ row ∷ []) self.new.judge }
+        ensures noted { OnOk result (self.old.judge.stopped ≡ None → IsNoted number row.now self.old self.new) }
+        ensures judged { (setup : SetupState) (rows : List RowState) → length rows + 2 ≡ number → HasJudged setup rows self.old.judge → HasJudged setup (rows ++ row.now ∷ []) self.new.judge }
     {
-        self.judge.take_row(number, &row);
-        self.keep_stop(row);
+        self.judge.take_row(number, row);
+        self.keep_stop(alloc, row)?;
+        Ok(())
     }
 
     // Has the row judged that tells an event of this kind, and keeps it where it decided.
@@ -197,8 +201,8 @@ impl Film {
         self.stop = Some(Row::Event(NodeEvent { kind, node }.event()));
     }
 
-    // Goes on behind a row that was judged, of which this was seen before: keeps what it shows, and how the nodes stand, where it was
-    // the window's last row.
+    // Goes on behind a row that was judged, of which this was seen before, and which says no more than its event's word and a node: keeps
+    // what it shows, and how the nodes stand, where it was the window's last row.
     #[inline(always)]
     fn keep_shown(
         &mut self,
@@ -208,43 +212,73 @@ impl Film {
     ) -> Result<(), OutOfMemory>
         ensures version { OnOk result (self.new.judge.version ≡ self.old.judge.version) }
         ensures window { self.new.window ≡ self.old.window }
-        ensures on { OnOk result (GoesOn number scene_start.now self.old self.new) }
+        ensures on { OnOk result (GoesOn number None scene_start.now self.old self.new) }
     {
         if let Some(scene_start) = scene_start {
-            self.keep_shot(number, scene_start)?;
+            self.keep_shot(number, scene_start, Said::nothing())?;
             self.close_at(alloc, number)?;
         }
         Ok(())
     }
 
-    // Keeps what the row shows that was judged last, of which this was seen before.
+    // The same behind any row.
+    fn keep_said(
+        &mut self,
+        alloc: Global,
+        number: u32,
+        scene_start: &Option<SceneStart>,
+        row: Row,
+    ) -> Result<(), OutOfMemory>
+        ensures version { OnOk result (self.new.judge.version ≡ self.old.judge.version) }
+        ensures window { self.new.window ≡ self.old.window }
+        ensures on { OnOk result (GoesOn number (said_in row) scene_start.now self.old self.new) }
+    {
+        if let Some(scene_start) = scene_start {
+            let said = Said::by(alloc, row)?;
+            self.keep_shot(number, scene_start, said)?;
+            self.close_at(alloc, number)?;
+        }
+        Ok(())
+    }
+
+    // Keeps what the row shows that was judged last, of which this was seen before, and which says this.
     #[inline(always)]
-    fn keep_shot(&mut self, number: u32, scene_start: &SceneStart) -> Result<(), OutOfMemory>
+    fn keep_shot(
+        &mut self,
+        number: u32,
+        scene_start: &SceneStart,
+        said: Said,
+    ) -> Result<(), OutOfMemory>
         ensures judge { self.new.judge ≡ self.old.judge }
         ensures window { self.new.window ≡ self.old.window }
         ensures stop { self.new.stop ≡ self.old.stop }
         ensures at_end { self.new.at_end ≡ self.old.at_end }
-        ensures scenes { OnOk result ((w : WorldOf) (row : RowState) → IsSceneStart w (node_in row) (event_kind_in row) scene_start.now
+        ensures scenes { OnOk result ((w : WorldOf) (row : RowState) → said ≡ said_in row → IsSceneStart w (node_in row) (event_kind_in row) scene_start.now
             → self.new.scenes ≡ kept self.old.window self.old.scenes (scene_of self.old.judge.world.setup w (world_of self.old.judge.world) number row)) }
     {
         if !is_quiet(scene_start) {
-            return self.keep_wide_shot(number, scene_start);
+            return self.keep_wide_shot(number, scene_start, said);
         }
-        let scene = quiet_shot(number, scene_start, self.judge.world());
+        let scene = quiet_shot(number, scene_start, self.judge.world(), said);
         keep(&mut self.scenes, self.window, scene)
     }
 
     // The same, where a second node may be changed, or a table comes with the row.
     #[inline(never)]
-    fn keep_wide_shot(&mut self, number: u32, scene_start: &SceneStart) -> Result<(), OutOfMemory>
+    fn keep_wide_shot(
+        &mut self,
+        number: u32,
+        scene_start: &SceneStart,
+        said: Said,
+    ) -> Result<(), OutOfMemory>
         ensures judge { self.new.judge ≡ self.old.judge }
         ensures window { self.new.window ≡ self.old.window }
         ensures stop { self.new.stop ≡ self.old.stop }
         ensures at_end { self.new.at_end ≡ self.old.at_end }
-        ensures scenes { OnOk result ((w : WorldOf) (row : RowState) → IsSceneStart w (node_in row) (event_kind_in row) scene_start.now
+        ensures scenes { OnOk result ((w : WorldOf) (row : RowState) → said ≡ said_in row → IsSceneStart w (node_in row) (event_kind_in row) scene_start.now
             → self.new.scenes ≡ kept self.old.window self.old.scenes (scene_of self.old.judge.world.setup w (world_of self.old.judge.world) number row)) }
     {
-        let scene = shot(number, scene_start, self.judge.world())?;
+        let scene = shot(number, scene_start, self.judge.world(), said)?;
         keep(&mut self.scenes, self.window, scene)
     }
 
@@ -301,14 +335,19 @@ impl Film {
         }
     }
 
-    // Keeps the row, where it decided.
+    // Keeps a copy of the row, where it decided.
     #[inline(always)]
-    fn keep_stop(&mut self, row: Row)
-        ensures { self.new ≡ noted row self.old }
+    fn keep_stop(&mut self, alloc: Global, row: &Row) -> Result<(), OutOfMemory>
+        ensures kept { OnOk result (self.new ≡ noted row.now self.old) }
+        ensures judge { self.new.judge ≡ self.old.judge }
+        ensures window { self.new.window ≡ self.old.window }
+        ensures at_end { self.new.at_end ≡ self.old.at_end }
+        ensures scenes { self.new.scenes ≡ self.old.scenes }
     {
         if self.judge.stopped().is_some() {
-            self.stop = Some(row);
+            self.stop = Some(copy_row(alloc, row)?);
         }
+        Ok(())
     }
 }
 
@@ -328,6 +367,38 @@ fn keep(scenes: &mut VecDeque<Scene>, window: Window, scene: Scene) -> Result<()
     }
     scenes.push_back_reserved(scene);
     Ok(())
+}
+
+// The same row.
+// (out of line, as one comes once)
+#[inline(never)]
+fn copy_row(alloc: Global, row: &Row) -> Result<Row, OutOfMemory>
+    ensures { IfOk result (λ copy. copy ≡ row.now) }
+{
+    match row {
+        Row::Event(event) => Ok(Row::Event(event.copy()?)),
+        Row::Detailed(event) => Ok(Row::Detailed(*event)),
+        Row::Claim(claim) => Ok(Row::Claim(*claim)),
+        Row::Whole(whole) => Ok(Row::Whole(copy_whole(alloc, whole)?)),
+    }
+}
+
+// The same claim.
+fn copy_whole(alloc: Global, whole: &WholeClaim) -> Result<WholeClaim, OutOfMemory>
+    ensures { IfOk result (λ copy. copy ≡ whole.now) }
+{
+    let task = copy_task(whole.task())?;
+    WholeClaim::new(alloc, whole.claim(), whole.halter(), *whole.up(), task)
+}
+
+// The same task.
+fn copy_task(task: Option<&Table>) -> Result<Option<Table>, OutOfMemory>
+    ensures { IfOk result (λ copy. copy ≡ option_copied task.entry) }
+{
+    match task {
+        Some(table) => Ok(Some(table.copy()?)),
+        None => Ok(None),
+    }
 }
 
 // The snapshots, or none.

@@ -4,12 +4,13 @@ ghost use Rattle.bully_handlers.specs.Vector.{is_normal};
 ghost use Rattle.bully_calls.specs.Events.{event_at, kind_of};
 ghost use Rattle.bully_rows.specs.declared.trace.Row.{Row as RowState};
 ghost use Rattle.bully_world.specs.Place.{call_at};
-ghost use Rattle.bully_film.specs.Scene.{IsSceneStart, cuts, event_kind_in, gets_table, is_halting, is_quiet, is_run, node_in, place_at, scene_of, snapshot, table_shown};
+ghost use Rattle.bully_film.specs.Scene.{IsSceneStart, cuts, event_kind_in, gets_table, is_halting, is_quiet, is_run, node_in, place_at, said_in, scene_of, snapshot, table_shown};
 ghost use Rattle.bully_world.specs.Cause.{is_idle};
 ghost use Rattle.bully_world.specs.State.{is_halt, world_of};
 ghost use Rattle.bully_world.specs.World.{World as WorldOf, point, vector};
 
 use crate::OWNERS_SHOWN;
+use crate::said::Said;
 use crate::snapshot::{NodeSnapshot, snapshot_beside, snapshot_of};
 use bully_base::{Node, OutOfMemory, Status};
 use bully_calls::{CallKind, EventKind, NodeEventKind, Whose};
@@ -27,8 +28,8 @@ pub struct Change {
 }
 
 /// What a row shows: its number, from 2; what its event is, none of a claim; the node that it names, and the one whose vector it may
-/// change, which is the callee of a Run; whether a procedure is cut off there; and the table that a node gets by it, if it does, where
-/// the table has at most [`OWNERS_SHOWN`] owners.
+/// change, which is the callee of a Run; whether a procedure is cut off there; the table that a node gets by it, if it does, where
+/// the table has at most [`OWNERS_SHOWN`] owners; and what the row says beside the word of its event and a node.
 #[derive(Drop)]
 pub struct Scene {
     pub number: u32,
@@ -38,6 +39,7 @@ pub struct Scene {
     pub cuts: bool,
     pub gets_table: bool,
     pub table: Option<Table>,
+    pub said: Said,
 }
 
 /// What is seen of a row before it is taken.
@@ -116,11 +118,16 @@ fn open_wide(world: &World, event_kind: Option<EventKind>, own: Node) -> SceneSt
     }
 }
 
-/// What the row of this number shows, of which this was seen before it; the world is the one behind it. Refused where an allocation
-/// fails.
-pub fn shot(number: u32, scene_start: &SceneStart, world: &World) -> Result<Scene, OutOfMemory>
+/// What the row of this number shows, of which this was seen before it, and which says this; the world is the one behind it. Refused
+/// where an allocation fails.
+pub fn shot(
+    number: u32,
+    scene_start: &SceneStart,
+    world: &World,
+    said: Said,
+) -> Result<Scene, OutOfMemory>
     ensures { IfOk result (λ s. (w : WorldOf) (row : RowState)
-        → scene_start.now.event_kind ≡ event_kind_in row → scene_start.now.own ≡ node_in row → scene_start.now.own_before ≡ snapshot w (node_in row)
+        → said ≡ said_in row → scene_start.now.event_kind ≡ event_kind_in row → scene_start.now.own ≡ node_in row → scene_start.now.own_before ≡ snapshot w (node_in row)
         → scene_start.now.other ≡ place_at w (node_in row) (event_kind_in row) → scene_start.now.other_before ≡ snapshot w (place_at w (node_in row) (event_kind_in row))
         → scene_start.now.cuts ≡ cuts w (node_in row) (place_at w (node_in row) (event_kind_in row)) (event_kind_in row)
         → s ≡ scene_of world.now.setup w (world_of world.now) number row) }
@@ -145,6 +152,7 @@ pub fn shot(number: u32, scene_start: &SceneStart, world: &World) -> Result<Scen
         cuts: scene_start.cuts,
         gets_table,
         table: table_shown(world, gets_table, scene_start.other)?,
+        said,
     })
 }
 
@@ -162,8 +170,8 @@ pub fn is_quiet(scene_start: &SceneStart) -> bool
 /// As `shot`, of a row that is quiet.
 // (apart, since most rows are, and nothing can fail)
 #[inline(always)]
-pub fn quiet_shot(number: u32, scene_start: &SceneStart, world: &World) -> Scene
-    ensures { (w : WorldOf) (row : RowState) → IsSceneStart w (node_in row) (event_kind_in row) scene_start.now → is_quiet scene_start.now.event_kind ≡ true
+pub fn quiet_shot(number: u32, scene_start: &SceneStart, world: &World, said: Said) -> Scene
+    ensures { (w : WorldOf) (row : RowState) → said ≡ said_in row → IsSceneStart w (node_in row) (event_kind_in row) scene_start.now → is_quiet scene_start.now.event_kind ≡ true
         → result ≡ scene_of world.now.setup w (world_of world.now) number row }
 {
     let own = Change {
@@ -180,6 +188,7 @@ pub fn quiet_shot(number: u32, scene_start: &SceneStart, world: &World) -> Scene
         cuts: false,
         gets_table: false,
         table: None,
+        said,
     }
 }
 

@@ -1,6 +1,5 @@
 -- New seats, the lowest actor whose log differs, and where each entry stands.
-use Rattle.std.proofs.Common.{◌≡◌, ◌<◌, ◌≤◌, ◌+◌, ◌-◌, ◌++◌, ◌⊎◌, ℕ, zero, suc, List, [], ◌∷◌, Some, length, length-append, get_or, arith, refl, sym, ap, subst, ◌∙◌, inl, inr, ⊎_elim}
-use Rattle.std.specs.Prelude.{slice_get}
+use Rattle.std.proofs.Common.{◌≡◌, ◌<◌, ◌≤◌, ◌+◌, ◌-◌, ◌++◌, ◌⊎◌, ℕ, zero, suc, List, [], ◌∷◌, Some, length, length-append, get_or, arith, refl, sym, ap, subst, ◌∙◌, inl, inr, ⊎_elim, slice_get}
 use Rattle.bully_group.specs.Seat.{SeatState, AreNewSeats, IsSeat, IsKnown, last_of}
 use Rattle.bully_base.specs.declared.TheConstants.{NODES_MAX}
 use Rattle.bully_watch.specs.declared.entry.Entry.{Entry}

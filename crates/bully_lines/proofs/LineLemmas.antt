@@ -1,6 +1,5 @@
 -- What is cut at a comma, and what std's parse makes of a number.
-use Rattle.std.proofs.Common.{◌≡◌, ◌⊎◌, ℕ, ◌<◌, ◌≤◌, ◌^◌, inl, inr, true, List, [], ◌∷◌, Option, Some, None, Result, Ok, Err, Bor, arith, rules, refl, sym, ap, ◌∙◌, length}
-use Rattle.std.specs.Prelude.{nat_lt, if◌then◌else◌}
+use Rattle.std.proofs.Common.{◌≡◌, ◌⊎◌, ℕ, ◌<◌, ◌≤◌, ◌^◌, inl, inr, true, List, [], ◌∷◌, Option, Some, None, Result, Ok, Err, Bor, arith, rules, refl, sym, ap, ◌∙◌, length, nat_lt, if◌then◌else◌}
 use Rattle.std.specs.Option.{option_and_then}
 use Rattle.std.specs.Result.{OkIff}
 use Rattle.std.specs.Str.Parse.{ParsesUnsigned}

@@ -1,8 +1,7 @@
 -- What a computation tells of a list of events.
-use Rattle.std.proofs.Common.{◌≡◌, ℕ, ◌≤◌, Bool, true, false, List, [], ◌∷◌, length, Option, Some, None, arith, refl, subst}
-use Rattle.std.specs.Prelude.{◌+◌, zero, suc, ◌&&◌, nat_le, is_some, is_none, min, take, slice_get}
+use Rattle.std.proofs.Common.{◌≡◌, ℕ, ◌≤◌, Bool, true, false, List, [], ◌∷◌, length, Option, Some, None, arith, refl, subst, ◌+◌, zero, suc, ◌&&◌, nat_le, is_some, is_none, min, take, slice_get, length-take}
 use Rattle.std.specs.Option.{option_map_or}
-use Rattle.std.proofs.lemmas.List.{length-take}
+use Rattle.std.proofs.lemmas.Bool.{and_parts}
 use Rattle.std.proofs.lemmas.Bool.Decides.{nat_tests}
 use Rattle.bully_base.specs.Setup.{Setup}
 use Rattle.bully_calls.specs.declared.call.Answer.{Answer}
@@ -13,7 +12,6 @@ use Rattle.bully_world.specs.Lawful.{LeadTo}
 use Rattle.bully_world.specs.World.{World, first_world}
 use Rattle.bully_model_tests.specs.Claims.{PrintedNode, ShowsAs, After, NoneIsRefused, EndsAs, IsRefusedAt, IsAnsweredAt, Goes}
 use Rattle.bully_model_tests.specs.Trial.{is_lawful, last_world, all_answers, passes_from, passes}
-use Rattle.bully_model_tests.proofs.BothLemmas.{both}
 use Rattle.bully_world.specs.StepOf.{StepResult, step_of, steps_of}
 use Rattle.bully_world.proofs.StepOfLemmas.{computed_steps}
 use Rattle.bully_model_tests.proofs.Trial.{lawful_by}
@@ -44,10 +42,10 @@ unrefused_from setup w count [] k e p g = absurd (apart g)
     apart : None ≡ Some e → ⊥
     apart h = cc
 unrefused_from setup w count (x ∷ events) zero e p g =
-    ([], w, refl, unrefused_first setup w count x e (both (is_none (cause setup w count x)) (option_map_or (λ t. passes_from setup t.0 (count + 1) events) (step_of setup w x) false) p).0 g)
+    ([], w, refl, unrefused_first setup w count x e (and_parts (is_none (cause setup w count x)) (option_map_or (λ t. passes_from setup t.0 (count + 1) events) (step_of setup w x) false) p).0 g)
 unrefused_from setup w count (x ∷ events) (suc k) e p g =
     unrefused_rest setup w count x events k e (step_of setup w x) refl
-    (both (is_none (cause setup w count x)) (option_map_or (λ t. passes_from setup t.0 (count + 1) events) (step_of setup w x) false) p).1
+    (and_parts (is_none (cause setup w count x)) (option_map_or (λ t. passes_from setup t.0 (count + 1) events) (step_of setup w x) false) p).1
     (λ v h. unrefused_from setup v (count + 1) events k e h g)
 
 -- none of the events of a list that passes the test is refused
@@ -71,7 +69,7 @@ after setup events k P l h = (all_answers setup (take k events), last_world setu
 
 pub ends : (setup : Setup) (events : List Event) (rows : List PrintedNode) → is_lawful setup events ≡ true → passes setup events ≡ true → ShowsAs (last_world setup events) rows → EndsAs setup events (length events) rows
 ends setup events rows l p s =
-    (refl, unrefused setup events p (both (is_some (steps_of setup events)) (nat_le (length events) setup.events_max) l).1, all_answers setup events, last_world setup events, lawful_by setup events l, s)
+    (refl, unrefused setup events p (and_parts (is_some (steps_of setup events)) (nat_le (length events) setup.events_max) l).1, all_answers setup events, last_world setup events, lawful_by setup events l, s)
 
 pub refused_at : (setup : Setup) (events : List Event) (k : ℕ) (e : Event) (refused : Refused) → slice_get events k ≡ Some e → is_lawful setup (take k events) ≡ true → cause setup (last_world setup (take k events)) k e ≡ Some refused → IsRefusedAt setup events k refused
 refused_at setup events k e refused g l c = (e, g, after setup events k (λ w. cause setup w k e ≡ Some refused) l c)
@@ -90,5 +88,5 @@ Seen setup events f (stop ∷ stops) = (f (last_world setup (take stop.0 events)
 pub goes : {A : Type 0} (setup : Setup) (events : List Event) (f : World → A) (stops : List (ℕ × A)) → all_lawful setup events stops ≡ true → Seen setup events f stops → Goes setup events f stops
 goes setup events f [] l h = tt
 goes setup events f (stop ∷ stops) l h =
-    let parts = both (is_lawful setup (take stop.0 events)) (all_lawful setup events stops) l in
+    let parts = and_parts (is_lawful setup (take stop.0 events)) (all_lawful setup events stops) l in
     (after setup events stop.0 (λ w. f w ≡ stop.1) parts.0 h.0, goes setup events f stops parts.1 h.1)

@@ -1,4 +1,3 @@
-pub mod BothLemmas
 pub mod Trial
 pub mod Claims
 pub mod Scripts

@@ -3,13 +3,13 @@ use Rattle.std.specs.Prelude.{◌≡◌, ℕ, ◌+◌, List, [], ◌∷◌, leng
 use Rattle.bully_base.specs.declared.node.Status.{Status}
 use Rattle.bully_base.specs.Setup.{Setup, IsNode}
 use Rattle.bully_calls.specs.declared.call.Answer.{Answer}
-use Rattle.bully_calls.specs.declared.call.Call.{Call}
 use Rattle.bully_calls.specs.declared.call.Phase.{Phase}
 use Rattle.bully_calls.specs.Pending.{Pending}
 use Rattle.bully_calls.specs.declared.event.Event.{Event}
 use Rattle.bully_calls.specs.declared.event.Refused.{Refused}
 use Rattle.bully_world.specs.Cause.{cause}
 use Rattle.bully_world.specs.Lawful.{IsLawful}
+pub use Rattle.bully_world.specs.Place.{call_at}
 use Rattle.bully_world.specs.World.{NodeState, World, node_state, vector, pending}
 
 -- what a checked trace prints of a node
@@ -31,16 +31,10 @@ shown m = record {
 abbrev pub shown_at : World → ℕ → PrintedNode
 shown_at w i = shown (node_state w i)
 
-abbrev pub call_of : Pending → Call
-call_of c = c.call
-
 abbrev pub phase_of : Pending → Phase
 phase_of c = c.phase
 
--- the call in node i's slot, and how far it has come
-abbrev pub call_at : World → ℕ → Option Call
-call_at w i = option_map call_of (pending w i)
-
+-- how far the call in node i's slot has come
 abbrev pub phase_at : World → ℕ → Option Phase
 phase_at w i = option_map phase_of (pending w i)
 

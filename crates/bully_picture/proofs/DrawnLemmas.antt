@@ -6,13 +6,11 @@ use Rattle.std.proofs.lemmas.Bool.Decides.{nat_tests}
 use Rattle.std.specs.Prelude.{nat_le}
 use Rattle.std.specs.Str.Lines.{lines}
 use Rattle.bully_calls.specs.declared.call.Phase.{Phase}
-use Rattle.bully_trace.specs.declared.verdict.Verdict.{Verdict}
-use Rattle.bully_film.specs.declared.scene.Scene.{Scene}
 use Rattle.bully_film.specs.declared.slots.HeldCall.{HeldCall}
 use Rattle.bully_film.specs.declared.snapshot.NodeSnapshot.{NodeSnapshot}
 use Rattle.bully_film.specs.declared.whole.Lane.{Lane}
 use Rattle.bully_film.specs.Lane.{AreJoined, AreLanes, Holding, IsLane, held_in, spread}
-use Rattle.bully_picture.specs.Drawn.{HasArrow, HasArrows, HasBelow, HasHoldings, HasLanes, HasNodes, HasRows, arrow_label, below_label, decides, has_failed, held_label, node_label, row_label}
+use Rattle.bully_picture.specs.Drawn.{HasArrow, HasArrows, HasBelow, HasHoldings, HasLanes, HasNodes, arrow_label, below_label, has_failed, held_label, node_label}
 use Rattle.bully_picture.specs.Title.{Has}
 use Rattle.bully_picture.specs.Written.{Gains, IsCopied, IsIn, Written}
 use Rattle.bully_picture.proofs.WrittenLemmas.{has-more, has-within, nothing-gained, one-gained, one-more}
@@ -126,17 +124,6 @@ lanes-arrows text first j snapshots (lane ∷ lanes) (is, are) has i low high =
       | inr later ↦ lanes-arrows text first (j + 1) snapshots lanes are rest i later (omega (arith, high))
     ]
 
--- one more row has its number
-pub rows-more : (verdict : Verdict) (scenes : List Scene) (i : ℕ) (s : Scene) (d : Bool) (a b : Written) → i < length scenes → s ≡ get_or scenes i s → d ≡ decides verdict s.number
-    → IsIn a (λ text. HasRows text verdict (take i scenes)) → Gains a b (λ text. Has text (row_label d s.number)) → IsIn b (λ text. HasRows text verdict (take (i + 1) scenes))
-rows-more verdict scenes i s d a b within is decided so_far gained =
-    let label : Scene → List ℕ = λ one. row_label (decides verdict one.number) one.number in
-    one-more (λ text one. Has text (label one)) (λ text more one. has-more (label one) text more) scenes i s a b within is so_far
-    (subst (λ t. Gains a b (λ text. Has text (row_label t s.number))) decided gained)
-
-pub rows-all : (verdict : Verdict) (scenes : List Scene) (i : ℕ) (a : Written) → length scenes ≤ i → IsIn a (λ text. HasRows text verdict (take i scenes)) → IsIn a (λ text. HasRows text verdict scenes)
-rows-all verdict scenes i a all so_far = subst (λ l. IsIn a (λ text. HasRows text verdict l)) (take_all i scenes all) so_far
-
 -- one more node has its name
 pub names-more : (is_wide : Bool) (name_at : ℕ → Option (List ℕ)) (k i : ℕ) (name : Option (List ℕ)) (a b : Written) → i ≡ k + 1 → name ≡ name_at k
     → IsIn a (λ text. (j : ℕ) → j < k → Has text (node_label is_wide (j + 1) (name_at j))) → Gains a b (λ text. Has text (node_label is_wide i name))
@@ -149,6 +136,12 @@ names-more is_wide name_at k i name a b number named so_far gained good =
     (λ j low. subst (λ t. Has t (node_label is_wide (j + 1) (name_at j))) (sym grown.1)
     (has-more (node_label is_wide (j + 1) (name_at j)) a.text grown.0 (so_far (gained.extends.memory good) j low)))
     here
+
+-- a call that was sent, or ran, has its arrow
+pub drawn-gains : (i first last : ℕ) (held : HeldCall) (a b : Written) → has_failed held.phase ≡ false
+    → Gains a b (λ text. Has text (arrow_label i held.call first last)) → Gains a b (λ text. Has text (held_label i first last (Some held)))
+drawn-gains i first last held a b runs gained =
+    subst (λ failed. Gains a b (λ text. Has text (if failed then [] else arrow_label i held.call first last))) (sym runs) gained
 
 -- of a call that failed nothing is drawn
 pub failed-gains : (i first last : ℕ) (held : HeldCall) (a : Written) → held.phase ≡ Phase.Failed → Gains a a (λ text. Has text (held_label i first last (Some held)))
@@ -183,11 +176,6 @@ pub lanes-all : (lanes : List Lane) (k : ℕ) (a : Written) → length lanes ≤
 lanes-all lanes k a all so_far = subst (λ l. IsIn a (λ text. HasLanes text l)) (take_all k lanes all) so_far
 
 -- what stands on a paper that was copied
-pub rows-copied : (text : List ℕ) (paper : Written) (verdict : Verdict) (scenes : List Scene) → IsCopied paper text → IsIn paper (λ t. HasRows t verdict scenes) → HasRows text verdict scenes
-rows-copied text paper verdict scenes (good, within) has =
-    let label : Scene → List ℕ = λ one. row_label (decides verdict one.number) one.number in
-    All-weaker (λ s. Has paper.text (label s)) (λ s. Has text (label s)) (λ s. has-within text paper.text (label s) within) scenes (has good)
-
 pub nodes-copied : (text : List ℕ) (paper : Written) (nodes : ℕ) (name_at : ℕ → Option (List ℕ)) → IsCopied paper text → IsIn paper (λ t. HasNodes t nodes name_at) → HasNodes text nodes name_at
 nodes-copied text paper nodes name_at (good, within) has =
     let all = has good in

@@ -1,6 +1,7 @@
 mod DrawnLemmas
 mod EscapeLemmas
 mod HarmlessLemmas
-mod TitleLemmas
+pub mod TitleLemmas
+mod ShownLemmas
 mod ToldLemmas
-mod WrittenLemmas
+pub mod WrittenLemmas

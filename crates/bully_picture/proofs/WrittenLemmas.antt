@@ -1,6 +1,6 @@
 -- What stands on a paper behind several writes.
 use Rattle.std.proofs.Common.{◌≡◌, ◌∙◌, ℕ, ◌+◌, ◌<◌, ◌++◌, List, [], false, Result, Ok, Err, codes, get_or, length, take, refl, sym, ap, subst}
-use Rattle.std.specs.Prelude.{All, IfOk, OnOk, is_err}
+use Rattle.std.specs.Prelude.{All, IfOk}
 use Rattle.std.proofs.lemmas.List.{append_assoc, append-nil}
 use Rattle.std.proofs.lemmas.List.Elements.{All-more, All-weaker}
 use Rattle.bully_picture.specs.Title.{Begins, Has, IsDocument}
@@ -14,11 +14,6 @@ has-more part text more (before, behind, is) = (before, behind ++ more, ap (λ t
 pub has-within : (text middle part : List ℕ) → Has text middle → Has middle part → Has text part
 has-within text middle part (before, behind, is) (front, back, within) =
     (before ++ front, back ++ behind, is ∙ ap (λ m. before ++ m ++ behind) within ∙ simp append_assoc)
-
--- what holds if a write went well, holds if none went wrong
-pub went-well : {E P : Type 0} (r : Result (Unit {0}) E) → is_err r ≡ false → OnOk r P → P
-went-well (Ok x) well holds = holds
-went-well (Err e) well holds = absurd (cc)
 
 -- two writes are one
 pub writes-then : {a b c : Written} {p q : List ℕ} → Writes a b p → Writes b c q → Writes a c (p ++ q)
@@ -110,9 +105,6 @@ pub begins-written : {a b c : Written} {p : List ℕ} → a ≡ blank → Writes
 begins-written {a} {b} {c} {p} empty written behind good =
     let grown = behind.text good in
     (grown.0, grown.1 ∙ ap (λ t. t ++ grown.0) (written.text (behind.memory good) ∙ ap (λ w. w.text ++ p) empty))
-
-pub begins-more : (text more part : List ℕ) → Begins text part → Begins (text ++ more) part
-begins-more text more part (behind, is) = (behind ++ more, ap (λ t. t ++ more) is ∙ append_assoc part behind more)
 
 -- a document has its ends
 pub document : {a b c d : Written} → a ≡ blank → Writes a b (codes "<svg xmlns=\"http://www.w3.org/2000/svg\"") → Extends b c → Writes c d (codes "</svg>\n") → IsIn d IsDocument

@@ -1,19 +1,26 @@
--- What stands in a picture of what a film shows: the number of each row, the name of each node, an arrow of each call, and the text below.
-use Rattle.std.specs.Prelude.{◌≡◌, ℕ, ◌+◌, ◌-◌, ◌<◌, ◌≤◌, Bool, true, false, List, [], ◌++◌, ◌==◌, Option, Some, None, All, codes, get_or, length, map, nat_lt, if◌then◌else◌}
+-- What stands in a picture of what a film shows: the number and the text of each row that is shown, the name of each node, an arrow of each
+-- call, and the text below.
+use Rattle.std.specs.Prelude.{◌≡◌, ℕ, ◌+◌, ◌-◌, ◌<◌, ◌≤◌, Bool, true, false, List, [], ◌∷◌, ◌++◌, ◌==◌, Option, Some, None, All, codes, filter, get_or, is_some, map, ◌||◌, if◌then◌else◌}
 use Rattle.std.specs.Fmt.{decimal}
+use Rattle.std.specs.List.{join_with_byte}
 use Rattle.std.specs.Str.{chars}
 use Rattle.std.specs.Str.Lines.{lines}
 use Rattle.bully_calls.specs.declared.call.Call.{Call}
 use Rattle.bully_calls.specs.declared.call.CallKind.{CallKind}
 use Rattle.bully_calls.specs.declared.call.CallKind.TheVariants.{AreYouUp, AreYouNormal, Halt, NewCoordinator, Ready}
 use Rattle.bully_calls.specs.declared.call.Phase.{Phase}
+use Rattle.bully_calls.specs.declared.kind.EventKind.{EventKind}
+use Rattle.bully_calls.specs.Events.{word_of}
 use Rattle.bully_trace.specs.declared.verdict.Verdict.{Verdict}
+use Rattle.bully_trace.specs.OneRow.{decides}
+use Rattle.bully_rows.specs.TraceText.{row_fields}
 use Rattle.bully_film.specs.declared.scene.Scene.{Scene}
 use Rattle.bully_film.specs.declared.slots.HeldCall.{HeldCall}
 use Rattle.bully_film.specs.declared.snapshot.NodeSnapshot.{NodeSnapshot}
 use Rattle.bully_film.specs.declared.whole.Lane.{Lane}
 use Rattle.bully_film.specs.Lane.{Holding, held_in}
-use Rattle.bully_picture.specs.Escaping.{escaped, shortened}
+use Rattle.bully_picture.specs.declared.claims.Claims.{Claims}
+use Rattle.bully_picture.specs.Escaping.{cut_text, escaped}
 use Rattle.bully_picture.specs.Title.{Has}
 
 -- the call as the profile names it
@@ -24,16 +31,46 @@ kind_text Halt = codes "Halt"
 kind_text NewCoordinator = codes "NewCoordinator"
 kind_text Ready = codes "Ready"
 
--- the row of this number decided
-abbrev pub decides : Verdict → ℕ → Bool
-decides (Verdict.Lawful count) row = false
-decides (Verdict.Refused decided why) row = row == decided
-decides (Verdict.Differs decided) row = row == decided
+-- the row has a line: it is no claim, or claims are shown, or it decided
+abbrev pub is_shown : Claims → Verdict → Scene → Bool
+is_shown Claims.Shown verdict s = true
+is_shown Claims.LeftOut verdict s = is_some s.event_kind || decides verdict s.number
 
--- the number of a row beside it, in red where the row decided
-abbrev pub row_label : Bool → ℕ → List ℕ
-row_label is_decided row =
-    codes " fill=\"" ++ (if is_decided then codes "#D55E00" else codes "#777") ++ (codes "\">" ++ decimal row ++ codes "</text>\n")
+abbrev pub scenes_shown : Claims → Verdict → List Scene → List Scene
+scenes_shown claims verdict scenes = filter (is_shown claims verdict) scenes
+
+-- what stands in red where it is of the row that decided, and else in this colour
+abbrev pub colour_of : Bool → List ℕ → List ℕ
+colour_of is_decided plain = if is_decided then codes "#D55E00" else plain
+
+-- the number of a row at the left, at this height
+abbrev pub number_text : ℕ → Bool → ℕ → List ℕ
+number_text y is_decided row =
+    (codes "<text x=\"48\" y=\"" ++ decimal y ++ codes "\" font-size=\"10\" text-anchor=\"end\" fill=\"") ++ colour_of is_decided (codes "#777")
+    ++ (codes "\">" ++ decimal row ++ codes "</text>\n")
+
+-- the text is the numbers of these rows, one after the other
+abbrev pub AreNumbers : Verdict → List Scene → List ℕ → Type 0
+AreNumbers verdict [] text = text ≡ []
+AreNumbers verdict (s ∷ scenes) text =
+    (y : ℕ) × (rest : List ℕ) × (text ≡ number_text y (decides verdict s.number) s.number ++ rest) × AreNumbers verdict scenes rest
+
+-- the word and the node of a row
+abbrev pub row_word : Option EventKind → List ℕ
+row_word None = codes "saw"
+row_word (Some kind) = word_of kind
+
+abbrev pub bare_text : Option EventKind → ℕ → List ℕ
+bare_text event_kind i = row_word event_kind ++ (codes "," ++ decimal i ++ [])
+
+-- the row as a line of the trace has it
+abbrev pub said_text : Scene → List ℕ
+said_text s = elim s.said as (λ _. List ℕ) [ None ↦ bare_text s.event_kind s.own.node | Some row ↦ join_with_byte 44 (row_fields row) ]
+
+-- the row's text at the right of its line, with as many letters at most
+abbrev pub HasText : List ℕ → Bool → Scene → Type 0
+HasText text is_decided s =
+    (letters : ℕ) × Has text (codes " fill=\"" ++ colour_of is_decided (codes "#555") ++ codes "\">" ++ cut_text letters (said_text s))
 
 -- a node over its lane: all of its name, for where the pointer rests; or its number, where it has none, behind a word in wide lanes
 abbrev pub node_label : Bool → ℕ → Option (List ℕ) → List ℕ
@@ -55,9 +92,13 @@ abbrev pub held_label : ℕ → ℕ → ℕ → Option HeldCall → List ℕ
 held_label i first last None = []
 held_label i first last (Some held) = if has_failed held.phase then [] else arrow_label i held.call first last
 
--- all of these rows have their numbers
+-- these rows have their numbers, and no other one has its between them
 abbrev pub HasRows : List ℕ → Verdict → List Scene → Type 0
-HasRows text verdict scenes = All (λ s. Has text (row_label (decides verdict s.number) s.number)) scenes
+HasRows text verdict scenes = (numbers : List ℕ) × Has text numbers × AreNumbers verdict scenes numbers
+
+-- all of these rows have their texts
+abbrev pub HasSaid : List ℕ → Verdict → List Scene → Type 0
+HasSaid text verdict scenes = All (λ s. HasText text (decides verdict s.number) s) scenes
 
 -- so many nodes, from node 1 on, have their names here, or their numbers, all of one kind
 abbrev pub HasNodes : List ℕ → ℕ → (ℕ → Option (List ℕ)) → Type 0
@@ -94,9 +135,7 @@ HasCalls text nodes first snapshots = (i : ℕ) → 0 < i → i ≤ nodes → Ha
 
 -- a line of the text below: so many of its letters, and, where it has more bytes, all of it for where the pointer rests
 abbrev pub below_label : ℕ → List ℕ → List ℕ
-below_label letters line =
-    codes " xml:space=\"preserve\">" ++ escaped (shortened letters (chars line))
-    ++ (if nat_lt letters (length line) then codes "<title>" ++ escaped (chars line) ++ codes "</title>" else []) ++ codes "</text>\n"
+below_label letters line = codes " xml:space=\"preserve\">" ++ cut_text letters line ++ codes "</text>\n"
 
 -- all lines of a text stand so in this one, each with as many letters at most
 abbrev pub HasBelow : List ℕ → List ℕ → Type 0

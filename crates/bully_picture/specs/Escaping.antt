@@ -1,4 +1,5 @@
 -- Text within an XML document.
+use Rattle.std.specs.Str.{chars}
 use Rattle.std.specs.Prelude.{ℕ, Bool, List, [], ◌∷◌, ◌++◌, ◌==◌, ◌||◌, ◌&&◌, length, take, codes, encode_utf8, nat_lt, nat_le, if◌then◌else◌}
 
 -- a control character, or one that no XML document has
@@ -22,3 +23,11 @@ escaped (c ∷ cs) = escaped_letter c ++ escaped cs
 -- the first letters, so many, with an ellipsis behind them where there are more
 abbrev pub shortened : ℕ → List ℕ → List ℕ
 shortened most cs = if nat_le (length cs) most then cs else take most cs ++ 8230 ∷ []
+
+-- what is shown where the pointer rests
+abbrev pub hover_text : List ℕ → List ℕ
+hover_text line = codes "<title>" ++ escaped (chars line) ++ codes "</title>"
+
+-- so many letters of a line, and, where it has more bytes, all of it for where the pointer rests
+abbrev pub cut_text : ℕ → List ℕ → List ℕ
+cut_text letters line = escaped (shortened letters (chars line)) ++ (if nat_lt letters (length line) then hover_text line else [])

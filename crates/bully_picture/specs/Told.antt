@@ -3,7 +3,7 @@ use Rattle.std.specs.Prelude.{◌≡◌, ◌≢◌, ◌⊎◌, ℕ, true, List, 
 use Rattle.bully_trace.specs.declared.verdict.Verdict.{Verdict}
 use Rattle.bully_film.specs.declared.scene.Scene.{Scene}
 use Rattle.bully_film.specs.Lane.{stand_of}
-use Rattle.bully_picture.specs.Drawn.{decides}
+use Rattle.bully_trace.specs.OneRow.{decides}
 use Rattle.bully_picture.specs.Title.{Has}
 use Rattle.bully_picture.specs.Written.{right_text}
 

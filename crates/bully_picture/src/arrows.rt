@@ -7,9 +7,9 @@ use crate::boxes::{Anchor, width_of};
 use crate::canvas::{Canvas, Style, push_line};
 use crate::layout::{HALF, ROW, WORDS_MIN};
 use crate::paper::Paper;
-use crate::words::kind_text;
+use crate::words::{kind_letter, kind_text};
 use bully_base::Node;
-use bully_calls::{Call, Phase};
+use bully_calls::{Call, CallKind, Phase};
 use bully_film::{End, HeldCall, Holding, end_at};
 
 // The lines of calls.
@@ -22,6 +22,9 @@ const GIVEN_UP: &str = " stroke=\"#999\" stroke-width=\"1.5\" marker-end=\"url(#
 
 const ORPHAN: &str =
     " stroke=\"#999\" stroke-width=\"1.5\" stroke-dasharray=\"4 3\" marker-end=\"url(#reply)\">";
+
+// Between how many lanes a letter may stand.
+const GAPS: u32 = 8;
 
 /// A line between two lanes.
 #[derive(Clone, Copy)]
@@ -153,7 +156,7 @@ fn draw_call(
     let line = line_of(canvas, node, call.callee, holding, gets_there);
     let look = look_of(end, is_orphan);
     push_arrow(arrows, &line, look.style, node, call, holding);
-    label_call(canvas, &line, kind_text(call.kind), look);
+    label_call(canvas, &line, call.kind, look);
 }
 
 // Writes a line of this style between two lanes, and what is shown where the pointer rests on it.
@@ -172,23 +175,39 @@ fn push_arrow(
     push_title(arrows, node, call, holding);
 }
 
-// Writes what call it is, where the lanes have room for it: with all words between two lanes, with its kind alone there, in small
-// letters where it has to be, or with that anywhere on the line; nowhere where nothing is free.
-fn label_call(canvas: &mut Canvas, line: &Line, kind: &'static str, look: Look) {
-    if canvas.layout.lane < WORDS_MIN {
-        return;
-    }
+// Writes what call it is between two lanes: with all words, with its kind alone, in small letters where it has to be, or by a letter,
+// where no words have room; nowhere where nothing is free.
+fn label_call(canvas: &mut Canvas, line: &Line, call: CallKind, look: Look) {
+    let kind = kind_text(call);
     let mut paper = Paper::new(canvas.alloc);
     paper.push(kind);
     paper.push(look.ending);
     let words = canvas.read(&paper);
     let style = words_style(look.colour);
     let small = Style { size: 9, ..style };
-    if !(put_between(canvas, line, style, words)
-        || put_between(canvas, line, style, kind)
-        || put_between(canvas, line, small, kind))
-    {
-        put_anywhere(canvas, line, small, kind);
+    let has_room = canvas.layout.lane >= WORDS_MIN
+        && (put_between(canvas, line, style, words)
+            || put_between(canvas, line, style, kind)
+            || put_between(canvas, line, small, kind));
+    if !has_room {
+        put_letter(canvas, line, small, kind_letter(call));
+    }
+}
+
+// Writes a letter between two of the last lanes before the line's end, and notes that there is one; nowhere where nothing is free.
+fn put_letter(canvas: &mut Canvas, line: &Line, style: Style, letter: &'static str) {
+    let last = canvas.layout.gap_at(line.x2);
+    for step in 0..GAPS {
+        let lane = if line.x1 < line.x2 {
+            last.saturating_sub(step)
+        } else {
+            last.saturating_add(step)
+        };
+        let gap = canvas.layout.gap(lane);
+        if put_in_gap(canvas, line, gap, style, letter) {
+            canvas.note_letter();
+            return;
+        }
     }
 }
 
@@ -236,14 +255,15 @@ fn words_style(colour: &'static str) -> Style {
 // Writes the words at the first place on the line that is free, and tells whether there is one: between two lanes, beginning with
 // those where the line ends.
 fn put_between(canvas: &mut Canvas, line: &Line, style: Style, words: &str) -> bool {
-    let layout = canvas.layout;
-    for step in 0..layout.nodes {
+    let nodes = canvas.layout.nodes;
+    for step in 0..nodes {
         let lane = if line.x1 < line.x2 {
-            layout.nodes.saturating_sub(step.saturating_add(1))
+            nodes.saturating_sub(step.saturating_add(1))
         } else {
             step
         };
-        if put_in_gap(canvas, line, layout.gap(lane), style, words) {
+        let gap = canvas.layout.gap(lane);
+        if put_in_gap(canvas, line, gap, style, words) {
             return true;
         }
     }
@@ -282,17 +302,6 @@ fn stretch_in(line: &Line, left: u32, right: u32) -> Option<(u32, u32)> {
     let from = line.x1.min(line.x2).max(left);
     let to = line.x1.max(line.x2).min(right);
     if from < to { Some((from, to)) } else { None }
-}
-
-// Writes the words at the first place along the line that is free.
-fn put_anywhere(canvas: &mut Canvas, line: &Line, style: Style, words: &str) {
-    for part in [4u32, 3, 5, 2, 6] {
-        let x = along(line.x1, line.x2, part);
-        let y = along(line.y1, line.y2, part).saturating_add(ROW / 5);
-        if canvas.put(x, y, style, words) {
-            return;
-        }
-    }
 }
 
 // So many eighths of the way from one to the other.

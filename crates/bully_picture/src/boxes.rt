@@ -56,8 +56,23 @@ pub fn width_of(words: &str, size: u32) -> u32 {
     parts.saturating_mul(size.min(100)) / 100
 }
 
-/// How wide a letter is, in hundredths of its size.
-pub fn letter_width(letter: char) -> u32 {
+/// How many letters of words of this size have so much room.
+pub fn letters_within(words: &str, size: u32, room: u32) -> usize {
+    let room = room.saturating_mul(100);
+    let mut count = 0usize;
+    let mut width = 0u32;
+    for letter in words.chars() {
+        width = width.saturating_add(letter_width(letter).saturating_mul(size));
+        if width > room {
+            return count;
+        }
+        count = count.saturating_add(1);
+    }
+    count
+}
+
+// How wide a letter is, in hundredths of its size.
+fn letter_width(letter: char) -> u32 {
     match letter {
         'i' | 'j' | 'l' | 'f' | 'r' | 't' | 'I' | ' ' | ',' | '.' | ':' | '-' => 42,
         'm' | 'w' | 'M' | 'W' => 100,

@@ -26,6 +26,10 @@ pub struct Canvas {
     boxes: Vec<Area>,
     // The rows in which a call returned.
     returns: Vec<u32>,
+    // Where the texts of the lines end.
+    ends: Vec<u32>,
+    // Whether a letter stands for the kind of a call.
+    has_letters: bool,
 }
 
 impl Canvas {
@@ -38,7 +42,35 @@ impl Canvas {
             alloc,
             boxes: Vec::new(alloc),
             returns: Vec::new(alloc),
+            ends: Vec::new(alloc),
+            has_letters: false,
         }
+    }
+
+    /// Notes that the text of the next line ends here.
+    pub fn note_end(&mut self, end: u32) {
+        if self.ends.push(end).is_err() {
+            self.words.fail();
+        }
+    }
+
+    /// Where the text of this row ends.
+    pub fn end_of(&self, row: u32) -> u32 {
+        let place = self.layout.line(row).saturating_sub(1) as usize;
+        match self.ends.get(place) {
+            Some(end) => *end,
+            None => self.layout.texts(),
+        }
+    }
+
+    /// Notes that a letter stands for the kind of a call.
+    pub fn note_letter(&mut self) {
+        self.has_letters = true;
+    }
+
+    /// Whether one does.
+    pub fn has_letters(&self) -> bool {
+        self.has_letters
     }
 
     /// Notes that a call returned in this row.
@@ -76,7 +108,12 @@ impl Canvas {
 
     /// Takes the box of words that are written at this point on another paper, where it is free.
     pub fn keep_free(&mut self, x: u32, y: u32, style: Style, words: &str) {
-        self.take_area(Area::of(x, y, style.anchor, style.size, words));
+        self.take(Area::of(x, y, style.anchor, style.size, words));
+    }
+
+    /// Takes the box of what is written on another paper, where it is free.
+    pub fn take(&mut self, area: Area) {
+        self.take_area(area);
     }
 
     /// Writes words beside the lane whose middle x is: at its left, since what changes a node comes from a higher one, at its right; or

@@ -6,7 +6,7 @@ ghost use Rattle.bully_picture.specs.Written.{Extends, Gains};
 ghost use Rattle.bully_trace.specs.VerdictText.{verdict_head};
 
 use crate::paper::Paper;
-use crate::words::{decides, push_followed, push_meaning, push_row_text};
+use crate::words::{push_followed, push_meaning, push_row_text};
 use bully_base::{Node, OutOfMemory, Status};
 use bully_film::{FinishedFilm, NodeSnapshot, Scene, lane_of};
 use std::alloc::Global;
@@ -148,7 +148,7 @@ fn push_rows(lines: &mut Paper, finished: &FinishedFilm, now: &mut [NodeSnapshot
 fn speaks(finished: &FinishedFilm, scene: &Scene) -> bool
     ensures { IsTold finished.now.verdict scene.now → result ≡ true }
 {
-    decides(finished.verdict, scene.number)
+    finished.verdict.decides(scene.number)
         || scene.other.before.status != scene.other.after.status
         || scene.other.before.coordinator != scene.other.after.coordinator
 }

@@ -1,7 +1,7 @@
 //! Text in a picture: what XML keeps for itself is written by its name.
 ghost use Rattle.std.specs.Prelude.{◌≡◌, ◌++◌, OnOk, string_bytes};
 ghost use Rattle.std.specs.Str.{chars};
-ghost use Rattle.bully_picture.specs.Escaping.{escaped, escaped_letter, is_forbidden, shortened};
+ghost use Rattle.bully_picture.specs.Escaping.{cut_text, escaped, escaped_letter, hover_text, is_forbidden, shortened};
 ghost use Rattle.bully_picture.specs.Harmless.{IsHarmless};
 
 use bully_base::OutOfMemory;
@@ -32,6 +32,26 @@ pub fn push_start(text: &mut String, raw: &str, most: usize) -> Result<(), OutOf
         count += 1;
     }
     Ok(())
+}
+
+/// Appends so many letters of a line as XML takes them, and, where it is longer, all of it for where the pointer rests.
+pub fn push_cut(text: &mut String, line: &str, letters: usize) -> Result<(), OutOfMemory>
+    ensures { OnOk result (string_bytes text.new ≡ string_bytes text.old ++ cut_text letters line.now) }
+{
+    push_start(text, line, letters)?;
+    if line.len() <= letters {
+        return Ok(());
+    }
+    push_hover(text, line)
+}
+
+// Appends what is shown where the pointer rests.
+fn push_hover(text: &mut String, line: &str) -> Result<(), OutOfMemory>
+    ensures { OnOk result (string_bytes text.new ≡ string_bytes text.old ++ hover_text line.now) }
+{
+    text.push_str("<title>")?;
+    push_escaped(text, line)?;
+    text.push_str("</title>")
 }
 
 // Appends one letter.

@@ -4,7 +4,7 @@ ghost use Rattle.bully_picture.specs.Drawn.{HasNodes, node_label};
 ghost use Rattle.bully_picture.specs.Title.{Has};
 ghost use Rattle.bully_picture.specs.Written.{Gains, IsIn};
 
-use crate::boxes::{Area, letter_width};
+use crate::boxes::{Area, letters_within};
 use crate::canvas::{Canvas, push_area, push_line};
 use crate::layout::{HALF, Layout, WORDS_ALL, WORDS_MIN};
 use crate::paper::Paper;
@@ -111,8 +111,8 @@ pub fn draw_names(alloc: Global, layout: &Layout, setup: &Setup, names: &[&str])
     paper
 }
 
-// The name at this place; none behind the last.
-fn name_at<'a>(names: &[&'a str], place: u16) -> Option<&'a str>
+/// The name at this place; none behind the last.
+pub fn name_at<'a>(names: &[&'a str], place: u16) -> Option<&'a str>
     ensures { option_map (λ s. s.now) result ≡ option_map (λ s. s.now) (slice_get names.now place) }
 {
     let place = usize::from(place);
@@ -153,18 +153,8 @@ fn name_size(layout: &Layout) -> u32 {
     if layout.nodes > 999 { 10 } else { 13 }
 }
 
-// How many letters of a name have room in a lane, beside the dots behind them.
+// How many letters of a name have room in a lane, beside the dots behind them; one at least.
 fn letters_in(name: &str, lane: u32) -> usize {
-    let room = lane.saturating_sub(24).saturating_mul(100);
-    let mut count = 0usize;
-    let mut width = 0u32;
-    for letter in name.chars() {
-        // (15 pixels, since they are of size 13 and bold)
-        width = width.saturating_add(letter_width(letter).saturating_mul(15));
-        if width > room {
-            return count.max(1);
-        }
-        count = count.saturating_add(1);
-    }
-    count
+    // (15 pixels, since they are of size 13 and bold)
+    letters_within(name, 15, lane.saturating_sub(24)).max(1)
 }

@@ -1,7 +1,9 @@
 //! Where the lanes and the rows of a picture lie, in pixels.
 
-use bully_base::Node;
+use crate::claims::{Claims, is_shown};
+use bully_base::{Node, OutOfMemory};
 use bully_film::{FinishedFilm, row_before};
+use std::alloc::Global;
 
 /// Where the lanes begin.
 pub const LEFT: u32 = 124;
@@ -29,8 +31,8 @@ pub const WORDS_MIN: u32 = 70;
 /// The width of a lane from which it has all words.
 pub const WORDS_ALL: u32 = 150;
 
-/// Where lanes and rows lie.
-#[derive(Clone, Copy)]
+/// Where lanes and rows lie. Rows have a line each, but for claims that are left out.
+#[derive(Drop)]
 pub struct Layout {
     /// How many lanes there are.
     pub nodes: u32,
@@ -38,20 +40,27 @@ pub struct Layout {
     pub lane: u32,
     /// The number of the row before the first one that is shown.
     pub first: u32,
-    /// How many rows are shown.
+    /// How many rows there are behind that one.
     pub rows: u32,
+    // How many lines there are up to that row, and up to each behind it.
+    lines: Vec<u32>,
 }
 
 impl Layout {
-    /// The layout of what a film shows.
-    pub fn of(finished: &FinishedFilm) -> Layout {
+    /// The layout of what a film shows, with or without claims. Refused where an allocation fails.
+    pub fn of(
+        alloc: Global,
+        finished: &FinishedFilm,
+        claims: Claims,
+    ) -> Result<Layout, OutOfMemory> {
         let nodes = u32::from(finished.setup.nodes());
-        Layout {
+        Ok(Layout {
             nodes,
             lane: lane_width(nodes),
             first: row_before(finished.scenes.as_slice()),
             rows: row_count(finished.scenes.len()),
-        }
+            lines: lines_of(alloc, finished, claims)?,
+        })
     }
 
     /// The middle of the node's lane.
@@ -63,8 +72,16 @@ impl Layout {
 
     /// Where the row of this number lies.
     pub fn y(&self, row: u32) -> u32 {
-        let line = row.saturating_sub(self.first);
-        TOP.saturating_add(ROW.saturating_mul(line))
+        TOP.saturating_add(ROW.saturating_mul(self.line(row)))
+    }
+
+    /// The line of the row of this number, counted from 1; of a claim that is left out the one above.
+    pub fn line(&self, row: u32) -> u32 {
+        let place = row.saturating_sub(self.first) as usize;
+        match self.lines.get(place) {
+            Some(line) => *line,
+            None => 0,
+        }
     }
 
     /// Where what lasts up to this row ends: where the row behind it lies, and a little below the last row of all.
@@ -87,6 +104,14 @@ impl Layout {
             .saturating_add(self.lane / 2);
         let next = middle.saturating_add(self.lane);
         (middle.saturating_add(ASIDE), next.saturating_sub(ASIDE))
+    }
+
+    /// The lane at whose right x lies, before the next one.
+    pub fn gap_at(&self, x: u32) -> u32 {
+        if self.lane == 0 {
+            return 0;
+        }
+        x.saturating_sub(LEFT).saturating_sub(self.lane / 2) / self.lane
     }
 
     /// How much room there is at the right of the node's bar.
@@ -121,6 +146,24 @@ fn lane_width(nodes: u32) -> u32 {
         return LANE_MAX;
     }
     (1000 / nodes).clamp(LANE_MIN, LANE_MAX)
+}
+
+// How many lines there are before the rows, and up to each of them.
+fn lines_of(
+    alloc: Global,
+    finished: &FinishedFilm,
+    claims: Claims,
+) -> Result<Vec<u32>, OutOfMemory> {
+    let mut lines = Vec::new(alloc);
+    let mut count = 0u32;
+    lines.push(count)?;
+    for scene in finished.scenes.as_slice() {
+        if is_shown(claims, finished.verdict, scene) {
+            count = count.saturating_add(1);
+        }
+        lines.push(count)?;
+    }
+    Ok(lines)
 }
 
 fn row_count(scenes: usize) -> u32 {

@@ -2,13 +2,14 @@
 //!
 //! It stands on bully_film, which keeps what the rows of the window show, and on the crates below it. The sentence below a row that
 //! decided is the caller's. The program relies on the verdict in the title being the one of the film, which is the
-//! trace's, and on what was filmed being drawn: each row's number, each node's name, and each call. Names go in escaped. How a picture
+//! trace's, and on what was filmed being drawn: the number of each row that is shown and what it says, each node's name, and each call. Names go in escaped. How a picture
 //! looks is looked at.
 #![tactic(auto)]
 
 mod arrows;
 mod boxes;
 mod canvas;
+mod claims;
 mod columns;
 mod escaping;
 mod lanes;
@@ -18,6 +19,10 @@ mod page;
 mod paper;
 mod words;
 
+pub use claims::{Claims, is_shown};
 pub use columns::text_picture;
 pub use escaping::push_escaped;
-pub use page::svg_picture;
+pub use lanes::name_at;
+pub use page::{push_title, svg_picture};
+pub use paper::Paper;
+pub use words::{kind_text, push_followed, push_meaning, push_said};

@@ -1,16 +1,15 @@
 //! What stands at a row: its number and its text, marks on the lanes, and tables.
-ghost use Rattle.std.specs.Prelude.{◌≡◌, ◌++◌, codes, if◌then◌else◌};
-ghost use Rattle.std.specs.Fmt.{decimal};
-ghost use Rattle.bully_picture.specs.Drawn.{HasRows, row_label};
-ghost use Rattle.bully_picture.specs.Title.{Has};
-ghost use Rattle.bully_picture.specs.Written.{Gains, IsIn, Writes};
+ghost use Rattle.std.specs.Prelude.{◌≡◌, ℕ, if◌then◌else◌};
+ghost use Rattle.bully_picture.specs.Drawn.{AreNumbers, HasSaid, HasText, number_text, scenes_shown};
+ghost use Rattle.bully_picture.specs.Written.{Extends, Gains, IsIn, Writes};
 
-use crate::boxes::{Anchor, width_of};
+use crate::boxes::{Anchor, Area, letters_within, width_of};
 use crate::canvas::{Canvas, Style, push_place};
+use crate::claims::{Claims, is_shown};
 use crate::lanes::draw_stand;
 use crate::layout::{ASIDE, HALF, Layout, WORDS_MIN};
 use crate::paper::Paper;
-use crate::words::{decides, push_meaning, push_row_text};
+use crate::words::{push_meaning, push_said};
 use bully_base::Node;
 use bully_calls::{EventKind, NodeEventKind};
 use bully_film::{FinishedFilm, Scene, Seen, Stand};
@@ -19,59 +18,151 @@ use bully_table::Table;
 // What is said of a table that is too long to be shown.
 const LONG_TABLE: &str = "gets a table";
 
+// How large the numbers and the texts of rows are, and how wide a text and what stands behind it.
+const TEXT_SIZE: u32 = 10;
+
+const TEXTS: u32 = 408;
+
 // The colour of what the row that decided says.
 const DECIDED: &str = "#D55E00";
 
-/// The numbers of a film's rows, each at the left of its row. Their boxes are taken, so that no words lie on them.
-pub fn draw_numbers(canvas: &mut Canvas, finished: &FinishedFilm) -> Paper
-    ensures { IsIn result (λ text. HasRows text finished.now.verdict finished.now.scenes.items) }
+/// The numbers of the rows that are shown, each at the left of its line. Their boxes are taken, so that no words lie on them.
+pub fn draw_numbers(canvas: &mut Canvas, finished: &FinishedFilm, claims: Claims) -> Paper
+    ensures { IsIn result (AreNumbers finished.now.verdict (scenes_shown claims finished.now.verdict finished.now.scenes.items)) }
 {
     let mut numbers = Paper::new(canvas.alloc);
     for scene in finished.scenes.as_slice() {
-        let number = scene.number;
-        draw_number(
-            canvas,
-            &mut numbers,
-            number,
-            decides(finished.verdict, number),
-        );
+        if is_shown(claims, finished.verdict, scene) {
+            let number = scene.number;
+            draw_number(
+                canvas,
+                &mut numbers,
+                number,
+                finished.verdict.decides(number),
+            );
+        }
     }
     numbers
 }
 
 // Writes the number of a row at the left.
 fn draw_number(canvas: &mut Canvas, numbers: &mut Paper, number: u32, decides: bool)
-    ensures { Gains numbers.old numbers.new (λ text. Has text (row_label decides number)) }
+    ensures { (y : ℕ) × Writes numbers.old numbers.new (number_text y decides number) }
 {
     let y = canvas.layout.y(number).saturating_add(4);
-    let colour = colour_of(decides, "#777");
-    let style = plain_style(Anchor::End, colour);
     let mut digits = Paper::new(canvas.alloc);
     digits.push_number("", number, "");
     let words = canvas.read(&digits);
-    canvas.keep_free(48, y, style, words);
-    push_place(numbers, 48, y, style);
-    push_label(numbers, colour, number);
+    canvas.keep_free(48, y, plain_style(Anchor::End, ""), words);
+    push_digits(numbers, y, number, decides);
 }
 
-// Writes the number of a row in this colour, and the end of its element.
-fn push_label(numbers: &mut Paper, colour: &'static str, number: u32)
-    ensures { Writes numbers.old numbers.new (codes " fill=\"" ++ colour.now ++ (codes "\">" ++ decimal number ++ codes "</text>\n")) }
+// Writes the number of a row at this height.
+fn push_digits(numbers: &mut Paper, y: u32, number: u32, decides: bool)
+    ensures { Writes numbers.old numbers.new (number_text y decides number) }
 {
-    numbers.push(" fill=\"");
-    numbers.push(colour);
+    numbers.push_number(
+        "<text x=\"48\" y=\"",
+        y,
+        "\" font-size=\"10\" text-anchor=\"end\" fill=\"",
+    );
+    numbers.push(colour_of(decides, "#777"));
     numbers.push_number("\">", number, "</text>\n");
+}
+
+/// The texts of the rows that are shown, each at the right of its line, whose boxes are taken, too.
+pub fn draw_texts(canvas: &mut Canvas, finished: &FinishedFilm, claims: Claims) -> Paper
+    ensures { IsIn result (λ text. HasSaid text finished.now.verdict (scenes_shown claims finished.now.verdict finished.now.scenes.items)) }
+{
+    let mut texts = Paper::new(canvas.alloc);
+    for scene in finished.scenes.as_slice() {
+        if is_shown(claims, finished.verdict, scene) {
+            let decides = finished.verdict.decides(scene.number);
+            draw_text(canvas, &mut texts, scene, decides);
+        }
+    }
+    texts
+}
+
+// Writes the text of a row at the right, as much of it as there is room for, and what it does, where that doesn't say it.
+fn draw_text(canvas: &mut Canvas, texts: &mut Paper, scene: &Scene, decides: bool)
+    ensures { Gains texts.old texts.new (λ text. HasText text decides scene.now) }
+{
+    let mut said = Paper::new(canvas.alloc);
+    push_said(&mut said, scene);
+    let mut tail = Paper::new(canvas.alloc);
+    push_tail(&mut tail, &canvas.layout, scene, decides);
+    let letters = keep_text_free(canvas, scene, decides, &said, &tail);
+    push_text_place(texts, &canvas.layout, scene.number);
+    texts.push(" fill=\"");
+    texts.push(colour_of(decides, "#555"));
+    texts.push("\">");
+    texts.push_cut_paper(&said, letters);
+    texts.push_paper(&tail);
+    texts.push("</text>\n");
+}
+
+// Writes where the text of the row of this number stands.
+fn push_text_place(texts: &mut Paper, layout: &Layout, number: u32)
+    ensures { Extends texts.old texts.new }
+{
+    let y = layout.y(number).saturating_add(4);
+    push_place(texts, layout.texts(), y, plain_style(Anchor::Start, ""));
+}
+
+// Takes the box of the text of a row, and tells how many letters of what it says have room in it before its tail, and a table behind that.
+fn keep_text_free(
+    canvas: &mut Canvas,
+    scene: &Scene,
+    decides: bool,
+    said: &Paper,
+    tail: &Paper,
+) -> usize {
+    let tail = width_of(canvas.read(tail), TEXT_SIZE);
+    let table = if decides {
+        0
+    } else {
+        table_behind(&canvas.layout, scene)
+    };
+    let room = TEXTS.saturating_sub(tail).saturating_sub(table);
+    let said = canvas.read(said);
+    let letters = letters_in(said, room);
+    let width = width_of(said, TEXT_SIZE).min(room).saturating_add(tail);
+    let area = Area {
+        x: canvas.layout.texts(),
+        y: canvas.layout.y(scene.number).saturating_sub(6),
+        width,
+        height: 13,
+    };
+    canvas.take(area);
+    canvas.note_end(area.x.saturating_add(width));
+    letters
+}
+
+// How many letters of a text have so much room: all, or those with dots behind them.
+fn letters_in(said: &str, room: u32) -> usize {
+    if width_of(said, TEXT_SIZE) <= room {
+        return said.len();
+    }
+    letters_within(said, TEXT_SIZE, room.saturating_sub(12))
+}
+
+// How wide the table is that stands behind the text of a row; nothing where none does.
+fn table_behind(layout: &Layout, scene: &Scene) -> u32 {
+    if !scene.gets_table || scene.table.is_none() || has_room(layout, scene) {
+        return 0;
+    }
+    table_width(layout, scene).saturating_add(8)
 }
 
 /// Draws what stands at a row; whether it decided is told.
 pub fn draw_row(canvas: &mut Canvas, scene: &Scene, decides: bool) {
     let y = canvas.layout.y(scene.number);
     draw_ground(canvas, scene.number, y, decides);
-    let end = draw_text(canvas, scene, y, decides);
     if !decides {
         draw_change(canvas, scene);
         draw_marks(canvas, scene, y);
-        draw_table(canvas, scene, y, end);
+        draw_table(canvas, scene, y);
     }
 }
 
@@ -103,26 +194,14 @@ fn colour_of(decides: bool, plain: &'static str) -> &'static str
 fn plain_style(anchor: Anchor, colour: &'static str) -> Style {
     Style {
         anchor,
-        size: 10,
+        size: TEXT_SIZE,
         colour,
         has_ground: false,
     }
 }
 
-// Writes the text of the row at the right, and what it does, where that doesn't say it. Tells where it ends.
-fn draw_text(canvas: &mut Canvas, scene: &Scene, y: u32, decides: bool) -> u32 {
-    let mut paper = Paper::new(canvas.alloc);
-    push_text(&mut paper, &canvas.layout, scene, decides);
-    let words = canvas.read(&paper);
-    let x = canvas.layout.texts();
-    let style = plain_style(Anchor::Start, colour_of(decides, "#555"));
-    canvas.put(x, y.saturating_add(4), style, words);
-    x.saturating_add(width_of(words, style.size))
-}
-
-// Writes the text of the row, and what it does; and of a table that has no room at its lane, who gets it.
-fn push_text(paper: &mut Paper, layout: &Layout, scene: &Scene, decides: bool) {
-    push_row_text(paper, scene);
+// Writes what a row does behind its text; and of a table that has no room at its lane, who gets it.
+fn push_tail(paper: &mut Paper, layout: &Layout, scene: &Scene, decides: bool) {
     if decides {
         return;
     }
@@ -252,10 +331,11 @@ fn draw_word(canvas: &mut Canvas, x: u32, y: u32, colour: &'static str, word: &s
 
 // The table that a node gets by the row: its owners in small boxes, or that it gets one. Where that has no room at the lane, it stands
 // behind the text of the row, which ends there.
-fn draw_table(canvas: &mut Canvas, scene: &Scene, y: u32, end: u32) {
+fn draw_table(canvas: &mut Canvas, scene: &Scene, y: u32) {
     if !scene.gets_table {
         return;
     }
+    let end = canvas.end_of(scene.number);
     let has_room = has_room(&canvas.layout, scene);
     let x = canvas.layout.x(scene.other.node).saturating_add(ASIDE);
     match &scene.table {

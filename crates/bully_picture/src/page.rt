@@ -4,7 +4,7 @@ ghost use Rattle.bully_film.specs.Film.{IsFilmOf};
 ghost use Rattle.bully_film.specs.Lane.{row_before};
 ghost use Rattle.bully_film.specs.Scene.{lane_of as lane_seen};
 ghost use Rattle.bully_film.specs.Window.{WindowState};
-ghost use Rattle.bully_picture.specs.Drawn.{HasBelow, HasCalls, HasLanes, HasNodes, HasRows, below_label};
+ghost use Rattle.bully_picture.specs.Drawn.{AreNumbers, HasBelow, HasCalls, HasLanes, HasNodes, HasRows, HasSaid, below_label, scenes_shown};
 ghost use Rattle.bully_picture.specs.Title.{Has, IsDocument, counted_text, shown_text, size_text, title_text};
 ghost use Rattle.bully_picture.specs.Written.{Extends, Gains, IsCopied, IsIn, Writes};
 ghost use Rattle.bully_rows.specs.Trace.{Trace};
@@ -12,11 +12,11 @@ ghost use Rattle.bully_trace.specs.VerdictText.{verdict_head};
 
 use crate::arrows::draw_calls;
 use crate::canvas::Canvas;
+use crate::claims::{Claims, is_shown};
 use crate::lanes::{draw_bars, draw_names};
 use crate::layout::{Layout, ROW};
-use crate::marks::{draw_numbers, draw_row};
+use crate::marks::{draw_numbers, draw_row, draw_texts};
 use crate::paper::Paper;
-use crate::words::decides;
 use bully_base::{OutOfMemory, Setup};
 use bully_film::{FinishedFilm, Lane, lanes, row_before};
 use bully_trace::Verdict;
@@ -24,6 +24,9 @@ use std::alloc::Global;
 
 // How wide the texts of the rows are.
 const TEXTS: u32 = 420;
+
+// How far below the last row the text below begins: below what belongs to that row.
+const BELOW: u32 = 40;
 
 // What stands at the head of each picture.
 const MARKERS: &str = "\
@@ -44,20 +47,26 @@ const LEGEND: &str = "\
 <rect x=\"336\" y=\"38\" width=\"12\" height=\"12\" fill=\"#009E73\"/><text x=\"353\" y=\"48\" font-size=\"11\">normal</text>\n\
 <text x=\"64\" y=\"64\" font-size=\"10\" fill=\"#555\">solid: a call; dotted: its reply; a red cross: it fails; grey: an orphan; rings: recover and move; a black bar: a Halt cuts a procedure off</text>\n";
 
+// What letters at arrows mean.
+const LETTERS: &str = "\
+<text x=\"430\" y=\"48\" font-size=\"11\">U: AreYouUp, N: AreYouNormal, H: Halt, C: NewCoordinator, R: Ready</text>\n";
+
 /// The picture of what a film shows, with these names over the lanes, from node 1 on, and below it this text, a line each. It is an SVG
-/// document. Each row has its number, each node its name, or its number where it has none, and each call that a slot holds behind a
-/// row, sent or run, its arrow. Refused where an allocation fails.
+/// document. Each row has its number and what it says, but for claims that are left out; each node its name, or its number where it has
+/// none; and each call that a slot holds behind a row, sent or run, its arrow. Refused where an allocation fails.
 pub fn svg_picture(
     alloc: Global,
     finished: &FinishedFilm,
     names: &[&str],
+    claims: Claims,
     below: &str,
 ) -> Result<String, OutOfMemory>
     ensures document { IfOk result (λ text. IsDocument (string_bytes text)) }
     ensures verdict { IfOk result (λ text. Has (string_bytes text) (verdict_head finished.now.verdict)) }
     ensures title { IfOk result (λ text. Has (string_bytes text)
         (title_text finished.now.verdict finished.now.setup.nodes finished.now.setup.partitions (row_before finished.now.scenes.items) (length finished.now.scenes.items))) }
-    ensures rows { IfOk result (λ text. HasRows (string_bytes text) finished.now.verdict finished.now.scenes.items) }
+    ensures rows { IfOk result (λ text. HasRows (string_bytes text) finished.now.verdict (scenes_shown claims finished.now.verdict finished.now.scenes.items)) }
+    ensures says { IfOk result (λ text. HasSaid (string_bytes text) finished.now.verdict (scenes_shown claims finished.now.verdict finished.now.scenes.items)) }
     ensures nodes { IfOk result (λ text. HasNodes (string_bytes text) finished.now.setup.nodes (λ i. option_map (λ s. s.now) (slice_get names.now i))) }
 
     // Of each node it has an arrow for each call in its slot.
@@ -65,24 +74,31 @@ pub fn svg_picture(
         → IfOk result (λ text. HasCalls (string_bytes text) finished.now.setup.nodes (row_before finished.now.scenes.items) (λ i. lane_seen trace.setup is.before i is.shown)) }
     ensures below { IfOk result (λ text. HasBelow (string_bytes text) below.now) }
 {
-    let mut canvas = Canvas::new(alloc, Layout::of(finished));
-    let picture = picture_on(&mut canvas, finished, names, below);
+    let mut canvas = Canvas::new(alloc, Layout::of(alloc, finished, claims)?);
+    let picture = picture_on(&mut canvas, finished, names, claims, below);
     picture.into_text()
 }
 
 // The picture, drawn on this canvas.
-fn picture_on(canvas: &mut Canvas, finished: &FinishedFilm, names: &[&str], below: &str) -> Paper
+fn picture_on(
+    canvas: &mut Canvas,
+    finished: &FinishedFilm,
+    names: &[&str],
+    claims: Claims,
+    below: &str,
+) -> Paper
     ensures document { IsIn result IsDocument }
     ensures title { IsIn result (λ text. Has text
         (title_text finished.now.verdict finished.now.setup.nodes finished.now.setup.partitions (row_before finished.now.scenes.items) (length finished.now.scenes.items))) }
-    ensures rows { IsIn result (λ text. HasRows text finished.now.verdict finished.now.scenes.items) }
+    ensures rows { IsIn result (λ text. HasRows text finished.now.verdict (scenes_shown claims finished.now.verdict finished.now.scenes.items)) }
+    ensures says { IsIn result (λ text. HasSaid text finished.now.verdict (scenes_shown claims finished.now.verdict finished.now.scenes.items)) }
     ensures nodes { IsIn result (λ text. HasNodes text finished.now.setup.nodes (λ i. option_map (λ s. s.now) (slice_get names.now i))) }
     ensures calls { (window : WindowState) (trace : Trace) (is : IsFilmOf window finished.now trace)
         → IsIn result (λ text. HasCalls text finished.now.setup.nodes (row_before finished.now.scenes.items) (λ i. lane_seen trace.setup is.before i is.shown)) }
     ensures below { IsIn result (λ text. HasBelow text below.now) }
 {
     match lanes(canvas.alloc, finished) {
-        Ok(lanes) => picture_with(canvas, finished, lanes.as_slice(), names, below),
+        Ok(lanes) => picture_with(canvas, finished, lanes.as_slice(), names, claims, below),
         Err(_) => Paper::failed(canvas.alloc),
     }
 }
@@ -93,17 +109,19 @@ fn picture_with(
     finished: &FinishedFilm,
     lanes: &[Lane],
     names: &[&str],
+    claims: Claims,
     below: &str,
 ) -> Paper
     ensures document { IsIn result IsDocument }
     ensures title { IsIn result (λ text. Has text
         (title_text finished.now.verdict finished.now.setup.nodes finished.now.setup.partitions (row_before finished.now.scenes.items) (length finished.now.scenes.items))) }
-    ensures rows { IsIn result (λ text. HasRows text finished.now.verdict finished.now.scenes.items) }
+    ensures rows { IsIn result (λ text. HasRows text finished.now.verdict (scenes_shown claims finished.now.verdict finished.now.scenes.items)) }
+    ensures says { IsIn result (λ text. HasSaid text finished.now.verdict (scenes_shown claims finished.now.verdict finished.now.scenes.items)) }
     ensures nodes { IsIn result (λ text. HasNodes text finished.now.setup.nodes (λ i. option_map (λ s. s.now) (slice_get names.now i))) }
     ensures lanes { IsIn result (λ text. HasLanes text lanes.now) }
     ensures below { IsIn result (λ text. HasBelow text below.now) }
 {
-    let parts = draw(canvas, finished, lanes, names, below);
+    let parts = draw(canvas, finished, lanes, names, claims, below);
     let mut picture = Paper::new(canvas.alloc);
     picture.push("<svg xmlns=\"http://www.w3.org/2000/svg\"");
     push_head(&mut picture, &canvas.layout, finished.verdict, below);
@@ -113,10 +131,11 @@ fn picture_with(
     picture
 }
 
-// What a picture has of each row, of each node and of each call, and the text below it.
+// What a picture has of each row that is shown, of each node and of each call, and the text below it.
 #[derive(Drop)]
 struct Parts {
     numbers: Paper,
+    texts: Paper,
     names: Paper,
     arrows: Paper,
     below: Paper,
@@ -128,21 +147,26 @@ fn draw(
     finished: &FinishedFilm,
     lanes: &[Lane],
     names: &[&str],
+    claims: Claims,
     below: &str,
 ) -> Parts
-    ensures rows { IsIn result.numbers (λ text. HasRows text finished.now.verdict finished.now.scenes.items) }
+    ensures rows { IsIn result.numbers (AreNumbers finished.now.verdict (scenes_shown claims finished.now.verdict finished.now.scenes.items)) }
+    ensures says { IsIn result.texts (λ text. HasSaid text finished.now.verdict (scenes_shown claims finished.now.verdict finished.now.scenes.items)) }
     ensures nodes { IsIn result.names (λ text. HasNodes text finished.now.setup.nodes (λ i. option_map (λ s. s.now) (slice_get names.now i))) }
     ensures lanes { IsIn result.arrows (λ text. HasLanes text lanes.now) }
     ensures below { IsIn result.below (λ text. HasBelow text below.now) }
 {
     canvas.lines.push(LEGEND);
-    let numbers = draw_numbers(canvas, finished);
-    draw_rows(canvas, finished);
+    let numbers = draw_numbers(canvas, finished, claims);
+    let texts = draw_texts(canvas, finished, claims);
+    draw_rows(canvas, finished, claims);
     let arrows = draw_lanes(canvas, lanes);
+    draw_letters(canvas);
     let names = draw_names(canvas.alloc, &canvas.layout, &finished.setup, names);
     let below = draw_below(canvas.alloc, &canvas.layout, below);
     Parts {
         numbers,
+        texts,
         names,
         arrows,
         below,
@@ -153,6 +177,7 @@ fn draw(
 fn push_parts(picture: &mut Paper, canvas: &Canvas, parts: &Parts)
     ensures extends { Extends picture.old picture.new }
     ensures numbers { IsIn picture.new (IsCopied parts.now.numbers) }
+    ensures texts { IsIn picture.new (IsCopied parts.now.texts) }
     ensures names { IsIn picture.new (IsCopied parts.now.names) }
     ensures arrows { IsIn picture.new (IsCopied parts.now.arrows) }
     ensures below { IsIn picture.new (IsCopied parts.now.below) }
@@ -160,15 +185,25 @@ fn push_parts(picture: &mut Paper, canvas: &Canvas, parts: &Parts)
     picture.push_paper(&canvas.lines);
     picture.push_paper(&parts.arrows);
     picture.push_paper(&parts.numbers);
+    picture.push_paper(&parts.texts);
     picture.push_paper(&parts.names);
     picture.push_paper(&canvas.words);
     picture.push_paper(&parts.below);
 }
 
-// Draws what stands at each row.
-fn draw_rows(canvas: &mut Canvas, finished: &FinishedFilm) {
+// Draws what stands at each row that is shown.
+fn draw_rows(canvas: &mut Canvas, finished: &FinishedFilm, claims: Claims) {
     for scene in finished.scenes.as_slice() {
-        draw_row(canvas, scene, decides(finished.verdict, scene.number));
+        if is_shown(claims, finished.verdict, scene) {
+            draw_row(canvas, scene, finished.verdict.decides(scene.number));
+        }
+    }
+}
+
+// Says what letters stand for, where there are any.
+fn draw_letters(canvas: &mut Canvas) {
+    if canvas.has_letters() {
+        canvas.words.push(LETTERS);
     }
 }
 
@@ -201,7 +236,7 @@ fn height_of(layout: &Layout, below: &str) -> u32 {
     layout
         .bottom()
         .saturating_add(ROW.saturating_mul(lines))
-        .saturating_add(40)
+        .saturating_add(BELOW)
 }
 
 // Writes the head of the document behind its first word, up to the words of the title.
@@ -228,8 +263,8 @@ fn title_start(verdict: Verdict) -> &'static str {
     }
 }
 
-// Writes the words of the title: the verdict, how large the group is, and which rows are shown.
-fn push_title(picture: &mut Paper, finished: &FinishedFilm)
+/// Writes the words of the title: the verdict, how large the group is, and which rows are shown.
+pub fn push_title(picture: &mut Paper, finished: &FinishedFilm)
     ensures { Writes picture.old picture.new
         (title_text finished.now.verdict finished.now.setup.nodes finished.now.setup.partitions (row_before finished.now.scenes.items) (length finished.now.scenes.items)) }
 {
@@ -287,7 +322,7 @@ fn draw_below(alloc: Global, layout: &Layout, below: &str) -> Paper
 {
     let letters = letters_below(layout);
     let mut paper = Paper::new(alloc);
-    let mut y = layout.bottom().saturating_add(ROW + 8);
+    let mut y = layout.bottom().saturating_add(BELOW);
     for line in below.lines() {
         draw_line_below(&mut paper, line, y, letters);
         y = y.saturating_add(ROW);
@@ -310,11 +345,6 @@ fn draw_line_below(paper: &mut Paper, line: &str, y: u32, letters: usize)
         "\" font-size=\"12\" font-family=\"DejaVu Sans Mono, monospace\" fill=\"#D55E00\"",
     );
     paper.push(" xml:space=\"preserve\">");
-    paper.push_start(line, letters);
-    if line.len() > letters {
-        paper.push("<title>");
-        paper.push_escaped(line);
-        paper.push("</title>");
-    }
+    paper.push_cut(line, letters);
     paper.push("</text>\n");
 }

@@ -1,13 +1,16 @@
 //! What pictures are written on.
 ghost use Rattle.std.specs.Prelude.{◌≡◌, ℕ, List, ◌++◌, codes, false, is_err, length, string_bytes, true, IfOk, OnOk};
 ghost use Rattle.std.specs.Fmt.{decimal};
+ghost use Rattle.std.specs.List.{join_with_byte};
 ghost use Rattle.std.specs.Str.{chars};
-ghost use Rattle.bully_picture.specs.Escaping.{escaped, shortened};
+ghost use Rattle.bully_picture.specs.Escaping.{cut_text, escaped, shortened};
 ghost use Rattle.bully_picture.specs.Written.{Writes, Written, attribute_text, blank, right_text};
+ghost use Rattle.bully_rows.specs.TraceText.{row_fields};
 ghost use Rattle.bully_trace.specs.VerdictText.{verdict_head};
 
-use crate::escaping::{push_escaped, push_start};
+use crate::escaping::{push_cut, push_escaped, push_start};
 use bully_base::{Node, OutOfMemory};
+use bully_rows::{Row, push_row};
 use bully_trace::{Verdict, push_verdict_head};
 use std::alloc::{AllocError, Global};
 use std::marker::Model;
@@ -131,6 +134,32 @@ impl Paper {
         self.note(written);
     }
 
+    /// Writes so many letters of what stands on another paper, and, where it is longer, all of it for where the pointer rests. Where memory
+    /// was wanting there, it is wanting here.
+    pub fn push_cut_paper(&mut self, paper: &Paper, letters: usize)
+        ensures cut { Writes self.old self.new (cut_text letters paper.now.text) }
+        ensures whole { self.new.has_failed ≡ false → paper.now.has_failed ≡ false }
+    {
+        let written = paper.cut_to(&mut self.text, letters);
+        self.note(written);
+    }
+
+    /// Writes so many letters of a line, and, where it is longer, all of it for where the pointer rests.
+    pub fn push_cut(&mut self, line: &str, letters: usize)
+        ensures { Writes self.old self.new (cut_text letters line.now) }
+    {
+        let written = push_cut(&mut self.text, line, letters);
+        self.note(written);
+    }
+
+    /// Writes the row as a line of a trace has it.
+    pub fn push_row(&mut self, row: &Row)
+        ensures { Writes self.old self.new (join_with_byte 44 (row_fields row.now)) }
+    {
+        let written = push_row_fields(&mut self.text, row);
+        self.note(written);
+    }
+
     /// Writes a number between these words.
     pub fn push_number(&mut self, before: &'static str, number: u32, behind: &'static str)
         ensures { Writes self.old self.new (before.now ++ decimal number ++ behind.now) }
@@ -189,6 +218,18 @@ impl Paper {
         text.push_str(self.text.as_str())
     }
 
+    // Appends so many letters of what was written to a text, and, where it is longer, all of it for where the pointer rests. Refused where
+    // memory was wanting, or is now.
+    fn cut_to(&self, text: &mut String, letters: usize) -> Result<(), OutOfMemory>
+        ensures whole { OnOk result (self.now.has_failed ≡ false) }
+        ensures cut { OnOk result (string_bytes text.new ≡ string_bytes text.old ++ cut_text letters self.now.text) }
+    {
+        if self.has_failed {
+            return Err(AllocError);
+        }
+        push_cut(text, self.text.as_str(), letters)
+    }
+
     // Notes how a write went: behind what stood before it, this part.
     fn note(&mut self, written: Result<(), OutOfMemory>)
         ensures went { self.new.has_failed ≡ false → is_err written ≡ false }
@@ -196,4 +237,13 @@ impl Paper {
     {
         self.has_failed |= written.is_err();
     }
+}
+
+// Appends the line of a row, but for its end.
+fn push_row_fields(text: &mut String, row: &Row) -> Result<(), OutOfMemory>
+    ensures { OnOk result (string_bytes text.new ≡ string_bytes text.old ++ join_with_byte 44 (row_fields row.now)) }
+{
+    push_row(text, row)?;
+    let _ = text.pop();
+    Ok(())
 }

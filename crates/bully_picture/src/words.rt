@@ -1,14 +1,13 @@
 //! The words of a picture.
 ghost use Rattle.std.specs.Prelude.{◌≡◌};
-ghost use Rattle.bully_picture.specs.Drawn.{decides, kind_text};
-ghost use Rattle.bully_picture.specs.Written.{Extends};
+ghost use Rattle.bully_picture.specs.Drawn.{bare_text, kind_text, row_word, said_text};
+ghost use Rattle.bully_picture.specs.Written.{Extends, Writes};
 
 use crate::paper::Paper;
 use bully_base::{Node, Status};
 use bully_calls::{CallKind, EventKind, NodeEventKind};
 use bully_film::{NodeSnapshot, Scene, Stand};
 use bully_rows::{SAW, status_word};
-use bully_trace::Verdict;
 
 /// The call as the profile names it.
 pub fn kind_text(kind: CallKind) -> &'static str
@@ -20,16 +19,6 @@ pub fn kind_text(kind: CallKind) -> &'static str
         CallKind::Halt => "Halt",
         CallKind::NewCoordinator => "NewCoordinator",
         CallKind::Ready => "Ready",
-    }
-}
-
-/// Whether the row of this number decided.
-pub fn decides(verdict: Verdict, row: u32) -> bool
-    ensures { result ≡ decides verdict row }
-{
-    match verdict {
-        Verdict::Lawful(_) => false,
-        Verdict::Refused(decided, _) | Verdict::Differs(decided) => row == decided,
     }
 }
 
@@ -58,16 +47,43 @@ pub fn push_followed(
     }
 }
 
-/// Writes the row as it stands in a trace of version 1, but for a claim's status and a plan's table.
+/// The call as a letter, for where words have no room.
+pub fn kind_letter(kind: CallKind) -> &'static str {
+    match kind {
+        CallKind::AreYouUp => "U",
+        CallKind::AreYouNormal => "N",
+        CallKind::Halt => "H",
+        CallKind::NewCoordinator => "C",
+        CallKind::Ready => "R",
+    }
+}
+
+/// Writes the word of the row and its node.
 pub fn push_row_text(paper: &mut Paper, scene: &Scene)
-    ensures { Extends paper.old paper.new }
+    ensures { Writes paper.old paper.new (bare_text scene.now.event_kind scene.now.own.node) }
 {
-    let word = match scene.event_kind {
+    paper.push(word_of(scene.event_kind));
+    paper.push_node(",", scene.own.node, "");
+}
+
+// The word with which a row begins.
+fn word_of(event_kind: Option<EventKind>) -> &'static str
+    ensures { result.now ≡ row_word event_kind }
+{
+    match event_kind {
         Some(event_kind) => event_kind.word(),
         None => SAW,
-    };
-    paper.push(word);
-    paper.push_node(",", scene.own.node, "");
+    }
+}
+
+/// Writes the row as it stands in the trace.
+pub fn push_said(paper: &mut Paper, scene: &Scene)
+    ensures { Writes paper.old paper.new (said_text scene.now) }
+{
+    match scene.said.row() {
+        Some(row) => paper.push_row(row),
+        None => push_row_text(paper, scene),
+    }
 }
 
 /// Writes what the row does behind its text, where that alone doesn't say it.

@@ -1,7 +1,5 @@
 -- The faults of a turn: found in the order of turns they are those of the document, and each is taken once.
-use Rattle.std.specs.Prelude.{◌&&◌, not, cond, nat_lt}
-use Rattle.std.proofs.Common.{◌≡◌, ◌≢◌, ◌∙◌, ℕ, ◌+◌, ◌<◌, ◌≤◌, ◌==◌, Bool, true, false, List, [], ◌∷◌, All, length, length-drop, drop, get_or, arith, refl, sym, ap, subst}
-use Rattle.std.proofs.lemmas.Bool.{ltb-true, ltb-false, eq-eqb, ne_eqb}
+use Rattle.std.proofs.Common.{◌≡◌, ◌≢◌, ◌∙◌, ℕ, ◌+◌, ◌<◌, ◌≤◌, ◌==◌, Bool, true, false, List, [], ◌∷◌, All, length, length-drop, drop, get_or, arith, refl, sym, ap, subst, ◌&&◌, not, cond, nat_lt, ltb-true, ltb-false, eq-eqb, ne_eqb, Bor}
 use Rattle.std.proofs.lemmas.Fn.{always_returns_same}
 use Rattle.std.proofs.lemmas.List.{get_or_default, get_or-drop}
 use Rattle.std.proofs.lemmas.List.Elements.{All-tail}
@@ -12,7 +10,6 @@ use Rattle.std.specs.declared.cmp.Ordering.TheVariants.{Less, Equal, Greater}
 use Rattle.std.specs.Ordering.{is_lt, nat_cmp}
 use Rattle.std.specs.Fn.{Called}
 use denote.Param.Members.{Mut}
-use denote.Ref.{Bor}
 use Rattle.bully_config.specs.declared.config.Fault.{Fault}
 use Rattle.bully_config.specs.declared.config.FaultKind.{FaultKind}
 use Rattle.bully_play.specs.Play.{event_of_fault}

@@ -5,11 +5,10 @@ use Rattle.bully_base.specs.Setup.{IsSetup, Setup}
 use Rattle.bully_calls.specs.declared.event.Event.{Event}
 use Rattle.bully_rows.specs.declared.header.Version.{Version}
 use Rattle.bully_rows.specs.Headers.{IsVersionFor}
-use Rattle.bully_rows.specs.ReadBack.{AreOwners, IsEventTold}
+use Rattle.bully_rows.specs.ReadBack.{AreOwners, IsEventTold, IsTold}
 use Rattle.bully_rows.proofs.SetupTold.{event-told, events-told}
 use Rattle.bully_world.proofs.NamedLemmas.{IsEventOf, lawful-events}
 use Rattle.bully_config.specs.Configuration.{Configuration}
-use Rattle.bully_rows.specs.ReadBack.{IsTold}
 use Rattle.bully_rows.specs.Rows.{IsTraceOf}
 use Rattle.bully_rows.specs.Trace.{Trace}
 use Rattle.bully_play.specs.Play.{IsPlay, LawfulTold, trace_setup, trace_with}

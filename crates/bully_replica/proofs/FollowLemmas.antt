@@ -1,6 +1,5 @@
 -- A log that is followed by one row more, and why it isn't.
-use Rattle.std.proofs.Common.{◌≡◌, ◌≢◌, ◌≤◌, ◌⊎◌, ◌+◌, ◌++◌, ℕ, Bool, true, false, List, [], ◌∷◌, Some, Result, Ok, Err, inl, inr, map, length-append, append_assoc, append-nil, refl, sym, ap, subst, arith, ◌∙◌}
-use Rattle.std.specs.Prelude.{IfErr, IfOk, OnOk}
+use Rattle.std.proofs.Common.{◌≡◌, ◌≢◌, ◌≤◌, ◌⊎◌, ◌+◌, ◌++◌, ℕ, Bool, true, false, List, [], ◌∷◌, Some, Result, Ok, Err, inl, inr, map, length-append, append_assoc, append-nil, refl, sym, ap, subst, arith, ◌∙◌, IfErr, IfOk, OnOk}
 use Rattle.std.proofs.lemmas.List.{map-append}
 use Rattle.bully_base.specs.Setup.{Setup}
 use Rattle.bully_replica.specs.Following.{FailsAt, FailsBehind, FailsOutside, Follows, FollowerState, FollowsUpTo, Stops, StopsAt, row_in}
@@ -9,12 +8,11 @@ use Rattle.bully_replica.specs.declared.follower.FollowFault.{FollowFault}
 use Rattle.bully_replica.proofs.LogLemmas.{taken_setup}
 use Rattle.bully_rows.specs.Headers.{Record}
 use Rattle.bully_rows.specs.RecordsLeft.{IsOutside, ReadSoFar, Takes}
-use Rattle.bully_rows.specs.Rows.{row_of}
+use Rattle.bully_rows.specs.Rows.{row_of, is_of_form}
 use Rattle.bully_rows.specs.declared.TheConstants.{ROWS_MAX}
 use Rattle.bully_rows.specs.declared.header.Version.{Version}
 use Rattle.bully_rows.specs.declared.trace.TraceCause.{TraceCause}
 use Rattle.bully_rows.specs.declared.trace.TraceFault.{TraceFault}
-use Rattle.bully_rows.specs.Rows.{is_of_form}
 use Rattle.bully_rows.specs.Taking.{AllTaken, AreTakenBy, IsLast, IsNext, IsUnreadable, StopsBehind, StopsNext}
 use Rattle.bully_rows.proofs.TakingLemmas.{kept-by-all}
 

@@ -1,12 +1,10 @@
 -- The header of a trace.
-use Rattle.std.proofs.Common.{◌≡◌, ◌≢◌, ◌∙◌, ℕ, suc, ◌<◌, ◌≤◌, ◌++◌, ◌==◌, Bool, true, false, List, [], ◌∷◌, length, Option, Some, None, Result, Ok, Err, if◌then◌else◌, append_assoc, refl, sym, ap, subst, arith}
-use Rattle.std.specs.Prelude.{◌&&◌, IfOk, option_and_then, option_map, codes}
+use Rattle.std.proofs.Common.{◌≡◌, ◌≢◌, ◌∙◌, ℕ, suc, ◌<◌, ◌≤◌, ◌++◌, ◌==◌, Bool, true, false, List, [], ◌∷◌, length, Option, Some, None, Result, Ok, Err, if◌then◌else◌, append_assoc, refl, sym, ap, subst, arith, ◌&&◌, IfOk, option_and_then, option_map, codes, nat_le}
 use Rattle.std.specs.Result.{IsOk, result_ok}
 use Rattle.std.specs.Str.{bytes_eq}
 use Rattle.std.proofs.lemmas.Grind.{common_steps}
 use Rattle.std.proofs.lemmas.List.Elements.{All-cons, All-nil}
 use Rattle.std.proofs.lemmas.Option.{same_Some}
-use Rattle.std.specs.Prelude.{nat_le}
 use Rattle.std.proofs.lemmas.Bool.Decides.{nat_tests}
 use Rattle.bully_base.specs.declared.TheConstants.{EVENTS_MAX, WEIGHT_MAX}
 use Rattle.bully_base.specs.declared.setup.SetupFault.{SetupFault}

@@ -1,12 +1,12 @@
 -- The fields of a header, read back.
-use Rattle.std.proofs.Common.{◌≡◌, ◌∙◌, ℕ, ◌≤◌, Bool, true, false, List, [], ◌∷◌, length, replicate, not, Some, arith, refl, sym, ap}
-use Rattle.std.specs.Prelude.{◌==◌, ◌&&◌, nat_le, option_map}
+use Rattle.std.proofs.Common.{◌≡◌, ◌∙◌, ℕ, ◌≤◌, Bool, true, false, List, [], length, replicate, not, Some, arith, refl, sym, ap, ◌==◌, ◌&&◌, nat_le, option_map}
 use Rattle.std.specs.Fmt.{decimal}
 use Rattle.std.specs.List.{list_all}
-use Rattle.std.proofs.lemmas.Bool.{and_parts}
+use Rattle.std.proofs.lemmas.Bool.{and_parts, not-true}
 use Rattle.std.proofs.lemmas.Bool.Decides.{nat_tests}
 use Rattle.bully_base.specs.declared.TheConstants.{EVENTS_MAX}
 use Rattle.bully_base.specs.Setup.{IsSetup, Setup, even_setup, is_even}
+use Rattle.bully_base.proofs.SetupLemmas.{ones-all}
 use Rattle.bully_table.specs.TableText.{owners_text}
 use Rattle.bully_rows.specs.declared.TheConstants.{FIRST_NODES_MAX, FIRST_PARTITIONS_MAX}
 use Rattle.bully_rows.specs.declared.header.Version.{Version}
@@ -19,24 +19,12 @@ use Rattle.bully_rows.proofs.NumberTexts.{node-read, partitions-read}
 
 -- ---- version 1
 
--- weights that are all 1
-ones : (weights : List ℕ) → list_all (λ w. w == 1) weights ≡ true → weights ≡ replicate (length weights) 1
-ones [] all = refl
-ones (w ∷ weights) all =
-    let parts = and_parts (w == 1) (list_all (λ w. w == 1) weights) all in
-    let one : w ≡ 1 = grind (arith, nat_tests, parts.0) in
-    rw one (ap (λ (ws : List ℕ). 1 ∷ ws) (ones weights parts.1))
-
 -- a setup is the one of its numbers where all nodes weigh 1 and no task is kept
 even-of : (n p e : ℕ) (keeps : Bool) (weights : List ℕ) → e ≡ EVENTS_MAX → length weights ≡ n → keeps ≡ false → list_all (λ w. w == 1) weights ≡ true
     → even_setup n p EVENTS_MAX ≡ record { nodes = n; partitions = p; events_max = e; keeps = keeps; weights = weights }
 even-of n p e keeps weights most size clear all =
-    let same : weights ≡ replicate n 1 = ones weights all ∙ ap (λ (k : ℕ). replicate k 1) size in
+    let same : weights ≡ replicate n 1 = ones-all weights all ∙ ap (λ (k : ℕ). replicate k 1) size in
     rw (most, clear, same) refl
-
-not-kept : (keeps : Bool) → not keeps ≡ true → keeps ≡ false
-not-kept true e = absurd (cc e)
-not-kept false e = refl
 
 first-read : (setup : Setup) → IsSetup setup → setup.events_max ≡ EVENTS_MAX → fits_first setup ≡ true
     → setup_in (decimal setup.nodes) (decimal setup.partitions) ≡ Some setup
@@ -50,7 +38,7 @@ first-read setup within most fits =
     let parts = within.partitions in
     let size = within.weights in
     rw (node-read Version.One setup.nodes (some.0, nodes), partitions-read Version.One setup.partitions parts.0 partitions)
-    (ap Some (even-of setup.nodes setup.partitions setup.events_max setup.keeps setup.weights most size.0 (not-kept setup.keeps clear) all))
+    (ap Some (even-of setup.nodes setup.partitions setup.events_max setup.keeps setup.weights most size.0 (not-true setup.keeps clear) all))
 
 -- ---- the later versions
 

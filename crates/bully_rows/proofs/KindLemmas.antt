@@ -1,6 +1,5 @@
 -- The words of events, read back.
-use Rattle.std.proofs.Common.{◌≡◌, false, Some, refl}
-use Rattle.std.specs.Prelude.{codes}
+use Rattle.std.proofs.Common.{◌≡◌, false, Some, refl, codes}
 use Rattle.std.specs.Str.{bytes_eq}
 use Rattle.bully_calls.specs.declared.kind.NodeEventKind.{NodeEventKind}
 use Rattle.bully_calls.specs.Events.{kind_named, node_word}

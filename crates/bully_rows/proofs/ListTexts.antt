@@ -1,6 +1,5 @@
 -- The text of a table, of weights and of a set, read back.
-use Rattle.std.proofs.Common.{◌≡◌, ◌∙◌, ℕ, ◌+◌, ◌^◌, ◌<◌, ◌≤◌, ◌++◌, Bool, true, false, List, [], ◌∷◌, length, map, reverse, Option, Some, None, Ok, All, append-nil, arith, refl, ap}
-use Rattle.std.specs.Prelude.{◌==◌, IfSome, codes, nat_le, nat_lt, option_and_then, if◌then◌else◌}
+use Rattle.std.proofs.Common.{◌≡◌, ◌∙◌, ℕ, ◌+◌, ◌^◌, ◌<◌, ◌≤◌, ◌++◌, Bool, true, false, List, [], ◌∷◌, length, map, reverse, Option, Some, None, Ok, All, append-nil, arith, refl, ap, ◌==◌, IfSome, codes, nat_le, nat_lt, option_and_then, if◌then◌else◌}
 use Rattle.std.specs.Str.{bytes_eq}
 use Rattle.std.specs.Fmt.{decimal}
 use Rattle.std.specs.List.{list_any}

@@ -1,6 +1,5 @@
 -- The text of a number, read back.
-use Rattle.std.proofs.Common.{◌≡◌, ℕ, ◌^◌, ◌<◌, ◌≤◌, ◌++◌, true, false, List, [], ◌∷◌, length, get_or, Option, Some, None, All, append-nil, arith, rules, refl}
-use Rattle.std.specs.Prelude.{◌==◌, IfSome, codes, option_and_then}
+use Rattle.std.proofs.Common.{◌≡◌, ℕ, ◌^◌, ◌<◌, ◌≤◌, ◌++◌, true, false, List, [], ◌∷◌, length, get_or, Option, Some, None, All, append-nil, arith, rules, refl, ◌==◌, IfSome, codes, option_and_then}
 use Rattle.std.specs.Str.{bytes_eq}
 use Rattle.std.specs.Fmt.{decimal}
 use Rattle.std.specs.List.{list_all}

@@ -1,6 +1,5 @@
 -- Headers and rows are lines of fields in which no byte calls for quotes.
-use Rattle.std.proofs.Common.{ℕ, ◌+◌, ◌^◌, ◌<◌, Bool, true, false, List, [], ◌∷◌, reverse, map, Option, Some, None, All, arith, refl}
-use Rattle.std.specs.Prelude.{IfSome}
+use Rattle.std.proofs.Common.{ℕ, ◌+◌, ◌^◌, ◌<◌, Bool, true, false, List, [], ◌∷◌, reverse, map, Option, Some, None, All, arith, refl, IfSome}
 use Rattle.std.specs.Fmt.{decimal}
 use Rattle.std.proofs.lemmas.List.Elements.{All-head, All-tail}
 use Rattle.bully_base.specs.NodeSet.{IsFallingBelow}

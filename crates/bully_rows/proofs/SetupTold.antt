@@ -1,6 +1,5 @@
 -- What names the nodes of a setup alone is within the limits of each version that goes with it.
-use Rattle.std.proofs.Common.{◌≡◌, ℕ, ◌≤◌, List, length, map, All, arith, refl}
-use Rattle.std.specs.Prelude.{◌&&◌, nat_le}
+use Rattle.std.proofs.Common.{◌≡◌, ℕ, ◌≤◌, List, length, map, All, arith, refl, ◌&&◌, nat_le}
 use Rattle.std.proofs.lemmas.Bool.{and_parts}
 use Rattle.std.proofs.lemmas.Bool.Decides.{nat_tests}
 use Rattle.std.proofs.lemmas.List.{length-map}

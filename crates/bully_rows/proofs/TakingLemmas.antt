@@ -1,6 +1,5 @@
 -- Rows that are taken one by one, up to where that ends.
-use Rattle.std.proofs.Common.{◌≡◌, inl, inr, ◌++◌, ◌∙◌, ℕ, zero, suc, true, false, List, [], ◌∷◌, Option, Some, None, Result, Ok, Err, arith, refl, subst, sym}
-use Rattle.std.specs.Prelude.{IfErr, OnOk}
+use Rattle.std.proofs.Common.{◌≡◌, inl, inr, ◌++◌, ◌∙◌, ℕ, zero, suc, true, false, List, [], ◌∷◌, Option, Some, None, Result, Ok, Err, arith, refl, subst, sym, IfErr, OnOk}
 use Rattle.bully_base.specs.Setup.{Setup}
 use Rattle.bully_rows.specs.declared.header.Header.{Header}
 use Rattle.bully_rows.specs.declared.header.Version.{Version}

@@ -111,22 +111,6 @@ impl<R: Read + Drop> RowReader<R> {
         read_header(&self.fields).ok_or(no_header())
     }
 
-    /// What the row read last means in a trace of this version and this setup; none where it has no form that the profile
-    /// lists. Refused where an allocation fails.
-    pub fn row(
-        &self,
-        alloc: Global,
-        version: Version,
-        setup: &Setup,
-    ) -> Result<Option<Row>, OutOfMemory>
-        ensures { IfOk result (λ row. row ≡ row_of version setup.now self.now.fields) }
-    {
-        match self.node_event(version) {
-            Some(event) => Ok(Some(Row::Event(event.event()))),
-            None => self.longer_row(alloc, version, setup),
-        }
-    }
-
     /// The event that the row read last tells in a trace of this version, where it has two fields; none where it has others, or
     /// no form that the profile lists.
     pub fn node_event(&self, version: Version) -> Option<NodeEvent>
@@ -136,7 +120,8 @@ impl<R: Read + Drop> RowReader<R> {
         read_node_event(version, &self.fields)
     }
 
-    /// What the row read last means where it has other than two fields; none where it has two. Else as [`RowReader::row`].
+    /// What the row read last means in a trace of this version and this setup where it has other than two fields; none where it
+    /// has two, or no form that the profile lists. Refused where an allocation fails.
     pub fn longer_row(
         &self,
         alloc: Global,

@@ -1,6 +1,5 @@
 -- Where a procedure goes on: to one of its node's points, with an up set of lower nodes.
-use Rattle.std.proofs.Common.{◌≡◌, ◌⊎◌, inl, inr, ℕ, zero, suc, Bool, List, [], ◌∷◌, Option, Some, None, arith, refl}
-use Rattle.std.specs.Prelude.{unwrap_or, option_map, true, ◌<◌, IfSome, IsSome, if◌then◌else◌}
+use Rattle.std.proofs.Common.{◌≡◌, ◌⊎◌, inl, inr, ℕ, zero, suc, Bool, List, [], ◌∷◌, Option, Some, None, arith, refl, unwrap_or, option_map, true, ◌<◌, IfSome, IsSome, if◌then◌else◌}
 use Rattle.bully_base.proofs.NodeSetLemmas.{with_node-falling, IsFallingBelow-more}
 use Rattle.bully_base.specs.NodeSet.{IsFallingBelow, with_node}
 use Rattle.bully_base.specs.Setup.{Setup, IsNode}

@@ -20,11 +20,6 @@ checking_from setup i k =
     let other = if k == i then k + 1 else k in
     if nat_le other setup.nodes then Checking other else Idle
 
--- the set without its highest member
-abbrev pub rest_of : List ℕ → Option (List ℕ)
-rest_of [] = None
-rest_of (k ∷ rest) = Some rest
-
 -- the point that follows at node i, where `up` is its set of lower nodes that are up
 abbrev pub next_point : Setup → ℕ → List ℕ → Point → Outcome → Option Point
 next_point setup i up (Asking k) Started = if nat_le k setup.nodes then Some (Asking k) else None

@@ -1,8 +1,8 @@
 -- The test whether a table is balanced tells whether it is.
-use Rattle.std.proofs.Common.{◌≡◌, ℕ, zero, suc, ◌+◌, ◌<◌, ◌≤◌, Bool, true, false, List, [], ◌∷◌, length, arith, refl, ◌⊎◌, inl, inr}
-use Rattle.std.specs.Prelude.{◌||◌, ◌==◌, nat_le, slice_index_or, All, Contains}
+use Rattle.std.proofs.Common.{◌≡◌, ℕ, zero, suc, ◌+◌, ◌<◌, ◌≤◌, Bool, true, false, List, [], ◌∷◌, length, arith, refl, ◌⊎◌, inl, inr, ◌||◌, ◌==◌, nat_le, slice_index_or, All, Contains}
 use Rattle.std.specs.List.{list_all, list_any}
 use Rattle.std.specs.Bool.{Decides}
+use Rattle.std.proofs.lemmas.Bool.{or_right}
 use Rattle.std.proofs.lemmas.Bool.Decides.{nat_tests, Decides-eqb, Decides-by_and, Decides-and}
 use Rattle.std.proofs.lemmas.List.Elements.{All-nil, All-cons, All-contains}
 use Rattle.bully_base.specs.Setup.{Setup}
@@ -21,10 +21,6 @@ earlier m k ms h = by_index h.0 h.1 h.2
     by_index zero l e = inl e
     by_index (suc n) l e = inr (n, omega arith, e)
 
-or_true : (a b : Bool) → b ≡ true → (a || b) ≡ true
-or_true true b e = refl
-or_true false b e = e
-
 -- the test whether a number is in a list
 pub any_decides : (k : ℕ) (ms : List ℕ) → Decides (list_any (λ m. m == k) ms) (Contains ms k)
 any_decides k [] = ((λ e. absurd (grind arith)), (λ h. absurd (omega (arith, h.1))))
@@ -36,7 +32,7 @@ any_decides k (m ∷ ms) = joined (any_decides k ms)
 
     back : (Contains ms k → list_any (λ m. m == k) ms ≡ true) → (m ≡ k) ⊎ Contains ms k → (m == k || list_any (λ m. m == k) ms) ≡ true
     back more (inl e) = rw ((Decides-eqb m k).1 e) refl
-    back more (inr h) = or_true (m == k) (list_any (λ m. m == k) ms) (more h)
+    back more (inr h) = or_right (m == k) (list_any (λ m. m == k) ms) (more h)
 
     joined : Decides (list_any (λ m. m == k) ms) (Contains ms k) → Decides (m == k || list_any (λ m. m == k) ms) (Contains (m ∷ ms) k)
     joined more = (to (m == k) more.0 refl, λ h. back more.1 (earlier m k ms h))

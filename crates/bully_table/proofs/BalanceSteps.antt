@@ -37,10 +37,6 @@ pub falling-nodes : (bound nodes : ℕ) (members : List ℕ) → IsFallingBelow 
 falling-nodes bound nodes [] f all = tt
 falling-nodes bound nodes (m ∷ ms) f all = (f.0, omega (arith, All-head (λ k. k ≤ nodes) m ms all), f.2)
 
-pub falling-wider : (bound wider : ℕ) (members : List ℕ) → bound ≤ wider → IsFallingBelow bound members → IsFallingBelow wider members
-falling-wider bound wider [] l f = tt
-falling-wider bound wider (m ∷ ms) l f = (f.0, omega (arith, f.1), f.2)
-
 -- what holds of the members below a number: of none, of one number more, and of all
 pub below-first : (P : ℕ → Type 0) (bound : ℕ) (members : List ℕ) → IsFallingBelow bound members → (m : ℕ) → Contains members m → m < 1 → P m
 below-first P bound members falling m x l = absurd (omega (arith, falling-within bound members m falling x))

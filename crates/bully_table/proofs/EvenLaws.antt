@@ -1,7 +1,6 @@
 -- Where all nodes weigh 1: each member has as many partitions as any other, or one more or less, and a plan is that of
 -- equal quotas.
-use Rattle.std.proofs.Common.{◌≡◌, ℕ, ◌+◌, ◌-◌, ◌*◌, ◌/◌, ◌%◌, ◌<◌, ◌≤◌, ◌⊎◌, inl, inr, Bool, List, length, arith, sym, refl, ◌∙◌, ap, Contains}
-use Rattle.std.specs.Prelude.{nat_lt, count_by}
+use Rattle.std.proofs.Common.{◌≡◌, ℕ, ◌+◌, ◌-◌, ◌*◌, ◌/◌, ◌%◌, ◌<◌, ◌≤◌, ◌⊎◌, inl, inr, Bool, List, length, arith, sym, refl, ◌∙◌, ap, Contains, nat_lt, count_by}
 use Rattle.std.proofs.Math.Path.{fun_ext}
 use Rattle.std.proofs.Math.Nat.{mul-one, mod-eq-sub-mul-div}
 use Rattle.bully_base.specs.NodeSet.{IsFallingBelow}

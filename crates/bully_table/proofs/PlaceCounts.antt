@@ -1,6 +1,5 @@
 -- How many of the first places pass a test.
-use Rattle.std.proofs.Common.{◌≡◌, ℕ, zero, suc, ◌+◌, ◌<◌, ◌≤◌, ◌⊎◌, inl, inr, Bool, true, false, cond, List, length, take, arith, sym, refl, ◌∙◌, ap, Contains, add-one}
-use Rattle.std.specs.Prelude.{◌&&◌, not, ◌==◌}
+use Rattle.std.proofs.Common.{◌≡◌, ℕ, zero, suc, ◌+◌, ◌<◌, ◌≤◌, ◌⊎◌, inl, inr, Bool, true, false, cond, List, length, take, arith, sym, refl, ◌∙◌, ap, Contains, add-one, ◌&&◌, not, ◌==◌}
 use Rattle.std.proofs.lemmas.Bool.Decides.{nat_tests}
 use Rattle.std.proofs.lemmas.Grind.{common_steps}
 use Rattle.std.proofs.lemmas.List.Sums.{sum_by_more}
@@ -25,11 +24,6 @@ pub places-le : (f g : ℕ → Bool) (n : ℕ) → ((p : ℕ) → p < n → f p 
 unfolding places_where
 places-le f g zero h = omega arith
 places-le f g (suc n) h = grind (arith, h n (omega arith), places-le f g n (λ p l. h p (omega arith)))
-
-pub places-same : (f g : ℕ → Bool) (n : ℕ) → ((p : ℕ) → p < n → f p ≡ g p) → places_where f n ≡ places_where g n
-unfolding places_where
-places-same f g zero h = refl
-places-same f g (suc n) h = grind (arith, h n (omega arith), places-same f g n (λ p l. h p (omega arith)))
 
 pub places-not : (f : ℕ → Bool) (n : ℕ) → places_where f n + places_where (λ p. not (f p)) n ≡ n
 unfolding places_where

@@ -1,12 +1,11 @@
 -- Steps of the loops of planning.
-use Rattle.std.proofs.Common.{◌≡◌, ◌≢◌, ℕ, ◌+◌, ◌<◌, ◌≤◌, ◌⊎◌, inl, inr, Bool, true, false, List, [], ◌∷◌, arith, sym, refl, ◌∙◌, Contains}
-use Rattle.std.specs.Prelude.{not, ◌==◌, count_by}
+use Rattle.std.proofs.Common.{◌≡◌, ◌≢◌, ℕ, ◌+◌, ◌<◌, ◌≤◌, ◌⊎◌, inl, inr, Bool, true, false, List, [], ◌∷◌, arith, sym, refl, ◌∙◌, Contains, not, ◌==◌, count_by}
 use Rattle.std.specs.List.{list_any}
 use Rattle.std.proofs.lemmas.Bool.Decides.{nat_tests}
 use Rattle.bully_base.specs.NodeSet.{IsFallingBelow, below_node}
 use Rattle.bully_table.specs.Planning.{owner_at, places_where, room, taker}
 use Rattle.bully_table.proofs.BalanceLemmas.{any_decides}
-use Rattle.bully_table.proofs.TotalLemmas.{total, total-sum_by, total-above, total-below-member, total-below-other, total-below-same, one}
+use Rattle.bully_table.proofs.TotalLemmas.{total, total-sum_by, total-above, total-below-same, one}
 use Rattle.bully_table.proofs.PlaceCounts.{places-none, places-more}
 use Rattle.bully_table.proofs.StayLemmas.{rooms_below-is, taker-of}
 
@@ -40,27 +39,6 @@ member-or-not ms k = by_case (list_any (λ m. m == k) ms) refl
     by_case : (b : Bool) → list_any (λ m. m == k) ms ≡ b → Contains ms k ⊎ (¬ Contains ms k)
     by_case true e = inl ((any_decides k ms).0 e)
     by_case false e = inr (λ x. absurd (grind (arith, e, (any_decides k ms).1 x)))
-
-pub rank-yes : (test : ℕ → Bool) (bound number node rank next : ℕ) (ms : List ℕ) → IsFallingBelow bound ms → number ≡ node → Contains ms node → test node ≡ true →
-    rank ≡ count_by test (below_node number ms) → next ≡ rank + 1 → next ≡ count_by test (below_node (number + 1) ms)
-rank-yes test bound number node rank next ms falling same h t was more =
-    let here : Contains ms number = rw same h in
-    let yes : test number ≡ true = rw same t in
-    let step = total-below-member (λ m. one (test m)) bound number ms falling here in
-    grind (arith, yes, was, more, step, count-total test (below_node (number + 1) ms), count-total test (below_node number ms))
-
-pub rank-no : (test : ℕ → Bool) (bound number node rank next : ℕ) (ms : List ℕ) → IsFallingBelow bound ms → number ≡ node → (Contains ms node → test node ≡ false) →
-    rank ≡ count_by test (below_node number ms) → next ≡ rank → next ≡ count_by test (below_node (number + 1) ms)
-rank-no test bound number node rank next ms falling same h was more = by_case (member-or-not ms number)
-  where
-    by_case : Contains ms number ⊎ (¬ Contains ms number) → next ≡ count_by test (below_node (number + 1) ms)
-    by_case (inl here) =
-        let no : test number ≡ false = rw same (h (rw (← same) here)) in
-        let step = total-below-member (λ m. one (test m)) bound number ms falling here in
-        grind (arith, no, was, more, step, count-total test (below_node (number + 1) ms), count-total test (below_node number ms))
-    by_case (inr out) =
-        let step = total-below-other (λ m. one (test m)) number ms out in
-        omega (arith, count-total test (below_node (number + 1) ms), count-total test (below_node number ms))
 
 pub count-below-all : (test : ℕ → Bool) (bound k : ℕ) (ms : List ℕ) → IsFallingBelow bound ms → bound ≤ k → count_by test (below_node k ms) ≡ count_by test ms
 count-below-all test bound k ms falling l = omega (arith, count-total test (below_node k ms), count-total test ms, total-above (λ m. one (test m)) bound k ms falling l)

@@ -1,6 +1,5 @@
 -- The planned table is balanced, and no balanced table has fewer moves.
-use Rattle.std.proofs.Common.{◌≡◌, ◌≢◌, ℕ, zero, suc, ◌+◌, ◌-◌, ◌<◌, ◌≤◌, min, ◌⊎◌, inl, inr, Bool, true, false, cond, List, [], ◌∷◌, ◌++◌, map, length, arith, sym, refl, ◌∙◌, ap, Contains, add-one, Option, Some, None}
-use Rattle.std.specs.Prelude.{All, ◌&&◌, not, ◌==◌, IfSome, is_none, sum_by}
+use Rattle.std.proofs.Common.{◌≡◌, ◌≢◌, ℕ, zero, suc, ◌+◌, ◌-◌, ◌<◌, ◌≤◌, min, ◌⊎◌, inl, inr, Bool, true, false, cond, List, [], ◌∷◌, ◌++◌, map, length, arith, sym, refl, ◌∙◌, ap, Contains, add-one, Option, Some, None, All, ◌&&◌, not, ◌==◌, IfSome, is_none, sum_by}
 use Rattle.std.specs.List.{range_with_len}
 use Rattle.std.proofs.lemmas.Bool.Decides.{nat_tests}
 use Rattle.std.proofs.lemmas.List.Elements.{All-get_or, All-from_get_or}

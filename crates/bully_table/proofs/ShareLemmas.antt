@@ -1,6 +1,5 @@
 -- Quotas: how many there are in all, and that no balanced table can keep more than they do.
-use Rattle.std.proofs.Common.{◌≡◌, ℕ, ◌+◌, ◌-◌, ◌<◌, ◌≤◌, min, Bool, true, false, cond, List, [], ◌∷◌, length, arith, refl, ◌∙◌, All, Contains}
-use Rattle.std.specs.Prelude.{◌&&◌, not, nat_lt, ◌==◌, count_by}
+use Rattle.std.proofs.Common.{◌≡◌, ℕ, ◌+◌, ◌-◌, ◌<◌, ◌≤◌, min, Bool, true, false, cond, List, [], ◌∷◌, length, arith, refl, ◌∙◌, All, Contains, ◌&&◌, not, nat_lt, ◌==◌, count_by}
 use Rattle.std.specs.List.{list_any}
 use Rattle.std.proofs.lemmas.Bool.Decides.{nat_tests}
 use Rattle.std.proofs.lemmas.List.Elements.{All-head, All-tail}

@@ -1,6 +1,5 @@
 -- The nodes that take the partitions which don't stay: how many they are, and which one is the j-th.
-use Rattle.std.proofs.Common.{◌≡◌, ℕ, zero, suc, ◌+◌, ◌-◌, ◌<◌, ◌≤◌, ◌⊎◌, inl, inr, Bool, true, false, List, [], ◌∷◌, ◌++◌, drop, length, replicate, take, arith, sym, refl, ◌∙◌, ap, add-one, Contains, slice_index_or, Option, Some, None}
-use Rattle.std.specs.Prelude.{nat_lt, ◌==◌, sum_by}
+use Rattle.std.proofs.Common.{◌≡◌, ℕ, zero, suc, ◌+◌, ◌-◌, ◌<◌, ◌≤◌, ◌⊎◌, inl, inr, Bool, true, false, List, [], ◌∷◌, ◌++◌, drop, length, replicate, take, arith, sym, refl, ◌∙◌, ap, add-one, Contains, slice_index_or, Option, Some, None, nat_lt, ◌==◌, sum_by}
 use Rattle.std.specs.List.{list_any}
 use Rattle.std.specs.Option.{IsSome, MatchOption}
 use Rattle.std.proofs.lemmas.Bool.Decides.{nat_tests}

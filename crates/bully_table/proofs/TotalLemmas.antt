@@ -1,6 +1,5 @@
 -- Sums over the members of a set, which is a list in falling order.
-use Rattle.std.proofs.Common.{◌≡◌, ℕ, ◌+◌, ◌-◌, ◌*◌, ◌<◌, ◌≤◌, min, ◌≢◌, ◌⊎◌, inl, inr, Bool, cond, List, [], ◌∷◌, length, arith, refl, ◌∙◌, ap, Contains}
-use Rattle.std.specs.Prelude.{◌&&◌, nat_lt, ◌==◌, sum_by}
+use Rattle.std.proofs.Common.{◌≡◌, ℕ, ◌+◌, ◌-◌, ◌*◌, ◌<◌, ◌≤◌, min, ◌≢◌, ◌⊎◌, inl, inr, Bool, cond, List, [], ◌∷◌, length, arith, refl, ◌∙◌, ap, Contains, ◌&&◌, nat_lt, ◌==◌, sum_by}
 use Rattle.std.proofs.lemmas.Bool.Decides.{nat_tests}
 use Rattle.std.proofs.lemmas.List.Sums.{sum_by-cons}
 use Rattle.bully_base.specs.NodeSet.{IsFallingBelow, below_node}

@@ -1,21 +1,16 @@
 -- What the judged rows of a text come to.
-use Rattle.std.proofs.Common.{◌≡◌, ℕ, List, Option, Some, None, refl, subst}
-use Rattle.std.specs.Prelude.{IfOk, Ok, Err, Result}
+use Rattle.std.proofs.Common.{◌≡◌, ℕ, List, Option, Some, None, subst, IfOk, Ok, Err, Result}
 use Rattle.bully_base.specs.Setup.{Setup}
 use Rattle.bully_world.specs.State.{world_of}
 use Rattle.bully_world.specs.World.{first_world}
 use Rattle.bully_rows.specs.declared.trace.Row.{Row}
 use Rattle.bully_rows.specs.declared.trace.TraceFault.{TraceFault}
-use Rattle.bully_rows.specs.Rows.{HasNoFault, OfTrace}
+use Rattle.bully_rows.specs.Rows.{OfTrace}
 use Rattle.bully_rows.specs.Trace.{Trace, headed}
 use Rattle.bully_trace.specs.declared.verdict.Verdict.{Verdict}
 use Rattle.bully_trace.specs.Judging.{AreAllJudged, HasJudged, JudgeState}
 use Rattle.bully_trace.specs.Verdict.{IsJudged, IsVerdict}
 use Rattle.bully_trace.specs.VerdictText.{IsJudgedAs, verdict_text}
-
-pub no-fault : (known : Option (List ℕ)) (judge : JudgeState) → AreAllJudged known judge → HasNoFault known
-no-fault None judge all = tt
-no-fault (Some bytes) judge (header, rows, is, within, judged) = rw is refl
 
 -- the verdict, which is that of all rows that were judged
 judged-as : (known : Option (List ℕ)) (judge : JudgeState) (verdict : Verdict) (Writes : List ℕ → Type 0)

@@ -1,8 +1,7 @@
 -- Claims with no event between them are true of one world, in which the nodes agree.
-use Rattle.std.proofs.Common.{◌≡◌, ◌⊎◌, inl, inr, ◌∙◌, ℕ, ◌+◌, ◌++◌, ◌&&◌, Bool, true, false, List, [], ◌∷◌, Option, Some, None, MatchOption, length, refl, sym, ap, subst, arith}
+use Rattle.std.proofs.Common.{◌≡◌, ◌⊎◌, inl, inr, ◌∙◌, ℕ, ◌+◌, ◌++◌, ◌&&◌, Bool, true, false, List, [], ◌∷◌, Option, Some, None, MatchOption, length, refl, sym, ap, subst, arith, length-append}
 use Rattle.std.specs.Bool.{MatchBool}
 use Rattle.std.proofs.lemmas.Bool.{and_parts}
-use Rattle.std.proofs.lemmas.List.{length-append}
 use Rattle.std.proofs.lemmas.Option.{same_Some}
 use Rattle.bully_base.specs.declared.node.Status.{Status}
 use Rattle.bully_base.specs.declared.node.Status.TheVariants.{Reorganization, Normal}
@@ -20,6 +19,7 @@ use Rattle.bully_rows.specs.declared.trace.Claim.{Claim}
 use Rattle.bully_rows.specs.declared.trace.Row.{Row}
 use Rattle.bully_trace.specs.declared.verdict.Verdict.{Verdict}
 use Rattle.bully_world.specs.Turn.{same_node}
+use Rattle.bully_world.proofs.AgreeLemmas.{node_is}
 use Rattle.bully_rows.specs.EventsTold.{event_of_detailed}
 use Rattle.bully_trace.specs.Details.{is_so, is_true, is_whole, same_status}
 use Rattle.bully_trace.specs.Recorded.{ClaimsAgree, RecordedAgreement, TakesPartBy, claim_of}
@@ -27,7 +27,7 @@ use Rattle.bully_rows.specs.Trace.{Trace}
 use Rattle.bully_trace.specs.Verdict.{IsJudged, IsVerdict, events_of}
 use Rattle.bully_rows.specs.Whole.{Whole}
 use Rattle.bully_trace.proofs.JudgeLemmas.{by_claim, events-append, judged_leads}
-use Rattle.bully_trace.proofs.SameLemmas.{node-is, status-is, task-is}
+use Rattle.bully_trace.proofs.SameLemmas.{status-is, task-is}
 
 -- ---- rows that are judged lawful, parted at some row
 
@@ -105,7 +105,7 @@ true-claim : (setup : Setup) (w : World) (c : Claim) → is_true setup w c ≡ t
 true-claim setup w c e =
     let first = and_parts (is_node setup c.node && same_status c.status (vector w c.node).status) (same_node c.coordinator (vector w c.node).coordinator) e in
     let second = and_parts (is_node setup c.node) (same_status c.status (vector w c.node).status) first.0 in
-    (status-is c.status (vector w c.node).status second.1, node-is c.coordinator (vector w c.node).coordinator first.1)
+    (status-is c.status (vector w c.node).status second.1, node_is c.coordinator (vector w c.node).coordinator first.1)
 
 whole_same : (a b : Whole) → Row.Whole a ≡ Row.Whole b → a ≡ b
 whole_same a b is = cc is

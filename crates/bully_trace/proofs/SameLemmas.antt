@@ -7,11 +7,10 @@ use Rattle.bully_base.specs.declared.node.Status.{Status}
 use Rattle.bully_base.specs.declared.node.Status.TheVariants.{Down, Election, Reorganization, Normal}
 use Rattle.bully_base.specs.Setup.{IsNode, Setup, is_node}
 use Rattle.bully_calls.specs.declared.call.Answer.{Answer}
-use Rattle.bully_calls.specs.declared.call.Answer.TheVariants as answer
 use Rattle.bully_calls.specs.declared.call.Call.{Call}
 use Rattle.bully_calls.specs.declared.call.CallKind.{CallKind}
+use Rattle.bully_calls.specs.declared.call.Answer.TheVariants as answer
 use Rattle.bully_calls.specs.declared.call.CallKind.TheVariants as kind
-use Rattle.bully_world.specs.Turn.{same_node}
 use Rattle.bully_trace.specs.Details.{same_answer, same_answers, same_call, same_kind, same_status, same_task}
 
 pub status-is : (a b : Status) → same_status a b ≡ true → a ≡ b
@@ -26,16 +25,6 @@ status-itself Down = refl
 status-itself Election = refl
 status-itself Reorganization = refl
 status-itself Normal = refl
-
-pub node-is : (a b : Option ℕ) → same_node a b ≡ true → a ≡ b
-node-is None None e = refl
-node-is None (Some j) e = absurd (cc e)
-node-is (Some i) None e = absurd (cc e)
-node-is (Some i) (Some j) e = let same : i ≡ j = grind (arith, nat_tests, e) in ap Some same
-
-pub node-itself : (i : Option ℕ) → same_node i i ≡ true
-node-itself None = refl
-node-itself (Some i) = grind (arith, nat_tests)
 
 pub task-is : (a b : Option (List ℕ)) → same_task a b ≡ true → a ≡ b
 task-is None None e = refl

@@ -1,17 +1,11 @@
 -- What was done with the upgraded trace, said of the trace that was read.
-use Rattle.std.proofs.Common.{◌≡◌, ◌↔◌, ℕ, List, Option, Some, None, refl, subst}
-use Rattle.std.specs.Prelude.{IfOk, Ok, Err, Result}
+use Rattle.std.proofs.Common.{◌≡◌, ◌↔◌, ℕ, List, Option, Some, None, subst, IfOk, Ok, Err, Result}
 use Rattle.bully_world.specs.World.{World}
 use Rattle.bully_rows.specs.declared.trace.TraceFault.{TraceFault}
 use Rattle.bully_trace.specs.declared.verdict.Verdict.{Verdict}
-use Rattle.bully_rows.specs.Rows.{HasNoFault, IsTraceOf, OfTrace}
+use Rattle.bully_rows.specs.Rows.{IsTraceOf, OfTrace}
 use Rattle.bully_rows.specs.Trace.{Trace, upgraded}
 use Rattle.bully_trace.specs.Verdict.{IsVerdict}
-
--- a text that means a trace has no fault
-pub trace-faultless : (known : Option (List ℕ)) (trace : Trace) → IsTraceOf known trace → HasNoFault known
-trace-faultless None trace is = tt
-trace-faultless (Some bytes) trace is = rw is refl
 
 upgraded-so : (known : Option (List ℕ)) (trace newer : Trace) (P : Trace → Type 0) → IsTraceOf known trace → newer ≡ upgraded trace → P newer
     → OfTrace known (λ t. P (upgraded t))

@@ -3,10 +3,9 @@
 use Rattle.std.specs.Prelude.{ℕ, Bool, true, false, List, Option, Some, None, ◌&&◌, ◌==◌, bytes_eq, option_map, option_and_then, if◌then◌else◌}
 use Rattle.bully_base.specs.declared.node.Status.{Status}
 use Rattle.bully_base.specs.declared.node.Status.TheVariants.{Down, Election, Reorganization, Normal}
-use Rattle.bully_base.specs.NodeSetEq.{same_set}
 use Rattle.bully_base.specs.Setup.{Setup, is_node}
+use Rattle.bully_base.specs.NodeSetEq.{same_set}
 use Rattle.bully_calls.specs.declared.call.Answer.{Answer}
-use Rattle.bully_calls.specs.declared.call.Answer.TheVariants.{Done, Yes, No, Failed, Discarded}
 use Rattle.bully_calls.specs.declared.call.Call.{Call}
 use Rattle.bully_calls.specs.declared.call.CallKind.{CallKind}
 use Rattle.bully_calls.specs.declared.call.CallKind.TheVariants.{AreYouUp, AreYouNormal, Halt, NewCoordinator, Ready}
@@ -15,10 +14,12 @@ use Rattle.bully_calls.specs.declared.kind.NodeEventKind.{NodeEventKind}
 use Rattle.bully_calls.specs.declared.kind.Saying.{Saying}
 use Rattle.bully_calls.specs.Events.{kind_of, node_of, node_saying}
 use Rattle.bully_calls.specs.Pending.{Pending, answer_of, outcome_of}
+use Rattle.bully_calls.specs.declared.event.Event.{Event}
+use Rattle.bully_calls.specs.declared.call.Answer.TheVariants.{Done, Yes, No, Failed, Discarded}
 use Rattle.bully_handlers.specs.Handler.{reply}
 use Rattle.bully_handlers.specs.Vector.{is_down, is_election, is_reorganization, is_normal}
 use Rattle.bully_steps.specs.declared.point.Want.{Want}
-use Rattle.bully_calls.specs.declared.event.Event.{Event}
+pub use Rattle.bully_world.specs.Place.{call_at}
 use Rattle.bully_world.specs.Step.{offer}
 use Rattle.bully_world.specs.Turn.{same_node}
 use Rattle.bully_world.specs.World.{World, pending, vector}
@@ -57,15 +58,6 @@ same_answers (Some a) (Some b) = same_answer a b
 abbrev pub offered_call : Want → Option Call
 offered_call (Want.Start call) = Some call
 offered_call _ = None
-
--- the call in the slot of node i
-abbrev pub call_at : World → ℕ → Option Call
-call_at w i = option_map (λ c. c.call) (pending w i)
-
--- the callee of the call, or this node where there is none
-abbrev pub callee_or : ℕ → Option Call → ℕ
-callee_or i None = i
-callee_or i (Some call) = call.callee
 
 -- what a call brings where it returns; that of an orphan is discarded
 abbrev pub brought : Pending → Option Answer

@@ -1,5 +1,5 @@
 -- What one row comes to in a world: what is wrong with it, or the world that it leads to.
-use Rattle.std.specs.Prelude.{◌≡◌, ℕ, Bool, Option, Some, None, IfSome, option_map, if◌then◌else◌}
+use Rattle.std.specs.Prelude.{◌≡◌, ℕ, Bool, Option, Some, None, IfSome, option_map, if◌then◌else◌, false, ◌==◌}
 use Rattle.bully_calls.specs.declared.call.Answer.{Answer}
 use Rattle.bully_calls.specs.declared.event.Refused.{Refused}
 use Rattle.bully_rows.specs.EventsTold.{event_of_detailed}
@@ -20,6 +20,12 @@ abbrev pub violation_in : Verdict → Option Violation
 violation_in (Verdict.Lawful count) = None
 violation_in (Verdict.Refused number why) = Some (Violation.Refused why)
 violation_in (Verdict.Differs number) = Some Violation.Differs
+
+-- the row of this number decided
+abbrev pub decides : Verdict → ℕ → Bool
+decides (Verdict.Lawful count) row = false
+decides (Verdict.Refused number why) row = row == number
+decides (Verdict.Differs number) row = row == number
 
 abbrev pub refused_or : Option Refused → Option Violation → Option Violation
 refused_or None other = other

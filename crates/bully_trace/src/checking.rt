@@ -55,8 +55,8 @@ pub fn check<R: Read + Drop, W: Write>(
     write_verdict(alloc, &judge, writer)
 }
 
-// Has all rows of a text judged.
-fn judge_text<R: Read + Drop>(alloc: Global, reader: R) -> Result<Judge, TraceFault>
+/// The judge of all rows of a text, which holds none of them. Refused as [`check`] is, but for writing.
+pub fn judge_text<R: Read + Drop>(alloc: Global, reader: R) -> Result<Judge, TraceFault>
     ensures judged { IfOk result (AreAllJudged (R.remaining reader)) }
     ensures fault { IfErr result (EndsReading (R.remaining reader)) }
 {

@@ -29,7 +29,7 @@ pub use bully_rows::{
     read_node, read_set, read_trace, read_weights, reply_named, status_named, status_word,
     write_trace,
 };
-pub use checking::{check, verdict_lines};
+pub use checking::{check, judge_text, verdict_lines};
 pub use details::{call_at, offer_of, reached, said_of, same_task};
 pub use judging::Judge;
 pub use upgrading::upgrade;

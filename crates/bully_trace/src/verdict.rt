@@ -1,5 +1,5 @@
 ghost use Rattle.std.specs.Prelude.{◌≡◌};
-ghost use Rattle.bully_trace.specs.OneRow.{verdict_at, violation_in};
+ghost use Rattle.bully_trace.specs.OneRow.{decides, verdict_at, violation_in};
 
 use bully_world::Refused;
 
@@ -36,6 +36,16 @@ impl Violation {
 }
 
 impl Verdict {
+    /// Whether the row of this number decided.
+    pub fn decides(self, row: u32) -> bool
+        ensures { result ≡ decides self row }
+    {
+        match self {
+            Verdict::Lawful(_) => false,
+            Verdict::Refused(decided, _) | Verdict::Differs(decided) => row == decided,
+        }
+    }
+
     /// What is wrong with the row that decided; none of a lawful trace.
     pub fn violation(self) -> Option<Violation>
         ensures { result ≡ violation_in self }

@@ -12,10 +12,10 @@ use Rattle.bully_world.specs.State.{WorldState, world_of}
 use Rattle.bully_world.specs.Step.{Step}
 use Rattle.bully_world.specs.StepOf.{step_of}
 use Rattle.bully_world.specs.World.{World}
-use Rattle.bully_watch.specs.History.{IsHistory, whose, event_of, answer_of}
+use Rattle.bully_watch.specs.History.{IsHistory, event_of, answer_of}
 use Rattle.bully_watch.specs.CopyRule.{WorldCopyState, LeadsToCopy, applied_to, copy_of, unless_refused, world_after}
 use Rattle.bully_watch.specs.declared.entry.Entry.{Entry}
-use Rattle.bully_watch.proofs.HistoryLemmas.{history_more, history_one, history_prefix}
+use Rattle.bully_watch.proofs.HistoryLemmas.{history_one, history_prefix}
 
 abbrev world_copy : Setup → ℕ → World → WorldCopyState
 world_copy setup events w = record { setup = setup; events = events; world = w }
@@ -57,11 +57,3 @@ copy_after seen more x y t leads history is =
     let world : world_of y ≡ t = ap (λ p. p.world) after in
     let events : y.events ≡ x.events + length more = ap (λ p. p.events) after in
     (setup, (subst (λ s. IsHistory s (seen ++ more) (world_of y)) (sym setup) (subst (λ v. IsHistory x.setup (seen ++ more) v) (sym world) history), omega (arith, events, count, size)))
-
--- one entry more, of its actor
-pub copy_more : (entries : List Entry) (x y : WorldState) (e : Entry) → LeadsToCopy entries x → x.events < x.setup.events_max → Step x.setup (world_of x) e.event (world_of y) e.answer → whose (world_of x) e.event ≡ Some e.actor → y.setup ≡ x.setup → y.events ≡ x.events + 1 → LeadsToCopy (entries ++ e ∷ []) y
-copy_more entries x y e leads room step own same counted =
-    let count : x.events ≡ length entries = leads.1 in
-    let size : length (entries ++ e ∷ []) ≡ length entries + 1 = length-append entries (e ∷ []) in
-    let history = history_more x.setup entries (world_of x) e (world_of y) leads.0 (omega (arith, count, room)) step own in
-    (subst (λ s. IsHistory s (entries ++ e ∷ []) (world_of y)) (sym same) history, omega (arith, counted, count, size))

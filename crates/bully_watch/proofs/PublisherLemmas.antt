@@ -1,7 +1,5 @@
 -- What a publisher keeps.
-use Rattle.std.proofs.Common.{◌≡◌, ℕ, ◌≤◌, true, List, [], ◌∷◌, append_assoc, ◌++◌, length, take, drop, refl, sym, ap, ◌∙◌, subst}
-use Rattle.std.proofs.lemmas.List.{take-append-drop, length-take-le}
-use mathlib.Core.List.{IsPrefix}
+use Rattle.std.proofs.Common.{◌≡◌, ℕ, ◌≤◌, true, List, [], ◌++◌, length, take, drop, refl, sym, ap, ◌∙◌, subst, take-append-drop, length-take-le}
 use Rattle.bully_base.specs.Setup.{Setup}
 use Rattle.bully_world.specs.State.{WorldState, world_of}
 use Rattle.bully_world.specs.World.{World}
@@ -48,7 +46,3 @@ opened_keeps name setup k x pending is same leads none =
       taken = (world_of x, subst (λ l. IsHistory x.setup l (world_of x)) (sym none) leads.0);
       counted = ap length (sym none);
     })
-
--- what was taken in stays a prefix of a history with one entry more
-pub prefix_more : (taken entries : List Entry) (e : Entry) → IsPrefix taken entries → IsPrefix taken (entries ++ e ∷ [])
-prefix_more taken entries e p = (p.0 ++ e ∷ [], sym (append_assoc taken p.0 (e ∷ [])) ∙ ap (λ l. l ++ e ∷ []) p.1)

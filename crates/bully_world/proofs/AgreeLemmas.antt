@@ -1,6 +1,5 @@
 -- When two procedures agree, and what a procedure that agrees with its node goes on to.
-use Rattle.std.proofs.Common.{◌≡◌, ℕ, zero, suc, Bool, true, false, List, [], ◌∷◌, Option, Some, None, arith, refl, sym, ap}
-use Rattle.std.specs.Prelude.{bytes_eq, unwrap_or, ◌==◌}
+use Rattle.std.proofs.Common.{◌≡◌, ℕ, zero, suc, Bool, true, false, List, [], ◌∷◌, Option, Some, None, arith, refl, sym, ap, bytes_eq, unwrap_or, ◌==◌}
 use Rattle.std.proofs.lemmas.Bool.Decides.{nat_tests, Decides-eqb}
 use Rattle.std.proofs.lemmas.Slice.Eq.{bytes_eq-Decides}
 use Rattle.bully_base.specs.Setup.{Setup}
@@ -70,13 +69,13 @@ state_set_itself : (a : Option (List ℕ)) → same_set a a ≡ true
 state_set_itself None = refl
 state_set_itself (Some ms) = set_itself ms
 
-node_is : (a b : Option ℕ) → same_node a b ≡ true → a ≡ b
+pub node_is : (a b : Option ℕ) → same_node a b ≡ true → a ≡ b
 node_is None None e = refl
 node_is (Some j) (Some k) e = ap Some ((Decides-eqb j k).0 e)
 node_is None (Some k) e = absurd (grind (arith, e))
 node_is (Some j) None e = absurd (grind (arith, e))
 
-node_itself : (a : Option ℕ) → same_node a a ≡ true
+pub node_itself : (a : Option ℕ) → same_node a a ≡ true
 node_itself None = refl
 node_itself (Some j) = number_itself j
 

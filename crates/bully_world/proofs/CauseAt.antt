@@ -1,6 +1,5 @@
 -- Why an event is refused, read off what is kept of its node.
-use Rattle.std.proofs.Common.{◌≡◌, ℕ, ◌+◌, ◌<◌, ◌≤◌, Bool, true, false, List, Option, Some, None, arith, refl, sym, ◌∙◌, ap, subst, length}
-use Rattle.std.specs.Prelude.{not, IfSome, option_map, slice_index_or, if◌then◌else◌}
+use Rattle.std.proofs.Common.{◌≡◌, ℕ, ◌+◌, ◌<◌, ◌≤◌, Bool, true, false, List, Option, Some, None, arith, refl, sym, ◌∙◌, ap, subst, length, not, IfSome, option_map, slice_index_or, if◌then◌else◌}
 use Rattle.std.proofs.lemmas.Bool.Decides.{nat_tests}
 use Rattle.bully_base.proofs.PlaceLemmas.{at_node-place}
 use Rattle.bully_base.specs.Setup.{Setup, IsNode}

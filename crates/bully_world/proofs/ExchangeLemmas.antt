@@ -1,6 +1,5 @@
 -- A call that runs, by the places of its caller's and its callee's states.
-use Rattle.std.proofs.Common.{◌≡◌, ◌≢◌, ℕ, ◌+◌, ◌<◌, List, length, Option, Some, None, sym, ◌∙◌, ap, subst, arith}
-use Rattle.std.specs.Prelude.{option_map, IfSome, slice_index_or, slice_set}
+use Rattle.std.proofs.Common.{◌≡◌, ◌≢◌, ℕ, ◌+◌, ◌<◌, List, length, Option, Some, None, sym, ◌∙◌, ap, subst, arith, option_map, IfSome, slice_index_or, slice_set}
 use Rattle.bully_base.specs.Places.{at_node, put_node}
 use Rattle.bully_base.proofs.PlaceLemmas.{at_node-place, put_node-place, at_node_other}
 use Rattle.bully_calls.specs.declared.call.Answer.{Answer}

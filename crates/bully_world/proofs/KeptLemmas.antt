@@ -1,6 +1,5 @@
 -- What is kept of each node after an event: its rooms, its tag and its generation.
-use Rattle.std.proofs.Common.{◌≡◌, ℕ, zero, suc, ◌+◌, ◌<◌, ◌≤◌, ◌⊎◌, inl, inr, List, Option, Some, None, refl, sym, subst, arith}
-use Rattle.std.specs.Prelude.{option_map, IfSome, slice_index_or}
+use Rattle.std.proofs.Common.{◌≡◌, ℕ, zero, suc, ◌+◌, ◌<◌, ◌≤◌, ◌⊎◌, inl, inr, List, Option, Some, None, refl, sym, subst, arith, option_map, IfSome, slice_index_or}
 use Rattle.std.proofs.Math.ListN.{replicate}
 use Rattle.bully_base.specs.Places.{at_node, put_node}
 use Rattle.bully_base.specs.Setup.{Setup, IsNode}

@@ -14,13 +14,6 @@ lead_more setup w (x ∷ events) (y ∷ answers) mid e a w' l s = (l.0, l.1, lea
 lead_more setup w [] (y ∷ answers) mid e a w' l s = elim l [ ]
 lead_more setup w (x ∷ events) [] mid e a w' l s = elim l [ ]
 
--- one list, then another
-pub lead_append : (setup : Setup) (w : World) (events : List Event) (answers : List Answer) (mid : World) (events2 : List Event) (answers2 : List Answer) (w' : World) → LeadTo setup w events answers mid → LeadTo setup mid events2 answers2 w' → LeadTo setup w (events ++ events2) (answers ++ answers2) w'
-lead_append setup w [] [] mid events2 answers2 w' l k = rw l at k
-lead_append setup w (e ∷ events) (a ∷ answers) mid events2 answers2 w' l k = (l.0, l.1, lead_append setup l.0 events answers mid events2 answers2 w' l.2 k)
-lead_append setup w [] (a ∷ answers) mid events2 answers2 w' l k = elim l [ ]
-lead_append setup w (e ∷ events) [] mid events2 answers2 w' l k = elim l [ ]
-
 -- a list that is two, split at the world between them
 pub lead_split : (setup : Setup) (w : World) (events events2 : List Event) (all_answers : List Answer) (w' : World) → LeadTo setup w (events ++ events2) all_answers w' → (answers answers2 : List Answer) × (mid : World) × (all_answers ≡ answers ++ answers2) × LeadTo setup w events answers mid × LeadTo setup mid events2 answers2 w'
 lead_split setup w [] events2 all_answers w' l = ([], all_answers, w, refl, refl, l)

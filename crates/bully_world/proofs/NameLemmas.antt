@@ -1,6 +1,5 @@
 -- Which nodes a world names: halters and owners are nodes of the setup. What each change of a node keeps of that.
-use Rattle.std.proofs.Common.{◌≡◌, ◌≢◌, ◌⊎◌, ℕ, zero, suc, ◌+◌, ◌≤◌, Bool, true, false, List, [], ◌∷◌, length, Option, Some, None, All, arith, inl, inr, refl, sym, subst}
-use Rattle.std.specs.Prelude.{Contains, IfSome, ◌&&◌, option_and_then, option_map, if◌then◌else◌}
+use Rattle.std.proofs.Common.{◌≡◌, ◌≢◌, ◌⊎◌, ℕ, zero, suc, ◌+◌, ◌≤◌, Bool, true, false, List, [], ◌∷◌, length, Option, Some, None, All, arith, inl, inr, refl, sym, subst, Contains, IfSome, ◌&&◌, option_and_then, option_map, if◌then◌else◌}
 use Rattle.std.proofs.lemmas.List.Elements.{All-cons, All-contains, All-nil, All-weaker}
 use Rattle.bully_base.specs.declared.node.Status.TheVariants.{Down, Reorganization, Normal}
 use Rattle.bully_base.specs.NodeSet.{IsFallingBelow, with_node}

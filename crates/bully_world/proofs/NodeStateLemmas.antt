@@ -1,6 +1,5 @@
 -- What is read of a world where one node was written anew.
-use Rattle.std.proofs.Common.{◌≡◌, ◌≢◌, ℕ, List, length, Option, Some, None, ◌⊎◌, arith, refl, subst, sym, ◌∙◌, inl, inr}
-use Rattle.std.specs.Prelude.{IfSome}
+use Rattle.std.proofs.Common.{◌≡◌, ◌≢◌, ℕ, List, length, Option, Some, None, ◌⊎◌, arith, refl, subst, sym, ◌∙◌, inl, inr, IfSome}
 use Rattle.bully_base.specs.declared.node.Status.TheVariants.{Down}
 use Rattle.bully_base.specs.Setup.{Setup, IsNode}
 use Rattle.bully_base.proofs.PlaceLemmas.{at_node_same, at_node_other, length-put_node}

@@ -1,6 +1,5 @@
 -- Run, or an event of one node: every event but a Run writes its own node's place alone.
-use Rattle.std.proofs.Common.{◌≡◌, ◌≤◌, ℕ, false, List, length, refl, arith}
-use Rattle.std.specs.Prelude.{◌↔◌, ◌==◌, ◌&&◌}
+use Rattle.std.proofs.Common.{◌≡◌, ◌≤◌, ℕ, false, List, length, refl, arith, ◌↔◌, ◌==◌, ◌&&◌}
 use Rattle.std.proofs.lemmas.Bool.Decides.{nat_tests}
 use Rattle.bully_base.specs.Places.{put_node}
 use Rattle.bully_base.specs.Setup.{Setup}

@@ -1,6 +1,5 @@
 -- A call that runs keeps what holds of its callee, and so of every node.
-use Rattle.std.proofs.Common.{◌≡◌, ◌≢◌, ℕ, ◌<◌, Bool, true, false, List, Option, Some, None, arith, refl, sym, ap, ◌∙◌, inl, inr, ◌⊎◌}
-use Rattle.std.specs.Prelude.{◌&&◌, option_map, if◌then◌else◌}
+use Rattle.std.proofs.Common.{◌≡◌, ◌≢◌, ℕ, ◌<◌, Bool, true, false, List, Option, Some, None, arith, refl, sym, ap, ◌∙◌, inl, inr, ◌⊎◌, ◌&&◌, option_map, if◌then◌else◌}
 use Rattle.bully_base.specs.declared.node.Status.TheVariants.{Down, Election, Reorganization, Normal}
 use Rattle.bully_base.specs.Setup.{Setup, IsNode}
 use Rattle.bully_calls.specs.declared.call.CallKind.{CallKind}

@@ -1,6 +1,5 @@
 -- What is read of the call in a node's slot, and what its next phase leaves.
-use Rattle.std.proofs.Common.{◌≡◌, ℕ, Bool, true, false, Option, Some, None, arith, refl, sym, ◌∙◌, ap}
-use Rattle.std.specs.Prelude.{option_map}
+use Rattle.std.proofs.Common.{◌≡◌, ℕ, Bool, true, false, Option, Some, None, arith, refl, sym, ◌∙◌, ap, option_map}
 use Rattle.std.specs.Option.{option_map_or}
 use Rattle.bully_calls.specs.declared.call.Phase.{Phase}
 use Rattle.bully_calls.specs.Slot.{SlotCall, pending_of, phased}

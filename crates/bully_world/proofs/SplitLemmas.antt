@@ -1,6 +1,5 @@
 -- Writes to the two parts of a list are writes to the list.
-use Rattle.std.proofs.Common.{◌≡◌, ◌≢◌, ℕ, zero, suc, ◌<◌, List, [], ◌∷◌, ◌++◌, arith, refl, ap, take, drop, length}
-use Rattle.std.specs.Prelude.{slice_set}
+use Rattle.std.proofs.Common.{◌≡◌, ◌≢◌, ℕ, zero, suc, ◌<◌, List, [], ◌∷◌, ◌++◌, arith, refl, ap, take, drop, length, slice_set}
 
 -- the earlier place in the front, the later one at the head of the rest
 pub set-split : {A : Type 0} (xs : List A) (early late : ℕ) (a b : A) → early < late → late < length xs

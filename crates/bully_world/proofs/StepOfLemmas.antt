@@ -1,6 +1,5 @@
 -- The function that computes a step computes exactly it, so a step has one outcome and a list leads to one world.
-use Rattle.std.proofs.Common.{◌≡◌, List, [], ◌∷◌, Option, Some, None, arith, refl, sym, ◌∙◌, subst, ap}
-use Rattle.std.specs.Prelude.{option_map, option_and_then}
+use Rattle.std.proofs.Common.{◌≡◌, List, [], ◌∷◌, Option, Some, None, arith, refl, sym, ◌∙◌, subst, ap, option_map, option_and_then}
 use Rattle.bully_base.specs.Setup.{Setup}
 use Rattle.bully_calls.specs.declared.call.Answer.{Answer}
 use Rattle.bully_calls.specs.declared.event.Event.{Event}

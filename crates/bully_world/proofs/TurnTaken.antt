@@ -1,6 +1,5 @@
 -- The steps of a world's turns, as its readers have them.
-use Rattle.std.proofs.Common.{◌≡◌, ℕ, ◌+◌, ◌<◌, Bool, true, false, None, arith, refl, sym, ◌∙◌, ap, subst}
-use Rattle.std.specs.Prelude.{IfSome, if◌then◌else◌}
+use Rattle.std.proofs.Common.{◌≡◌, ℕ, ◌+◌, ◌<◌, Bool, true, false, None, arith, refl, sym, ◌∙◌, ap, subst, IfSome, if◌then◌else◌}
 use Rattle.std.specs.Option.{option_map_or}
 use Rattle.bully_calls.specs.declared.call.Answer.{Answer}
 use Rattle.bully_steps.specs.ProcedureState.{ProcedureState, IsProcedureState, CanResume, resumed}

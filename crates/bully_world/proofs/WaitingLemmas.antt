@@ -1,6 +1,6 @@
 -- The map of waiting callers goes with the states, from the first world on and over each event.
-use Rattle.std.proofs.Common.{◌≡◌, ◌≢◌, ℕ, zero, suc, ◌<◌, ◌≤◌, ◌⊎◌, inl, inr, Bool, true, false, List, [], ◌∷◌, Option, Some, None, refl, sym, ◌∙◌, ap, subst, arith, length}
-use Rattle.std.specs.Prelude.{◌↔◌, ◌==◌, ◌&&◌, All, Contains, IfSome, IfNone, option_map, option_and_then, replicate, slice_index_or, if◌then◌else◌}
+use Rattle.std.proofs.Common.{◌≡◌, ◌≢◌, ℕ, zero, suc, ◌<◌, ◌≤◌, ◌⊎◌, inl, inr, Bool, true, false, List, [], ◌∷◌, Option, Some, None, refl, sym, ◌∙◌, ap, subst, arith, length, ◌↔◌, ◌==◌, ◌&&◌, All, Contains, IfSome, IfNone, option_map, option_and_then, replicate, slice_index_or, if◌then◌else◌}
+use Rattle.std.proofs.lemmas.Bool.{false_from_ne_true}
 use Rattle.std.proofs.lemmas.Bool.Decides.{nat_tests}
 use Rattle.std.proofs.lemmas.List.Elements.{All-contains}
 use Rattle.bully_base.proofs.NodeSetLemmas.{with_node-members, without_node-members}
@@ -10,9 +10,9 @@ use Rattle.bully_base.specs.Places.{put_node}
 use Rattle.bully_base.specs.Setup.{Setup, IsNode}
 use Rattle.bully_calls.specs.Pending.{is_sent}
 use Rattle.bully_calls.specs.Slot.{SlotCall, pending_of}
-use Rattle.bully_calls.specs.Waiting.{callers_of}
 use Rattle.bully_calls.specs.declared.event.Event.{Event}
 use Rattle.bully_calls.specs.Events.{node_of}
+use Rattle.bully_calls.specs.Waiting.{callers_of}
 use Rattle.bully_world.specs.NodeInvariant.{NodeInvariant, WorldInvariant, SuitsPending}
 use Rattle.bully_world.specs.State.{StoredNode, WorldState, empty_state, kept_of, node_state_of, world_in, new_states, waits_for, NobodyWaits, NobodyWaitsBelow}
 use Rattle.bully_world.specs.StateAfter.{state_after}
@@ -223,12 +223,8 @@ test_of j g (Some p) = by_test (is_sent p.phase)
 waits_test : (w : WorldState) (i j : ℕ) → (sent_in (kept_of w.states i) ≡ Some j) ↔ (waits_for w i j ≡ true)
 waits_test w i j = subst (λ (m : NodeState). (sent_in (kept_of w.states i) ≡ Some j) ↔ (is_sent_to j m.pending ≡ true)) (sym (node_state-world_in w.states i)) (test_of j (kept_of w.states i).generation (kept_of w.states i).slot.content)
 
-not_true : (b : Bool) → (b ≡ true → ⊥) → b ≡ false
-not_true true n = absurd (n refl)
-not_true false n = refl
-
 waits_not : (w : WorldState) (waiting : List (List ℕ)) (i j : ℕ) → IsWaiting w.states waiting → (Contains (callers_of waiting j) i → ⊥) → waits_for w i j ≡ false
-waits_not w waiting i j is n = not_true (waits_for w i j) (λ e. n ((is.tells j i).1 ((waits_test w i j).1 e)))
+waits_not w waiting i j is n = false_from_ne_true (waits_for w i j) (λ e. n ((is.tells j i).1 ((waits_test w i j).1 e)))
 
 -- nobody waits for a number past the nodes
 pub nobody_waits_past : (w : WorldState) (waiting : List (List ℕ)) (j : ℕ) → IsWaiting w.states waiting → length w.states < j → NobodyWaits w j

@@ -1,6 +1,5 @@
 -- The world that a list of kept nodes stands for.
-use Rattle.std.proofs.Common.{◌≡◌, ℕ, zero, suc, ◌⊎◌, inl, inr, List, [], ◌∷◌, refl, ap, map, length}
-use Rattle.std.specs.Prelude.{slice_set, slice_index_or}
+use Rattle.std.proofs.Common.{◌≡◌, ℕ, zero, suc, ◌⊎◌, inl, inr, List, [], ◌∷◌, refl, ap, map, length, slice_set, slice_index_or}
 use Rattle.std.proofs.Math.ListN.{replicate}
 use Rattle.bully_base.specs.Places.{at_node, put_node}
 use Rattle.bully_world.specs.State.{StoredNode, empty_state, node_state_of, world_in}

@@ -11,6 +11,7 @@ use crate::naming::Naming;
 use crate::pass::Pass;
 use crate::seat::Seat;
 use bully_base::{Node, OutOfMemory};
+use bully_calls::EventKind;
 use bully_watch::Entry;
 use bully_world::{Event, Refused, World};
 
@@ -31,6 +32,8 @@ impl<L: Naming> Locked<L> {
     /// Takes one event of the seat's actor. Its entry becomes the last of the history and, beside its index, of the
     /// seat; the pass counts it. Refused, in this order, as `Foreign`, never for a seat without an entry, `NotYours`,
     /// `Refused` and `OutOfMemory`; then nothing changes.
+    // (inlined with what it calls, as `Locked::serve_or_turn` is, so that an event that was just made stays in registers)
+    #[inline(always)]
     pub fn step(
         &mut self,
         seat: &mut Seat,
@@ -55,6 +58,7 @@ impl<L: Naming> Locked<L> {
     /// Runs the call that waits for the seat's node, that of the lowest caller; a step as `step` takes it. False, and
     /// nothing changes, where no call waits or the node is Down. Refused, in this order, as `Foreign`, `NotYours` for
     /// the operator's seat, `Refused` and `OutOfMemory`; then nothing changes.
+    #[inline(always)]
     pub fn serve(&mut self, seat: &mut Seat, pass: &mut Pass<L>) -> Result<bool, StepFault>
         ensures served { IfOk result (IsServe self.old seat.old self.new seat.new) }
         ensures fault { IfErr result (IsServeFault self.old seat.old) }
@@ -71,6 +75,7 @@ impl<L: Naming> Locked<L> {
     }
 
     // `serve` for the node of the seat, which is known.
+    #[inline(always)]
     pub(crate) fn serve_node(
         &mut self,
         node: Node,
@@ -94,6 +99,7 @@ impl<L: Naming> Locked<L> {
 
     // Takes the event of the seat's actor, where the world doesn't refuse it. Everything is reserved before anything
     // changes.
+    #[inline(always)]
     fn take_allowed(
         &mut self,
         seat: &mut Seat,
@@ -127,6 +133,7 @@ impl<L: Naming> Locked<L> {
 }
 
 /// The index of the seat's last entry, where that isn't in this history.
+#[inline(always)]
 pub(crate) fn foreign_index(history: &[Entry], seat: &Seat) -> Option<usize>
     ensures { MatchOption result (IsKnown history.now seat.now) (IsForeign history.now seat.now) }
 {
@@ -139,6 +146,7 @@ pub(crate) fn foreign_index(history: &[Entry], seat: &Seat) -> Option<usize>
 }
 
 /// Whether the entry is in the history at this index.
+#[inline(always)]
 pub(crate) fn stands(history: &[Entry], index: usize, entry: &Entry) -> bool
     ensures { IsTrue result ↔ (slice_get history.now index ≡ Some entry.now) }
 {
@@ -172,6 +180,7 @@ fn callee_of(world: &World, caller: Node) -> Option<u16>
 }
 
 /// Room for one entry more in the history and in the log. Both have the entries that they had.
+#[inline(always)]
 pub(crate) fn reserve_entry(
     history: &mut Vec<Entry>,
     log: &mut Vec<(usize, Entry)>,
@@ -186,6 +195,7 @@ pub(crate) fn reserve_entry(
 }
 
 /// Records the entry in the history and, beside its index, in the log, where its event is this copy. Both have room.
+#[inline(always)]
 pub(crate) fn record_entry(
     history: &mut Vec<Entry>,
     log: &mut Vec<(usize, Entry)>,
@@ -208,6 +218,7 @@ pub(crate) fn record_entry(
 }
 
 // Both copies, and room for one entry more in the history and in the log, which have the entries that they had.
+#[inline(always)]
 fn copies_with_room(
     event: &Event,
     history: &mut Vec<Entry>,
@@ -220,5 +231,16 @@ fn copies_with_room(
     ensures log_room { OnOk result (vec_len log.new < vec_capacity log.new) }
 {
     reserve_entry(history, log)?;
-    Ok((event.copy()?, event.copy()?))
+    Ok((copy_of(event)?, copy_of(event)?))
+}
+
+// The same event. What names a node and no more is made anew, so that it stays in registers.
+#[inline(always)]
+fn copy_of(event: &Event) -> Result<Event, OutOfMemory>
+    ensures { IfOk result (λ copy. copy ≡ event.now) }
+{
+    match event.kind() {
+        EventKind::Node(kind) => Ok(kind.event(event.node())),
+        EventKind::Plan => event.copy(),
+    }
 }

@@ -35,6 +35,8 @@ impl<L: Naming> Locked<L> {
     /// [`Locked::turn`] does. Refused, in this order, as `Foreign`, `NotYours` where the seat isn't that of the
     /// procedure's node, and as the serve or the turn is; then nothing changes. The rule: docs/ALGORITHM.md.
     #[tactic(auto, using(crate::proofs::TurnLemmas::serve_fault))]
+    // (inlined with what it calls: most turns do nothing, and are short)
+    #[inline(always)]
     pub fn serve_or_turn(
         &mut self,
         seat: &mut Seat,
@@ -64,6 +66,7 @@ impl<L: Naming> Locked<L> {
 
     // The turn of the procedure of the seat's node, where the seat is known.
     #[tactic(auto, using(crate::proofs::WorldLemmas::rest_in_step))]
+    #[inline(always)]
     pub(crate) fn turn_known(
         &mut self,
         seat: &mut Seat,
@@ -94,6 +97,7 @@ impl<L: Naming> Locked<L> {
 
     // Takes the step that the turn rule offers the procedure of the seat's node. Everything is reserved before anything
     // changes.
+    #[inline(always)]
     fn take_offered(
         &mut self,
         kind: StepKind,
@@ -133,6 +137,7 @@ impl<L: Naming> Locked<L> {
 
 // A copy of the event of the procedure's step, a plan's with the procedure's table, and room for one entry more in the
 // history and in the log, which have the entries that they had.
+#[inline(always)]
 fn event_with_room(
     kind: StepKind,
     procedure: &Procedure,

@@ -1,6 +1,5 @@
 -- The laws of a Check and of a Timeout: an idle node begins a procedure.
-use Rattle.std.proofs.Common.{◌≡◌, ℕ, None, Some, arith, refl}
-use Rattle.std.specs.Prelude.{not, if◌then◌else◌}
+use Rattle.std.proofs.Common.{◌≡◌, ℕ, None, Some, arith, refl, not, if◌then◌else◌}
 use Rattle.bully_base.specs.Setup.{Setup}
 use Rattle.bully_calls.specs.declared.event.Event.{Event}
 use Rattle.bully_calls.specs.declared.event.Refused.{Refused}

@@ -1,6 +1,5 @@
 -- The laws of a Drop: an orphan is taken out.
-use Rattle.std.proofs.Common.{◌≡◌, ℕ, true, false, Option, None, Some, arith, refl}
-use Rattle.std.specs.Prelude.{not, if◌then◌else◌}
+use Rattle.std.proofs.Common.{◌≡◌, ℕ, true, false, Option, None, Some, arith, refl, not, if◌then◌else◌}
 use Rattle.std.proofs.lemmas.Bool.Decides.{nat_tests}
 use Rattle.bully_base.specs.Setup.{Setup}
 use Rattle.bully_calls.specs.declared.call.Answer.{Answer}

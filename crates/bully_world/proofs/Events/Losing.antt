@@ -1,6 +1,5 @@
 -- The laws of a Lose.
-use Rattle.std.proofs.Common.{◌≡◌, ◌≢◌, ℕ, true, Option, None, Some, arith, refl, sym, ◌∙◌, ap}
-use Rattle.std.specs.Prelude.{not, if◌then◌else◌}
+use Rattle.std.proofs.Common.{◌≡◌, ◌≢◌, ℕ, true, Option, None, Some, arith, refl, sym, ◌∙◌, ap, not, if◌then◌else◌}
 use Rattle.bully_base.specs.declared.node.Status.TheVariants.{Down}
 use Rattle.bully_base.specs.Setup.{Setup}
 use Rattle.bully_calls.specs.declared.call.Phase.{Phase}

@@ -1,6 +1,5 @@
 -- The laws of a Move.
-use Rattle.std.proofs.Common.{◌≡◌, ℕ, None, Some, arith, refl, ap}
-use Rattle.std.specs.Prelude.{not, if◌then◌else◌}
+use Rattle.std.proofs.Common.{◌≡◌, ℕ, None, Some, arith, refl, ap, not, if◌then◌else◌}
 use Rattle.bully_base.specs.Setup.{Setup}
 use Rattle.bully_calls.specs.declared.call.Outcome.{Outcome}
 use Rattle.bully_handlers.specs.Vector.{Vector}

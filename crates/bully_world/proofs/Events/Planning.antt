@@ -1,6 +1,6 @@
 -- The laws of a Plan.
-use Rattle.std.proofs.Common.{◌≡◌, ◌∙◌, ℕ, Bool, true, List, length, None, Some, arith, refl, sym}
-use Rattle.std.specs.Prelude.{not, ◌==◌, ◌&&◌, if◌then◌else◌}
+use Rattle.std.proofs.Common.{◌≡◌, ◌∙◌, ℕ, true, List, length, None, Some, arith, refl, sym, not, ◌==◌, ◌&&◌, if◌then◌else◌}
+use Rattle.std.proofs.lemmas.Bool.{and_parts}
 use Rattle.std.proofs.lemmas.Bool.Decides.{nat_tests}
 use Rattle.bully_base.specs.NodeSet.{with_node}
 use Rattle.bully_base.specs.Setup.{Setup}
@@ -24,9 +24,6 @@ use Rattle.bully_world.proofs.MoveInvariant.{plan_fits, planning_up}
 plan_facts : (setup : Setup) (w : World) (count i : ℕ) (table : List ℕ) → cause setup w count (Event.Plan i table) ≡ None
     → (point w i ≡ Planning) × (pending w i ≡ None) × (length table ≡ setup.partitions) × (is_balanced setup table (with_node i (vector w i).up) ≡ true)
 plan_facts setup w count i table n = (grind (arith, n), grind (arith, n), grind (arith, n, nat_tests), grind (arith, n))
-
-and_parts : (a b : Bool) → a && b ≡ true → (a ≡ true) × (b ≡ true)
-and_parts a b e = grind (arith, e)
 
 plannable_by : (setup : Setup) (table : List ℕ) (i : ℕ) (up : List ℕ) → is_plannable setup table i up ≡ true → (length table ≡ setup.partitions) × IsBalanced setup table (with_node i up)
 plannable_by setup table i up e =

@@ -1,6 +1,5 @@
 -- The laws of a Run, which writes two places: the caller's, which keeps the answer, and then the callee's.
-use Rattle.std.proofs.Common.{◌≡◌, ◌≢◌, ◌+◌, ◌<◌, ◌≤◌, ◌^◌, ◌⊎◌, inl, inr, ℕ, true, false, List, length, Option, None, Some, arith, refl, sym, ◌∙◌, ap, subst}
-use Rattle.std.specs.Prelude.{not, ◌==◌, ◌&&◌, option_map, option_and_then, IfSome, IsTrue, if◌then◌else◌}
+use Rattle.std.proofs.Common.{◌≡◌, ◌≢◌, ◌+◌, ◌<◌, ◌≤◌, ◌^◌, ◌⊎◌, inl, inr, ℕ, true, false, List, length, Option, None, Some, arith, refl, sym, ◌∙◌, ap, subst, not, ◌==◌, ◌&&◌, option_map, option_and_then, IfSome, IsTrue, if◌then◌else◌}
 use Rattle.std.proofs.lemmas.Bool.Decides.{nat_tests}
 use Rattle.bully_base.proofs.PlaceLemmas.{at_node_other, length-put_node}
 use Rattle.bully_base.specs.declared.node.Status.TheVariants.{Down}

@@ -8,4 +8,4 @@ returns-in-Ok-clause-answer g c = (c.as_slice.result.now, c.draw_with.ensures.an
 
 pub returns-in-Err-clause-answer : goal.returns-in-Err-clause-answer
 returns-in-Err-clause-answer g c =
-    ([], refused-by (g.R.Read.remaining c.args.input) [] _ _ _ _ _ _ _ (inr (c.in-Err.stop, (λ _. keeps-refl _), c.answer_stop.ensures.line, c.answer_stop.ensures.status)))
+    ([], refused-by (g.R.Read.remaining c.args.input) [] _ _ _ _ _ _ (inr (c.in-Err.stop, (λ _. keeps-refl _), c.answer_stop.ensures.line, c.answer_stop.ensures.status)))

@@ -4,16 +4,14 @@ use Rattle.bully.proofs.drawing.draw_words.Goals as goal
 
 pub returns-in-Some-clause-answer : goal.returns-in-Some-clause-answer
 returns-in-Some-clause-answer g c =
-    let words = c.args.words.now in
-    let some : option_map (λ s. s.now) words.names ≡ Some c.in-Some.path.now = search rules in
-    rw (← c.is_given.ensures) (drawn-named (g.R.Read.remaining c.args.input) c.draw_named.ensures.answer.0 (option_map (λ s. s.now) words.names) c.in-Some.path.now c.args.window
-    c.is_given.result (g.W.Write.contents c.args.output.now) (g.W.Write.contents c.draw_named.new.output) (g.E.Write.contents c.args.errors.now) (g.E.Write.contents c.draw_named.new.errors)
-    c.draw_named.result some c.draw_named.ensures.answer.1)
+    let some : option_map (λ s. s.now) c.args.names ≡ Some c.in-Some.path.now = search rules in
+    drawn-named (g.R.Read.remaining c.args.input) c.draw_named.ensures.answer.0 (option_map (λ s. s.now) c.args.names) c.in-Some.path.now c.args.drawing
+    (g.W.Write.contents c.args.output.now) (g.W.Write.contents c.draw_named.new.output) (g.E.Write.contents c.args.errors.now) (g.E.Write.contents c.draw_named.new.errors)
+    c.draw_named.result some c.draw_named.ensures.answer.1
 
 pub returns-in-None-clause-answer : goal.returns-in-None-clause-answer
 returns-in-None-clause-answer g c =
-    let words = c.args.words.now in
-    let none : option_map (λ s. s.now) words.names ≡ None = search rules in
-    rw (← c.is_given.ensures) (drawn-unnamed (g.R.Read.remaining c.args.input) (option_map (λ s. s.now) words.names) c.args.window
-    c.is_given.result (g.W.Write.contents c.args.output.now) (g.W.Write.contents c.draw_input.new.output) (g.E.Write.contents c.args.errors.now) (g.E.Write.contents c.draw_input.new.errors)
-    c.draw_input.result none c.draw_input.ensures.answer)
+    let none : option_map (λ s. s.now) c.args.names ≡ None = search rules in
+    drawn-unnamed (g.R.Read.remaining c.args.input) (option_map (λ s. s.now) c.args.names) c.args.drawing
+    (g.W.Write.contents c.args.output.now) (g.W.Write.contents c.draw_input.new.output) (g.E.Write.contents c.args.errors.now) (g.E.Write.contents c.draw_input.new.errors)
+    c.draw_input.result none c.draw_input.ensures.answer

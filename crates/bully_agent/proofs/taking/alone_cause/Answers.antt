@@ -1,6 +1,5 @@
 -- What is tested of the node state is the refusal in every world of which it may be a part.
-use Rattle.std.proofs.Common.{◌<◌, arith, sym, ◌∙◌, ap, subst}
-use Rattle.std.specs.Prelude.{if◌then◌else◌, Some}
+use Rattle.std.proofs.Common.{◌<◌, arith, sym, ◌∙◌, ap, subst, if◌then◌else◌, Some}
 use Rattle.bully_base.specs.Setup.{IsNode}
 use Rattle.bully_calls.specs.declared.event.Refused.{Refused}
 use Rattle.bully_calls.specs.Events.{node_of}

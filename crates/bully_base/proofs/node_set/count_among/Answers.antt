@@ -1,6 +1,5 @@
-use Rattle.std.proofs.Common.{◌∙◌, ℕ, List, arith, ap}
+use Rattle.std.proofs.Common.{◌∙◌, ℕ, List, arith, ap, take_all}
 use Rattle.std.specs.Int.Count.{ones}
-use Rattle.std.proofs.lemmas.List.{take_all}
 use Rattle.bully_base.specs.NodeSet.{number_of, AreWords}
 use Rattle.bully_base.proofs.RowLemmas.{AreWords-from, ones-none, ones-more, ones-word, count-step}
 use Rattle.bully_base.proofs.node_set.count_among.Goals as goal

@@ -1,5 +1,4 @@
-use Rattle.std.proofs.Common.{◌≡◌, ◌≤◌, ℕ, length}
-use Rattle.std.specs.Prelude.{slice_index_or}
+use Rattle.std.proofs.Common.{◌≡◌, ◌≤◌, ℕ, length, slice_index_or}
 use Rattle.bully_base.proofs.node_set.count_used.Given as goal
 
 abbrev pub invariant-loop-place : goal.invariant-loop-place

@@ -1,5 +1,4 @@
-use Rattle.std.proofs.Common.{None, Some, rules}
-use Rattle.std.specs.Prelude.{string_bytes}
+use Rattle.std.proofs.Common.{None, Some, rules, string_bytes}
 use Rattle.bully_replica.specs.Next.{IsNext}
 use Rattle.bully_c.specs.Replicas.{HasNode}
 use Rattle.bully_c.proofs.LogRowLemmas.{next-as, next-err, next-ok}

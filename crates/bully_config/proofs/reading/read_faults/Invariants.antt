@@ -1,5 +1,4 @@
-use Rattle.std.proofs.Common.{◌≡◌, ◌++◌, drop}
-use Rattle.std.specs.Prelude.{map}
+use Rattle.std.proofs.Common.{◌≡◌, ◌++◌, drop, map}
 use Rattle.toml.specs.View.{view}
 use Rattle.bully_config.specs.Values.{faults_in, names_of}
 use Rattle.bully_config.proofs.reading.read_faults.Given as goal

@@ -1,5 +1,4 @@
-use Rattle.std.proofs.Common.{◌≡◌, take}
-use Rattle.std.specs.Prelude.{map, string_bytes}
+use Rattle.std.proofs.Common.{◌≡◌, take, map, string_bytes}
 use Rattle.toml.specs.View.{view}
 use Rattle.bully_config.specs.Values.{names_of}
 use Rattle.bully_config.proofs.reading.read_names.Given as goal

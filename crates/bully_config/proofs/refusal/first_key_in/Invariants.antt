@@ -1,5 +1,4 @@
-use Rattle.std.proofs.Common.{◌≡◌, drop}
-use Rattle.std.specs.Prelude.{map}
+use Rattle.std.proofs.Common.{◌≡◌, drop, map}
 use Rattle.std.specs.Fn.{FnReturnsAt}
 use Rattle.toml.specs.View.{table_view, view}
 use Rattle.bully_config.specs.Refusals.{first_in}

@@ -1,5 +1,4 @@
-use Rattle.std.proofs.Common.{◌≡◌, length}
-use Rattle.std.specs.Prelude.{map}
+use Rattle.std.proofs.Common.{◌≡◌, length, map}
 use Rattle.toml.specs.View.{view}
 use Rattle.bully_config.specs.Configuration.{has_double}
 use Rattle.bully_config.specs.Values.{names_of}

@@ -1,5 +1,4 @@
-use Rattle.std.proofs.Common.{◌≡◌, ◌++◌, take, string_bytes}
-use Rattle.std.specs.Prelude.{map}
+use Rattle.std.proofs.Common.{◌≡◌, ◌++◌, take, string_bytes, map}
 use Rattle.bully_explain.specs.Shown.{shown_byte}
 use Rattle.bully_explain.proofs.shown.push_bytes.Given as goal
 

@@ -1,8 +1,7 @@
-use Rattle.std.proofs.Common.{◌∙◌, ◌++◌, length, take, string_bytes, ap, sym, rules}
+use Rattle.std.proofs.Common.{◌∙◌, ◌++◌, length, take, string_bytes, ap, sym, rules, map}
 use Rattle.std.proofs.lemmas.Iterator.{YieldsList-from_chars}
 use Rattle.std.proofs.lemmas.Iterator.Consumers.{YieldsList-turn, YieldsList-end}
 use Rattle.std.proofs.lemmas.List.{length_push}
-use Rattle.std.specs.Prelude.{map}
 use Rattle.std.specs.Str.{chars, encode_utf8_all}
 use Rattle.bully_explain.specs.Shown.{shown_letter}
 use Rattle.bully_explain.proofs.ShownLemmas.{letter-more, letters-all, shown-plain}

@@ -1,5 +1,4 @@
-use Rattle.std.proofs.Common.{◌≡◌, ◌++◌, length, take, string_bytes}
-use Rattle.std.specs.Prelude.{map}
+use Rattle.std.proofs.Common.{◌≡◌, ◌++◌, length, take, string_bytes, map}
 use Rattle.std.specs.Str.{chars, encode_utf8_all}
 use Rattle.bully_explain.specs.Shown.{shown_letter}
 use Rattle.bully_explain.proofs.shown.push_shown.Given as goal

@@ -1,5 +1,7 @@
 use Rattle.std.specs.Prelude.{option_map, slice_get}
-use Rattle.bully_picture.proofs.DrawnLemmas.{below-copied, lanes-copied, nodes-copied, rows-copied}
+use Rattle.bully_picture.specs.Drawn.{scenes_shown}
+use Rattle.bully_picture.proofs.DrawnLemmas.{below-copied, lanes-copied, nodes-copied}
+use Rattle.bully_picture.proofs.ShownLemmas.{rows-copied, said-copied}
 use Rattle.bully_picture.proofs.WrittenLemmas.{copied-still, document, extends-then, extends-written, written-in}
 use Rattle.bully_picture.proofs.page.picture_with.Goals as goal
 
@@ -12,8 +14,13 @@ returns-clause-title c = written-in c.push_title.ensures (extends-then c.push_pa
 
 pub returns-clause-rows : goal.returns-clause-rows
 returns-clause-rows c = λ good.
-    rows-copied c.push-2.new.self.text c.draw-parts.result.numbers c.args.finished.now.verdict c.args.finished.now.scenes.items
+    rows-copied c.push-2.new.self.text c.draw-parts.result.numbers c.args.finished.now.verdict (scenes_shown c.args.claims c.args.finished.now.verdict c.args.finished.now.scenes.items)
     (copied-still c.draw-parts.result.numbers c.push_parts.ensures.numbers (extends-written c.push-2.ensures) good) c.draw-parts.ensures.rows
+
+pub returns-clause-says : goal.returns-clause-says
+returns-clause-says c = λ good.
+    said-copied c.push-2.new.self.text c.draw-parts.result.texts c.args.finished.now.verdict (scenes_shown c.args.claims c.args.finished.now.verdict c.args.finished.now.scenes.items)
+    (copied-still c.draw-parts.result.texts c.push_parts.ensures.texts (extends-written c.push-2.ensures) good) c.draw-parts.ensures.says
 
 pub returns-clause-nodes : goal.returns-clause-nodes
 returns-clause-nodes c = λ good.

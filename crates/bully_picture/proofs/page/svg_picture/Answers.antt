@@ -3,7 +3,7 @@ use Rattle.std.proofs.Common.{length, string_bytes}
 use Rattle.std.specs.Prelude.{option_map, slice_get}
 use Rattle.bully_film.specs.Lane.{row_before}
 use Rattle.bully_film.specs.Scene.{lane_of}
-use Rattle.bully_picture.specs.Drawn.{HasBelow, HasCalls, HasNodes, HasRows}
+use Rattle.bully_picture.specs.Drawn.{HasBelow, HasCalls, HasNodes, HasRows, HasSaid, scenes_shown}
 use Rattle.bully_picture.specs.Title.{Has, IsDocument, title_text}
 use Rattle.bully_trace.specs.VerdictText.{verdict_head}
 use Rattle.bully_picture.proofs.TitleLemmas.{has-verdict}
@@ -30,8 +30,14 @@ returns-clause-title c =
 
 pub returns-clause-rows : goal.returns-clause-rows
 returns-clause-rows c =
-    in-text string_bytes c.picture_on-picture.result (λ text. HasRows text c.args.finished.now.verdict c.args.finished.now.scenes.items)
+    in-text string_bytes c.picture_on-picture.result (λ text. HasRows text c.args.finished.now.verdict (scenes_shown c.args.claims c.args.finished.now.verdict c.args.finished.now.scenes.items))
     c.into_text.result c.into_text.ensures.whole c.into_text.ensures.text c.picture_on-picture.ensures.rows
+
+pub returns-clause-says : goal.returns-clause-says
+returns-clause-says c =
+    in-text string_bytes c.picture_on-picture.result
+    (λ text. HasSaid text c.args.finished.now.verdict (scenes_shown c.args.claims c.args.finished.now.verdict c.args.finished.now.scenes.items))
+    c.into_text.result c.into_text.ensures.whole c.into_text.ensures.text c.picture_on-picture.ensures.says
 
 pub returns-clause-nodes : goal.returns-clause-nodes
 returns-clause-nodes c =

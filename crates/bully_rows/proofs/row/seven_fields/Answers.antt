@@ -1,5 +1,4 @@
-use Rattle.std.proofs.Common.{◌≡◌, ◌∙◌, None, refl, sym, subst, List, ℕ, IfOk, if◌then◌else◌}
-use Rattle.std.specs.Prelude.{codes}
+use Rattle.std.proofs.Common.{◌≡◌, ◌∙◌, None, refl, sym, subst, List, ℕ, IfOk, if◌then◌else◌, codes}
 use Rattle.std.specs.Str.{bytes_eq}
 use Rattle.csv.specs.Records.{fields_of}
 use Rattle.bully_rows.specs.Rows.{row_of, whole_row}

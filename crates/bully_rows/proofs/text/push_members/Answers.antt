@@ -1,6 +1,5 @@
-use Rattle.std.proofs.Common.{◌≡◌, ◌+◌, sym, arith, rules}
+use Rattle.std.proofs.Common.{◌≡◌, ◌+◌, sym, arith, rules, append-nil}
 use Rattle.std.specs.String.{string_bytes}
-use Rattle.std.proofs.lemmas.List.{append-nil}
 use Rattle.bully_base.specs.declared.TheConstants.{NODES_MAX}
 use Rattle.bully_rows.proofs.SetTextLemmas.{below-first, below-highest}
 use Rattle.bully_rows.proofs.text.push_members.Goals as goal

@@ -1,5 +1,4 @@
-use Rattle.std.proofs.Common.{◌≡◌, ◌+◌, ◌++◌}
-use Rattle.std.specs.Prelude.{reverse}
+use Rattle.std.proofs.Common.{◌≡◌, ◌+◌, ◌++◌, reverse}
 use Rattle.std.specs.String.{string_bytes}
 use Rattle.bully_base.specs.NodeSet.{below_node}
 use Rattle.bully_table.specs.TableText.{owners_text}

@@ -1,6 +1,5 @@
 -- The planning node is a member, so that a plan is refused for want of memory alone. All members are nodes of the setup.
-use Rattle.std.proofs.Common.{◌≡◌, ◌≢◌, ◌≤◌, ◌∙◌, ℕ, List, [], ◌∷◌, All, arith, refl, sym, subst}
-use Rattle.std.specs.Prelude.{◌↔◌}
+use Rattle.std.proofs.Common.{◌≡◌, ◌≢◌, ◌≤◌, ◌∙◌, ℕ, List, [], ◌∷◌, All, arith, refl, sym, subst, ◌↔◌}
 use Rattle.bully_base.specs.NodeSet.{with_node}
 use Rattle.bully_table.specs.declared.planning.PlanFault.{PlanFault}
 use Rattle.bully_steps.proofs.PlanLemmas.{node_and_up}

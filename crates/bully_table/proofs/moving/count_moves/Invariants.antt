@@ -1,5 +1,4 @@
-use Rattle.std.proofs.Common.{◌≡◌, ◌≤◌, not}
-use Rattle.std.specs.Prelude.{◌==◌}
+use Rattle.std.proofs.Common.{◌≡◌, ◌≤◌, not, ◌==◌}
 use Rattle.bully_table.specs.Planning.{owner_at, places_where}
 use Rattle.bully_table.proofs.moving.count_moves.Given as goal
 

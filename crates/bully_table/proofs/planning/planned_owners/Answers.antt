@@ -2,7 +2,7 @@ use Rattle.std.proofs.Common.{ℕ, List, ◌+◌, ◌≡◌, ◌++◌, ◌∷◌
 use Rattle.std.proofs.lemmas.Grind.{common_steps}
 use Rattle.bully_base.specs.declared.TheConstants.{NODES_MAX}
 use Rattle.bully_table.specs.Planning.{owner_at, quota, stays, planned_owner}
-use Rattle.bully_table.proofs.BalanceSteps.{falling-wider}
+use Rattle.bully_base.proofs.NodeSetLemmas.{IsFallingBelow-more}
 use Rattle.bully_table.proofs.PlannedLemmas.{plannable-from, are-quotas, planned-covers, planned-more, planned-stays, leaving-none, told-stays, told-leaves}
 use Rattle.bully_table.proofs.TakerLemmas.{told-from, next-is-some, next-is-planned, taking-stays}
 use Rattle.bully_table.proofs.planning.planned_owners.Goals as goal
@@ -19,7 +19,7 @@ loop-place-init c = record {
 pub unwrap-owner-requires : goal.unwrap-owner-requires
 unwrap-owner-requires c =
     let quotas = quota c.args.setup.now c.args.before.now c.args.members.now in
-    let wide = falling-wider (c.args.setup.now.nodes + 1) (NODES_MAX + 1) c.args.members.now (omega (arith, c.partitions.ensures.within.nodes)) c.requires.falling in
+    let wide = IsFallingBelow-more (c.args.setup.now.nodes + 1) (NODES_MAX + 1) c.args.members.now (omega (arith, c.partitions.ensures.within.nodes)) c.requires.falling in
     let whole = are-quotas c.args.setup.now (NODES_MAX + 1) c.args.before.now c.args.members.now (plannable-from c.args.setup.now c.args.before.now c.args.members.now wide c.requires.weighs c.requires.covers) in
     let lists = told-from c.args.setup.now c.args.before.now c.args.members.now c.write_quotas.new.quotas c.count_owners.new.counts (c.write_quotas.ensures c.args.before.now c.count_owners.ensures) c.count_owners.ensures in
     let leaves = told-leaves (stays quotas c.args.before.now c.args.members.now c.loop-place.place) (owner_at c.args.before.now c.loop-place.place) (sym c.in-None.is ∙ c.staying_owner.ensures.owner quotas c.args.members.now wide lists.outside c.loop-place.invariant.left) in
@@ -33,7 +33,7 @@ push_reserved-requires c =
 pub loop-place-preserved : goal.loop-place-preserved
 loop-place-preserved c =
     let quotas = quota c.args.setup.now c.args.before.now c.args.members.now in
-    let wide = falling-wider (c.args.setup.now.nodes + 1) (NODES_MAX + 1) c.args.members.now (omega (arith, c.partitions.ensures.within.nodes)) c.requires.falling in
+    let wide = IsFallingBelow-more (c.args.setup.now.nodes + 1) (NODES_MAX + 1) c.args.members.now (omega (arith, c.partitions.ensures.within.nodes)) c.requires.falling in
     let lists = told-from c.args.setup.now c.args.before.now c.args.members.now c.write_quotas.new.quotas c.count_owners.new.counts (c.write_quotas.ensures c.args.before.now c.count_owners.ensures) c.count_owners.ensures in
     let pushed : c.push_reserved.new.self.items ≡ c.loop-place.owners.items ++ c.match-staying_owner.owner ∷ [] = grind (arith, common_steps, c.push_reserved.ensures.items) in
     let answered = c.staying_owner.ensures.owner quotas c.args.members.now wide lists.outside c.loop-place.invariant.left in

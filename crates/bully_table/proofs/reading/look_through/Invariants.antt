@@ -1,5 +1,4 @@
-use Rattle.std.proofs.Common.{◌≡◌, ◌+◌, ◌<◌, length, min}
-use Rattle.std.specs.Prelude.{◌||◌}
+use Rattle.std.proofs.Common.{◌≡◌, ◌+◌, ◌<◌, length, min, ◌||◌}
 use Rattle.std.specs.List.{list_any}
 use Rattle.bully_table.specs.TableText.{pieces_of, names_nobody, is_no_number}
 use Rattle.bully_table.proofs.reading.look_through.Given as goal

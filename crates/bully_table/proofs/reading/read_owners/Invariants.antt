@@ -1,5 +1,4 @@
-use Rattle.std.proofs.Common.{◌≡◌, ◌++◌, false, length}
-use Rattle.std.specs.Prelude.{map}
+use Rattle.std.proofs.Common.{◌≡◌, ◌++◌, false, length, map}
 use Rattle.std.specs.List.{list_any}
 use Rattle.bully_table.specs.TableText.{pieces_of, names_nobody, is_no_number, owner_of}
 use Rattle.bully_table.proofs.reading.read_owners.Given as goal

@@ -1,6 +1,5 @@
 -- The event changes to whom its own node's call is sent, and nobody else's.
-use Rattle.std.proofs.Common.{◌≡◌, ◌≤◌, ◌<◌, ℕ, arith, length, Option, sym, ◌∙◌, ap, subst}
-use Rattle.std.specs.Prelude.{IfSome}
+use Rattle.std.proofs.Common.{◌≡◌, ◌≤◌, ◌<◌, ℕ, arith, length, Option, sym, ◌∙◌, ap, subst, IfSome}
 use Rattle.bully_calls.specs.Events.{node_of}
 use Rattle.bully_world.specs.State.{kept_of}
 use Rattle.bully_world.specs.StateAfter.{state_after}

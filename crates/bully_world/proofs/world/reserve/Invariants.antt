@@ -1,5 +1,4 @@
-use Rattle.std.proofs.Common.{◌≡◌}
-use Rattle.std.specs.Prelude.{replicate}
+use Rattle.std.proofs.Common.{◌≡◌, replicate}
 use Rattle.bully_world.specs.State.{empty_state}
 use Rattle.bully_world.proofs.world.reserve.Given as goal
 

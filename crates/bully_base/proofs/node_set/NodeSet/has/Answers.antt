@@ -1,5 +1,4 @@
-use Rattle.std.proofs.Common.{◌≢◌, ◌↔◌, arith}
-use Rattle.std.specs.Prelude.{Contains, slice_index_or}
+use Rattle.std.proofs.Common.{◌≢◌, ◌↔◌, arith, Contains, slice_index_or}
 use Rattle.std.specs.Int.RustNames.{bit_and}
 use Rattle.std.proofs.lemmas.Bool.Decides.{nat_tests}
 use Rattle.bully_base.proofs.RowLemmas.{has-step}

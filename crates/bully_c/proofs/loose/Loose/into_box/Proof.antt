@@ -1,5 +1,5 @@
 -- `into_box` tells null from a block, and hands the block to `from_raw`.
-use Rattle.std.proofs.Common.{◌≡◌, List, [], ◌∷◌, ◌++◌, refl, sym, ap, ◌∙◌, lit<}
+use Rattle.std.proofs.Common.{◌≡◌, List, [], ◌∷◌, ◌++◌, refl, sym, ap, ◌∙◌, lit<, None, Some}
 use mir.Syntax.{a_type}
 use mir.Val.{Val, vptr, vcons, vnil}
 use mir.MapTy.{inst_fn}
@@ -32,7 +32,6 @@ use Rattle.core.proofs.alloc.Shapes.{after}
 use Rattle.core.proofs.cell.Inside.{one}
 use Rattle.core.proofs.option.Made.{Some-of, none_of}
 use Rattle.std.proofs.raw_atomic.Walks.{proved_at}
-use Rattle.std.specs.Prelude.{None, Some}
 use Rattle.std.specs.contracts.alloc.Global as heap
 use Rattle.std.proofs.alloc.Global.TheLaws as heap_laws
 use Rattle.std.specs.contracts.impls.GlobalAllocator.TheImpl.{ghosts, dict}

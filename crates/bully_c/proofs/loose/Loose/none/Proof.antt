@@ -1,5 +1,5 @@
 -- `none` is null, which owns nothing.
-use Rattle.std.proofs.Common.{[], ◌∷◌, refl}
+use Rattle.std.proofs.Common.{[], ◌∷◌, refl, None}
 use mir.Syntax.{a_type}
 use mir.MapTy.{inst_fn}
 use base.Fml.{ftrue, flft}
@@ -11,7 +11,6 @@ use denote.RawPtr.{null_ptr}
 use denote.Param.{layouts}
 use denote.Steps.{nothing}
 use denote.Triple.Walked.{ends_at, says}
-use Rattle.std.specs.Prelude.{None}
 use Rattle.std.proofs.raw_atomic.Walks.{proved}
 use Rattle.bully_c.proofs.LooseLemmas.{word, word-Good, word_in}
 use Rattle.bully_c.specs.contracts.loose.Loose.none as f

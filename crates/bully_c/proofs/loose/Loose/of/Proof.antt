@@ -1,5 +1,5 @@
 -- `of` hands the box to `into_raw`, and owns what that gives.
-use Rattle.std.proofs.Common.{List, [], ◌∷◌, ◌++◌, refl, ap}
+use Rattle.std.proofs.Common.{List, [], ◌∷◌, ◌++◌, refl, ap, Some}
 use mir.Syntax.{a_type, dcons, dnil}
 use mir.Val.{Val}
 use mir.MapTy.{inst_fn}
@@ -27,7 +27,6 @@ use denote.Triple.Table.{framed}
 use denote.Triple.Walked.{Stays, stay_dropped, Goes-dropped, walk_of, ends_at, says}
 use Rattle.core.proofs.cell.Inside.{one}
 use Rattle.std.proofs.raw_atomic.Walks.{proved_at}
-use Rattle.std.specs.Prelude.{Some}
 use Rattle.std.specs.contracts.alloc.Global as heap
 use Rattle.std.proofs.alloc.Global.TheLaws as heap_laws
 use Rattle.std.specs.contracts.impls.GlobalAllocator.TheImpl.{ghosts, dict}

@@ -1,5 +1,6 @@
 -- Behind the row that decided nothing more is filmed.
-use Rattle.std.proofs.Common.{rules}
+use Rattle.std.proofs.Common.{refl, rules}
+use Rattle.bully_film.specs.Scene.{said_in}
 use Rattle.bully_film.proofs.FilmLemmas.{filmed-on, filmed-over, going-is}
 use Rattle.bully_film.proofs.film.Film.take_row.Goals as goal
 
@@ -8,5 +9,5 @@ returns-then-is_over-clause-filmed c = λ setup rows at filmed. filmed-over setu
 
 pub returns-clause-filmed : goal.returns-clause-filmed
 returns-clause-filmed c = λ setup rows at filmed.
-    filmed-on setup rows c.args.row c.args.number c.args.self.now c.judge_row.new.self c.keep_shown.new.self c.look-scene_start.result c.keep_shown.result (search rules) (search rules)
-    c.judge_row.ensures.window c.judge_row.ensures.at_end c.judge_row.ensures.scenes (c.judge_row.ensures.noted (going-is c.args.self.now.judge.stopped (search rules))) c.judge_row.ensures.judged c.keep_shown.ensures.on at filmed
+    filmed-on setup rows c.args.row c.args.number c.args.self.now c.judge_row.new.self c.keep_said.new.self (said_in c.args.row) c.look-scene_start.result c.keep_said.result refl (search rules) (search rules)
+    c.judge_row.ensures.window c.judge_row.ensures.at_end c.judge_row.ensures.scenes (c.in_ok-judge_row.ensures.noted (going-is c.args.self.now.judge.stopped (search rules))) c.judge_row.ensures.judged c.keep_said.ensures.on at filmed

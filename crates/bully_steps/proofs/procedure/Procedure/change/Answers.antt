@@ -1,6 +1,5 @@
 -- A point follows, of the kind that is found.
-use Rattle.std.proofs.Common.{[], arith}
-use Rattle.std.specs.Prelude.{unwrap_or}
+use Rattle.std.proofs.Common.{[], arith, unwrap_or}
 use Rattle.bully_steps.specs.Procedure.{state_of}
 use Rattle.bully_steps.proofs.ResumeLemmas.{next_comes}
 use Rattle.bully_steps.proofs.procedure.Procedure.change.Goals as goal

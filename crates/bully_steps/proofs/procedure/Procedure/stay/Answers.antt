@@ -1,8 +1,6 @@
 -- What the outcome makes of the procedure is one of the node's.
-use Rattle.std.proofs.Common.{◌≡◌, Some, [], arith}
-use Rattle.std.specs.Prelude.{None}
+use Rattle.std.proofs.Common.{◌≡◌, Some, [], arith, None, unwrap_or, option_map}
 use Rattle.bully_steps.specs.declared.point.Point.{Point}
-use Rattle.std.specs.Prelude.{unwrap_or, option_map}
 use Rattle.bully_steps.specs.PointKind.{kind_of}
 use Rattle.bully_steps.specs.Procedure.{state_of}
 use Rattle.bully_steps.specs.ProcedureState.{next_of, resumed}

@@ -1,5 +1,4 @@
-use Rattle.std.proofs.Common.{rules, ◌≡◌, ◌++◌, drop, take, sym, ap, ◌∙◌, subst}
-use Rattle.std.proofs.lemmas.List.{take-append-drop}
+use Rattle.std.proofs.Common.{rules, ◌≡◌, ◌++◌, drop, take, sym, ap, ◌∙◌, subst, take-append-drop}
 use Rattle.left_right.specs.Sides.{view}
 use Rattle.bully_watch.specs.History.{IsHistory}
 use Rattle.bully_watch.specs.CopyRule.{IsPublisher}

@@ -1,6 +1,5 @@
 -- What is kept after the event is what the definitions' step makes of it.
-use Rattle.std.proofs.Common.{◌≡◌, ◌+◌, ◌<◌, ◌≤◌, ◌^◌, ℕ, List, rules, arith, None, sym, ◌∙◌, ap, subst, length, take, drop, ◌++◌}
-use Rattle.std.specs.Prelude.{IfSome, if◌then◌else◌}
+use Rattle.std.proofs.Common.{◌≡◌, ◌+◌, ◌<◌, ◌≤◌, ◌^◌, ℕ, List, rules, arith, None, sym, ◌∙◌, ap, subst, length, take, drop, ◌++◌, IfSome, if◌then◌else◌}
 use Rattle.bully_base.specs.Places.{at_node}
 use Rattle.bully_calls.specs.Events.{node_of}
 use Rattle.bully_world.specs.Cause.{cause}

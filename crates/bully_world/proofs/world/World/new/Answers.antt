@@ -1,5 +1,4 @@
-use Rattle.std.proofs.Common.{◌≡◌, sym, ◌∙◌, ap, subst}
-use Rattle.std.specs.Prelude.{[], replicate}
+use Rattle.std.proofs.Common.{◌≡◌, sym, ◌∙◌, ap, subst, [], replicate}
 use Rattle.bully_world.specs.State.{IsWorld, world_in, new_states}
 use Rattle.bully_world.specs.Waiting.{IsWaiting}
 use Rattle.bully_world.proofs.WaitingLemmas.{first_waiting}

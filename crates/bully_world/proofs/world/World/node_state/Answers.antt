@@ -1,6 +1,5 @@
 -- What a world keeps of its nodes holds of this one.
-use Rattle.std.proofs.Common.{◌≡◌, arith, subst}
-use Rattle.std.specs.Prelude.{slice_index_or}
+use Rattle.std.proofs.Common.{◌≡◌, arith, subst, slice_index_or}
 use Rattle.bully_world.specs.NodeInvariant.{NodeInvariant}
 use Rattle.bully_world.specs.State.{WorldState, IsKept, IsWorld, node_state_of, state_at}
 use Rattle.bully_world.proofs.TurnLemmas.{node_fits}

@@ -1,7 +1,0 @@
-use Rattle.std.proofs.Common.{sym, codes}
-use Rattle.clap.specs.Words.{found_of}
-use Rattle.bully_cli.proofs.ActionLemmas.{value_is}
-use Rattle.bully_cli.proofs.action.config_path.Goals as goal
-
-pub returns : goal.returns
-returns c = sym (value_is (found_of c.args.found.now) (codes "CONFIG") c.get_str.result c.get_str.ensures)

@@ -1,0 +1,259 @@
+ghost use Rattle.std.specs.Prelude.{◌≡◌, ℕ, List, Option, None, Some, IfErr, IfOk};
+ghost use Rattle.bully_follow.specs.declared.watch.Watch.{Watch as WatchState};
+ghost use Rattle.bully_follow.specs.Watched.{IsEnded, IsFollowFault, IsFollowedAs, fault_in};
+ghost use Rattle.bully_rows.specs.RecordsLeft.{IsUnread};
+ghost use Rattle.bully_rows.specs.Rows.{IsOfWriting};
+
+use crate::lines::Telling;
+use crate::watch::Watch;
+use crate::{ROOM_FROM, ROOM_STEP};
+use bully_account::{Account, Lines};
+use bully_base::OutOfMemory;
+use bully_explain::account_sheet;
+use bully_json::{SheetObject, head_object, json_line, verdict_object};
+use bully_rows::{
+    ROWS_MAX, RowReader, RowTaker, Started, TraceFault, no_header, not_written, take_each,
+};
+use bully_trace::{Verdict, verdict_lines};
+use bully_world::World;
+use jiff::Timestamp;
+use std::alloc::{AllocError, Global};
+use std::io::{Read, Write};
+use std::rt::Clock;
+
+/// Why no further row is taken.
+#[derive(Clone, Copy, Debug)]
+enum Stop {
+    /// The row that was taken last decided: this is the verdict.
+    Decided(Verdict),
+    /// A row can't be read or isn't taken, or what changed can't be told.
+    Fault(TraceFault),
+}
+
+impl From<TraceFault> for Stop {
+    ghost use Rattle.std.specs.Prelude.{◌≡◌};
+    ghost use Rattle.bully_follow.specs.declared.following.Stop.{Stop};
+
+    ghost from_gives = { λ fault stop. stop ≡ Stop.Fault fault };
+
+    fn from(fault: TraceFault) -> Stop {
+        Stop::Fault(fault)
+    }
+}
+
+/// What takes the rows and tells on the output what they changed.
+#[derive(Drop)]
+struct Live<'a, C: Clock, W: Write> {
+    clock: &'a C,
+    output: W,
+    telling: Telling,
+    text: Started<(), Watch>,
+}
+
+impl<'a, C: Clock, R: Read + Drop, W: Write> RowTaker<Lines<R>> for Live<'a, C, W> {
+    ghost use Rattle.std.specs.Prelude.{◌≡◌};
+    ghost use Rattle.bully_follow.specs.Watched.{Refuses, TakesWatched};
+
+    type Fault = Stop;
+
+    ghost takes = { λ reader before after. TakesWatched reader before.text.taker after.text.taker };
+
+    ghost refuses = { λ reader before after stop. Refuses reader before.text.taker after.text.taker stop };
+
+    fn take(&mut self, alloc: Global, rows: &RowReader<Lines<R>>) -> Result<(), Stop> {
+        self.text.take(alloc, rows)?;
+        let Some(watch) = &self.text.taker else {
+            return Ok(());
+        };
+        let row = rows.number();
+        tell(
+            self.clock,
+            alloc,
+            self.telling,
+            watch,
+            row,
+            &mut self.output,
+        )?;
+        let verdict = watch.account.verdict();
+        if verdict.decides(row) {
+            Err(Stop::Decided(verdict))
+        } else {
+            Ok(())
+        }
+    }
+}
+
+// Tells what the row of this number changed, and from some row on how many a trace has room for.
+fn tell<C: Clock, W: Write>(
+    clock: &C,
+    alloc: Global,
+    telling: Telling,
+    watch: &Watch,
+    row: u32,
+    output: &mut W,
+) -> Result<(), TraceFault>
+    ensures { IfErr result IsOfWriting }
+{
+    let tells_room = row >= ROOM_FROM && row % ROOM_STEP == 0;
+    if !watch.changed.is_any() && !tells_room {
+        return Ok(());
+    }
+    let time = time_text(clock, alloc)?;
+    let mut text = String::new(alloc);
+    let world = watch.account.world();
+    telling.push_changed(alloc, &mut text, time.as_str(), row, world, watch.changed)?;
+    if tells_room {
+        let room = (ROWS_MAX + 1).saturating_sub(row);
+        telling.push_room(alloc, &mut text, time.as_str(), row, room)?;
+    }
+    put(text.as_str(), output)
+}
+
+// The time, as `2026-11-27T15:34:19.123Z`; a dash where the clock can't be read. Refused where an allocation fails.
+fn time_text<C: Clock>(clock: &C, alloc: Global) -> Result<String, OutOfMemory> {
+    let mut text = String::new(alloc);
+    match Timestamp::now(clock) {
+        Ok(time) => write!(text, "{time:.3}")?,
+        Err(_) => text.push('-')?,
+    }
+    Ok(text)
+}
+
+// Writes the text at once.
+fn put<W: Write>(text: &str, output: &mut W) -> Result<(), TraceFault>
+    ensures { IfErr result IsOfWriting }
+{
+    if let Err(error) = output.write_all(text.as_bytes()) {
+        return Err(not_written(error));
+    }
+    match output.flush() {
+        Ok(()) => Ok(()),
+        Err(error) => Err(not_written(error)),
+    }
+}
+
+/// Judges a trace row by row as it is read, and writes a line for each change of a node's status, coordinator or task; then, at its end,
+/// what `check` writes. The first row that is refused or differs ends it: its sheet is written then. Memory is that of an account.
+/// Refused as `check` refuses the rows that were read; as `Write` where the output fails.
+pub fn follow<C: Clock, R: Read + Drop, W: Write + Drop>(
+    clock: &C,
+    alloc: Global,
+    telling: Telling,
+    reader: R,
+    output: W,
+) -> Result<Verdict, TraceFault>
+    ensures verdict { IfOk result (IsFollowedAs (R.remaining reader)) }
+    ensures fault { IfErr result (IsFollowFault (R.remaining reader)) }
+{
+    let mut rows = RowReader::open(alloc, Lines::new(reader));
+    let mut live = Live {
+        clock,
+        output,
+        telling,
+        text: Started {
+            start: (),
+            taker: None,
+        },
+    };
+    follow_rows(alloc, &mut rows, &mut live)
+}
+
+// Follows the rows of a text, of which none was read.
+// (what has to be dropped is owned by the function above)
+fn follow_rows<C: Clock, R: Read + Drop, W: Write>(
+    alloc: Global,
+    rows: &mut RowReader<Lines<R>>,
+    live: &mut Live<'_, C, W>,
+) -> Result<Verdict, TraceFault>
+    requires { live.old.text.taker ≡ None }
+    ensures verdict { (known : Option (List ℕ)) → IsUnread known rows.old → IfOk result (IsFollowedAs known) }
+    ensures fault { (known : Option (List ℕ)) → IsUnread known rows.old → IfErr result (IsFollowFault known) }
+{
+    let ended = take_each(alloc, rows, live);
+    match &live.text.taker {
+        Some(watch) => finish(alloc, live.telling, ended, &watch.account, &mut live.output),
+        None => Err(fault_of(ended)),
+    }
+}
+
+// Writes what is told at the end of the rows, or behind the one that decided, and tells the verdict.
+fn finish<W: Write>(
+    alloc: Global,
+    telling: Telling,
+    ended: Result<(), Stop>,
+    account: &Account,
+    output: &mut W,
+) -> Result<Verdict, TraceFault>
+    ensures verdict { (known : Option (List ℕ)) (watch : WatchState) → watch.account ≡ account.now → IsEnded known ended (Some watch) → IfOk result (IsFollowedAs known) }
+    ensures fault { (known : Option (List ℕ)) (watch : Option WatchState) → IsEnded known ended watch → IfErr result (IsFollowFault known) }
+{
+    let verdict = match ended {
+        Ok(()) => account.verdict(),
+        Err(stop) => match stop {
+            Stop::Decided(verdict) => verdict,
+            Stop::Fault(fault) => return Err(fault),
+        },
+    };
+    write_last(alloc, telling, verdict, account, output)?;
+    Ok(verdict)
+}
+
+// The fault of a text whose header wasn't taken.
+fn fault_of(ended: Result<(), Stop>) -> TraceFault
+    ensures { result ≡ fault_in ended }
+{
+    match ended {
+        Err(Stop::Fault(fault)) => fault,
+        _ => no_header(),
+    }
+}
+
+// Writes the verdict as `check` does, or the sheet of the row that decided.
+fn write_last<W: Write>(
+    alloc: Global,
+    telling: Telling,
+    verdict: Verdict,
+    account: &Account,
+    output: &mut W,
+) -> Result<(), TraceFault>
+    ensures { IfErr result IsOfWriting }
+{
+    let text = match verdict {
+        Verdict::Lawful(_) => lawful_text(alloc, telling, verdict, account.world())?,
+        _ => stopped_text(alloc, telling, verdict, account)?,
+    };
+    put(text.as_str(), output)
+}
+
+// What `check` writes of this lawful verdict.
+fn lawful_text(
+    alloc: Global,
+    telling: Telling,
+    verdict: Verdict,
+    world: &World,
+) -> Result<String, OutOfMemory> {
+    match telling {
+        Telling::Words => verdict_lines(alloc, verdict, world),
+        Telling::Json => {
+            json_line(alloc, &verdict_object(alloc, verdict, world)?).ok_or(AllocError)
+        }
+    }
+}
+
+// What `explain` writes of the row that decided.
+fn stopped_text(
+    alloc: Global,
+    telling: Telling,
+    verdict: Verdict,
+    account: &Account,
+) -> Result<String, OutOfMemory> {
+    let sheet = account_sheet(alloc, account)?;
+    match telling {
+        Telling::Words => Ok(sheet),
+        Telling::Json => {
+            let verdict = head_object(verdict);
+            let sheet = sheet.as_str();
+            json_line(alloc, &SheetObject { verdict, sheet }).ok_or(AllocError)
+        }
+    }
+}

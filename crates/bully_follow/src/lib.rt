@@ -1,0 +1,20 @@
+//! A trace that grows: each row is judged as it comes, and each change of what a node shows is told at once.
+//!
+//! It stands on bully_account, which takes the rows, on bully_explain, whose sheet ends a trace that isn't lawful, on bully_json, on the
+//! crates below these, and on the kit's jiff for the time. The program relies on the verdict being that of `check` on the rows that were
+//! read. What a line tells is tested.
+#![tactic(auto)]
+
+mod changes;
+mod following;
+mod lines;
+mod watch;
+
+pub use following::follow;
+pub use lines::Telling;
+
+/// From this row on it is told how many rows a trace has room for.
+pub const ROOM_FROM: u32 = 900_000;
+
+/// In how many rows that is told once.
+pub const ROOM_STEP: u32 = 10_000;

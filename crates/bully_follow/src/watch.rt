@@ -1,0 +1,80 @@
+//! An account that notes which nodes each row changed.
+
+use crate::changes::{Changed, SeenBefore};
+use bully_account::{Account, Lines};
+use bully_base::{OutOfMemory, Setup};
+use bully_rows::{Header, NodeEvent, Row, RowReader, TraceTaker, Version};
+use std::alloc::Global;
+use std::io::Read;
+
+/// An account, and which nodes the row that it took last changed.
+#[derive(Drop)]
+pub struct Watch {
+    pub account: Account,
+    pub changed: Changed,
+}
+
+impl<R: Read + Drop> TraceTaker<Lines<R>, ()> for Watch {
+    ghost use Rattle.bully_follow.specs.Watched.{HasWatched};
+
+    ghost version_of = { λ w. w.account.judge.version };
+
+    ghost setup_of = { λ w. w.account.judge.world.setup };
+
+    ghost has_taken = { λ _. HasWatched };
+
+    ghost told = { λ _ header rows w taken. (taken.1, taken.0.judged.same) };
+
+    fn begin(alloc: Global, _start: (), header: Header) -> Result<Watch, OutOfMemory> {
+        Ok(Watch {
+            account: Account::new(alloc, header)?,
+            changed: Changed::none(),
+        })
+    }
+
+    fn trace_version(&self) -> Version {
+        self.account.version()
+    }
+
+    fn trace_setup(&self) -> &Setup {
+        self.account.world().setup()
+    }
+
+    fn take_read_event(
+        &mut self,
+        alloc: Global,
+        rows: &RowReader<Lines<R>>,
+        event: NodeEvent,
+    ) -> Result<(), OutOfMemory> {
+        self.take_read_row(alloc, rows, Row::Event(event.event()))
+    }
+
+    fn take_read_row(
+        &mut self,
+        _alloc: Global,
+        rows: &RowReader<Lines<R>>,
+        row: Row,
+    ) -> Result<(), OutOfMemory> {
+        match seen_before(&self.account, &row)? {
+            Some(seen) => {
+                self.account.take_row(rows, row);
+                self.changed = seen.changed(self.account.world());
+            }
+            None => {
+                self.account.take_row(rows, row);
+                self.changed = Changed::none();
+            }
+        }
+        Ok(())
+    }
+}
+
+// What is seen before the row; nothing of a claim, which changes nothing.
+fn seen_before(account: &Account, row: &Row) -> Result<Option<SeenBefore>, OutOfMemory> {
+    let (kind, node) = match row {
+        Row::Event(event) => (event.kind(), event.node()),
+        Row::Detailed(event) => (event.event().kind(), event.node),
+        Row::Claim(_) | Row::Whole(_) => return Ok(None),
+    };
+    Ok(Some(SeenBefore::of(account.world(), kind, node)?))
+}

@@ -1,0 +1,5 @@
+use Rattle.bully_picture.proofs.WrittenLemmas.{writes-then}
+use Rattle.bully_page.proofs.page.push_titled.Goals as goal
+
+pub returns : goal.returns
+returns c = writes-then (writes-then c.push.ensures c.push_title.ensures) c.push-2.ensures

@@ -1,0 +1,4 @@
+mod MarkLemmas
+mod SentLemmas
+mod TextLemmas
+mod WordLemmas

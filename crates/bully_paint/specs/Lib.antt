@@ -1,0 +1,4 @@
+pub mod Marks
+pub mod Painted
+pub mod Wanted
+pub mod Words

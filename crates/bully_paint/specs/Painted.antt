@@ -1,0 +1,20 @@
+-- What a writer with marks holds: text.
+use Rattle.std.specs.Prelude.{◌≡◌, ℕ, List, [], ◌++◌, Option, Some, None, if◌then◌else◌}
+use Rattle.std.specs.Io.KnownBytes.{append_known}
+use Rattle.std.specs.declared.io.Write.{Ghosts}
+use Rattle.bully_paint.specs.Marks.{is_whole, unpainted}
+use Rattle.bully_paint.specs.declared.painted.Painted.{Painted}
+
+-- the text of these bytes, if they are known and end in no mark, and then of those that are held back
+abbrev pub text_with : Option (List ℕ) → List ℕ → Option (List ℕ)
+text_with None held = None
+text_with (Some bytes) held = if is_whole bytes then Some (unpainted (bytes ++ held)) else None
+
+module _ {W : Type 0} {g : Ghosts W} where
+  -- what was written: with marks, the text of what the writer below got, of what is next there, and of what is held back
+  abbrev pub text_in : Painted W g → Option (List ℕ)
+  text_in p = if p.paints then text_with (append_known (g.contents p.below) p.queue.now) p.held.now else g.contents p.below
+
+  -- nothing is held back: what the writer below got is all
+  abbrev pub IsSent : Painted W g → Type 0
+  IsSent p = text_in p ≡ if p.paints then text_with (g.contents p.below) [] else g.contents p.below

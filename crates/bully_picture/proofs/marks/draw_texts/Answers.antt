@@ -1,0 +1,26 @@
+use Rattle.std.proofs.Common.{◌+◌, subst, sym, take}
+use Rattle.bully_picture.specs.Drawn.{HasSaid, scenes_shown}
+use Rattle.bully_picture.specs.Written.{IsIn}
+use Rattle.bully_picture.proofs.ShownLemmas.{said-all, said-more, said-none}
+use Rattle.bully_picture.proofs.marks.draw_texts.Goals as goal
+use Rattle.bully_picture.proofs.marks.draw_texts.Goals.{then-is_shown, else-is_shown}
+
+pub loop-scene-preserved : goal.loop-scene-preserved
+loop-scene-preserved c =
+    let claims = c.args.claims in
+    let verdict = c.args.finished.now.verdict in
+    let scenes = c.as_slice-scene-items.result.now in
+    let i = c.loop-scene.scene-index in
+    let s = c.scene-item.result in
+    elim c.if-is_shown.branch [
+      | then-is_shown w ↦ subst (λ b. IsIn b (λ text. HasSaid text verdict (scenes_shown claims verdict (take (i + 1) scenes)))) (sym w.texts-is)
+          (said-more claims verdict scenes i s c.is_shown.result w.decides-decides.result c.loop-scene.texts w.draw_text.new.texts
+          c.loop-scene-test.true c.scene-item.is c.is_shown.ensures w.if-is_shown.true w.decides-decides.ensures c.loop-scene.invariant w.draw_text.ensures)
+      | else-is_shown w ↦ subst (λ b. IsIn b (λ text. HasSaid text verdict (scenes_shown claims verdict (take (i + 1) scenes)))) (sym w.texts-is)
+          (said-none claims verdict scenes i s c.is_shown.result c.loop-scene.texts c.loop-scene-test.true c.scene-item.is c.is_shown.ensures w.if-is_shown.false c.loop-scene.invariant)
+    ]
+
+pub returns : goal.returns
+returns c =
+    said-all c.args.claims c.args.finished.now.verdict c.as_slice-scene-items.result.now c.args.finished.now.scenes.items c.loop-scene.scene-index c.loop-scene.texts
+    c.loop-scene-test.false c.as_slice-scene-items.ensures.value c.loop-scene.invariant
