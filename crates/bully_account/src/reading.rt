@@ -6,7 +6,7 @@ use crate::Account;
 use crate::lines::Lines;
 use bully_base::{OutOfMemory, Setup};
 use bully_rows::{
-    Header, NodeEvent, Row, RowReader, Started, TraceFault, TraceTaker, Version, take_text,
+    Header, Row, RowReader, Started, TraceFault, TraceTaker, Version, take_text,
 };
 use std::alloc::Global;
 use std::io::Read;
@@ -52,16 +52,6 @@ impl<R: Read + Drop> TraceTaker<Lines<R>, ()> for Account {
 
     fn trace_setup(&self) -> &Setup {
         self.world().setup()
-    }
-
-    fn take_read_event(
-        &mut self,
-        _alloc: Global,
-        rows: &RowReader<Lines<R>>,
-        event: NodeEvent,
-    ) -> Result<(), OutOfMemory> {
-        self.take_row(rows, Row::Event(event.event()));
-        Ok(())
     }
 
     fn take_read_row(

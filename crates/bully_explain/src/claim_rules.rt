@@ -276,14 +276,13 @@ fn push_up_rule(text: &mut Draft, scene: &Scene, told: &NodeSet) {
     } else {
         push_members(text, shown);
     }
-    text.push_str(", so the row");
-    push_parted(text, " adds", told, shown);
-    push_parted(text, " leaves out", shown, told);
+    push_parted(text, ", but the row also names", told, shown);
+    push_parted(text, ", but the row doesn't name", shown, told);
     text.push_str("\n");
 }
 
-// Appends the members of a set that another one lacks, behind a word, where there are any.
-fn push_parted(text: &mut Draft, word: &'static str, set: &NodeSet, other: &NodeSet) {
+// Appends the members of a set that another one lacks, behind these words, if there are any.
+fn push_parted(text: &mut Draft, words: &'static str, set: &NodeSet, other: &NodeSet) {
     let mut parted = *set;
     for before in 0..NODES_MAX {
         match Node::new(before + 1) {
@@ -292,7 +291,7 @@ fn push_parted(text: &mut Draft, word: &'static str, set: &NodeSet, other: &Node
         }
     }
     if !parted.is_empty() {
-        text.push_str(word);
+        text.push_str(words);
         push_members(text, &parted);
     }
 }

@@ -1,5 +1,4 @@
 ghost use Rattle.std.specs.Prelude.{◌≡◌, IfOk, IfSome, OnOk};
-ghost use Rattle.std.specs.Option.{option_copied};
 ghost use Rattle.bully_film.specs.Film.{kept};
 
 use crate::said::Said;
@@ -11,7 +10,7 @@ use crate::window::Window;
 use bully_base::{Node, OutOfMemory, Setup};
 use bully_calls::{EventKind, NodeEventKind};
 use bully_rows::{Header, NodeEvent, Row, Version, WholeClaim};
-use bully_table::Table;
+use bully_table::copied;
 use bully_trace::{Judge, Verdict};
 use bully_world::World;
 use std::alloc::Global;
@@ -387,18 +386,8 @@ fn copy_row(alloc: Global, row: &Row) -> Result<Row, OutOfMemory>
 fn copy_whole(alloc: Global, whole: &WholeClaim) -> Result<WholeClaim, OutOfMemory>
     ensures { IfOk result (λ copy. copy ≡ whole.now) }
 {
-    let task = copy_task(whole.task())?;
+    let task = copied(whole.task())?;
     WholeClaim::new(alloc, whole.claim(), whole.halter(), *whole.up(), task)
-}
-
-// The same task.
-fn copy_task(task: Option<&Table>) -> Result<Option<Table>, OutOfMemory>
-    ensures { IfOk result (λ copy. copy ≡ option_copied task.entry) }
-{
-    match task {
-        Some(table) => Ok(Some(table.copy()?)),
-        None => Ok(None),
-    }
 }
 
 // The snapshots, or none.

@@ -27,7 +27,7 @@ pub use reading::film_of;
 pub use said::Said;
 pub use scene::{Change, Scene};
 pub use slots::{End, HeldCall, Holding, end_at};
-pub use snapshot::{NodeSnapshot, SlotCall, snapshot_of};
+pub use snapshot::{NodeSnapshot, snapshot_of};
 pub use stands::{Bar, Stand};
 pub use stretches::{Seen, Stretch, stretches_of};
 pub use whole::{Lane, lanes, row_before};

@@ -3,7 +3,7 @@
 use crate::changes::{Changed, SeenBefore};
 use bully_account::{Account, Lines};
 use bully_base::{OutOfMemory, Setup};
-use bully_rows::{Header, NodeEvent, Row, RowReader, TraceTaker, Version};
+use bully_rows::{Header, Row, RowReader, TraceTaker, Version};
 use std::alloc::Global;
 use std::io::Read;
 
@@ -38,15 +38,6 @@ impl<R: Read + Drop> TraceTaker<Lines<R>, ()> for Watch {
 
     fn trace_setup(&self) -> &Setup {
         self.account.world().setup()
-    }
-
-    fn take_read_event(
-        &mut self,
-        alloc: Global,
-        rows: &RowReader<Lines<R>>,
-        event: NodeEvent,
-    ) -> Result<(), OutOfMemory> {
-        self.take_read_row(alloc, rows, Row::Event(event.event()))
     }
 
     fn take_read_row(

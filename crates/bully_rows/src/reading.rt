@@ -3,7 +3,6 @@ ghost use Rattle.bully_rows.specs.RecordsLeft.{EndsReading, IsUnread};
 ghost use Rattle.bully_rows.specs.Rows.{IsFirstFault, IsReadAtItsRow, IsTraceOf};
 
 use crate::header::{Header, Version};
-use crate::node_event::NodeEvent;
 use crate::row_reader::RowReader;
 use crate::trace::{Row, Rows, Trace, TraceCause, TraceFault};
 use crate::trace_taking::{TraceTaker, take_trace};
@@ -76,16 +75,6 @@ impl<R: Read + Drop> TraceTaker<R, ()> for TraceRows {
 
     fn trace_setup(&self) -> &Setup {
         &self.header.setup
-    }
-
-    fn take_read_event(
-        &mut self,
-        _alloc: Global,
-        _rows: &RowReader<R>,
-        event: NodeEvent,
-    ) -> Result<(), OutOfMemory> {
-        self.rows.push(Row::Event(event.event()))?;
-        Ok(())
     }
 
     fn take_read_row(

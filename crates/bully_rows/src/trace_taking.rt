@@ -45,7 +45,8 @@ pub trait TraceTaker<R: Read + Drop, S>: Drop {
     fn trace_setup(&self) -> &Setup
         ensures { result.now ≡ setup_of self.now };
 
-    /// Takes the row that was read last, which tells this event. Refused where an allocation fails.
+    /// Takes the row that was read last, which tells this event. Refused where an allocation fails. It is for who has a shorter way
+    /// than by a `Row`.
     fn take_read_event(
         &mut self,
         alloc: Global,
@@ -53,7 +54,10 @@ pub trait TraceTaker<R: Read + Drop, S>: Drop {
         event: NodeEvent,
     ) -> Result<(), OutOfMemory>
         requires { row_of (version_of self.old) (setup_of self.old) rows.now.fields ≡ Some (RowState.Event (event_at event.kind event.node)) }
-        ensures { (start : S) → OnOk result (GoesOn (has_taken start) rows.now (RowState.Event (event_at event.kind event.node)) self.old self.new) };
+        ensures { (start : S) → OnOk result (GoesOn (has_taken start) rows.now (RowState.Event (event_at event.kind event.node)) self.old self.new) }
+    {
+        self.take_read_row(alloc, rows, Row::Event(event.event()))
+    }
 
     /// Takes the row that was read last, which is this one. Refused where an allocation fails.
     fn take_read_row(
