@@ -73,7 +73,7 @@ pub finished-is : (known : Option (List ℕ)) (window : WindowState) (film after
     → ((setup : Setup) (rows : List Row) → HasJudged setup rows after.judge → IsJudged setup (first_world setup) 0 2 rows finished.verdict (world_of after.judge.world))
     → OfTrace known (IsFilmOf window finished)
 finished-is None window film after finished all is same_setup judge stop scenes at_end verdict = tt
-finished-is (Some bytes) window film after finished (header, rows, means, within, (filmed, version, in_window)) is same_setup judge stop scenes at_end verdict = (
+finished-is (Some bytes) window film after finished (header, rows, means, within, (filmed, in_window)) is same_setup judge stop scenes at_end verdict = (
   headed header rows,
   means,
   finished-rows header.setup header.version window rows film finished filmed in_window

@@ -145,7 +145,7 @@ pub record IsFilmOf (asked : WindowState) (finished : FinishedFilm) (trace : Tra
 
 -- the rows of a trace with this header were filmed, for this window
 abbrev pub HasFilmedBehind : WindowState → Header → List Row → FilmState → Type 0
-HasFilmedBehind window header rows film = HasFilmed header.setup rows film × (film.judge.version ≡ header.version) × (film.window ≡ window)
+HasFilmedBehind window header rows film = HasFilmed header.setup rows film × (film.window ≡ window)
 
 -- all rows of a text were filmed
 abbrev pub AreAllFilmed : Option (List ℕ) → WindowState → FilmState → Type 0
