@@ -1,4 +1,4 @@
-ghost use Rattle.std.specs.Prelude.{◌≡◌, ◌⊎◌, length, not, IfOk, IsSome, IsTrue, Some, None, option_map, option_and_then};
+ghost use Rattle.std.specs.Prelude.{◌≡◌, ◌⊎◌, not, IfOk, IsSome, IsTrue, Some, None, option_map, option_and_then};
 ghost use Rattle.std.specs.Option.{option_copied};
 ghost use Rattle.bully_calls.specs.Pending.{is_sent, is_failed, pending_call};
 ghost use Rattle.bully_calls.specs.Slot.{phased, CarriesFor, holds_call, outcome_in, pending_in, is_orphan as orphan_in};

@@ -5,7 +5,6 @@
 //! each row of it, and on each stretch of its slot telling the call that is there behind each row of it.
 #![tactic(auto)]
 
-ghost use Rattle.std.specs.Prelude.{◌≡◌};
 ghost use Rattle.bully_film.specs.Behind.{LeadsBehind};
 
 mod distance;
