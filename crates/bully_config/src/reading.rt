@@ -5,7 +5,7 @@ ghost use Rattle.toml.specs.Parse.{parse_document};
 ghost use Rattle.toml.specs.View.{view, table_view};
 ghost use Rattle.bully_base.specs.declared.TheConstants.{NODES_MAX};
 ghost use Rattle.bully_config.specs.Answers.{TellsEachFault, answer_of, refusal_of};
-ghost use Rattle.toml.specs.Data.{as_table};
+ghost use Rattle.toml.specs.Data.{Members, as_table};
 ghost use Rattle.bully_config.specs.Document.{items_at};
 ghost use Rattle.bully_config.specs.Configuration.{has_double};
 ghost use Rattle.bully_config.specs.Values.{values_of, fault_in, faults_in, names_of, weight_told};

@@ -2,12 +2,13 @@
 ghost use Rattle.std.specs.Prelude.{◌≡◌, ◌≤◌, map, length};
 ghost use Rattle.std.specs.Fn.{FnReturnsAt};
 ghost use Rattle.std.specs.List.{list_all, list_any};
-ghost use Rattle.toml.specs.View.{view, table_view};
+ghost use Rattle.toml.specs.View.{view, table_view, members_view};
 ghost use Rattle.bully_base.specs.declared.TheConstants.{NODES_MAX};
 ghost use Rattle.bully_config.specs.Answers.{refusal_of};
 ghost use Rattle.std.specs.Str.{bytes_eq};
 ghost use Rattle.bully_config.specs.Configuration.{has_double, is_empty};
 ghost use Rattle.bully_config.specs.Document.{value_at};
+ghost use Rattle.bully_config.specs.Keys.{fault_keys};
 ghost use Rattle.bully_config.specs.Refusals.{first_failing, first_in, first_absent, missing_in, is_table, is_string, is_integer, is_weight, has_kind, first_misfit, key_in_fault, misfit_in, range_key_in, are_names, are_weights, fault_out_of_range, out_of_range_in, is_listed, has_unlisted, fault_has_unlisted, has_unlisted_in, fits};
 ghost use Rattle.bully_config.specs.Searches.{Computes};
 ghost use Rattle.bully_config.specs.Values.{names_of};

@@ -1,5 +1,5 @@
 //! Who wants colours.
-ghost use Rattle.std.specs.Prelude.{◌≡◌, option_map};
+ghost use Rattle.std.specs.Prelude.{◌≡◌, option_map, codes};
 ghost use Rattle.bully_paint.specs.Wanted.{is_able, is_unset, wants_colours};
 
 /// Whether a terminal is to have colours, by the values of `NO_COLOR` and `TERM`, where they are set: not if the first has a value that
