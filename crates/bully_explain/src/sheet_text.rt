@@ -7,9 +7,7 @@ use crate::rules::push_nodes_rule;
 use crate::scene::{Scene, last_move, node_at};
 use crate::sentences::{push_cause_rule, push_refused};
 use crate::words::{push_held, push_offer, push_point, push_row_place, push_vector, push_what};
-use bully_account::{
-    Account, EventKind, Memory, NodeSheet, NodeSummary, Note, Stop, node_sheet,
-};
+use bully_account::{Account, EventKind, Memory, NodeSheet, NodeSummary, Note, Stop, node_sheet};
 use bully_base::{Node, OutOfMemory, Status};
 use bully_calls::PendingCall;
 use bully_rows::Row;
