@@ -107,7 +107,7 @@ pub told-answer : {E : Type 0} (contents : E → KnownBytes) (known : KnownBytes
     → IfSome known (λ bytes. IsCheckAnswer true bytes output output' (contents errors) (contents errors') status)
 told-answer contents None judge verdict text output output' errors errors' status all says written = tt
 told-answer contents (Some bytes) judge verdict text output output' errors errors' status (header, rows, trace, within, judged) says (inl (done, appended, same)) =
-    inl (headed header rows, verdict, world_of judge.world, text, trace, says header.setup rows judged, appended, keeps-same _ _ (ap contents same), done)
+    inl (headed header rows, verdict, world_of judge.world, text, trace, says header.setup rows judged.0, appended, keeps-same _ _ (ap contents same), done)
 told-answer contents (Some bytes) judge verdict text output output' errors errors' status (header, rows, trace, within, judged) says (inr (stopped, told)) =
     inr (inr (Stop.Write, (λ other. absurd (other refl)), (λ _. rw trace refl), told, stopped))
 

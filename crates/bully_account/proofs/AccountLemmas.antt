@@ -36,4 +36,4 @@ taken-more rows row setup judge after stop stop' memories memories' taken judged
 
 -- the judge's part of what was taken
 pub all-judged : (known : Option (List ℕ)) (account : AccountState) → AreAllTaken known account → AreAllJudged known account.judge
-all-judged known account (header, rows, is, within, taken) = (header, rows, is, within, taken.judged)
+all-judged known account (header, rows, is, within, (taken, version)) = (header, rows, is, within, (taken.judged, version))

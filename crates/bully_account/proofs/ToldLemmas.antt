@@ -21,7 +21,7 @@ pub verdict-told : (known : Option (List ℕ)) (judge : JudgeState) (verdict : V
     → ((setup : Setup) (rows : List Row) → HasJudged setup rows judge → IsJudged setup (first_world setup) 0 2 rows verdict (world_of judge.world))
     → IsReached judge.world → ShowsAll judge.world sheets → AreAllJudged known judge → OfTrace known (Explains verdict sheets)
 verdict-told None judge verdict sheets says reached shown all = tt
-verdict-told (Some bytes) judge verdict sheets says reached shown (header, rows, is, within, judged) = (
+verdict-told (Some bytes) judge verdict sheets says reached shown (header, rows, is, within, (judged, version)) = (
   headed header rows,
   is,
   record { world = judge.world; reached = reached; same = judged.same; judged = says header.setup rows judged; shown = shown },

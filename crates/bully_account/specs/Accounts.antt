@@ -38,10 +38,14 @@ pub record HasTaken (setup : Setup) (rows : List Row) (account : AccountState) :
   pub decided : IfSome account.stop (λ s. IsRowAt rows s.number s.row)
   pub remembered : AreRemembered setup rows 1 account.memories
 
+-- the same of the rows of a trace with this header
+abbrev pub HasTakenBehind : Header → List Row → AccountState → Type 0
+HasTakenBehind header rows account = HasTaken header.setup rows account × (account.judge.version ≡ header.version)
+
 -- all rows of a text were taken
 abbrev pub AreAllTaken : Option (List ℕ) → AccountState → Type 0
-AreAllTaken = IsWhollyTaken (λ (header : Header). HasTaken header.setup)
+AreAllTaken = IsWhollyTaken HasTakenBehind
 
 -- a text was read to its end: it has no header, or all its rows were taken
 abbrev pub AreTakenToEnd : Option (List ℕ) → Option AccountState → Type 0
-AreTakenToEnd = IsTakenToEnd (λ (header : Header). HasTaken header.setup)
+AreTakenToEnd = IsTakenToEnd HasTakenBehind

@@ -32,9 +32,9 @@ pub fn read_each<R: Read + Drop>(
 }
 
 impl<R: Read + Drop> TraceTaker<Lines<R>, ()> for Account {
-    ghost use Rattle.bully_account.specs.Accounts.{HasTaken};
+    ghost use Rattle.bully_account.specs.Accounts.{HasTakenBehind};
 
-    ghost has_taken = { λ _ header. HasTaken header.setup };
+    ghost has_taken = { λ _. HasTakenBehind };
 
     fn begin(alloc: Global, _start: (), header: Header) -> Result<Account, OutOfMemory> {
         Account::new(alloc, header)

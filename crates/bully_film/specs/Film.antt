@@ -96,10 +96,10 @@ IsInWindow window before shown =
     ⊎ ((length before + 2 < window.from) × (shown ≡ []))
     ⊎ ((window.from < length before + 2) × (length shown ≡ window.most))
 
--- how the nodes stand is kept behind the rows before and those shown, of which the last has this number; or it isn't yet, and no row is
--- beyond these unless one decided
-abbrev pub IsEnd : Setup → List Row → List Row → List Row → JudgeState → ℕ → (ℕ → Type 0) → Option (List NodeSnapshot) → Type 0
-IsEnd setup before shown beyond judge to P at_end = MatchOption at_end
+-- how the nodes stand behind the rows before and those shown is kept, and the last of these has this number; or it isn't kept yet: the
+-- judge took just these rows, P holds of the last one's number, and no row is beyond them unless one decided
+abbrev pub IsAtEnd : Setup → List Row → List Row → List Row → JudgeState → ℕ → (ℕ → Type 0) → Option (List NodeSnapshot) → Type 0
+IsAtEnd setup before shown beyond judge to P at_end = MatchOption at_end
     (HasJudged setup (before ++ shown) judge × (judge.stopped ≡ None → beyond ≡ []) × P (length before + length shown + 1))
     (λ kept. (length before + length shown + 1 ≡ to) × (kept ≡ snapshots_of (world_behind setup (before ++ shown)) 1 setup.nodes))
 
@@ -117,7 +117,7 @@ pub record HasFilmedUp (setup : Setup) (rows : List Row) (film : FilmState) (P :
   pub unlawful : decided film.judge.stopped ≡ None → film.judge.stopped ≡ None
   pub stop : IsRowAt rows (decided film.judge.stopped) film.stop
   pub ends : length before + length shown + 1 ≡ min film.window.to (last_judged rows (decided film.judge.stopped))
-  pub at_end : IsEnd setup before shown beyond film.judge film.window.to P film.at_end
+  pub at_end : IsAtEnd setup before shown beyond film.judge film.window.to P film.at_end
 
 abbrev pub HasFilmed : Setup → List Row → FilmState → Type 0
 HasFilmed setup rows film = HasFilmedUp setup rows film (λ last. last < film.window.to)

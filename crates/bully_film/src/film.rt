@@ -12,7 +12,6 @@ use bully_calls::{EventKind, NodeEventKind};
 use bully_rows::{Header, NodeEvent, Row, WholeClaim};
 use bully_table::copied;
 use bully_trace::{Judge, Verdict};
-use bully_world::World;
 use std::alloc::Global;
 use std::collections::VecDeque;
 use std::marker::Model;
@@ -86,13 +85,6 @@ impl Film {
             stop: None,
             at_end: None,
         })
-    }
-
-    /// The world that the rows were taken to: where one decided, that before it.
-    pub fn world(&self) -> &World
-        ensures { result.now ≡ self.now.judge.world }
-    {
-        self.judge.world()
     }
 
     /// Takes the row of this number. Refused where an allocation fails, and then the film is of no more use.

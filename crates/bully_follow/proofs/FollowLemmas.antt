@@ -24,7 +24,7 @@ takes-some reader None takes = takes
 takes-some reader (Some b) takes = takes
 
 -- what watches the rows of a text, where that was begun
-abbrev watch_in : Option (Begun Watch) → Option Watch
+abbrev pub watch_in : Option (Begun Watch) → Option Watch
 watch_in = option_map (λ b. b.taker)
 
 decided-ended : (known : Option (List ℕ)) (now : ReadSoFar) (before after : Option (Begun Watch)) (verdict : Verdict) → TakesWatched now before after → decides verdict now.number ≡ true
@@ -88,12 +88,12 @@ pub judged-behind : (behind : Option (Begun Watch)) (seen : Begun Watch) (verdic
 judged-behind behind seen verdict here judged b header rows is taken =
     let same : seen ≡ b = cc (sym here ∙ is) in
     let all : JudgesAll b.taker.account verdict = subst (λ (x : Begun Watch). JudgesAll x.taker.account verdict) same judged in
-    (world_of b.taker.account.judge.world, all header.setup rows taken.judged)
+    (world_of b.taker.account.judge.world, all header.setup rows taken.0.judged)
 
 pub followed-all : (known : Option (List ℕ)) (account : AccountState) (watch : Watch) (verdict : Verdict) → watch.account ≡ account → IsEnded known (Ok tt) (Some watch) → JudgesAll account verdict
     → IsFollowedAs known verdict
 followed-all known account watch verdict same (header, rows, trace, within, taken) judged =
-    inl (header, rows, trace, (world_of account.judge.world, judged header.setup rows (subst (λ (a : AccountState). HasJudged header.setup rows a.judge) same taken.judged)))
+    inl (header, rows, trace, (world_of account.judge.world, judged header.setup rows (subst (λ (a : AccountState). HasJudged header.setup rows a.judge) same taken.0.judged)))
 
 pub followed-part : (known : Option (List ℕ)) (watch : Option Watch) (verdict : Verdict) → IsEnded known (Err (Stop.Decided verdict)) watch → IsFollowedAs known verdict
 followed-part known watch verdict (some, left, rows, read, told, other) = inr (left, rows, read, told, other)

@@ -13,13 +13,13 @@ use Rattle.bully_world.specs.World.{World}
 use Rattle.bully_trace.specs.declared.verdict.Verdict.{Verdict}
 use Rattle.bully_trace.specs.OneRow.{decides}
 use Rattle.bully_trace.specs.Verdict.{IsVerdict}
-use Rattle.bully_account.specs.Accounts.{HasTaken}
+use Rattle.bully_account.specs.Accounts.{HasTakenBehind}
 use Rattle.bully_follow.specs.declared.following.Stop.{Stop}
 use Rattle.bully_follow.specs.declared.watch.Watch.{Watch}
 
 -- the rows of a trace with this header were taken
 abbrev pub HasWatched : Header → List Row → Watch → Type 0
-HasWatched header rows w = HasTaken header.setup rows w.account
+HasWatched header rows w = HasTakenBehind header rows w.account
 
 -- the header begins what watches, and each row behind it is taken
 abbrev pub TakesWatched : ReadSoFar → Option (Begun Watch) → Option (Begun Watch) → Type 0

@@ -17,7 +17,7 @@ judged-as : (known : Option (List ℕ)) (judge : JudgeState) (verdict : Verdict)
     → ((setup : Setup) (rows : List Row) → HasJudged setup rows judge → IsJudged setup (first_world setup) 0 2 rows verdict (world_of judge.world))
     → Writes (verdict_text judge.world.setup verdict (world_of judge.world)) → AreAllJudged known judge → IsJudgedAs known verdict Writes
 judged-as None judge verdict Writes says written all = tt
-judged-as (Some bytes) judge verdict Writes says written (header, rows, is, within, judged) = (
+judged-as (Some bytes) judge verdict Writes says written (header, rows, is, within, (judged, version)) = (
   headed header rows,
   world_of judge.world,
   is,
@@ -29,7 +29,7 @@ judged-so : (known : Option (List ℕ)) (judge : JudgeState) (verdict : Verdict)
     → ((setup : Setup) (rows : List Row) → HasJudged setup rows judge → IsJudged setup (first_world setup) 0 2 rows verdict (world_of judge.world))
     → ((trace : Trace) → IsVerdict trace verdict (world_of judge.world) → P trace) → AreAllJudged known judge → OfTrace known P
 judged-so None judge verdict P says holds all = tt
-judged-so (Some bytes) judge verdict P says holds (header, rows, is, within, judged) =
+judged-so (Some bytes) judge verdict P says holds (header, rows, is, within, (judged, version)) =
     (headed header rows, is, holds (headed header rows) (says header.setup rows judged))
 
 -- the same of what was told, which is a verdict or a fault

@@ -30,6 +30,10 @@ pub record HasJudged (setup : Setup) (rows : List Row) (judge : JudgeState) : Ty
   pub judged : (more : List Row) (verdict : Verdict) (w : World) → IsJudgedOn judge.world judge.stopped (length rows + 2) more verdict w
       → IsJudged setup (first_world setup) 0 2 (rows ++ more) verdict w
 
+-- the rows of a trace with this header were judged
+abbrev pub HasJudgedBehind : Header → List Row → JudgeState → Type 0
+HasJudgedBehind header rows judge = HasJudged header.setup rows judge × (judge.version ≡ header.version)
+
 -- all rows of a text were judged
 abbrev pub AreAllJudged : Option (List ℕ) → JudgeState → Type 0
-AreAllJudged = IsWhollyTaken (λ (header : Header). HasJudged header.setup)
+AreAllJudged = IsWhollyTaken HasJudgedBehind

@@ -65,9 +65,9 @@ pub fn judge_text<R: Read + Drop>(alloc: Global, reader: R) -> Result<Judge, Tra
 
 // (an event that names a node and no more is judged in the loop over the rows, and is never a `Row`)
 impl<R: Read + Drop> TraceTaker<R, ()> for Judge {
-    ghost use Rattle.bully_trace.specs.Judging.{HasJudged};
+    ghost use Rattle.bully_trace.specs.Judging.{HasJudgedBehind};
 
-    ghost has_taken = { λ _ header. HasJudged header.setup };
+    ghost has_taken = { λ _. HasJudgedBehind };
 
     fn begin(alloc: Global, _start: (), header: Header) -> Result<Judge, OutOfMemory> {
         Judge::new(alloc, header)
