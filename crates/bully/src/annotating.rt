@@ -1,6 +1,6 @@
 ghost use Rattle.std.specs.Prelude.{◌≡◌, ◌≤◌, ◌⊎◌, IfOk, IfSome, string_bytes};
 ghost use Rattle.bully.specs.Answer.{Tells, stop_line};
-ghost use Rattle.bully.specs.AnnotateAnswer.{IsAnnotateAnswer, long_line, verdict_line};
+ghost use Rattle.bully.specs.AnnotateAnswer.{IsAnnotateAnswer, verdict_line};
 
 use crate::telling::{Stop, answer_fault, answer_stop, finish, tell};
 use bully_annotate::{Annotation, annotate};

@@ -1,4 +1,4 @@
-ghost use Rattle.std.specs.Prelude.{◌≡◌, ◌⊎◌, ◌++◌, IfOk, IfErr, codes, string_bytes};
+ghost use Rattle.std.specs.Prelude.{◌≡◌, ◌⊎◌, IfOk, IfErr, string_bytes};
 ghost use Rattle.bully.specs.Answer.{Tells, stop_line};
 ghost use Rattle.bully.specs.RefusalText.{refusal_line, refusal_of_config, refusal_of_plan, refusal_of_table, refusal_status};
 

@@ -1,16 +1,11 @@
 -- What a sheet shows of a node: what the world has of it.
 use Rattle.std.specs.Prelude.{◌≡◌, ℕ, ◌+◌, List, [], ◌∷◌, length, ⊤, option_map}
-use Rattle.bully_calls.specs.Pending.{Pending}
+use Rattle.bully_calls.specs.Pending.{pending_call}
 use Rattle.bully_world.specs.State.{WorldState, node_state_of, state_at}
 use Rattle.bully_steps.specs.Point.{offered}
 use Rattle.bully_account.specs.declared.showing.NodeSheet.{NodeSheet}
 use Rattle.bully_account.specs.declared.showing.NodeSummary.{NodeSummary}
-use Rattle.bully_account.specs.declared.showing.CallSummary.{CallSummary}
 use Rattle.bully_account.specs.Possible.{ArePossible}
-
--- the call in a slot, without its table
-abbrev pub shown_call : Pending → CallSummary
-shown_call c = record { call = c.call; phase = c.phase; is_live = c.is_live }
 
 -- node i's vector but for its task, its generation, its point with what that offers, and the call in its slot
 abbrev pub shown_in : WorldState → ℕ → NodeSummary
@@ -25,7 +20,7 @@ shown_in w i =
       generation = s.generation;
       point = m.point;
       offer = offered w.setup m.vector.coordinator m.point;
-      call = option_map shown_call m.pending;
+      call = option_map pending_call m.pending;
     }
 
 -- the sheet shows what the world has of node i, and the kinds of event that are possible there

@@ -21,7 +21,7 @@ pub use bully_calls::EventKind;
 pub use lines::{Lines, line_of};
 pub use memory::{Memory, Note, What};
 pub use possible::possible_now;
-pub use showing::{CallSummary, NodeSheet, NodeSummary, node_sheet, shown_of};
+pub use showing::{NodeSheet, NodeSummary, node_sheet, shown_of};
 pub use telling::{TraceReport, tell};
 
 /// How many of its last rows a node has remembered.

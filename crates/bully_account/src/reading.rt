@@ -4,10 +4,8 @@ ghost use Rattle.bully_rows.specs.RecordsLeft.{EndsReading, IsUnread};
 
 use crate::Account;
 use crate::lines::Lines;
-use bully_base::{OutOfMemory, Setup};
-use bully_rows::{
-    Header, NodeEvent, Row, RowReader, Started, TraceFault, TraceTaker, Version, take_text,
-};
+use bully_base::OutOfMemory;
+use bully_rows::{Header, Row, RowReader, Started, TraceFault, TraceTaker, take_text};
 use std::alloc::Global;
 use std::io::Read;
 
@@ -24,44 +22,22 @@ pub fn read_each<R: Read + Drop>(
 {
     let mut text: Started<(), Account> = Started {
         start: (),
-        taker: None,
+        begun: None,
     };
     let taken = take_text(alloc, rows, &mut text);
-    *account = text.taker;
+    if let Some(begun) = text.begun {
+        *account = Some(begun.taker);
+    }
     taken
 }
 
 impl<R: Read + Drop> TraceTaker<Lines<R>, ()> for Account {
     ghost use Rattle.bully_account.specs.Accounts.{HasTakenBehind};
 
-    ghost version_of = { λ a. a.judge.version };
-
-    ghost setup_of = { λ a. a.judge.world.setup };
-
     ghost has_taken = { λ _. HasTakenBehind };
-
-    ghost told = { λ _ header rows a taken. (taken.1, taken.0.judged.same) };
 
     fn begin(alloc: Global, _start: (), header: Header) -> Result<Account, OutOfMemory> {
         Account::new(alloc, header)
-    }
-
-    fn trace_version(&self) -> Version {
-        self.version()
-    }
-
-    fn trace_setup(&self) -> &Setup {
-        self.world().setup()
-    }
-
-    fn take_read_event(
-        &mut self,
-        _alloc: Global,
-        rows: &RowReader<Lines<R>>,
-        event: NodeEvent,
-    ) -> Result<(), OutOfMemory> {
-        self.take_row(rows, Row::Event(event.event()));
-        Ok(())
     }
 
     fn take_read_row(

@@ -1,10 +1,9 @@
-ghost use Rattle.std.specs.Prelude.{◌≡◌, ◌≤◌, [], option_map, IfOk, OnOk};
-ghost use Rattle.bully_calls.specs.Slot.{pending_in};
-ghost use Rattle.bully_account.specs.NodeSummary.{Shows, ShowsAll, shown_call, shown_in};
+ghost use Rattle.std.specs.Prelude.{◌≡◌, ◌≤◌, [], IfOk, OnOk};
+ghost use Rattle.bully_account.specs.NodeSummary.{Shows, ShowsAll, shown_in};
 
 use crate::{EventKind, possible_now};
 use bully_base::{Node, NodeSet, OutOfMemory, Status};
-use bully_calls::{Call, Phase, Slot};
+use bully_calls::PendingCall;
 use bully_steps::{Point, Want};
 use bully_trace::offer_of;
 use bully_world::World;
@@ -22,15 +21,7 @@ pub struct NodeSummary {
     pub generation: u32,
     pub point: Point,
     pub offer: Want,
-    pub call: Option<CallSummary>,
-}
-
-/// The call in a node's slot: how far it came, and whether its caller wasn't stopped since it was started.
-#[derive(Clone, Copy)]
-pub struct CallSummary {
-    pub call: Call,
-    pub phase: Phase,
-    pub is_live: bool,
+    pub call: Option<PendingCall>,
 }
 
 /// What a sheet tells of a node: what is shown of it, and the kinds of event that nothing refuses now, in the order of the profile's
@@ -86,20 +77,6 @@ pub fn shown_of(world: &World, node: Node) -> NodeSummary
         generation: world.generation(node),
         point: world.point(node),
         offer: offer_of(world, node),
-        call: shown_call(world.slot(node), world.generation(node)),
-    }
-}
-
-// The call in the slot of a caller of this generation.
-fn shown_call(slot: &Slot, generation: u32) -> Option<CallSummary>
-    ensures { result ≡ option_map shown_call (pending_in generation slot.now) }
-{
-    match (slot.call(), slot.phase()) {
-        (Some(call), Some(phase)) => Some(CallSummary {
-            call,
-            phase,
-            is_live: !slot.is_orphan(generation),
-        }),
-        _ => None,
+        call: world.slot(node).pending(world.generation(node)),
     }
 }

@@ -18,7 +18,7 @@ use bully_base::{Node, OutOfMemory, Setup};
 use bully_calls::{NodeEventKind, Reply, Request, Slot};
 use bully_handlers::Vector;
 use bully_steps::{Point, Want, planned_table};
-use bully_table::Table;
+use bully_table::{Table, copied};
 use bully_world::{Event, NodeState, Refused, TakenStep, is_full_for};
 use std::alloc::{AllocError, Global};
 use std::marker::Model;
@@ -179,7 +179,7 @@ impl Agent {
             caller: self.node,
             number: self.number,
             call,
-            table: copy_of(slot.table())?,
+            table: copied(slot.table())?,
         }))
     }
 
@@ -368,15 +368,5 @@ fn number_after(event: &Event, events: u32, number: u32) -> u32
     match event {
         Event::Start(_) => events,
         _ => number,
-    }
-}
-
-// A copy of the table, if there is one. Refused where an allocation fails.
-fn copy_of(table: Option<&Table>) -> Result<Option<Table>, OutOfMemory>
-    ensures { IfOk result (λ copy. copy ≡ option_copied table.entry) }
-{
-    match table {
-        Some(table) => Ok(Some(table.copy()?)),
-        None => Ok(None),
     }
 }

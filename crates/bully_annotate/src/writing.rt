@@ -1,5 +1,5 @@
 //! The writing of a trace with everything said.
-ghost use Rattle.std.specs.Prelude.{◌≡◌, ◌≤◌, ◌∷◌, ℕ, List, IfOk, OnOk, string_bytes};
+ghost use Rattle.std.specs.Prelude.{◌≡◌, ◌≤◌, ◌∷◌, ℕ, List, IfOk, OnOk};
 ghost use Rattle.std.specs.Io.KnownBytes.{Appends};
 ghost use Rattle.bully_annotate.specs.Says.{IsLawfulFrom, IsSomewhereLawful, IsTraceWritten, IsWrittenOf, Says};
 ghost use Rattle.bully_rows.specs.declared.header.Version.{Version as VersionOf};

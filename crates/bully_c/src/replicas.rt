@@ -1,5 +1,5 @@
 //! Replicas behind their handles, and headers.
-ghost use Rattle.std.specs.Prelude.{◌≡◌, None, IfErr, IfOk, reverse, string_bytes, unwrap_or, []};
+ghost use Rattle.std.specs.Prelude.{◌≡◌, None, IfErr, IfOk, string_bytes};
 ghost use Rattle.bully_c.specs.Arguments.{IsCopied, setup_given};
 ghost use Rattle.bully_c.specs.Exports.{IsClosing};
 ghost use Rattle.bully_c.specs.Replicas.{AtLog, IsEventRow, IsHeaderRow, IsLearning, IsLogOpening, IsNextRow, IsWritten, RefusesEvent, RefusesHeaderRow, RefusesNext, IsListShown, IsStateShown, ShowsLog, group_shown, table_shown, task_in, up_in};

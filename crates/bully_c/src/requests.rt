@@ -1,5 +1,5 @@
 //! The requests and replies of agents, as lines.
-ghost use Rattle.std.specs.Prelude.{◌≡◌, [], IsUtf8, Ok, IfErr, IfOk, None, string_bytes};
+ghost use Rattle.std.specs.Prelude.{◌≡◌, IsUtf8, Ok, IfErr, IfOk, None, string_bytes};
 ghost use Rattle.bully_lines.specs.Texts.{reply_of_text, reply_text};
 ghost use Rattle.bully_c.specs.Arguments.{IsMadeAndCopied};
 ghost use Rattle.bully_c.specs.Exports.{AtOpen, IsFailure, IsReply, IsRequestLine, IsServe, RefusesReplyLine, RefusesRequestLine, Shows, request_line, told_answer};

@@ -6,7 +6,7 @@ ghost use Rattle.bully_table.specs.TableText.{owners_text};
 ghost use Rattle.bully_c.specs.Arguments.{AreGiven, IsSetupRefusal, RefusesGiven, RefusesOwners, setup_given, setup_with, table_given};
 
 use crate::status::{self, BAD_NODE, OUT_OF_MEMORY, TABLE_LENGTH, TABLE_OWNER};
-use bully_base::{NODES_MAX, Node, NodeSet, OutOfMemory, Setup};
+use bully_base::{NODES_MAX, Node, OutOfMemory, Setup};
 use bully_table::Table;
 use std::alloc::Global;
 

@@ -3,6 +3,7 @@ use Rattle.std.specs.Prelude.{ℕ, Bool, true, false, List, Option, Some, None}
 use Rattle.bully_calls.specs.declared.call.Answer.{Answer}
 use Rattle.bully_calls.specs.declared.call.Call.{Call}
 use Rattle.bully_calls.specs.declared.call.Outcome.{Outcome}
+use Rattle.bully_calls.specs.declared.call.PendingCall.{PendingCall}
 use Rattle.bully_calls.specs.declared.call.Phase.{Phase}
 
 -- a pending call: the call, the table that a Ready carries, how far it came, and whether it is live or an orphan
@@ -11,6 +12,10 @@ pub record Pending : Type 0 where
   pub table : Option (List ℕ)
   pub phase : Phase
   pub is_live : Bool
+
+-- the same without the table
+abbrev pub pending_call : Pending → PendingCall
+pending_call c = record { call = c.call; phase = c.phase; is_live = c.is_live }
 
 -- its caller was stopped
 abbrev pub orphan_of : Pending → Pending

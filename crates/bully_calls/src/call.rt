@@ -52,3 +52,11 @@ pub enum Phase {
     Ran(Answer),
     Failed,
 }
+
+/// The call in a slot, without its table: how far it came, and whether its caller wasn't stopped since it was started.
+#[derive(Clone, Copy, PartialEq, Eq, Debug)]
+pub struct PendingCall {
+    pub call: Call,
+    pub phase: Phase,
+    pub is_live: bool,
+}

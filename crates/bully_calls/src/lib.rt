@@ -14,7 +14,7 @@ mod slot;
 mod waiting;
 mod words;
 
-pub use call::{Answer, Call, CallKind, Outcome, Phase, Tag};
+pub use call::{Answer, Call, CallKind, Outcome, PendingCall, Phase, Tag};
 pub use event::{Event, Refused};
 pub use kind::{EVERY_EVENT_KIND, EventKind, KindFacts, NodeEventKind, Saying, Whose};
 pub use message::{Reply, Request};

@@ -1,9 +1,9 @@
-ghost use Rattle.std.specs.Prelude.{◌≡◌, ◌⊎◌, length, not, IfOk, IsSome, IsTrue, Some, None, option_map, option_and_then};
+ghost use Rattle.std.specs.Prelude.{◌≡◌, ◌⊎◌, not, IfOk, IsSome, IsTrue, Some, None, option_map, option_and_then};
 ghost use Rattle.std.specs.Option.{option_copied};
-ghost use Rattle.bully_calls.specs.Pending.{is_sent, is_failed};
-ghost use Rattle.bully_calls.specs.Slot.{phased, CarriesFor, holds_call, outcome_in, is_orphan as orphan_in};
+ghost use Rattle.bully_calls.specs.Pending.{is_sent, is_failed, pending_call};
+ghost use Rattle.bully_calls.specs.Slot.{phased, CarriesFor, holds_call, outcome_in, pending_in, is_orphan as orphan_in};
 
-use crate::call::{Answer, Call, Outcome, Phase, Tag};
+use crate::call::{Answer, Call, Outcome, PendingCall, Phase, Tag};
 use bully_base::{OutOfMemory, Setup};
 use bully_table::{Table, TableRoom};
 use std::alloc::Global;
@@ -112,6 +112,19 @@ impl Slot {
             Some(content) => content.tag.generation != generation,
             None => false,
         }
+    }
+
+    /// The call without its table, as its caller of this generation has it.
+    #[inline(always)]
+    pub fn pending(&self, generation: u32) -> Option<PendingCall>
+        ensures { result ≡ option_map pending_call (pending_in generation self.now) }
+    {
+        let content = self.content?;
+        Some(PendingCall {
+            call: content.call,
+            phase: content.phase,
+            is_live: content.tag.generation == generation,
+        })
     }
 
     /// How far the call has come.

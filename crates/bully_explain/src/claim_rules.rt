@@ -263,12 +263,12 @@ fn push_halter_rule(text: &mut Draft, scene: &Scene) {
     text.push_str("\n");
 }
 
-// Appends the line of the rule for an up set, and where what is told goes by it.
+// Appends the line of the rule for an up set, and how what is told differs from it.
 fn push_up_rule(text: &mut Draft, scene: &Scene, told: &NodeSet) {
     let shown = &scene.shown.up;
     text.push_str(RULE);
     text.push_str(
-        "an up set has the lower nodes whose Halt returned with yes since the move of step 2: ",
+        "a node's up set has the lower nodes that answered its Halt with yes since its move of step 2: ",
     );
     text.push_between("node ", scene.number(), "'s is");
     if shown.is_empty() {
@@ -276,25 +276,39 @@ fn push_up_rule(text: &mut Draft, scene: &Scene, told: &NodeSet) {
     } else {
         push_members(text, shown);
     }
-    text.push_str(", so the row");
-    push_parted(text, " adds", told, shown);
-    push_parted(text, " leaves out", shown, told);
+    push_up_difference(text, &without(told, shown), &without(shown, told), shown);
     text.push_str("\n");
 }
 
-// Appends the members of a set that another one lacks, behind a word, where there are any.
-fn push_parted(text: &mut Draft, word: &'static str, set: &NodeSet, other: &NodeSet) {
-    let mut parted = *set;
+// Appends which nodes the row names beyond the up set that is shown, and which of it are missing there.
+fn push_up_difference(text: &mut Draft, beyond: &NodeSet, missing: &NodeSet, shown: &NodeSet) {
+    if beyond.is_empty() {
+        text.push_str(", but the row doesn't name");
+        return push_members(text, missing);
+    }
+    let is_more = missing.is_empty() && !shown.is_empty();
+    text.push_str(if is_more {
+        ", but the row also names"
+    } else {
+        ", but the row names"
+    });
+    push_members(text, beyond);
+    if !missing.is_empty() {
+        text.push_str(", and not");
+        push_members(text, missing);
+    }
+}
+
+// The members of a set that another one lacks.
+fn without(set: &NodeSet, other: &NodeSet) -> NodeSet {
+    let mut left = *set;
     for before in 0..NODES_MAX {
         match Node::new(before + 1) {
-            Some(node) if other.has(node) => parted.remove(node),
+            Some(node) if other.has(node) => left.remove(node),
             _ => {}
         }
     }
-    if !parted.is_empty() {
-        text.push_str(word);
-        push_members(text, &parted);
-    }
+    left
 }
 
 // Appends the line of the rule for the owners that are told, where they differ and no rule above says it.

@@ -4,7 +4,7 @@ use crate::draft::Draft;
 use crate::sentences::push_no_node;
 use crate::sides::{push_heads, push_nodes, push_sets, push_tasks, push_words};
 use bully_account::{NodeSheet, NodeSummary};
-use bully_base::{Node, Setup};
+use bully_base::Setup;
 use bully_calls::{Call, Saying};
 use bully_rows::{Claim, Detail, DetailedEvent, WholeClaim, answer_word, call_word, status_word};
 use bully_table::Table;

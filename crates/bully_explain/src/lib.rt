@@ -25,7 +25,7 @@ mod shown;
 mod sides;
 mod words;
 
-pub use bully_account::{CallSummary, EventKind, NodeSheet, NodeSummary};
+pub use bully_account::{EventKind, NodeSheet, NodeSummary};
 pub use config::{ConfigSheet, explain_config};
 pub use explaining::{Sheet, account_sheet, explain};
 pub use sheet_text::reason;

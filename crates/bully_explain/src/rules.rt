@@ -4,9 +4,9 @@ use crate::draft::Draft;
 use crate::point_words::{push_point_told, push_where};
 use crate::scene::{Scene, push_down, push_start, push_up};
 use crate::words::{push_call, push_members, push_offer};
-use bully_account::{CallSummary, EventKind, Note, What};
+use bully_account::{EventKind, Note, What};
 use bully_base::Setup;
-use bully_calls::{NodeEventKind, Phase};
+use bully_calls::{NodeEventKind, PendingCall, Phase};
 use bully_steps::Point;
 use bully_world::Event;
 
@@ -99,7 +99,7 @@ pub fn push_one_call(text: &mut Draft, scene: &Scene) {
 }
 
 /// Appends the call in the slot of the row's node, as `node 2's Ready to 1, started in row 17,`.
-pub fn push_own_call(text: &mut Draft, scene: &Scene, held: CallSummary) {
+pub fn push_own_call(text: &mut Draft, scene: &Scene, held: PendingCall) {
     text.push_between("node ", scene.number(), "'s ");
     push_call(text, held.call);
     if let Some(row) = scene.started() {

@@ -7,13 +7,12 @@ use crate::rules::push_nodes_rule;
 use crate::scene::{Scene, last_move, node_at};
 use crate::sentences::{push_cause_rule, push_refused};
 use crate::words::{push_held, push_offer, push_point, push_row_place, push_vector, push_what};
-use bully_account::{
-    Account, CallSummary, EventKind, Memory, NodeSheet, NodeSummary, Note, Stop, node_sheet,
-};
+use bully_account::{Account, EventKind, Memory, NodeSheet, NodeSummary, Note, Stop, node_sheet};
 use bully_base::{Node, OutOfMemory, Status};
+use bully_calls::PendingCall;
 use bully_rows::Row;
 use bully_steps::Point;
-use bully_table::Table;
+use bully_table::{Table, copied};
 use bully_trace::Verdict;
 use bully_world::{Refused, World};
 use std::alloc::Global;
@@ -52,10 +51,7 @@ fn plan_of(alloc: Global, account: &Account, node: Node) -> Result<Option<Table>
     }
     let mut procedure = world.procedure(node);
     procedure.prepare(alloc, None)?;
-    match procedure.table() {
-        Some(table) => Ok(Some(table.copy()?)),
-        None => Ok(None),
-    }
+    copied(procedure.table())
 }
 
 // Appends the sheet of the row that decided: what it says, why it decided and by which rules, its node, and the others. Where a
@@ -273,7 +269,7 @@ fn push_since(text: &mut Draft, notes: &[Note]) {
 }
 
 // Appends the line of the node's slot.
-fn push_slot_line(text: &mut Draft, call: Option<CallSummary>, memory: Option<&Memory>) {
+fn push_slot_line(text: &mut Draft, call: Option<PendingCall>, memory: Option<&Memory>) {
     text.push_str("  slot          ");
     match call {
         Some(held) => {

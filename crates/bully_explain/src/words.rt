@@ -1,9 +1,9 @@
 //! The pieces of a sheet: nodes, points, calls and slots, as text.
 
 use crate::draft::Draft;
-use bully_account::{CallSummary, EventKind, Memory, NodeSummary, What};
+use bully_account::{EventKind, Memory, NodeSummary, What};
 use bully_base::{NODES_MAX, Node, NodeSet};
-use bully_calls::{Answer, Call, CallKind, Phase};
+use bully_calls::{Answer, Call, CallKind, PendingCall, Phase};
 use bully_rows::status_word;
 use bully_steps::{Point, Want};
 
@@ -98,7 +98,7 @@ fn phase_text(phase: Phase) -> &'static str {
 }
 
 /// Appends the call in a slot, as `Ready to 1, sent, an orphan`.
-pub fn push_held(text: &mut Draft, held: CallSummary) {
+pub fn push_held(text: &mut Draft, held: PendingCall) {
     push_call(text, held.call);
     text.push_str(", ");
     text.push_str(phase_text(held.phase));

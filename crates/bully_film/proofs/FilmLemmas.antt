@@ -1,5 +1,5 @@
 -- One more row is filmed.
-use Rattle.std.proofs.Common.{zero, suc, ◌≡◌, ◌≢◌, ◌⊎◌, inl, inr, ◌∙◌, ℕ, ◌+◌, ◌-◌, ◌==◌, ◌<◌, ◌≤◌, ◌++◌, Bool, true, false, List, [], ◌∷◌, Option, Some, None, MatchOption, if◌then◌else◌, length, drop, refl, sym, ap, subst, arith}
+use Rattle.std.proofs.Common.{zero, suc, ◌≡◌, ◌≢◌, ◌⊎◌, inl, inr, ◌∙◌, ℕ, ◌+◌, ◌-◌, ◌==◌, ◌<◌, ◌≤◌, ◌++◌, Bool, true, false, List, [], ◌∷◌, Option, Some, None, if◌then◌else◌, length, drop, refl, sym, ap, subst, arith}
 use Rattle.std.specs.declared.alloc.AllocError.{AllocError}
 use Rattle.std.specs.Prelude.{is_none, is_some, min, nat_lt, nat_le, slice_get, OnOk, Result, Ok, Err}
 use Rattle.std.proofs.lemmas.Bool.Decides.{nat_tests}
@@ -18,7 +18,7 @@ use Rattle.bully_film.specs.declared.scene.SceneStart.{SceneStart}
 use Rattle.bully_film.specs.declared.scene.Scene.{Scene}
 use Rattle.bully_film.specs.declared.snapshot.NodeSnapshot.{NodeSnapshot}
 use Rattle.bully_film.specs.Behind.{world_behind}
-use Rattle.bully_film.specs.Film.{FilmState, GoesOn, HasFilmed, HasShot, IsInWindow, IsLook, IsNoted, IsRowAt, closed, decided, kept, last_judged}
+use Rattle.bully_film.specs.Film.{FilmState, GoesOn, HasFilmed, HasShot, IsAtEnd, IsInWindow, IsLook, IsNoted, IsRowAt, closed, decided, kept, last_judged}
 use Rattle.bully_film.specs.Scene.{event_kind_in, is_node_kind, node_in, said_in, scene_at, scene_of, scenes_from, snapshots_of}
 use Rattle.bully_film.specs.Window.{IsWindow, WindowState}
 use Rattle.bully_film.proofs.BehindLemmas.{judged-world}
@@ -203,12 +203,8 @@ filmed-stopped setup rows row film verdict is filmed = record {
     by_number (Some number) at = refl
 
     by_at_end : (at_end : Option (List NodeSnapshot))
-        → MatchOption at_end
-        (HasJudged setup (filmed.before ++ filmed.shown) film.judge × (film.judge.stopped ≡ None → filmed.beyond ≡ []) × (length filmed.before + length filmed.shown + 1 < film.window.to))
-        (λ s. (length filmed.before + length filmed.shown + 1 ≡ film.window.to) × (s ≡ snapshots_of (world_behind setup (filmed.before ++ filmed.shown)) 1 setup.nodes))
-        → MatchOption at_end
-        (HasJudged setup (filmed.before ++ filmed.shown) film.judge × (film.judge.stopped ≡ None → filmed.beyond ++ row ∷ [] ≡ []) × (length filmed.before + length filmed.shown + 1 < film.window.to))
-        (λ s. (length filmed.before + length filmed.shown + 1 ≡ film.window.to) × (s ≡ snapshots_of (world_behind setup (filmed.before ++ filmed.shown)) 1 setup.nodes))
+        → IsAtEnd setup filmed.before filmed.shown filmed.beyond film.judge film.window.to (λ last. last < film.window.to) at_end
+        → IsAtEnd setup filmed.before filmed.shown (filmed.beyond ++ row ∷ []) film.judge film.window.to (λ last. last < film.window.to) at_end
     by_at_end None (judged, going, upto) = (judged, λ none. absurd (cc (sym is ∙ none)), upto)
     by_at_end (Some s) at = at
 
@@ -237,9 +233,7 @@ filmed-beyond setup rows row number film after going is same_at_end same_scenes 
     before = filmed.ends ∙ ap (λ stopped. min film.window.to (last_judged rows (decided stopped))) going
 
     last : (at_end : Option (List NodeSnapshot)) → is_none at_end ≡ false
-        → MatchOption at_end
-        (HasJudged setup (filmed.before ++ filmed.shown) film.judge × (film.judge.stopped ≡ None → filmed.beyond ≡ []) × (length filmed.before + length filmed.shown + 1 < film.window.to))
-        (λ s. (length filmed.before + length filmed.shown + 1 ≡ film.window.to) × (s ≡ snapshots_of (world_behind setup (filmed.before ++ filmed.shown)) 1 setup.nodes))
+        → IsAtEnd setup filmed.before filmed.shown filmed.beyond film.judge film.window.to (λ last. last < film.window.to) at_end
         → length filmed.before + length filmed.shown + 1 ≡ film.window.to
     last None none at = absurd (cc none)
     last (Some s) some at = at.0
@@ -248,12 +242,8 @@ filmed-beyond setup rows row number film after going is same_at_end same_scenes 
     upto = omega (arith, last film.at_end is filmed.at_end, before, at)
 
     by_at_end : (at_end : Option (List NodeSnapshot)) → is_none at_end ≡ false
-        → MatchOption at_end
-        (HasJudged setup (filmed.before ++ filmed.shown) film.judge × (film.judge.stopped ≡ None → filmed.beyond ≡ []) × (length filmed.before + length filmed.shown + 1 < film.window.to))
-        (λ s. (length filmed.before + length filmed.shown + 1 ≡ film.window.to) × (s ≡ snapshots_of (world_behind setup (filmed.before ++ filmed.shown)) 1 setup.nodes))
-        → MatchOption at_end
-        (HasJudged setup (filmed.before ++ filmed.shown) after.judge × (after.judge.stopped ≡ None → filmed.beyond ++ row ∷ [] ≡ []) × (length filmed.before + length filmed.shown + 1 < film.window.to))
-        (λ s. (length filmed.before + length filmed.shown + 1 ≡ film.window.to) × (s ≡ snapshots_of (world_behind setup (filmed.before ++ filmed.shown)) 1 setup.nodes))
+        → IsAtEnd setup filmed.before filmed.shown filmed.beyond film.judge film.window.to (λ last. last < film.window.to) at_end
+        → IsAtEnd setup filmed.before filmed.shown (filmed.beyond ++ row ∷ []) after.judge film.window.to (λ last. last < film.window.to) at_end
     by_at_end None none at = absurd (cc none)
     by_at_end (Some s) some at = at
 
@@ -325,39 +315,30 @@ filmed-closed setup rows number film after unclosed at is shot = rw is (by_test 
         ap (λ (s : Setup). snapshots_of (world_of film.judge.world) 1 s.nodes) state.0.same
         ∙ ap (λ w. snapshots_of w 1 setup.nodes) (judged-world setup (shot.before ++ shot.shown) film.judge state.0)
 
+    ended : (at_end : Option (List NodeSnapshot)) → IsAtEnd setup shot.before shot.shown shot.beyond film.judge film.window.to (λ last. last < film.window.to) at_end
+        → HasFilmed setup rows (record film { at_end = at_end })
+    ended at_end ends = record {
+      before = shot.before;
+      shown = shot.shown;
+      beyond = shot.beyond;
+      all = shot.all;
+      fits = shot.fits;
+      judged = shot.judged;
+      scenes = shot.scenes;
+      window = shot.window;
+      unlawful = shot.unlawful;
+      stop = shot.stop;
+      ends = shot.ends;
+      at_end = ends;
+    }
+
     by_test : (b : Bool) → (number == film.window.to) ≡ b → HasFilmed setup rows (if b then closed film else film)
     by_test true last =
         let to : number ≡ film.window.to = grind (arith, nat_tests, last) in
-        record {
-          before = shot.before;
-          shown = shot.shown;
-          beyond = shot.beyond;
-          all = shot.all;
-          fits = shot.fits;
-          judged = shot.judged;
-          scenes = shot.scenes;
-          window = shot.window;
-          unlawful = shot.unlawful;
-          stop = shot.stop;
-          ends = shot.ends;
-          at_end = rw unclosed (omega (arith, to, at, state.2.0), nodes);
-        }
+        ended (closed film).at_end (rw unclosed (omega (arith, to, at, state.2.0), nodes))
     by_test false inner =
         let other : number ≢ film.window.to = λ e. grind (arith, nat_tests, inner, e) in
-        record {
-          before = shot.before;
-          shown = shot.shown;
-          beyond = shot.beyond;
-          all = shot.all;
-          fits = shot.fits;
-          judged = shot.judged;
-          scenes = shot.scenes;
-          window = shot.window;
-          unlawful = shot.unlawful;
-          stop = shot.stop;
-          ends = shot.ends;
-          at_end = rw unclosed (state.0, state.1, grind (arith, other, at, state.2.0, state.2.1));
-        }
+        ended film.at_end (rw unclosed (state.0, state.1, grind (arith, other, at, state.2.0, state.2.1)))
 
 -- before any row: how the nodes stand is kept where the header is the window's last row
 pub filmed-first : (setup : Setup) (film after : FilmState) → IsWindow film.window → HasJudged setup [] film.judge → film.judge.stopped ≡ None

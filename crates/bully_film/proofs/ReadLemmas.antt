@@ -1,6 +1,6 @@
 -- What a finished film shows of the rows of a text.
 use Rattle.std.proofs.Common.{◌≡◌, ◌∙◌, ◌+◌, ◌<◌, ◌++◌, ℕ, List, [], Option, Some, None, length, refl, sym, subst, ap}
-use Rattle.std.specs.Prelude.{MatchOption, IfSome, min}
+use Rattle.std.specs.Prelude.{IfSome, min}
 use Rattle.bully_base.specs.Setup.{Setup}
 use Rattle.bully_world.specs.State.{world_of}
 use Rattle.bully_world.specs.World.{first_world}
@@ -13,7 +13,7 @@ use Rattle.bully_trace.specs.Verdict.{IsJudged}
 use Rattle.bully_film.specs.declared.film.FinishedFilm.{FinishedFilm}
 use Rattle.bully_film.specs.declared.snapshot.NodeSnapshot.{NodeSnapshot}
 use Rattle.bully_film.specs.Behind.{world_behind}
-use Rattle.bully_film.specs.Film.{AreAllFilmed, FilmState, HasFilmed, IsFilmOf, IsRowAt, closed, decided, deciding, last_judged}
+use Rattle.bully_film.specs.Film.{AreAllFilmed, FilmState, HasFilmed, IsAtEnd, IsFilmOf, IsRowAt, closed, decided, deciding, last_judged}
 use Rattle.bully_film.specs.Scene.{snapshots_of}
 use Rattle.bully_film.specs.Window.{WindowState}
 use Rattle.bully_film.proofs.BehindLemmas.{decided-told, judged-world}
@@ -54,9 +54,7 @@ finished-rows setup version window rows film finished filmed same_window finishe
     row = decided-told setup rows film.judge finished.verdict (world_of film.judge.world) filmed.judged told
 
     by_at_end : (kept : Option (List NodeSnapshot)) → film.at_end ≡ kept
-        → MatchOption kept
-        (HasJudged setup (filmed.before ++ filmed.shown) film.judge × (film.judge.stopped ≡ None → filmed.beyond ≡ []) × (length filmed.before + length filmed.shown + 1 < film.window.to))
-        (λ s. (length filmed.before + length filmed.shown + 1 ≡ film.window.to) × (s ≡ snapshots_of (world_behind setup (filmed.before ++ filmed.shown)) 1 setup.nodes))
+        → IsAtEnd setup filmed.before filmed.shown filmed.beyond film.judge film.window.to (λ last. last < film.window.to) kept
         → finished.at_end.items ≡ snapshots_of (world_behind setup (filmed.before ++ filmed.shown)) 1 setup.nodes
     by_at_end None is (judged, going, upto) =
         let now : finished.at_end.items ≡ snapshots_of (world_of film.judge.world) 1 film.judge.world.setup.nodes = rw is at finishes.at_end in
@@ -73,7 +71,7 @@ pub finished-is : (known : Option (List ℕ)) (window : WindowState) (film after
     → ((setup : Setup) (rows : List Row) → HasJudged setup rows after.judge → IsJudged setup (first_world setup) 0 2 rows finished.verdict (world_of after.judge.world))
     → OfTrace known (IsFilmOf window finished)
 finished-is None window film after finished all is same_setup judge stop scenes at_end verdict = tt
-finished-is (Some bytes) window film after finished (header, rows, means, within, (filmed, version, in_window)) is same_setup judge stop scenes at_end verdict = (
+finished-is (Some bytes) window film after finished (header, rows, means, within, (filmed, in_window)) is same_setup judge stop scenes at_end verdict = (
   headed header rows,
   means,
   finished-rows header.setup header.version window rows film finished filmed in_window

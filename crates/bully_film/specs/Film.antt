@@ -96,6 +96,13 @@ IsInWindow window before shown =
     ⊎ ((length before + 2 < window.from) × (shown ≡ []))
     ⊎ ((window.from < length before + 2) × (length shown ≡ window.most))
 
+-- how the nodes stand behind the rows before and those shown is kept, and the last of these has this number; or it isn't kept yet: the
+-- judge took just these rows, P holds of the last one's number, and no row is beyond them unless one decided
+abbrev pub IsAtEnd : Setup → List Row → List Row → List Row → JudgeState → ℕ → (ℕ → Type 0) → Option (List NodeSnapshot) → Type 0
+IsAtEnd setup before shown beyond judge to P at_end = MatchOption at_end
+    (HasJudged setup (before ++ shown) judge × (judge.stopped ≡ None → beyond ≡ []) × P (length before + length shown + 1))
+    (λ kept. (length before + length shown + 1 ≡ to) × (kept ≡ snapshots_of (world_behind setup (before ++ shown)) 1 setup.nodes))
+
 -- the rows of a trace were filmed: those that are shown, each with what it shows, and others before and beyond them. They end at the
 -- window's last row, or at the last one up to that which decided. How the nodes stand is kept at the window's last row
 pub record HasFilmedUp (setup : Setup) (rows : List Row) (film : FilmState) (P : ℕ → Type 0) : Type 0 where
@@ -110,9 +117,7 @@ pub record HasFilmedUp (setup : Setup) (rows : List Row) (film : FilmState) (P :
   pub unlawful : decided film.judge.stopped ≡ None → film.judge.stopped ≡ None
   pub stop : IsRowAt rows (decided film.judge.stopped) film.stop
   pub ends : length before + length shown + 1 ≡ min film.window.to (last_judged rows (decided film.judge.stopped))
-  pub at_end : MatchOption film.at_end
-      (HasJudged setup (before ++ shown) film.judge × (film.judge.stopped ≡ None → beyond ≡ []) × P (length before + length shown + 1))
-      (λ at_end. (length before + length shown + 1 ≡ film.window.to) × (at_end ≡ snapshots_of (world_behind setup (before ++ shown)) 1 setup.nodes))
+  pub at_end : IsAtEnd setup before shown beyond film.judge film.window.to P film.at_end
 
 abbrev pub HasFilmed : Setup → List Row → FilmState → Type 0
 HasFilmed setup rows film = HasFilmedUp setup rows film (λ last. last < film.window.to)
@@ -140,7 +145,7 @@ pub record IsFilmOf (asked : WindowState) (finished : FinishedFilm) (trace : Tra
 
 -- the rows of a trace with this header were filmed, for this window
 abbrev pub HasFilmedBehind : WindowState → Header → List Row → FilmState → Type 0
-HasFilmedBehind window header rows film = HasFilmed header.setup rows film × (film.judge.version ≡ header.version) × (film.window ≡ window)
+HasFilmedBehind window header rows film = HasFilmed header.setup rows film × (film.window ≡ window)
 
 -- all rows of a text were filmed
 abbrev pub AreAllFilmed : Option (List ℕ) → WindowState → FilmState → Type 0

@@ -2,10 +2,10 @@
 use Rattle.std.specs.Prelude.{◌≡◌, ◌≢◌, ℕ, Bool, false, not, ◌+◌, ◌-◌, ◌≤◌, ◌==◌, ◌++◌, List, [], ◌∷◌, Option, Some, None, map, option_map, replicate, length, if◌then◌else◌}
 use Rattle.bully_calls.specs.declared.call.Answer.{Answer}
 use Rattle.bully_calls.specs.declared.call.Call.{Call}
+use Rattle.bully_calls.specs.declared.call.PendingCall.{PendingCall}
 use Rattle.bully_calls.specs.declared.call.Phase.{Phase}
 use Rattle.bully_film.specs.declared.scene.Scene.{Scene}
 use Rattle.bully_film.specs.declared.snapshot.NodeSnapshot.{NodeSnapshot}
-use Rattle.bully_film.specs.declared.snapshot.SlotCall.{SlotCall}
 use Rattle.bully_film.specs.declared.whole.Lane.{Lane}
 use Rattle.bully_film.specs.declared.slots.End.{End}
 use Rattle.bully_film.specs.declared.slots.HeldCall.{HeldCall}
@@ -37,7 +37,7 @@ lane_in j scenes at_end = start_snapshot j scenes at_end ∷ snapshots_after j (
 abbrev pub stand_of : NodeSnapshot → Stand
 stand_of snapshot = record { status = snapshot.status; coordinator = snapshot.coordinator }
 
-abbrev pub held_of : SlotCall → HeldCall
+abbrev pub held_of : PendingCall → HeldCall
 held_of held = record { call = held.call; phase = held.phase }
 
 abbrev pub held_in : NodeSnapshot → Option HeldCall

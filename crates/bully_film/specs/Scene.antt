@@ -3,7 +3,7 @@ use Rattle.std.specs.Prelude.{◌≡◌, ℕ, zero, suc, ◌+◌, Bool, true, fa
 use Rattle.bully_base.specs.declared.node.Status.{Status}
 use Rattle.bully_base.specs.Setup.{Setup}
 use Rattle.bully_calls.specs.declared.call.Call.{Call}
-use Rattle.bully_calls.specs.Pending.{Pending}
+use Rattle.bully_calls.specs.Pending.{pending_call}
 use Rattle.bully_handlers.specs.Vector.{is_normal}
 use Rattle.bully_calls.specs.declared.kind.EventKind.{EventKind}
 use Rattle.bully_calls.specs.declared.kind.NodeEventKind.{NodeEventKind}
@@ -19,16 +19,11 @@ use Rattle.bully_film.specs.declared.scene.Change.{Change}
 use Rattle.bully_film.specs.declared.scene.SceneStart.{SceneStart}
 use Rattle.bully_film.specs.declared.scene.Scene.{Scene}
 use Rattle.bully_film.specs.declared.snapshot.NodeSnapshot.{NodeSnapshot}
-use Rattle.bully_film.specs.declared.snapshot.SlotCall.{SlotCall}
 use Rattle.bully_film.specs.Behind.{world_behind}
-
--- the call in a slot, without its table
-abbrev pub slot_call : Pending → SlotCall
-slot_call c = record { call = c.call; phase = c.phase; is_live = c.is_live }
 
 -- node i as the world shows it: its status, its coordinator, and the call in its slot
 abbrev pub seen_of : NodeState → NodeSnapshot
-seen_of m = record { status = m.vector.status; coordinator = m.vector.coordinator; call = option_map slot_call m.pending }
+seen_of m = record { status = m.vector.status; coordinator = m.vector.coordinator; call = option_map pending_call m.pending }
 
 abbrev pub snapshot : World → ℕ → NodeSnapshot
 snapshot w i = seen_of (node_state w i)

@@ -1,5 +1,4 @@
 ghost use Rattle.std.specs.Prelude.{◌≡◌, IfOk, IfSome, OnOk};
-ghost use Rattle.std.specs.Option.{option_copied};
 ghost use Rattle.bully_film.specs.Film.{kept};
 
 use crate::said::Said;
@@ -10,10 +9,9 @@ use crate::snapshot::{NodeSnapshot, snapshots};
 use crate::window::Window;
 use bully_base::{Node, OutOfMemory, Setup};
 use bully_calls::{EventKind, NodeEventKind};
-use bully_rows::{Header, NodeEvent, Row, Version, WholeClaim};
-use bully_table::Table;
+use bully_rows::{Header, NodeEvent, Row, WholeClaim};
+use bully_table::copied;
 use bully_trace::{Judge, Verdict};
-use bully_world::World;
 use std::alloc::Global;
 use std::collections::VecDeque;
 use std::marker::Model;
@@ -66,7 +64,6 @@ impl Film {
     /// A film behind this header, before any row. Refused where an allocation fails.
     pub fn new(alloc: Global, header: Header, window: Window) -> Result<Film, OutOfMemory>
         ensures filmed { IfOk result (HasFilmed header.setup []) }
-        ensures version { IfOk result (λ film. film.judge.version ≡ header.version) }
         ensures window { IfOk result (λ film. film.window ≡ window) }
     {
         let mut film = Film::unclosed(alloc, header, window)?;
@@ -78,7 +75,6 @@ impl Film {
     fn unclosed(alloc: Global, header: Header, window: Window) -> Result<Film, OutOfMemory>
         ensures judged { IfOk result (λ film. HasJudged header.setup [] film.judge) }
         ensures stopped { IfOk result (λ film. film.judge.stopped ≡ None) }
-        ensures version { IfOk result (λ film. film.judge.version ≡ header.version) }
         ensures empty { IfOk result (λ film. (film.window ≡ window) × (film.scenes ≡ []) × (film.stop ≡ None) × (film.at_end ≡ None)) }
     {
         // (with all the room at once: a deque that grew by itself would go around in more, and leave the processor's cache)
@@ -91,23 +87,8 @@ impl Film {
         })
     }
 
-    /// The version of the trace.
-    pub fn version(&self) -> Version
-        ensures { result ≡ self.now.judge.version }
-    {
-        self.judge.version()
-    }
-
-    /// The world that the rows were taken to: where one decided, that before it.
-    pub fn world(&self) -> &World
-        ensures { result.now ≡ self.now.judge.world }
-    {
-        self.judge.world()
-    }
-
     /// Takes the row of this number. Refused where an allocation fails, and then the film is of no more use.
     pub fn take_row(&mut self, alloc: Global, number: u32, row: Row) -> Result<(), OutOfMemory>
-        ensures version { OnOk result (self.new.judge.version ≡ self.old.judge.version) }
         ensures window { self.new.window ≡ self.old.window }
         ensures filmed { (setup : SetupState) (rows : List RowState) → length rows + 2 ≡ number → HasFilmed setup rows self.old → OnOk result (HasFilmed setup (rows ++ row ∷ []) self.new) }
     {
@@ -128,7 +109,6 @@ impl Film {
         number: u32,
         event: NodeEvent,
     ) -> Result<(), OutOfMemory>
-        ensures version { OnOk result (self.new.judge.version ≡ self.old.judge.version) }
         ensures window { self.new.window ≡ self.old.window }
         ensures filmed { (setup : SetupState) (rows : List RowState) → length rows + 2 ≡ number → HasFilmed setup rows self.old
             → OnOk result (HasFilmed setup (rows ++ Row.Event (event_at event.kind event.node) ∷ []) self.new) }
@@ -163,7 +143,6 @@ impl Film {
     // Has the row judged, and keeps a copy where it decided.
     #[inline(always)]
     fn judge_row(&mut self, alloc: Global, number: u32, row: &Row) -> Result<(), OutOfMemory>
-        ensures version { self.new.judge.version ≡ self.old.judge.version }
         ensures window { self.new.window ≡ self.old.window }
         ensures at_end { self.new.at_end ≡ self.old.at_end }
         ensures scenes { self.new.scenes ≡ self.old.scenes }
@@ -178,7 +157,6 @@ impl Film {
     // Has the row judged that tells an event of this kind, and keeps it where it decided.
     #[inline(always)]
     fn judge_event(&mut self, number: u32, kind: NodeEventKind, node: Node)
-        ensures version { self.new.judge.version ≡ self.old.judge.version }
         ensures window { self.new.window ≡ self.old.window }
         ensures at_end { self.new.at_end ≡ self.old.at_end }
         ensures scenes { self.new.scenes ≡ self.old.scenes }
@@ -210,7 +188,6 @@ impl Film {
         number: u32,
         scene_start: &Option<SceneStart>,
     ) -> Result<(), OutOfMemory>
-        ensures version { OnOk result (self.new.judge.version ≡ self.old.judge.version) }
         ensures window { self.new.window ≡ self.old.window }
         ensures on { OnOk result (GoesOn number None scene_start.now self.old self.new) }
     {
@@ -229,7 +206,6 @@ impl Film {
         scene_start: &Option<SceneStart>,
         row: Row,
     ) -> Result<(), OutOfMemory>
-        ensures version { OnOk result (self.new.judge.version ≡ self.old.judge.version) }
         ensures window { self.new.window ≡ self.old.window }
         ensures on { OnOk result (GoesOn number (said_in row) scene_start.now self.old self.new) }
     {
@@ -387,18 +363,8 @@ fn copy_row(alloc: Global, row: &Row) -> Result<Row, OutOfMemory>
 fn copy_whole(alloc: Global, whole: &WholeClaim) -> Result<WholeClaim, OutOfMemory>
     ensures { IfOk result (λ copy. copy ≡ whole.now) }
 {
-    let task = copy_task(whole.task())?;
+    let task = copied(whole.task())?;
     WholeClaim::new(alloc, whole.claim(), whole.halter(), *whole.up(), task)
-}
-
-// The same task.
-fn copy_task(task: Option<&Table>) -> Result<Option<Table>, OutOfMemory>
-    ensures { IfOk result (λ copy. copy ≡ option_copied task.entry) }
-{
-    match task {
-        Some(table) => Ok(Some(table.copy()?)),
-        None => Ok(None),
-    }
 }
 
 // The snapshots, or none.

@@ -5,7 +5,6 @@
 //! each row of it, and on each stretch of its slot telling the call that is there behind each row of it.
 #![tactic(auto)]
 
-ghost use Rattle.std.specs.Prelude.{◌≡◌};
 ghost use Rattle.bully_film.specs.Behind.{LeadsBehind};
 
 mod distance;
@@ -27,7 +26,7 @@ pub use reading::film_of;
 pub use said::Said;
 pub use scene::{Change, Scene};
 pub use slots::{End, HeldCall, Holding, end_at};
-pub use snapshot::{NodeSnapshot, SlotCall, snapshot_of};
+pub use snapshot::{NodeSnapshot, snapshot_of};
 pub use stands::{Bar, Stand};
 pub use stretches::{Seen, Stretch, stretches_of};
 pub use whole::{Lane, lanes, row_before};

@@ -5,8 +5,8 @@ ghost use Rattle.bully_rows.specs.Rows.{OfTrace};
 
 use crate::film::{Film, FinishedFilm};
 use crate::window::Window;
-use bully_base::{OutOfMemory, Setup};
-use bully_rows::{Header, NodeEvent, Row, RowReader, TraceFault, TraceTaker, Version, take_trace};
+use bully_base::OutOfMemory;
+use bully_rows::{Header, NodeEvent, Row, RowReader, TraceFault, TraceTaker, take_trace};
 use std::alloc::Global;
 use std::io::Read;
 
@@ -44,24 +44,10 @@ fn film_text<R: Read + Drop>(alloc: Global, reader: R, window: Window) -> Result
 impl<R: Read + Drop> TraceTaker<R, Window> for Film {
     ghost use Rattle.bully_film.specs.Film.{HasFilmedBehind};
 
-    ghost version_of = { λ film. film.judge.version };
-
-    ghost setup_of = { λ film. film.judge.world.setup };
-
     ghost has_taken = { HasFilmedBehind };
-
-    ghost told = { λ window header rows film filmed. (filmed.1, filmed.0.judged.same) };
 
     fn begin(alloc: Global, start: Window, header: Header) -> Result<Film, OutOfMemory> {
         Film::new(alloc, header, start)
-    }
-
-    fn trace_version(&self) -> Version {
-        self.version()
-    }
-
-    fn trace_setup(&self) -> &Setup {
-        self.world().setup()
     }
 
     #[inline(always)]

@@ -16,7 +16,7 @@ use bully_base::{Node, OutOfMemory, Status};
 use bully_calls::{CallKind, EventKind, NodeEventKind, Whose};
 use bully_rows::{NodeEvent, Row};
 use bully_steps::Point;
-use bully_table::Table;
+use bully_table::{Table, copied};
 use bully_world::World;
 
 /// A node before a row and behind it.
@@ -322,8 +322,5 @@ fn task_of(world: &World, node: Node) -> Result<Option<Table>, OutOfMemory>
     if node.number() > world.setup().nodes() {
         return Ok(None);
     }
-    match world.vector(node).task() {
-        Some(table) => Ok(Some(table.copy()?)),
-        None => Ok(None),
-    }
+    copied(world.vector(node).task())
 }

@@ -1,28 +1,19 @@
 //! How a node stands in a world.
-ghost use Rattle.std.specs.Prelude.{◌≡◌, ◌≤◌, [], IfOk, option_map, vec_capacity};
-ghost use Rattle.bully_calls.specs.Slot.{pending_in};
-ghost use Rattle.bully_film.specs.Scene.{snapshot, snapshots_of, slot_call, unseen};
+ghost use Rattle.std.specs.Prelude.{◌≡◌, ◌≤◌, [], IfOk, vec_capacity};
+ghost use Rattle.bully_film.specs.Scene.{snapshot, snapshots_of, unseen};
 ghost use Rattle.bully_world.specs.State.{world_of};
 
 use bully_base::{Node, OutOfMemory, Status};
-use bully_calls::{Call, Phase, Slot};
+use bully_calls::PendingCall;
 use bully_world::World;
 use std::alloc::Global;
-
-/// The call in a node's slot: how far it came, and whether its caller wasn't stopped since it was started.
-#[derive(Clone, Copy)]
-pub struct SlotCall {
-    pub call: Call,
-    pub phase: Phase,
-    pub is_live: bool,
-}
 
 /// A node as the world shows it: its status, its coordinator, and the call in its slot.
 #[derive(Clone, Copy)]
 pub struct NodeSnapshot {
     pub status: Status,
     pub coordinator: Option<Node>,
-    pub call: Option<SlotCall>,
+    pub call: Option<PendingCall>,
 }
 
 /// What the world shows of the node; nothing but that it is down where the group doesn't have it.
@@ -38,7 +29,7 @@ pub fn snapshot_of(world: &World, node: Node) -> NodeSnapshot
     NodeSnapshot {
         status: vector.status(),
         coordinator: vector.coordinator(),
-        call: call_in(world.slot(node), world.generation(node)),
+        call: world.slot(node).pending(world.generation(node)),
     }
 }
 
@@ -92,20 +83,5 @@ fn push_snapshots(snapshots: &mut Vec<NodeSnapshot>, world: &World)
             coordinator,
             call,
         });
-    }
-}
-
-// The call in the slot of a caller of this generation.
-#[inline(always)]
-fn call_in(slot: &Slot, generation: u32) -> Option<SlotCall>
-    ensures { result ≡ option_map slot_call (pending_in generation slot.now) }
-{
-    match (slot.call(), slot.phase()) {
-        (Some(call), Some(phase)) => Some(SlotCall {
-            call,
-            phase,
-            is_live: !slot.is_orphan(generation),
-        }),
-        _ => None,
     }
 }

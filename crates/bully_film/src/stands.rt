@@ -1,5 +1,4 @@
 //! What is seen of a node in its bars: its status and its coordinator.
-ghost use Rattle.std.specs.Prelude.{◌≡◌};
 
 use crate::snapshot::NodeSnapshot;
 use crate::stretches::{Seen, Stretch};

@@ -1,5 +1,5 @@
 //! What is drawn of each node: the stretches of its lane and of its slot.
-ghost use Rattle.std.specs.Prelude.{◌≡◌, ◌≤◌, ◌<◌, ◌+◌, ◌^◌, length, map, IfOk};
+ghost use Rattle.std.specs.Prelude.{◌≡◌, ◌≤◌, ◌<◌, ◌+◌, length, map, IfOk};
 ghost use Rattle.bully_film.specs.Film.{IsFilmOf};
 ghost use Rattle.bully_film.specs.Lane.{AreLanes, IsLane, is_orphan, row_before};
 ghost use Rattle.bully_film.specs.Scene.{lane_of as lane_seen};

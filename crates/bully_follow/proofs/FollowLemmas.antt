@@ -1,16 +1,17 @@
 -- A text whose rows are watched one by one, up to where that ends.
 use Rattle.std.proofs.Common.{◌≡◌, ◌∙◌, inl, inr, ℕ, true, List, Option, Some, None, Result, Ok, Err, refl, subst, sym}
-use Rattle.std.specs.Prelude.{IfErr, OnOk}
+use Rattle.std.specs.Prelude.{IfErr, OnOk, option_map}
 use Rattle.bully_base.specs.Setup.{Setup}
 use Rattle.bully_rows.specs.declared.header.Header.{Header}
 use Rattle.bully_rows.specs.declared.trace.Row.{Row}
+use Rattle.bully_rows.specs.declared.trace_taking.Begun.{Begun}
 use Rattle.bully_rows.specs.RecordsLeft.{IsUnread, ReadSoFar, rows_left}
 use Rattle.bully_rows.specs.Taking.{AllTaken, AreTakenBy, IsNext, IsTakenSoFar, StopsBehind, StopsNext}
-use Rattle.bully_rows.proofs.TakingLemmas.{IsTold, kept-by-all, refused-ends, taken-next, taken-to-end, unreadable-ends}
+use Rattle.bully_rows.proofs.TakingLemmas.{kept-by-all, refused-ends, taken-next, taken-to-end, unreadable-ends}
 use Rattle.bully_account.specs.Accounts.{AccountState}
 use Rattle.bully_follow.specs.declared.following.Stop.{Stop}
 use Rattle.bully_follow.specs.declared.watch.Watch.{Watch}
-use Rattle.bully_follow.specs.Watched.{AreJudgedAs, HasWatched, IsEnded, IsFollowFault, IsFollowedAs, Refuses, TakesWatched, fault_in, setup_in, version_in}
+use Rattle.bully_follow.specs.Watched.{AreJudgedAs, HasWatched, IsEnded, IsFollowFault, IsFollowedAs, Refuses, TakesWatched, fault_in}
 use Rattle.bully_trace.specs.declared.verdict.Verdict.{Verdict}
 use Rattle.bully_trace.specs.Judging.{HasJudged}
 use Rattle.bully_trace.specs.OneRow.{decides}
@@ -18,21 +19,22 @@ use Rattle.bully_trace.specs.Verdict.{IsJudged}
 use Rattle.bully_world.specs.State.{world_of}
 use Rattle.bully_world.specs.World.{first_world}
 
-pub watch-told : IsTold HasWatched version_in setup_in
-watch-told header rows w taken = (taken.1, taken.0.judged.same)
-
-takes-some : (reader : ReadSoFar) (before : Option Watch) → TakesWatched reader before None → ⊥
+takes-some : (reader : ReadSoFar) (before : Option (Begun Watch)) → TakesWatched reader before None → ⊥
 takes-some reader None takes = takes
-takes-some reader (Some w) takes = takes
+takes-some reader (Some b) takes = takes
 
-decided-ended : (known : Option (List ℕ)) (now : ReadSoFar) (before watch : Option Watch) (verdict : Verdict) → TakesWatched now before watch → decides verdict now.number ≡ true
-    → ((w : Watch) (header : Header) (rows : List Row) → watch ≡ Some w → HasWatched header rows w → AreJudgedAs header rows verdict)
-    → IsTakenSoFar HasWatched known now watch → IsEnded known (Err (Stop.Decided verdict)) watch
+-- what watches the rows of a text, where that was begun
+abbrev pub watch_in : Option (Begun Watch) → Option Watch
+watch_in = option_map (λ b. b.taker)
+
+decided-ended : (known : Option (List ℕ)) (now : ReadSoFar) (before after : Option (Begun Watch)) (verdict : Verdict) → TakesWatched now before after → decides verdict now.number ≡ true
+    → ((b : Begun Watch) (header : Header) (rows : List Row) → after ≡ Some b → HasWatched header rows b.taker → AreJudgedAs header rows verdict)
+    → IsTakenSoFar HasWatched known now after → IsEnded known (Err (Stop.Decided verdict)) (watch_in after)
 decided-ended known now before None verdict takes decides-it judged so_far = absurd (takes-some now before takes)
-decided-ended known now before (Some w) verdict takes decides-it judged (header, rows, read, taken) =
-    (refl, rows_left header now, rows, read, judged w header rows refl taken, decides-it)
+decided-ended known now before (Some b) verdict takes decides-it judged (rows, read, taken) =
+    (refl, rows_left b.header now, rows, read, judged b b.header rows refl taken, decides-it)
 
-module _ {S : Type 0} (of : S → Option Watch) where
+module _ {S : Type 0} (of : S → Option (Begun Watch)) where
   abbrev Takes : ReadSoFar → S → S → Type 0
   Takes reader before after = TakesWatched reader (of before) (of after)
 
@@ -43,29 +45,29 @@ module _ {S : Type 0} (of : S → Option Watch) where
       → IsTakenSoFar HasWatched known now (of after)
   watched-so-far known n reader now s after none unread taken =
       kept-by-all Takes (λ r x. IsTakenSoFar HasWatched known r (of x))
-      (λ r r' x y next takes so_far. taken-next HasWatched version_in setup_in watch-told known r r' (of x) (of y) next takes so_far)
+      (λ r r' x y next takes so_far. taken-next HasWatched known r r' (of x) (of y) next takes so_far)
       n reader s now after taken (subst (IsTakenSoFar HasWatched known reader) (sym none) unread)
 
   -- a row that isn't taken, or behind which nothing more is
   refused-ended : (known : Option (List ℕ)) (reader now : ReadSoFar) (s after : S) (stop : Stop) → IsNext reader now → RefusesAt now s after stop
-      → IsTakenSoFar HasWatched known reader (of s) → IsEnded known (Err stop) (of after)
+      → IsTakenSoFar HasWatched known reader (of s) → IsEnded known (Err stop) (watch_in (of after))
   refused-ended known reader now s after (Stop.Fault fault) next (inl refuses) so_far =
-      inl (refused-ends HasWatched version_in setup_in watch-told known reader now (of s) fault next refuses so_far)
+      inl (refused-ends HasWatched known reader now (of s) fault next refuses so_far)
   refused-ended known reader now s after (Stop.Fault fault) next (inr writing) so_far = inr writing
   refused-ended known reader now s after (Stop.Decided verdict) next (takes, decides-it, judged) so_far =
       decided-ended known now (of s) (of after) verdict takes decides-it judged
-      (taken-next HasWatched version_in setup_in watch-told known reader now (of s) (of after) next takes so_far)
+      (taken-next HasWatched known reader now (of s) (of after) next takes so_far)
 
   pub all-ended : (known : Option (List ℕ)) (reader now : ReadSoFar) (s after : S) (r : Result (Unit {0}) Stop) → of s ≡ None → IsUnread known reader
-      → OnOk r (AllTaken Takes reader s now after) → IfErr r (StopsBehind Takes RefusesAt (λ fault stop. stop ≡ Stop.Fault fault) reader s now after) → IsEnded known r (of after)
+      → OnOk r (AllTaken Takes reader s now after) → IfErr r (StopsBehind Takes RefusesAt (λ fault stop. stop ≡ Stop.Fault fault) reader s now after) → IsEnded known r (watch_in (of after))
   all-ended known reader now s after (Ok u) none unread (n, mid, taken, last) stops =
       taken-to-end HasWatched known mid now (of after) last (watched-so-far known n reader mid s after none unread taken)
   all-ended known reader now s after (Err stop) none unread all (n, mid, between, taken, stops) =
       by_cause stops (watched-so-far known n reader mid s between none unread taken)
     where
-      by_cause : StopsNext RefusesAt (λ fault stop. stop ≡ Stop.Fault fault) mid between now after stop → IsTakenSoFar HasWatched known mid (of between) → IsEnded known (Err stop) (of after)
+      by_cause : StopsNext RefusesAt (λ fault stop. stop ≡ Stop.Fault fault) mid between now after stop → IsTakenSoFar HasWatched known mid (of between) → IsEnded known (Err stop) (watch_in (of after))
       by_cause (inl (fault, unreadable, same, unchanged)) so_far =
-          subst (λ s. IsEnded known (Err s) (of after)) (sym same) (inl (unreadable-ends HasWatched known mid (of between) fault unreadable so_far))
+          subst (λ s. IsEnded known (Err s) (watch_in (of after))) (sym same) (inl (unreadable-ends HasWatched known mid (of between) fault unreadable so_far))
       by_cause (inr (next, refuses)) so_far = refused-ended known mid now between after stop next refuses so_far
 
 -- where nothing was begun, a fault is told
@@ -81,12 +83,12 @@ abbrev JudgesAll : AccountState → Verdict → Type 0
 JudgesAll account verdict =
     (setup : Setup) (rows : List Row) → HasJudged setup rows account.judge → IsJudged setup (first_world setup) 0 2 rows verdict (world_of account.judge.world)
 
-pub judged-behind : (behind : Option Watch) (seen : Watch) (verdict : Verdict) → behind ≡ Some seen → JudgesAll seen.account verdict
-    → (watch : Watch) (header : Header) (rows : List Row) → behind ≡ Some watch → HasWatched header rows watch → AreJudgedAs header rows verdict
-judged-behind behind seen verdict here judged watch header rows is taken =
-    let same : seen ≡ watch = cc (sym here ∙ is) in
-    let all : JudgesAll watch.account verdict = subst (λ (w : Watch). JudgesAll w.account verdict) same judged in
-    (world_of watch.account.judge.world, all header.setup rows taken.0.judged)
+pub judged-behind : (behind : Option (Begun Watch)) (seen : Begun Watch) (verdict : Verdict) → behind ≡ Some seen → JudgesAll seen.taker.account verdict
+    → (b : Begun Watch) (header : Header) (rows : List Row) → behind ≡ Some b → HasWatched header rows b.taker → AreJudgedAs header rows verdict
+judged-behind behind seen verdict here judged b header rows is taken =
+    let same : seen ≡ b = cc (sym here ∙ is) in
+    let all : JudgesAll b.taker.account verdict = subst (λ (x : Begun Watch). JudgesAll x.taker.account verdict) same judged in
+    (world_of b.taker.account.judge.world, all header.setup rows taken.0.judged)
 
 pub followed-all : (known : Option (List ℕ)) (account : AccountState) (watch : Watch) (verdict : Verdict) → watch.account ≡ account → IsEnded known (Ok tt) (Some watch) → JudgesAll account verdict
     → IsFollowedAs known verdict

@@ -1,15 +1,14 @@
 -- A trace that is followed row by row.
 use Rattle.std.specs.Prelude.{◌≡◌, ◌⊎◌, ℕ, true, List, IsSome, Option, Some, Result, Ok, Err}
 use Rattle.bully_rows.specs.declared.header.Header.{Header}
-use Rattle.bully_rows.specs.declared.header.Version.{Version}
 use Rattle.bully_rows.specs.declared.trace.Row.{Row}
 use Rattle.bully_rows.specs.declared.trace.TraceFault.{TraceFault}
+use Rattle.bully_rows.specs.declared.trace_taking.Begun.{Begun}
 use Rattle.bully_rows.specs.RecordsLeft.{EndsReading, HasRead, ReadSoFar, RowsLeft}
 use Rattle.bully_rows.specs.declared.trace.TraceCause.{TraceCause}
 use Rattle.bully_rows.specs.Rows.{IsOfWriting, IsTraceOf, fault_at}
 use Rattle.bully_rows.specs.Taking.{IsTakenToEnd, RefusesNext, TakesNext}
 use Rattle.bully_rows.specs.Trace.{headed}
-use Rattle.bully_base.specs.Setup.{Setup}
 use Rattle.bully_world.specs.World.{World}
 use Rattle.bully_trace.specs.declared.verdict.Verdict.{Verdict}
 use Rattle.bully_trace.specs.OneRow.{decides}
@@ -22,26 +21,20 @@ use Rattle.bully_follow.specs.declared.watch.Watch.{Watch}
 abbrev pub HasWatched : Header → List Row → Watch → Type 0
 HasWatched header rows w = HasTakenBehind header rows w.account
 
-abbrev pub version_in : Watch → Version
-version_in w = w.account.judge.version
-
-abbrev pub setup_in : Watch → Setup
-setup_in w = w.account.judge.world.setup
-
 -- the header begins what watches, and each row behind it is taken
-abbrev pub TakesWatched : ReadSoFar → Option Watch → Option Watch → Type 0
-TakesWatched = TakesNext HasWatched version_in setup_in
+abbrev pub TakesWatched : ReadSoFar → Option (Begun Watch) → Option (Begun Watch) → Type 0
+TakesWatched = TakesNext HasWatched
 
 -- rows of a trace with this header have this verdict
 abbrev pub AreJudgedAs : Header → List Row → Verdict → Type 0
 AreJudgedAs header rows verdict = (w : World) × IsVerdict (headed header rows) verdict w
 
 -- why no further row is taken: the one that was taken last decided; it isn't taken, or what it changed can't be told
-abbrev pub Refuses : ReadSoFar → Option Watch → Option Watch → Stop → Type 0
+abbrev pub Refuses : ReadSoFar → Option (Begun Watch) → Option (Begun Watch) → Stop → Type 0
 Refuses reader before after (Stop.Decided verdict) =
     TakesWatched reader before after × (decides verdict reader.number ≡ true)
-    × ((watch : Watch) (header : Header) (rows : List Row) → after ≡ Some watch → HasWatched header rows watch → AreJudgedAs header rows verdict)
-Refuses reader before after (Stop.Fault fault) = RefusesNext version_in setup_in reader before fault ⊎ IsOfWriting fault
+    × ((begun : Begun Watch) (header : Header) (rows : List Row) → after ≡ Some begun → HasWatched header rows begun.taker → AreJudgedAs header rows verdict)
+Refuses reader before after (Stop.Fault fault) = RefusesNext reader before fault ⊎ IsOfWriting fault
 
 -- the text means a trace with this verdict; or its first rows have it, and the last of them decided
 abbrev pub IsFollowedAs : Option (List ℕ) → Verdict → Type 0

@@ -3,7 +3,7 @@
 use bully_base::{Node, OutOfMemory, Status};
 use bully_calls::{Call, CallKind, EventKind, NodeEventKind};
 use bully_handlers::Vector;
-use bully_table::Table;
+use bully_table::{Table, copied};
 use bully_trace::same_task;
 use bully_world::World;
 
@@ -109,7 +109,7 @@ impl Seen {
             return Ok(None);
         };
         let task = if with_task {
-            Some(copy_of(vector.task())?)
+            Some(copied(vector.task())?)
         } else {
             None
         };
@@ -131,13 +131,5 @@ impl Seen {
             None => true,
         };
         vector.status() != self.status || vector.coordinator() != self.coordinator || !keeps_task
-    }
-}
-
-// A copy of the task. Refused where an allocation fails.
-fn copy_of(task: Option<&Table>) -> Result<Option<Table>, OutOfMemory> {
-    match task {
-        Some(table) => Ok(Some(table.copy()?)),
-        None => Ok(None),
     }
 }

@@ -56,15 +56,16 @@ impl<'a, C: Clock, R: Read + Drop, W: Write> RowTaker<Lines<R>> for Live<'a, C, 
 
     type Fault = Stop;
 
-    ghost takes = { λ reader before after. TakesWatched reader before.text.taker after.text.taker };
+    ghost takes = { λ reader before after. TakesWatched reader before.text.begun after.text.begun };
 
-    ghost refuses = { λ reader before after stop. Refuses reader before.text.taker after.text.taker stop };
+    ghost refuses = { λ reader before after stop. Refuses reader before.text.begun after.text.begun stop };
 
     fn take(&mut self, alloc: Global, rows: &RowReader<Lines<R>>) -> Result<(), Stop> {
         self.text.take(alloc, rows)?;
-        let Some(watch) = &self.text.taker else {
+        let Some(begun) = &self.text.begun else {
             return Ok(());
         };
+        let watch = &begun.taker;
         let row = rows.number();
         tell(
             self.clock,
@@ -152,7 +153,7 @@ pub fn follow<C: Clock, R: Read + Drop, W: Write + Drop>(
         telling,
         text: Started {
             start: (),
-            taker: None,
+            begun: None,
         },
     };
     follow_rows(alloc, &mut rows, &mut live)
@@ -165,13 +166,16 @@ fn follow_rows<C: Clock, R: Read + Drop, W: Write>(
     rows: &mut RowReader<Lines<R>>,
     live: &mut Live<'_, C, W>,
 ) -> Result<Verdict, TraceFault>
-    requires { live.old.text.taker ≡ None }
+    requires { live.old.text.begun ≡ None }
     ensures verdict { (known : Option (List ℕ)) → IsUnread known rows.old → IfOk result (IsFollowedAs known) }
     ensures fault { (known : Option (List ℕ)) → IsUnread known rows.old → IfErr result (IsFollowFault known) }
 {
     let ended = take_each(alloc, rows, live);
-    match &live.text.taker {
-        Some(watch) => finish(alloc, live.telling, ended, &watch.account, &mut live.output),
+    match &live.text.begun {
+        Some(begun) => {
+            let account = &begun.taker.account;
+            finish(alloc, live.telling, ended, account, &mut live.output)
+        }
         None => Err(fault_of(ended)),
     }
 }

@@ -2,8 +2,8 @@
 
 use crate::changes::{Changed, SeenBefore};
 use bully_account::{Account, Lines};
-use bully_base::{OutOfMemory, Setup};
-use bully_rows::{Header, NodeEvent, Row, RowReader, TraceTaker, Version};
+use bully_base::OutOfMemory;
+use bully_rows::{Header, Row, RowReader, TraceTaker};
 use std::alloc::Global;
 use std::io::Read;
 
@@ -17,36 +17,13 @@ pub struct Watch {
 impl<R: Read + Drop> TraceTaker<Lines<R>, ()> for Watch {
     ghost use Rattle.bully_follow.specs.Watched.{HasWatched};
 
-    ghost version_of = { λ w. w.account.judge.version };
-
-    ghost setup_of = { λ w. w.account.judge.world.setup };
-
     ghost has_taken = { λ _. HasWatched };
-
-    ghost told = { λ _ header rows w taken. (taken.1, taken.0.judged.same) };
 
     fn begin(alloc: Global, _start: (), header: Header) -> Result<Watch, OutOfMemory> {
         Ok(Watch {
             account: Account::new(alloc, header)?,
             changed: Changed::none(),
         })
-    }
-
-    fn trace_version(&self) -> Version {
-        self.account.version()
-    }
-
-    fn trace_setup(&self) -> &Setup {
-        self.account.world().setup()
-    }
-
-    fn take_read_event(
-        &mut self,
-        alloc: Global,
-        rows: &RowReader<Lines<R>>,
-        event: NodeEvent,
-    ) -> Result<(), OutOfMemory> {
-        self.take_read_row(alloc, rows, Row::Event(event.event()))
     }
 
     fn take_read_row(

@@ -1,5 +1,4 @@
 ghost use Rattle.std.specs.Prelude.{◌≡◌, ◌+◌, ◌≤◌, ◌<◌, [], IfOk, IfErr, None, vec_capacity, replicate};
-ghost use Rattle.bully_base.specs.Setup.{IsSetup};
 ghost use Rattle.bully_base.specs.declared.TheConstants.{NODES_MAX};
 ghost use Rattle.bully_group.specs.Locked.{IsLocked, FollowsHistory, name_of};
 ghost use Rattle.bully_group.specs.Seat.{AreNewSeats};

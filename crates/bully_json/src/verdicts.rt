@@ -1,5 +1,5 @@
 //! Verdicts as objects.
-ghost use Rattle.std.specs.Prelude.{◌≡◌, ◌≤◌, [], IfOk, OnOk};
+ghost use Rattle.std.specs.Prelude.{◌≡◌, IfOk};
 ghost use Rattle.std.specs.Option.{option_copied};
 ghost use Rattle.bully_json.specs.Objects.{AreNodeObjects, IsHeadObject, IsNodeObject, IsVerdictObject, task_in};
 ghost use Rattle.bully_world.specs.State.{world_of};

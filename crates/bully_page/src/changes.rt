@@ -1,8 +1,8 @@
 //! What a row changes.
 ghost use Rattle.bully_picture.specs.Written.{Extends};
 
-use bully_calls::Phase;
-use bully_film::{Change, NodeSnapshot, Scene, SlotCall};
+use bully_calls::{PendingCall, Phase};
+use bully_film::{Change, NodeSnapshot, Scene};
 use bully_picture::{Paper, kind_text, name_at, push_followed};
 use bully_rows::{answer_word, status_word};
 use bully_table::Table;
@@ -41,7 +41,7 @@ fn push_change(page: &mut Paper, change: &Change, names: &[&str])
         page,
         &change.after,
         !is_same_stand(&change.before, &change.after),
-        !is_same_call(&change.before.call, &change.after.call),
+        change.before.call != change.after.call,
     );
     page.push("</tr>\n");
 }
@@ -59,17 +59,6 @@ fn push_name(page: &mut Paper, name: Option<&str>)
 // Whether both have the same status and the same coordinator.
 fn is_same_stand(one: &NodeSnapshot, other: &NodeSnapshot) -> bool {
     one.status == other.status && one.coordinator == other.coordinator
-}
-
-// Whether both slots show the same.
-fn is_same_call(one: &Option<SlotCall>, other: &Option<SlotCall>) -> bool {
-    match (one, other) {
-        (Some(one), Some(other)) => {
-            one.call == other.call && one.phase == other.phase && one.is_live == other.is_live
-        }
-        (None, None) => true,
-        _ => false,
-    }
 }
 
 // Writes how a node stands: its status and its coordinator, and the call in its slot. What is new is bold.
@@ -101,7 +90,7 @@ fn bold_end(is_bold: bool) -> &'static str {
 }
 
 // Writes the call in a slot, and how far it came; or that there is none.
-fn push_call(page: &mut Paper, call: &Option<SlotCall>)
+fn push_call(page: &mut Paper, call: &Option<PendingCall>)
     ensures { Extends page.old page.new }
 {
     match call {
@@ -110,7 +99,7 @@ fn push_call(page: &mut Paper, call: &Option<SlotCall>)
     }
 }
 
-fn push_held(page: &mut Paper, held: &SlotCall)
+fn push_held(page: &mut Paper, held: &PendingCall)
     ensures { Extends page.old page.new }
 {
     page.push(kind_text(held.call.kind));

@@ -1,12 +1,11 @@
 -- Rows that are taken one by one, as they are read: any rows, and those of a trace behind its header.
 use Rattle.std.specs.Prelude.{◌≡◌, ◌⊎◌, ◌≤◌, ◌+◌, ◌++◌, ◌∷◌, ℕ, zero, suc, true, false, [], List, length, Option, None, Some, MatchOption}
-use Rattle.bully_base.specs.Setup.{Setup}
 use Rattle.bully_rows.specs.declared.TheConstants.{ROWS_MAX}
 use Rattle.bully_rows.specs.declared.header.Header.{Header}
-use Rattle.bully_rows.specs.declared.header.Version.{Version}
 use Rattle.bully_rows.specs.declared.trace.Row.{Row}
 use Rattle.bully_rows.specs.declared.trace.TraceCause.{TraceCause}
 use Rattle.bully_rows.specs.declared.trace.TraceFault.{TraceFault}
+use Rattle.bully_rows.specs.declared.trace_taking.Begun.{Begun}
 use Rattle.bully_rows.specs.Headers.{Record, header_of}
 use Rattle.bully_rows.specs.RecordsLeft.{EndsReading, HasRead, IsOutside, IsUnread, ReadSoFar, Takes, rows_left}
 use Rattle.bully_rows.specs.Rows.{IsTraceOf, fault_at, no_memory, row_of}
@@ -53,41 +52,47 @@ StopsBehind {S = S} takes refuses tells reader s now after told =
 
 -- ---- those of a trace: P says that these rows of a trace with this header were taken
 
+-- what the fields of a row mean in it
+abbrev pub row_in : Header → Record → Option Row
+row_in header fields = row_of header.version header.setup fields
+
 -- what takes them begins behind a header of these fields
-abbrev pub Begins : {S : Type 0} → (Header → List Row → S → Type 0) → Record → S → Type 0
-Begins P fields s = (header : Header) × (header_of fields ≡ Some header) × P header [] s
+abbrev pub Begins : {S : Type 0} → (Header → List Row → S → Type 0) → Record → Begun S → Type 0
+Begins P fields b = (header_of fields ≡ Some b.header) × P b.header [] b.taker
 
 -- why it doesn't: the fields are no header, or there is no memory
 abbrev pub IsNoStart : Record → TraceFault → Type 0
 IsNoStart fields fault = ((header_of fields ≡ None) × (fault ≡ fault_at 1 TraceCause.BadHeader)) ⊎ (fault ≡ no_memory)
 
--- the row read last goes on behind those that were taken
+-- the row read last, which is this one, goes on behind those that were taken
 abbrev pub GoesOn : {S : Type 0} → (Header → List Row → S → Type 0) → ReadSoFar → Row → S → S → Type 0
-GoesOn P reader row s after = (header : Header) (rows : List Row) → length rows + 2 ≡ reader.number → P header rows s → P header (rows ++ row ∷ []) after
+GoesOn P reader row s after =
+    (header : Header) (rows : List Row) → row_in header reader.fields ≡ Some row → length rows + 2 ≡ reader.number → P header rows s → P header (rows ++ row ∷ []) after
 
--- it is a row of this version and this setup, and is taken
-abbrev pub TakesRow : {S : Type 0} → (Header → List Row → S → Type 0) → Version → Setup → ReadSoFar → S → S → Type 0
-TakesRow P version setup reader s after = (row : Row) × (row_of version setup reader.fields ≡ Some row) × GoesOn P reader row s after
+-- it is a row of this trace, and is taken
+abbrev pub TakesRow : {S : Type 0} → (Header → List Row → S → Type 0) → ReadSoFar → Begun S → Begun S → Type 0
+TakesRow P reader b after =
+    (after.header ≡ b.header) × (row : Row) × (row_in b.header reader.fields ≡ Some row) × GoesOn P reader row b.taker after.taker
 
 -- why it isn't: it has no form, or there is no memory
-abbrev pub IsNoRow : Version → Setup → ReadSoFar → TraceFault → Type 0
-IsNoRow version setup reader fault =
-    ((row_of version setup reader.fields ≡ None) × (fault ≡ fault_at reader.number TraceCause.BadRow)) ⊎ (fault ≡ no_memory)
+abbrev pub IsNoRow : Header → ReadSoFar → TraceFault → Type 0
+IsNoRow header reader fault =
+    ((row_in header reader.fields ≡ None) × (fault ≡ fault_at reader.number TraceCause.BadRow)) ⊎ (fault ≡ no_memory)
 
 -- the header begins what takes the rows, and each row behind it is taken
-abbrev pub TakesNext : {S : Type 0} → (Header → List Row → S → Type 0) → (S → Version) → (S → Setup) → ReadSoFar → Option S → Option S → Type 0
-TakesNext P version setup reader None after = MatchOption after ⊥ (Begins P reader.fields)
-TakesNext P version setup reader (Some s) after = MatchOption after ⊥ (TakesRow P (version s) (setup s) reader s)
+abbrev pub TakesNext : {S : Type 0} → (Header → List Row → S → Type 0) → ReadSoFar → Option (Begun S) → Option (Begun S) → Type 0
+TakesNext P reader None after = MatchOption after ⊥ (Begins P reader.fields)
+TakesNext P reader (Some b) after = MatchOption after ⊥ (TakesRow P reader b)
 
 -- why it isn't
-abbrev pub RefusesNext : {S : Type 0} → (S → Version) → (S → Setup) → ReadSoFar → Option S → TraceFault → Type 0
-RefusesNext version setup reader None fault = IsNoStart reader.fields fault
-RefusesNext version setup reader (Some s) fault = IsNoRow (version s) (setup s) reader fault
+abbrev pub RefusesNext : {S : Type 0} → ReadSoFar → Option (Begun S) → TraceFault → Type 0
+RefusesNext reader None fault = IsNoStart reader.fields fault
+RefusesNext reader (Some b) fault = IsNoRow b.header reader fault
 
 -- what was read of a text was taken: nothing of it yet, or the rows behind its header
-abbrev pub IsTakenSoFar : {S : Type 0} → (Header → List Row → S → Type 0) → Option (List ℕ) → ReadSoFar → Option S → Type 0
+abbrev pub IsTakenSoFar : {S : Type 0} → (Header → List Row → S → Type 0) → Option (List ℕ) → ReadSoFar → Option (Begun S) → Type 0
 IsTakenSoFar P known reader None = IsUnread known reader
-IsTakenSoFar P known reader (Some s) = (header : Header) × (rows : List Row) × HasRead known rows (rows_left header reader) × P header rows s
+IsTakenSoFar P known reader (Some b) = (rows : List Row) × HasRead known rows (rows_left b.header reader) × P b.header rows b.taker
 
 -- all rows of a text were taken
 abbrev pub IsWhollyTaken : {S : Type 0} → (Header → List Row → S → Type 0) → Option (List ℕ) → S → Type 0

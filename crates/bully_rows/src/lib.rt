@@ -35,7 +35,7 @@ pub use text::{
     push_detailed, push_event, push_header, push_node, push_row, push_set, push_task, push_vector,
 };
 pub use trace::{Claim, Row, Rows, Trace, TraceCause, TraceFault, WholeClaim};
-pub use trace_taking::{Started, TraceTaker, take_text, take_trace};
+pub use trace_taking::{Begun, Started, TraceTaker, take_text, take_trace};
 pub use words::{
     SAW, answer_word, call_named, call_word, outcome_named, reply_named, status_named, status_word,
 };

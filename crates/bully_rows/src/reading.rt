@@ -2,12 +2,11 @@ ghost use Rattle.std.specs.Prelude.{◌≡◌, ◌≢◌, ℕ, List, Option, IfE
 ghost use Rattle.bully_rows.specs.RecordsLeft.{EndsReading, IsUnread};
 ghost use Rattle.bully_rows.specs.Rows.{IsFirstFault, IsReadAtItsRow, IsTraceOf};
 
-use crate::header::{Header, Version};
-use crate::node_event::NodeEvent;
+use crate::header::Header;
 use crate::row_reader::RowReader;
 use crate::trace::{Row, Rows, Trace, TraceCause, TraceFault};
 use crate::trace_taking::{TraceTaker, take_trace};
-use bully_base::{OutOfMemory, Setup};
+use bully_base::OutOfMemory;
 use std::alloc::Global;
 use std::io::Read;
 
@@ -52,40 +51,15 @@ struct TraceRows {
 }
 
 impl<R: Read + Drop> TraceTaker<R, ()> for TraceRows {
-    ghost use Rattle.std.proofs.Common.{rules};
     ghost use Rattle.std.specs.Prelude.{◌≡◌};
     ghost use Rattle.bully_rows.specs.Headers.{IsVersionFor};
     ghost use Rattle.bully_rows.specs.Trace.{AreRowsFor};
 
-    ghost version_of = { λ t. t.header.version };
-
-    ghost setup_of = { λ t. t.header.setup };
-
     ghost has_taken = { λ _ header rows t. (t.header ≡ header) × (t.rows.items ≡ rows) × IsVersionFor header.version header.setup × AreRowsFor header.version rows };
-
-    ghost told = { Prim.search rules };
 
     fn begin(alloc: Global, _start: (), header: Header) -> Result<TraceRows, OutOfMemory> {
         let rows = Vec::new(alloc);
         Ok(TraceRows { header, rows })
-    }
-
-    fn trace_version(&self) -> Version {
-        self.header.version
-    }
-
-    fn trace_setup(&self) -> &Setup {
-        &self.header.setup
-    }
-
-    fn take_read_event(
-        &mut self,
-        _alloc: Global,
-        _rows: &RowReader<R>,
-        event: NodeEvent,
-    ) -> Result<(), OutOfMemory> {
-        self.rows.push(Row::Event(event.event()))?;
-        Ok(())
     }
 
     fn take_read_row(

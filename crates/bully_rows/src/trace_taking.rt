@@ -1,33 +1,24 @@
-ghost use Rattle.std.specs.Prelude.{◌≡◌, ℕ, List, Option, None, length, IfErr, IfOk, MatchOption, OnOk};
+ghost use Rattle.std.specs.Prelude.{◌≡◌, ℕ, List, Option, None, length, IfErr, IfOk, MatchOption, OnOk, option_map};
 ghost use Rattle.bully_rows.specs.RecordsLeft.{EndsReading, IsUnread};
-ghost use Rattle.bully_rows.specs.Rows.{row_of};
-ghost use Rattle.bully_rows.specs.Taking.{Begins, IsNoRow, IsNoStart, IsTakenToEnd, IsWhollyTaken, TakesRow};
+ghost use Rattle.bully_rows.specs.Taking.{Begins, IsNoRow, IsNoStart, IsTakenToEnd, IsWhollyTaken, TakesRow, row_in};
 
-use crate::header::{Header, Version};
+use crate::header::Header;
 use crate::node_event::NodeEvent;
 use crate::row_reader::{RowReader, no_header};
 use crate::taking::{RowTaker, take_each};
 use crate::trace::{Row, TraceFault};
-use bully_base::{OutOfMemory, Setup};
+use bully_base::OutOfMemory;
 use std::alloc::Global;
 use std::io::Read;
 
 /// What takes the rows of a trace. Its header begins it, with a value of `S`.
 pub trait TraceTaker<R: Read + Drop, S>: Drop {
-    ghost use Rattle.std.specs.Prelude.{◌≡◌, [], List, Some, IfOk, OnOk};
-    ghost use Rattle.bully_base.specs.Setup.{Setup as SetupState};
+    ghost use Rattle.std.specs.Prelude.{[], List, IfOk, OnOk};
     ghost use Rattle.bully_rows.specs.Headers.{IsVersionFor};
     ghost use Rattle.bully_calls.specs.Events.{event_at};
-    ghost use Rattle.bully_rows.specs.Rows.{row_of};
     ghost use Rattle.bully_rows.specs.Taking.{GoesOn};
     ghost use Rattle.bully_rows.specs.declared.header.Header.{Header as HeaderState};
-    ghost use Rattle.bully_rows.specs.declared.header.Version.{Version as VersionState};
     ghost use Rattle.bully_rows.specs.declared.trace.Row.{Row as RowState};
-
-    // The version of the trace, and its setup.
-    ghost version_of: { Self → VersionState };
-
-    ghost setup_of: { Self → SetupState };
 
     // These rows of a trace with this header were taken.
     ghost has_taken: { S → HeaderState → List RowState → Self → Type 0 };
@@ -37,23 +28,18 @@ pub trait TraceTaker<R: Read + Drop, S>: Drop {
         requires { IsVersionFor header.version header.setup }
         ensures { IfOk result (has_taken start header []) };
 
-    /// The version of the trace.
-    fn trace_version(&self) -> Version
-        ensures { result ≡ version_of self.now };
-
-    /// The setup of the trace.
-    fn trace_setup(&self) -> &Setup
-        ensures { result.now ≡ setup_of self.now };
-
-    /// Takes the row that was read last, which tells this event. Refused where an allocation fails.
+    /// Takes the row that was read last, which tells this event. Refused where an allocation fails. It is for who has a shorter way
+    /// than by a `Row`.
     fn take_read_event(
         &mut self,
         alloc: Global,
         rows: &RowReader<R>,
         event: NodeEvent,
     ) -> Result<(), OutOfMemory>
-        requires { row_of (version_of self.old) (setup_of self.old) rows.now.fields ≡ Some (RowState.Event (event_at event.kind event.node)) }
-        ensures { (start : S) → OnOk result (GoesOn (has_taken start) rows.now (RowState.Event (event_at event.kind event.node)) self.old self.new) };
+        ensures { (start : S) → OnOk result (GoesOn (has_taken start) rows.now (RowState.Event (event_at event.kind event.node)) self.old self.new) }
+    {
+        self.take_read_row(alloc, rows, Row::Event(event.event()))
+    }
 
     /// Takes the row that was read last, which is this one. Refused where an allocation fails.
     fn take_read_row(
@@ -62,18 +48,21 @@ pub trait TraceTaker<R: Read + Drop, S>: Drop {
         rows: &RowReader<R>,
         row: Row,
     ) -> Result<(), OutOfMemory>
-        requires { row_of (version_of self.old) (setup_of self.old) rows.now.fields ≡ Some row }
         ensures { (start : S) → OnOk result (GoesOn (has_taken start) rows.now row self.old self.new) };
+}
 
-    ghost told: { (start : S) (header : HeaderState) (rows : List RowState) (taker : Self) → has_taken start header rows taker
-        → (version_of taker ≡ header.version) × (setup_of taker ≡ header.setup) };
+/// What takes the rows of a trace behind this header.
+#[derive(Drop)]
+pub struct Begun<T> {
+    pub header: Header,
+    pub taker: T,
 }
 
 /// What takes the rows of a trace once its header is read, and what it begins with.
 #[derive(Drop)]
 pub struct Started<S, T> {
     pub start: S,
-    pub taker: Option<T>,
+    pub begun: Option<Begun<T>>,
 }
 
 impl<R: Read + Drop, S: Copy, T: TraceTaker<R, S>> RowTaker<R> for Started<S, T> {
@@ -82,14 +71,14 @@ impl<R: Read + Drop, S: Copy, T: TraceTaker<R, S>> RowTaker<R> for Started<S, T>
 
     type Fault = TraceFault;
 
-    ghost takes = { λ reader before after. (after.start ≡ before.start) × TakesNext (T.has_taken before.start) T.version_of T.setup_of reader before.taker after.taker };
+    ghost takes = { λ reader before after. (after.start ≡ before.start) × TakesNext (T.has_taken before.start) reader before.begun after.begun };
 
-    ghost refuses = { λ reader before after fault. RefusesNext T.version_of T.setup_of reader before.taker fault };
+    ghost refuses = { λ reader before after fault. RefusesNext reader before.begun fault };
 
     fn take(&mut self, alloc: Global, rows: &RowReader<R>) -> Result<(), TraceFault> {
-        match &mut self.taker {
-            Some(taker) => take_row::<R, S, T>(alloc, rows, taker),
-            None => begin(alloc, rows, self.start, &mut self.taker),
+        match &mut self.begun {
+            Some(begun) => take_row::<R, S, T>(alloc, rows, begun),
+            None => begin(alloc, rows, self.start, &mut self.begun),
         }
     }
 }
@@ -100,17 +89,17 @@ impl<R: Read + Drop, S: Copy, T: TraceTaker<R, S>> RowTaker<R> for Started<S, T>
 fn take_row<R: Read + Drop, S, T: TraceTaker<R, S>>(
     alloc: Global,
     rows: &RowReader<R>,
-    taker: &mut T,
+    begun: &mut Begun<T>,
 ) -> Result<(), TraceFault>
-    ensures taken { (start : S) → OnOk result (TakesRow (T.has_taken start) (T.version_of taker.old) (T.setup_of taker.old) rows.now taker.old taker.new) }
-    ensures fault { IfErr result (IsNoRow (T.version_of taker.old) (T.setup_of taker.old) rows.now) }
+    ensures taken { (start : S) → OnOk result (TakesRow (T.has_taken start) rows.now begun.old begun.new) }
+    ensures fault { IfErr result (IsNoRow begun.old.header rows.now) }
 {
-    match rows.node_event(taker.trace_version()) {
+    match rows.node_event(begun.header.version) {
         Some(event) => {
-            taker.take_read_event(alloc, rows, event)?;
+            begun.taker.take_read_event(alloc, rows, event)?;
             Ok(())
         }
-        None => take_longer_row::<R, S, T>(alloc, rows, taker),
+        None => take_longer_row::<R, S, T>(alloc, rows, begun),
     }
 }
 
@@ -119,14 +108,14 @@ fn take_row<R: Read + Drop, S, T: TraceTaker<R, S>>(
 fn take_longer_row<R: Read + Drop, S, T: TraceTaker<R, S>>(
     alloc: Global,
     rows: &RowReader<R>,
-    taker: &mut T,
+    begun: &mut Begun<T>,
 ) -> Result<(), TraceFault>
-    requires { length rows.now.fields ≡ 2 → row_of (T.version_of taker.old) (T.setup_of taker.old) rows.now.fields ≡ None }
-    ensures taken { (start : S) → OnOk result (TakesRow (T.has_taken start) (T.version_of taker.old) (T.setup_of taker.old) rows.now taker.old taker.new) }
-    ensures fault { IfErr result (IsNoRow (T.version_of taker.old) (T.setup_of taker.old) rows.now) }
+    requires { length rows.now.fields ≡ 2 → row_in begun.old.header rows.now.fields ≡ None }
+    ensures taken { (start : S) → OnOk result (TakesRow (T.has_taken start) rows.now begun.old begun.new) }
+    ensures fault { IfErr result (IsNoRow begun.old.header rows.now) }
 {
-    match rows.longer_row(alloc, taker.trace_version(), taker.trace_setup())? {
-        Some(row) => taker.take_read_row(alloc, rows, row)?,
+    match rows.longer_row(alloc, begun.header.version, &begun.header.setup)? {
+        Some(row) => begun.taker.take_read_row(alloc, rows, row)?,
         None => return Err(rows.bad_row()),
     }
     Ok(())
@@ -139,13 +128,16 @@ fn begin<R: Read + Drop, S: Copy, T: TraceTaker<R, S>>(
     alloc: Global,
     rows: &RowReader<R>,
     start: S,
-    taker: &mut Option<T>,
+    begun: &mut Option<Begun<T>>,
 ) -> Result<(), TraceFault>
-    ensures begun { OnOk result (MatchOption taker.new ⊥ (Begins (T.has_taken start) rows.now.fields)) }
+    ensures begun { OnOk result (MatchOption begun.new ⊥ (Begins (T.has_taken start) rows.now.fields)) }
     ensures fault { IfErr result (IsNoStart rows.now.fields) }
 {
     let header = rows.header()?;
-    *taker = Some(T::begin(alloc, start, header)?);
+    *begun = Some(Begun {
+        header,
+        taker: T::begin(alloc, start, header)?,
+    });
     Ok(())
 }
 
@@ -156,8 +148,8 @@ pub fn take_text<R: Read + Drop, S: Copy, T: TraceTaker<R, S>>(
     rows: &mut RowReader<R>,
     text: &mut Started<S, T>,
 ) -> Result<(), TraceFault>
-    requires { text.old.taker ≡ None }
-    ensures taken { (known : Option (List ℕ)) → IsUnread known rows.old → OnOk result (IsTakenToEnd (T.has_taken text.old.start) known text.new.taker) }
+    requires { text.old.begun ≡ None }
+    ensures taken { (known : Option (List ℕ)) → IsUnread known rows.old → OnOk result (IsTakenToEnd (T.has_taken text.old.start) known (option_map (λ b. b.taker) text.new.begun)) }
     ensures fault { (known : Option (List ℕ)) → IsUnread known rows.old → IfErr result (EndsReading known) }
 {
     take_each(alloc, rows, text)
@@ -172,9 +164,12 @@ pub fn take_trace<R: Read + Drop, S: Copy, T: TraceTaker<R, S>>(
     ensures taken { (known : Option (List ℕ)) → IsUnread known rows.old → IfOk result (IsWhollyTaken (T.has_taken start) known) }
     ensures fault { (known : Option (List ℕ)) → IsUnread known rows.old → IfErr result (EndsReading known) }
 {
-    let mut text = Started { start, taker: None };
+    let mut text = Started { start, begun: None };
     match take_text(alloc, rows, &mut text) {
-        Ok(()) => text.taker.ok_or(no_header()),
+        Ok(()) => match text.begun {
+            Some(begun) => Ok(begun.taker),
+            None => Err(no_header()),
+        },
         Err(fault) => Err(fault),
     }
 }

@@ -22,7 +22,7 @@ pub use numeral::read_number;
 pub use pieces::Pieces;
 pub use planning::{PlanFault, TablePlan, plan, plan_in};
 pub use room::TableRoom;
-pub use table::{Table, TableFault};
+pub use table::{Table, TableFault, copied};
 pub use text::push_owners;
 
 /// The laws of equal weights. Where all nodes weigh 1 and no task is kept, a table is balanced exactly where its owners are

@@ -1,6 +1,7 @@
 ghost use Rattle.std.specs.Prelude.{◌≡◌, ◌↔◌, ◌<◌, ◌≤◌, [], length, slice_get, vec_capacity, bytes_eq, All, IsTrue, IfOk, IfErr, Ok, Some};
 ghost use Rattle.std.specs.Cmp.{partial_equiv_from_equiv};
 ghost use Rattle.std.specs.Cmp.Lexicographic.{nat_list_eq_equiv};
+ghost use Rattle.std.specs.Option.{option_copied};
 ghost use Rattle.bully_base.specs.declared.TheConstants.{PARTITIONS_MAX};
 ghost use Rattle.bully_table.specs.Balance.{IsBalanced};
 ghost use Rattle.bully_table.specs.Planning.{moves};
@@ -202,5 +203,15 @@ impl Table {
         ensures { IsTrue result ↔ IsBalanced setup.now self.now members.now }
     {
         are_members(&self.owners, members) && are_fair(setup, &self.owners, members)
+    }
+}
+
+/// A copy of the table, if there is one. Refused where an allocation fails.
+pub fn copied(table: Option<&Table>) -> Result<Option<Table>, OutOfMemory>
+    ensures { IfOk result (λ copy. copy ≡ option_copied table.entry) }
+{
+    match table {
+        Some(table) => Ok(Some(table.copy()?)),
+        None => Ok(None),
     }
 }

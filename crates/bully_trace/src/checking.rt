@@ -15,10 +15,9 @@ ghost use Rattle.bully_world.specs.World.{first_world};
 use crate::Verdict;
 use crate::judging::Judge;
 use crate::verdict_text::{push_node_line, push_verdict_head};
-use bully_base::{Node, OutOfMemory, Setup};
+use bully_base::{Node, OutOfMemory};
 use bully_rows::{
-    Header, NodeEvent, Row, RowReader, TraceCause, TraceFault, TraceTaker, Version, not_written,
-    take_trace,
+    Header, NodeEvent, Row, RowReader, TraceCause, TraceFault, TraceTaker, not_written, take_trace,
 };
 use bully_world::World;
 use std::alloc::Global;
@@ -68,24 +67,10 @@ pub fn judge_text<R: Read + Drop>(alloc: Global, reader: R) -> Result<Judge, Tra
 impl<R: Read + Drop> TraceTaker<R, ()> for Judge {
     ghost use Rattle.bully_trace.specs.Judging.{HasJudgedBehind};
 
-    ghost version_of = { λ j. j.version };
-
-    ghost setup_of = { λ j. j.world.setup };
-
     ghost has_taken = { λ _. HasJudgedBehind };
-
-    ghost told = { λ _ header rows j judged. (judged.1, judged.0.same) };
 
     fn begin(alloc: Global, _start: (), header: Header) -> Result<Judge, OutOfMemory> {
         Judge::new(alloc, header)
-    }
-
-    fn trace_version(&self) -> Version {
-        self.version()
-    }
-
-    fn trace_setup(&self) -> &Setup {
-        self.world().setup()
     }
 
     #[inline(always)]

@@ -6,7 +6,7 @@
 //! ([`Judge`]), so that whoever explains a verdict has it by the same rules.
 #![tactic(auto)]
 
-ghost use Rattle.std.specs.Prelude.{◌≡◌, ◌↔◌};
+ghost use Rattle.std.specs.Prelude.{◌↔◌};
 ghost use Rattle.bully_rows.specs.Trace.{Trace as TraceState, upgraded};
 ghost use Rattle.bully_trace.specs.OneVerdict.{HasOneVerdict, JudgesLawful};
 ghost use Rattle.bully_trace.specs.StepTold.{TellsTheStep};

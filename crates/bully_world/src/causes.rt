@@ -1,4 +1,4 @@
-ghost use Rattle.std.specs.Prelude.{◌≡◌, ◌≢◌, ◌+◌, ◌≤◌, ◌<◌, ◌==◌, ◌&&◌, ℕ, length, not, true, false, Some, None, IfSome, if◌then◌else◌};
+ghost use Rattle.std.specs.Prelude.{◌≡◌, ◌+◌, ◌≤◌, ◌<◌, ◌==◌, ◌&&◌, ℕ, length, not, true, false, Some, None, IfSome, if◌then◌else◌};
 ghost use Rattle.bully_base.specs.NodeSet.{with_node, IsFallingBelow};
 ghost use Rattle.bully_base.specs.Setup.{IsSetup};
 ghost use Rattle.bully_table.specs.Balance.{is_balanced};

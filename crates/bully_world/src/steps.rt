@@ -1,6 +1,4 @@
-ghost use Rattle.std.specs.Prelude.{◌≡◌, ◌≢◌, ◌⊎◌, ◌+◌, ◌<◌, ◌≤◌, ◌^◌, length, IfSome, IsSome, IsTrue, Some, None, slice_index_or, slice_set};
-ghost use Rattle.bully_calls.specs.Pending.{is_sent};
-ghost use Rattle.bully_calls.specs.Slot.{CarriesFor, holds_call};
+ghost use Rattle.std.specs.Prelude.{◌≡◌, ◌≢◌, ◌+◌, ◌<◌, ◌≤◌, length, IfSome, Some, slice_index_or, slice_set};
 ghost use Rattle.bully_handlers.specs.Handler.{reply};
 ghost use Rattle.bully_world.specs.State.{empty_state, kept_of};
 ghost use Rattle.bully_world.specs.StateAfter.{CanApply, CanExchange, CanRun, callee_state_after, phased_state, state_after, state_after_run, answer_after, run_answer};

@@ -1,7 +1,7 @@
 ghost use Rattle.std.specs.Prelude.{◌≡◌, ◌≤◌, ℕ, List, true, IsSome, bytes_eq};
 ghost use Rattle.std.specs.Option.{option_copied};
 ghost use Rattle.bully_calls.specs.Slot.{pending_in};
-ghost use Rattle.bully_steps.specs.ProcedureState.{HasSameNode, IsProcedureState, want_of, up_at, coordinator_at};
+ghost use Rattle.bully_steps.specs.ProcedureState.{HasSameNode, want_of, up_at, coordinator_at};
 ghost use Rattle.bully_steps.specs.Procedure.{state_of};
 ghost use Rattle.bully_steps.specs.PointKind.{point_at, nodes_in};
 ghost use Rattle.bully_world.specs.Cause.{is_live_in};

@@ -8,7 +8,7 @@ ghost use Rattle.bully_world.specs.State.{world_of};
 use crate::leading::first_normal;
 use bully_base::{Node, OutOfMemory, Status};
 use bully_handlers::Vector;
-use bully_table::Table;
+use bully_table::{Table, copied};
 use bully_world::World;
 use std::alloc::Global;
 use std::marker::Model;
@@ -119,14 +119,4 @@ fn kept_by(vector: &Vector) -> Result<KeptNode, OutOfMemory>
             _ => copied(vector.task())?,
         },
     })
-}
-
-// A copy of the table, where there is one.
-fn copied(table: Option<&Table>) -> Result<Option<Table>, OutOfMemory>
-    ensures { IfOk result (λ copy. copy ≡ option_copied table.entry) }
-{
-    match table {
-        Some(table) => Ok(Some(table.copy()?)),
-        None => Ok(None),
-    }
 }

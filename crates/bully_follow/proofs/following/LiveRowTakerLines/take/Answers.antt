@@ -7,5 +7,5 @@ pub returns-then-decides-clause-refuses : goal.returns-then-decides-clause-refus
 returns-then-decides-clause-refuses g c = (
   c.in_ok-take.ensures.takes.1,
   subst (λ n. decides c.verdict-verdict.result n ≡ true) c.number-row.ensures (sym c.decides.ensures ∙ c.if-decides.true),
-  judged-behind c.take.new.self.taker c.in-Some.watch c.verdict-verdict.result c.in-Some.is c.verdict-verdict.ensures,
+  judged-behind c.take.new.self.begun c.in-Some.begun c.verdict-verdict.result c.in-Some.is c.verdict-verdict.ensures,
 )
