@@ -1,9 +1,10 @@
-/* bully.h: one node of a group, or what a process knows of a group, from C and from whatever calls C.
+/* bully.h: one node of a group, or what a process knows of a group and does in it, from C and from whatever calls C.
  *
  * The node elects a coordinator with its group by Garcia-Molina's Bully algorithm and has the group's task, as `docs/NODE.md`
  * says: that page has the two ways to embed a node, what the program has to keep, and why. An agent is one node that sends calls to
- * the others. A replica is what a process knows of a group whose history is a log in a store outside. This library leaves sockets,
- * stores, clocks, threads and files to the program; it makes no thread, takes no lock and prints nothing. `bin/library` builds it.
+ * the others. A replica is what a process knows of a group whose history is a log in a store outside. A member is such a process, by
+ * its rules: it says what is to be done next. This library leaves sockets, stores, clocks, threads and files to the program; it makes
+ * no thread, takes no lock and prints nothing. `bin/library` builds it.
  *
  * Each function answers a status. If that isn't BULLY_OK, nothing has changed and nothing was written but what the
  * function's comment says. Each tests its arguments, in the order in which the statuses stand in its comment:
@@ -41,6 +42,10 @@ extern "C" {
 /* The most bytes that the line of a reply takes. */
 #define BULLY_REPLY_MAX 32
 
+/* The shortest and the longest ttl of a member, a millisecond and a day, in nanoseconds. */
+#define BULLY_TTL_MIN 1000000
+#define BULLY_TTL_MAX 86400000000000
+
 /* ---- Statuses ---- */
 
 typedef uint32_t bully_status;
@@ -76,6 +81,9 @@ enum {
     BULLY_TABLE_OWNER = 30,    /* an owner is no node of the setup */
     BULLY_NO_MEMBER = 31,      /* a table over no members */
     BULLY_BAD_EVENT = 32,      /* no number of a kind of event */
+    BULLY_BAD_ROWS_MAX = 33,   /* rows_max: below 22 for each node, or more than BULLY_EVENTS_MAX */
+    BULLY_BAD_TTL = 34,        /* ttl: below BULLY_TTL_MIN, or more than BULLY_TTL_MAX */
+    BULLY_BAD_ANSWER = 35,     /* no number of an answer of a store */
 
     /* The first fault of a line, from its left, as `docs/NODE.md` lists them. */
     BULLY_LINE_WORD = 40,   /* it doesn't begin with `ask`, or with `tell`, or isn't UTF-8 */
@@ -320,6 +328,217 @@ typedef struct bully_group {
 bully_status bully_replica_group(bully_replica *replica, bully_group *group);
 /* The owners of the last plan's table; a count of 0: there is none. BULLY_NULL, BULLY_CLOSED; BULLY_SHORT, with the count. */
 bully_status bully_replica_planned(bully_replica *replica, uint16_t *owners, size_t room, size_t *count);
+
+/* Nodes that are present may stand in any order, and each counts once. An old table is the last one of an epoch before, by the
+ * numbers of this group, for a log without a plan; old_count 0: there is none. In it 0 stands for an owner that this group hasn't.
+ * To the library that is the node behind the group's last; or node 1 in a group of BULLY_NODES_MAX nodes, which may then keep what
+ * it didn't have. */
+
+/* The rows that bring the group to rest among the nodes that are present, each with its line end: they are to be appended behind
+ * exactly the rows that were learned, with nothing between, and by one process alone. With nobody present all crash; else the
+ * highest is elected, and plans, from the last plan's table, or else from the old one. They are at most 11 for each node of the
+ * group. The replica doesn't learn them.
+ * BULLY_NULL, BULLY_CLOSED; BULLY_BAD_NODE: one that is present; BULLY_TABLE_LENGTH, BULLY_TABLE_OWNER: of the old table;
+ * BULLY_FULL: the log has no room for all of them; BULLY_OUT_OF_MEMORY; BULLY_SHORT, with the length. */
+bully_status bully_replica_settle(bully_replica *replica, const uint16_t *present, size_t present_count, const uint16_t *old,
+                                  size_t old_count, char *rows, size_t room, size_t *length);
+/* Whether the group is at rest among the nodes that are present: all of these are Normal under the highest of them, all others are
+ * Down, and if any is present, there is a last plan, its token is above this place, and all its owners are present. `rests` gets
+ * 1, or else 0.
+ * BULLY_NULL, BULLY_CLOSED, BULLY_BAD_NODE. */
+bully_status bully_replica_is_at_rest(bully_replica *replica, const uint16_t *present, size_t present_count, uint32_t place,
+                                      uint32_t *rests);
+/* By which token the node's process may work behind so many events, and on which partitions, rising, the first of a group being 0:
+ * the node is Normal, and the last plan's token is above this place. A token and a count of 0: on none.
+ * BULLY_NULL, BULLY_CLOSED, BULLY_BAD_NODE, BULLY_OUT_OF_MEMORY; BULLY_SHORT, with the token and the count. */
+bully_status bully_replica_owned(bully_replica *replica, uint16_t node, uint32_t place, uint32_t *token, uint16_t *partitions, size_t room,
+                                 size_t *count);
+
+/* ---- A process that acts for a node, by the rules of a member ---- */
+
+/* A handle of a member: what the library keeps of a process that acts for one node of a group, as `docs/ALGORITHM.md` has its rules.
+ * It says what is to be done now, whoever drives it does that, and tells it what became of it. It has no clock, no store and no
+ * chance of its own. Times are whole nanoseconds of one clock that never goes back. A place in an epoch's log is how many rows
+ * stand behind its header; each of them is an event. Closed if it is zeroed. */
+typedef struct bully_member {
+    void *held;
+} bully_member;
+
+#define BULLY_MEMBER_CLOSED { NULL }
+
+/* Opens the handle: a member that has learned nothing, and asked for nothing, of an epoch whose log begins with this header, for
+ * the node that has its name there. rows_max: how many rows the log may have, from 22 for each node to BULLY_EVENTS_MAX. The old
+ * table is as `bully_replica_settle` takes one. process: a number that no other process of the group ever has. ttl: for how long a
+ * presence lasts from its last renewal.
+ * BULLY_NULL, BULLY_OPEN; BULLY_BAD_HEADER: it is none, or rows stand behind it; BULLY_BAD_NODE, BULLY_TABLE_LENGTH,
+ * BULLY_TABLE_OWNER, BULLY_BAD_ROWS_MAX, BULLY_BAD_TTL, BULLY_OUT_OF_MEMORY. */
+bully_status bully_member_open(bully_member *member, const char *header, size_t length, uint32_t epoch, uint16_t node, uint32_t rows_max,
+                               const uint16_t *old, size_t old_count, uint64_t process, uint64_t ttl);
+
+/* Closes the handle, and gives back all that was kept. BULLY_NULL, BULLY_CLOSED. */
+bully_status bully_member_close(bully_member *member);
+
+/* What a step is. */
+enum {
+    BULLY_STEP_ASK = 1,   /* to ask the store for `request`, and to tell what became of that */
+    BULLY_STEP_BEGIN = 2, /* to begin to work by `token`, on what `bully_member_owned` gives; nothing is written first */
+    BULLY_STEP_STOP = 3,  /* to see to it that all work ends, and to tell when it has, by `bully_member_stopped` */
+    BULLY_STEP_WAIT = 4,  /* to wait for `until`, and for `at_most` nanoseconds, and then to call `bully_member_woke` */
+    BULLY_STEP_REST = 5,  /* to do nothing for `at_most` nanoseconds, or until it is told something */
+    BULLY_STEP_END = 6    /* nothing more, for the reason `ending` */
+};
+
+/* What is asked of the store. A life is the pair of `process` and `number`, and an epoch is the member's. Each is done at one
+ * moment, or not at all. */
+enum {
+    BULLY_ASK_TAKE = 1,    /* the node's presence for this life, which promises `place`: if nobody has it, and the log ends at `place` */
+    BULLY_ASK_RENEW = 2,   /* the presence once more: if this life has it, without a gap */
+    BULLY_ASK_RELEASE = 3, /* the end of the presence, if this life has it */
+    BULLY_ASK_LOOK = 4,    /* the rows behind all that was learned, and what `bully_member_looked` is told */
+    BULLY_ASK_PROMISE = 5, /* this life's promise of `place`, if it has the presence; a higher one stays */
+    BULLY_ASK_APPEND = 6,  /* to append what `bully_member_settlement` gives: if the log ends at `place`, somebody is present, and all
+                              that are, strangers too, have promised this place of this epoch */
+    BULLY_ASK_FINISH = 7,  /* to end the epoch, and to begin the next one: on the same conditions */
+    BULLY_ASK_FOLLOW = 8   /* what the current epoch began with */
+};
+
+/* What ends a wait before its time: other rows, lives or wishes than were seen; or one of these. */
+enum {
+    BULLY_UNTIL_NEWS = 1,     /* no more */
+    BULLY_UNTIL_ANY_IDLE = 2, /* somebody that is present has promised the end of the log, and hadn't when the member looked last */
+    BULLY_UNTIL_ALL_IDLE = 3  /* all that are present have */
+};
+
+/* Why a member ends. */
+enum {
+    BULLY_ENDING_NONE = 0,
+    BULLY_ENDING_LEFT = 1,      /* it was told to leave */
+    BULLY_ENDING_NOT_THERE = 2, /* the group has no node of its name any more */
+    BULLY_ENDING_BROKEN = 3     /* the log has a row that isn't learned, or that tells no event */
+};
+
+/* A step. What its kind and its request don't have is 0. */
+typedef struct bully_step {
+    uint64_t at_most; /* wait, rest: nanoseconds */
+    uint64_t process; /* take, renew, release, promise: of the life */
+    uint64_t number;
+    uint32_t kind;    /* BULLY_STEP_.. */
+    uint32_t request; /* ask: BULLY_ASK_.. */
+    uint32_t until;   /* wait: BULLY_UNTIL_.. */
+    uint32_t place;   /* take, promise, append, finish */
+    uint32_t token;   /* begin */
+    uint32_t ending;  /* end: BULLY_ENDING_.. */
+} bully_step;
+
+/* What the member does now: the first of its rules that applies. It notes that, so what it says is to be done.
+ * BULLY_NULL, BULLY_CLOSED. */
+bully_status bully_member_next(bully_member *member, uint64_t now, bully_step *step);
+
+/* What became of a request. */
+enum {
+    BULLY_STORE_DONE = 1,
+    BULLY_STORE_REFUSED = 2,   /* it wasn't done, and won't be */
+    BULLY_STORE_UNANSWERED = 3 /* it may be done later, or never, or was done already */
+};
+
+/* What became of the last request: BULLY_STORE_... A look or a follow whose result doesn't come is BULLY_STORE_UNANSWERED,
+ * whatever is told here. Nothing changes if no request is awaited.
+ * BULLY_NULL, BULLY_CLOSED, BULLY_BAD_ANSWER. */
+bully_status bully_member_answered(bully_member *member, uint64_t now, uint32_t answer);
+
+/* The rows that a look found behind all that was learned, before `bully_member_looked` is told of it: they are learned as
+ * `bully_replica_learn` does. Unless the status is BULLY_OK, BULLY_ROW_END or BULLY_OUT_OF_MEMORY, the member ends as
+ * BULLY_ENDING_BROKEN; so it does if one of the rows tells no event. The statuses are those of `bully_replica_learn`. */
+bully_status bully_member_learn(bully_member *member, const char *rows, size_t length, size_t *taken);
+
+/* Who is present for a node: the life, and what it has promised, a place of an epoch. */
+typedef struct bully_presence {
+    uint64_t process;
+    uint64_t number;
+    uint32_t epoch;
+    uint32_t place;
+    uint16_t node;
+} bully_presence;
+
+/* What a look found beside the rows, at the same moment: which epoch is the current one; who is present for a node of it, by
+ * rising nodes; whether somebody is present whose name no node of it has (not 0: yes); and whether something else is wished for
+ * (not 0: yes). If the epoch isn't the member's, nothing else counts. Nothing changes if no look is awaited.
+ * BULLY_NULL, BULLY_CLOSED; BULLY_BAD_NODE: a presence of no node of the group, or, in another epoch, of no number of a node;
+ * BULLY_OUT_OF_MEMORY. */
+bully_status bully_member_looked(bully_member *member, uint64_t now, uint32_t epoch, const bully_presence *presences, size_t presence_count,
+                                 uint32_t has_strangers, uint32_t is_wished);
+
+/* In place of any other answer: the member's epoch is over, and its log was taken away. BULLY_NULL, BULLY_CLOSED. */
+bully_status bully_member_passed(bully_member *member);
+
+/* What the current epoch began with: the member goes on there, by its life, and has learned nothing of its log. Nothing changes if
+ * no follow is awaited, and it counts as unanswered if the epoch is the member's. The arguments are those of `bully_member_open`.
+ * BULLY_NULL, BULLY_CLOSED; BULLY_BAD_HEADER: it is none, or rows stand behind it; BULLY_BAD_NODE, BULLY_TABLE_LENGTH,
+ * BULLY_TABLE_OWNER, BULLY_BAD_ROWS_MAX, BULLY_OUT_OF_MEMORY. */
+bully_status bully_member_followed(bully_member *member, uint64_t now, const char *header, size_t length, uint32_t epoch, uint16_t node,
+                                   uint32_t rows_max, const uint16_t *old, size_t old_count);
+/* The current epoch's group has no node of the member's name: it ends. Nothing changes if no follow is awaited.
+ * BULLY_NULL, BULLY_CLOSED. */
+bully_status bully_member_not_there(bully_member *member);
+/* A wait is over. BULLY_NULL, BULLY_CLOSED. */
+bully_status bully_member_woke(bully_member *member);
+/* It has to end in order. BULLY_NULL, BULLY_CLOSED. */
+bully_status bully_member_leave(bully_member *member);
+/* What was begun by this token has ended outside. BULLY_NULL, BULLY_CLOSED. */
+bully_status bully_member_lost(bully_member *member, uint32_t token);
+/* Nothing is worked on any more. BULLY_NULL, BULLY_CLOSED. */
+bully_status bully_member_stopped(bully_member *member);
+
+/* The rows of an append, each with its line end: they settle the group among those that are present, as `bully_replica_settle`
+ * does, or, if the member ends, among nobody.
+ * BULLY_NULL, BULLY_CLOSED; BULLY_FULL: the log has no room for all of them; BULLY_OUT_OF_MEMORY; BULLY_SHORT, with the length. */
+bully_status bully_member_settlement(bully_member *member, char *rows, size_t room, size_t *length);
+/* What the member's node owns by a plan behind all that its life has promised, as `bully_replica_owned` tells it.
+ * BULLY_NULL, BULLY_CLOSED, BULLY_OUT_OF_MEMORY; BULLY_SHORT, with the token and the count. */
+bully_status bully_member_owned(bully_member *member, uint32_t *token, uint16_t *partitions, size_t room, size_t *count);
+
+/* Whether the process has the presence of its node. */
+enum {
+    BULLY_LIFE_ABSENT = 0,
+    BULLY_LIFE_UNKNOWN = 1, /* this life may have it: whether it was taken wasn't answered */
+    BULLY_LIFE_PRESENT = 2
+};
+
+/* How far its work is. */
+enum {
+    BULLY_WORK_IDLE = 0,
+    BULLY_WORK_WORKING = 1,
+    BULLY_WORK_LOST = 2,    /* what it began ended outside */
+    BULLY_WORK_STOPPING = 3 /* it was told to stop, and hasn't told yet that it has */
+};
+
+typedef struct bully_member_state {
+    uint64_t process;   /* of its life; absent: 0 */
+    uint64_t number;
+    uint64_t since;     /* present: when the last renewal that was done was asked for; else 0 */
+    uint64_t sure_left; /* for how many nanoseconds from now its presence is sure: so long it may work on what it was told to begin */
+    uint32_t life;      /* BULLY_LIFE_.. */
+    uint32_t promised;  /* up to which place of this epoch its life has promised to be idle, whether or not the store heard of that */
+    uint32_t work;      /* BULLY_WORK_.. */
+    uint32_t token;     /* of its work; idle: 0 */
+    uint32_t ending;    /* why it ends, if it does: BULLY_ENDING_.. */
+    uint32_t epoch;
+    uint32_t place;     /* the end of the log, as far as it was learned */
+    uint16_t node;
+    uint16_t is_wished; /* 1: its last look found that something else is wished for; else 0 */
+} bully_member_state;
+
+/* How the member stands now. BULLY_NULL, BULLY_CLOSED. */
+bully_status bully_member_show(bully_member *member, uint64_t now, bully_member_state *shown);
+
+/* What it has learned, as a replica shows it. */
+
+/* How a node stands. BULLY_NULL, BULLY_CLOSED, BULLY_BAD_NODE. */
+bully_status bully_member_node(bully_member *member, uint16_t node, bully_state *state);
+/* How the group stands. BULLY_NULL, BULLY_CLOSED. */
+bully_status bully_member_group(bully_member *member, bully_group *group);
+/* The owners of the last plan's table; a count of 0: there is none. BULLY_NULL, BULLY_CLOSED; BULLY_SHORT, with the count. */
+bully_status bully_member_planned(bully_member *member, uint16_t *owners, size_t room, size_t *count);
 
 #ifdef __cplusplus
 }

@@ -46,6 +46,34 @@ bully_status bully_c_replica_up(bully_replica *replica, uint16_t node, uint16_t 
 bully_status bully_c_replica_task(bully_replica *replica, uint16_t node, uint16_t *owners, size_t room, size_t *count);
 bully_status bully_c_replica_group(bully_replica *replica, bully_group *group);
 bully_status bully_c_replica_planned(bully_replica *replica, uint16_t *owners, size_t room, size_t *count);
+bully_status bully_c_replica_settle(bully_replica *replica, const uint16_t *present, size_t present_count, const uint16_t *old,
+                                    size_t old_count, char *rows, size_t room, size_t *length);
+bully_status bully_c_replica_is_at_rest(bully_replica *replica, const uint16_t *present, size_t present_count, uint32_t place,
+                                        uint32_t *rests);
+bully_status bully_c_replica_owned(bully_replica *replica, uint16_t node, uint32_t place, uint32_t *token, uint16_t *partitions,
+                                   size_t room, size_t *count);
+bully_status bully_c_member_open(bully_member *member, const char *header, size_t length, uint32_t epoch, uint16_t node, uint32_t rows_max,
+                                 const uint16_t *old, size_t old_count, uint64_t process, uint64_t ttl);
+bully_status bully_c_member_close(bully_member *member);
+bully_status bully_c_member_next(bully_member *member, uint64_t now, bully_step *step);
+bully_status bully_c_member_answered(bully_member *member, uint64_t now, uint32_t answer);
+bully_status bully_c_member_learn(bully_member *member, const char *rows, size_t length, size_t *taken);
+bully_status bully_c_member_looked(bully_member *member, uint64_t now, uint32_t epoch, const bully_presence *presences,
+                                   size_t presence_count, uint32_t has_strangers, uint32_t is_wished);
+bully_status bully_c_member_passed(bully_member *member);
+bully_status bully_c_member_followed(bully_member *member, uint64_t now, const char *header, size_t length, uint32_t epoch, uint16_t node,
+                                     uint32_t rows_max, const uint16_t *old, size_t old_count);
+bully_status bully_c_member_not_there(bully_member *member);
+bully_status bully_c_member_woke(bully_member *member);
+bully_status bully_c_member_leave(bully_member *member);
+bully_status bully_c_member_lost(bully_member *member, uint32_t token);
+bully_status bully_c_member_stopped(bully_member *member);
+bully_status bully_c_member_settlement(bully_member *member, char *rows, size_t room, size_t *length);
+bully_status bully_c_member_owned(bully_member *member, uint32_t *token, uint16_t *partitions, size_t room, size_t *count);
+bully_status bully_c_member_show(bully_member *member, uint64_t now, bully_member_state *shown);
+bully_status bully_c_member_node(bully_member *member, uint16_t node, bully_state *state);
+bully_status bully_c_member_group(bully_member *member, bully_group *group);
+bully_status bully_c_member_planned(bully_member *member, uint16_t *owners, size_t room, size_t *count);
 
 /* ---- The tests ---- */
 
@@ -281,6 +309,137 @@ bully_status bully_replica_planned(bully_replica *replica, uint16_t *owners, siz
     return bully_c_replica_planned(replica, target(owners, room), room, count);
 }
 
+bully_status bully_replica_settle(bully_replica *replica, const uint16_t *present, size_t present_count, const uint16_t *old,
+                                  size_t old_count, char *rows, size_t room, size_t *length) {
+    if (replica == NULL || !can_lie(present, present_count, sizeof *present) || !can_lie(old, old_count, sizeof *old)) {
+        return BULLY_NULL;
+    }
+    if (!can_lie(rows, room, 1) || length == NULL) {
+        return BULLY_NULL;
+    }
+    return bully_c_replica_settle(replica, source(present, present_count), present_count, source(old, old_count), old_count,
+                                  target(rows, room), room, length);
+}
+
+bully_status bully_replica_is_at_rest(bully_replica *replica, const uint16_t *present, size_t present_count, uint32_t place,
+                                      uint32_t *rests) {
+    if (replica == NULL || !can_lie(present, present_count, sizeof *present) || rests == NULL) {
+        return BULLY_NULL;
+    }
+    return bully_c_replica_is_at_rest(replica, source(present, present_count), present_count, place, rests);
+}
+
+bully_status bully_replica_owned(bully_replica *replica, uint16_t node, uint32_t place, uint32_t *token, uint16_t *partitions, size_t room,
+                                 size_t *count) {
+    if (replica == NULL || token == NULL || !can_lie(partitions, room, sizeof *partitions) || count == NULL) {
+        return BULLY_NULL;
+    }
+    return bully_c_replica_owned(replica, node, place, token, target(partitions, room), room, count);
+}
+
+/* ---- A process that acts for a node ---- */
+
+bully_status bully_member_open(bully_member *member, const char *header, size_t length, uint32_t epoch, uint16_t node, uint32_t rows_max,
+                               const uint16_t *old, size_t old_count, uint64_t process, uint64_t ttl) {
+    if (member == NULL || !can_lie(header, length, 1) || !can_lie(old, old_count, sizeof *old)) {
+        return BULLY_NULL;
+    }
+    return bully_c_member_open(member, source(header, length), length, epoch, node, rows_max, source(old, old_count), old_count, process,
+                               ttl);
+}
+
+bully_status bully_member_close(bully_member *member) {
+    return member == NULL ? BULLY_NULL : bully_c_member_close(member);
+}
+
+bully_status bully_member_next(bully_member *member, uint64_t now, bully_step *step) {
+    return member == NULL || step == NULL ? BULLY_NULL : bully_c_member_next(member, now, step);
+}
+
+bully_status bully_member_answered(bully_member *member, uint64_t now, uint32_t answer) {
+    return member == NULL ? BULLY_NULL : bully_c_member_answered(member, now, answer);
+}
+
+bully_status bully_member_learn(bully_member *member, const char *rows, size_t length, size_t *taken) {
+    if (member == NULL || !can_lie(rows, length, 1) || taken == NULL) {
+        return BULLY_NULL;
+    }
+    return bully_c_member_learn(member, source(rows, length), length, taken);
+}
+
+bully_status bully_member_looked(bully_member *member, uint64_t now, uint32_t epoch, const bully_presence *presences, size_t presence_count,
+                                 uint32_t has_strangers, uint32_t is_wished) {
+    if (member == NULL || !can_lie(presences, presence_count, sizeof *presences)) {
+        return BULLY_NULL;
+    }
+    return bully_c_member_looked(member, now, epoch, source(presences, presence_count), presence_count, has_strangers, is_wished);
+}
+
+bully_status bully_member_passed(bully_member *member) {
+    return member == NULL ? BULLY_NULL : bully_c_member_passed(member);
+}
+
+bully_status bully_member_followed(bully_member *member, uint64_t now, const char *header, size_t length, uint32_t epoch, uint16_t node,
+                                   uint32_t rows_max, const uint16_t *old, size_t old_count) {
+    if (member == NULL || !can_lie(header, length, 1) || !can_lie(old, old_count, sizeof *old)) {
+        return BULLY_NULL;
+    }
+    return bully_c_member_followed(member, now, source(header, length), length, epoch, node, rows_max, source(old, old_count), old_count);
+}
+
+bully_status bully_member_not_there(bully_member *member) {
+    return member == NULL ? BULLY_NULL : bully_c_member_not_there(member);
+}
+
+bully_status bully_member_woke(bully_member *member) {
+    return member == NULL ? BULLY_NULL : bully_c_member_woke(member);
+}
+
+bully_status bully_member_leave(bully_member *member) {
+    return member == NULL ? BULLY_NULL : bully_c_member_leave(member);
+}
+
+bully_status bully_member_lost(bully_member *member, uint32_t token) {
+    return member == NULL ? BULLY_NULL : bully_c_member_lost(member, token);
+}
+
+bully_status bully_member_stopped(bully_member *member) {
+    return member == NULL ? BULLY_NULL : bully_c_member_stopped(member);
+}
+
+bully_status bully_member_settlement(bully_member *member, char *rows, size_t room, size_t *length) {
+    if (member == NULL || !can_lie(rows, room, 1) || length == NULL) {
+        return BULLY_NULL;
+    }
+    return bully_c_member_settlement(member, target(rows, room), room, length);
+}
+
+bully_status bully_member_owned(bully_member *member, uint32_t *token, uint16_t *partitions, size_t room, size_t *count) {
+    if (member == NULL || token == NULL || !can_lie(partitions, room, sizeof *partitions) || count == NULL) {
+        return BULLY_NULL;
+    }
+    return bully_c_member_owned(member, token, target(partitions, room), room, count);
+}
+
+bully_status bully_member_show(bully_member *member, uint64_t now, bully_member_state *shown) {
+    return member == NULL || shown == NULL ? BULLY_NULL : bully_c_member_show(member, now, shown);
+}
+
+bully_status bully_member_node(bully_member *member, uint16_t node, bully_state *state) {
+    return member == NULL || state == NULL ? BULLY_NULL : bully_c_member_node(member, node, state);
+}
+
+bully_status bully_member_group(bully_member *member, bully_group *group) {
+    return member == NULL || group == NULL ? BULLY_NULL : bully_c_member_group(member, group);
+}
+
+bully_status bully_member_planned(bully_member *member, uint16_t *owners, size_t room, size_t *count) {
+    if (member == NULL || !can_lie(owners, room, sizeof *owners) || count == NULL) {
+        return BULLY_NULL;
+    }
+    return bully_c_member_planned(member, target(owners, room), room, count);
+}
+
 /* ---- Names ---- */
 
 #define NAME(status) [BULLY_##status] = #status
@@ -293,6 +452,7 @@ static const char *const names[] = {
     /* of arguments */
     NAME(NULL), NAME(CLOSED), NAME(OPEN), NAME(OUT_OF_MEMORY), NAME(SHORT), NAME(BAD_NODES), NAME(BAD_PARTITIONS),
     NAME(BAD_LIMIT), NAME(BAD_WEIGHTS), NAME(TABLE_LENGTH), NAME(TABLE_OWNER), NAME(NO_MEMBER), NAME(BAD_EVENT),
+    NAME(BAD_ROWS_MAX), NAME(BAD_TTL), NAME(BAD_ANSWER),
     /* of lines */
     NAME(LINE_WORD), NAME(LINE_CALLER), NAME(LINE_NUMBER), NAME(LINE_CALLEE), NAME(LINE_KIND), NAME(LINE_TABLE),
     NAME(LINE_ANSWER),

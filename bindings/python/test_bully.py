@@ -16,7 +16,6 @@ from types import ModuleType
 from typing import Any, Callable, Dict, Iterable, List, Optional, Sequence, Tuple, Type, Union
 
 import bully
-import shared_log
 from bully import Agent, Answer, Call, CallKind, NotLearned, Refused, Replica, Setup, State, Status, Verdict, VerdictKind, Want
 from bully import check, plan_table
 from bully.faults import FAULTS
@@ -125,11 +124,11 @@ class Headers(unittest.TestCase):
                 name = re.sub(r'(?<!^)(?=[A-Z])', '_', fault.__name__).upper()
                 self.assertEqual(named[name], number)
                 self.assertEqual(bully.status_name(number), name)
-        self.assertEqual(len(FAULTS), 37)
+        self.assertEqual(len(FAULTS), 40)
 
     def test_other_names(self) -> None:
         self.assertEqual(bully.status_name(0), 'OK')
-        for number in (13, 19, 33, 39, 47, 49, 55, 0xFFFF_FFFF):
+        for number in (13, 19, 36, 39, 47, 49, 55, 0xFFFF_FFFF):
             self.assertEqual(bully.status_name(number), '?')
 
     def test_limits(self) -> None:
@@ -1341,44 +1340,6 @@ class Walks(unittest.TestCase):
         self.assertEqual(shown(walk.learned_in_parts()), shown(watcher))
         for member in walk.members:
             self.assertEqual(shown(member.read()), shown(watcher))
-
-
-class SharedLogs(unittest.TestCase):
-    """Groups that live by the rules of `docs/NODE.md`."""
-
-    def test_groups_come_to_rest(self) -> None:
-        over = refused = 0
-        for seed in range(300):
-            group = shared_log.Group(2 + seed % 5, seed)
-            with self.subTest(seed=seed):
-                group.live(300)
-                self.assertIsNotNone(group.rest(1000))
-                self.expect(group)
-            over += group.over
-            refused += group.store.refused
-        self.assertGreater(min(over, refused), 300)
-
-    def test_a_leader_left_in_reorganization(self) -> None:
-        """Node 2 lost node 1 in its reorganization and node 3 behind its back: nothing is left to do, and it isn't Normal."""
-        store = shared_log.Store(Setup(3, 12).header())
-        store.append(0, (
-            'recover,1 recover,2 start,2 lose,2 return,2 move,2 start,2 run,2 return,2 move,2 start,2 crash,1 lose,2 return,2 start,2 '
-            'recover,3 run,2 return,2 crash,3').split())
-        life = shared_log.Life(store, 2, {1, 3})
-        life.has_begun = True
-        life.read()
-        self.assertEqual((life.replica.status(2), life.replica.coordinator(2)), (Status.REORGANIZATION, 2))
-        self.assertEqual(life.wish(), ['crash,2', 'recover,2'])
-
-    def expect(self, group: shared_log.Group) -> None:
-        """All that live are Normal under the highest, own all that there is, and no old life is left."""
-        self.assertTrue(group.store.is_lawful())
-        self.assertEqual(group.old, [])
-        highest = max(group.lives)
-        for node, life in group.lives.items():
-            state = life.replica.state(node)
-            self.assertEqual((state.status, state.coordinator), (Status.NORMAL, highest))
-            self.assertLessEqual(set(life.replica.task(node) or ()), set(group.lives))
 
 
 class Memory(unittest.TestCase):

@@ -26,7 +26,7 @@ from bully.epochs import Opening, Token, cut_end, setup_of
 from bully.logs import (
     DamagedLog, DiskFull, ForeignLog, Log, LogBusy, LogError, LogExists, MemoryLog, NoLog, ReadOnlyLog, SqliteLog, current,
 )  # fmt: skip
-from bully.member import (
+from bully.appending import (
     Append, Assignment, Begin, Core, End, Ending, Finish, Follow, Look, Pace, Read, Release, Renew, Rest, Step, Stop, Take, Wait,
 )  # fmt: skip
 from bully.running import Member, NotInGroup, OtherGroup

@@ -7,7 +7,7 @@ from asking import KeptLog
 from bully.epochs import FIRST, Token, cut_end
 from bully.etcd import Held
 from bully.logs import Unanswered
-from bully.member import Append, Assignment, Core, Step
+from bully.appending import Append, Assignment, Core, Step
 
 
 class NoAbsent(Core):

@@ -1,6 +1,6 @@
 """A group of members over a log in memory, in simulated time: everything that happens follows from a seed.
 
-Each member is a `bully.member.Core`. Its requests and their answers take their time, are slow or lost, or come once the member
+Each member is a `bully.appending.Core`. Its requests and their answers take their time, are slow or lost, or come once the member
 waits for them no more; it dies, leaves, is paused at any step, and comes back, also beside an old life of its node. What it works on
 is units: each takes a time below the margin, and is done at its end, if the resource doesn't refuse its token.
 
@@ -19,7 +19,7 @@ from bugs import Bug
 from bully import NotLearned, Replica, Setup, Status, check
 from bully.epochs import Opening, Token, cut_end
 from bully.logs import Log, MemoryLog, NoEpoch, Seen
-from bully.member import (
+from bully.appending import (
     Append, Assignment, Begin, End, Ending, Finish, Follow, Look, Pace, Read, Release, Renew, Rest, Step, Stop, Take, Wait,
 )  # fmt: skip
 from bully.resizing import has_ended

@@ -21,5 +21,8 @@ int main(int count, char **words) {
     try_replicas();
     try_replica_arguments();
     try_learning(words[1]);
+    try_settling();
+    try_members();
+    try_member_arguments();
     return tell_counts();
 }

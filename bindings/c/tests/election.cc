@@ -219,6 +219,24 @@ public:
         });
     }
 
+    std::string settle(const Owners &present, const Owners &old = Owners()) {
+        return text_of([&](char *rows, std::size_t room, std::size_t *length) {
+            return bully_replica_settle(&handle, present.data(), present.size(), old.data(), old.size(), rows, room, length);
+        });
+    }
+
+    bool is_at_rest(const Owners &present, std::uint32_t place) {
+        std::uint32_t rests = 77;
+        EXPECT(bully_replica_is_at_rest(&handle, present.data(), present.size(), place, &rests) == BULLY_OK);
+        return rests != 0;
+    }
+
+    Owners owned(std::uint16_t node, std::uint32_t place, std::uint32_t *token) {
+        return list_of([&](std::uint16_t *items, std::size_t room, std::size_t *count) {
+            return bully_replica_owned(&handle, node, place, token, items, room, count);
+        });
+    }
+
 private:
     bully_replica handle = BULLY_REPLICA_CLOSED;
 };
@@ -271,6 +289,113 @@ void share() {
     judge(log.text, 17);
 }
 
+// All of it is settled at once, and each process works on what its node owns.
+void settle() {
+    std::uint32_t token = 77;
+    std::size_t taken = 77;
+    Replica replica("bully,1,2,3\n");
+    std::string rows = replica.settle(Owners{1, 2}, Owners{2, 2, 0});
+    EXPECT(bully_replica_learn(*replica, rows.data(), rows.size(), &taken) == BULLY_OK && taken == 16);
+    EXPECT(replica.is_at_rest(Owners{2, 1}, 11) && !replica.is_at_rest(Owners{2, 1}, 12) && !replica.is_at_rest(Owners{1}, 0));
+    EXPECT((replica.owned(2, 0, &token) == Owners{0, 1} && token == 12));
+    EXPECT((replica.owned(1, 0, &token) == Owners{2} && token == 12));
+    EXPECT(replica.owned(1, 12, &token).empty() && token == 0);
+    EXPECT(replica.settle(Owners()) == "crash,1\ncrash,2\n");
+}
+
+// A member that is closed when it ends.
+class Member {
+public:
+    Member() {
+        EXPECT(bully_member_open(&handle, header.data(), header.size(), 1, 1, 22, nullptr, 0, 9, BULLY_TTL_MAX) == BULLY_OK);
+    }
+
+    Member(const Member &) = delete;
+    Member &operator=(const Member &) = delete;
+
+    ~Member() {
+        EXPECT(bully_member_close(&handle) == BULLY_OK);
+    }
+
+    bully_member *operator*() {
+        return &handle;
+    }
+
+    bully_step next(std::uint64_t now) {
+        bully_step step = {};
+        EXPECT(bully_member_next(&handle, now, &step) == BULLY_OK);
+        return step;
+    }
+
+    // It looks in this epoch, and finds these rows and these presences.
+    void look(std::uint64_t now, const std::string &rows, const std::vector<bully_presence> &presences) {
+        std::size_t taken = 77;
+        EXPECT(next(now).request == BULLY_ASK_LOOK);
+        EXPECT(bully_member_learn(&handle, rows.data(), rows.size(), &taken) == BULLY_OK);
+        EXPECT(bully_member_looked(&handle, now + 1, show(now).epoch, presences.data(), presences.size(), 0, 0) == BULLY_OK);
+    }
+
+    // It asks for this, and that is done.
+    void ask(std::uint64_t now, std::uint32_t request) {
+        EXPECT(next(now).request == request);
+        EXPECT(bully_member_answered(&handle, now + 1, BULLY_STORE_DONE) == BULLY_OK);
+    }
+
+    bully_member_state show(std::uint64_t now) {
+        bully_member_state shown = {};
+        EXPECT(bully_member_show(&handle, now, &shown) == BULLY_OK);
+        return shown;
+    }
+
+    std::string settlement() {
+        return text_of([&](char *rows, std::size_t room, std::size_t *length) {
+            return bully_member_settlement(&handle, rows, room, length);
+        });
+    }
+
+    Owners owned(std::uint32_t *token) {
+        return list_of([&](std::uint16_t *items, std::size_t room, std::size_t *count) {
+            return bully_member_owned(&handle, token, items, room, count);
+        });
+    }
+
+    Owners planned() {
+        return list_of([&](std::uint16_t *items, std::size_t room, std::size_t *count) {
+            return bully_member_planned(&handle, items, room, count);
+        });
+    }
+
+    const std::string header = "bully,1,1,1\n";
+
+private:
+    bully_member handle = BULLY_MEMBER_CLOSED;
+};
+
+// Process 9 takes the presence of its node, settles its group, works, stops, and goes on in another epoch, where it isn't there.
+void act() {
+    const std::vector<bully_presence> own = {{9, 1, 1, 0, 1}};
+    std::uint32_t token = 77;
+    bully_group shown = {};
+    bully_state state = {};
+    Member member;
+    member.look(0, "", {});
+    member.ask(10, BULLY_ASK_TAKE);
+    member.look(20, "", own);
+    member.ask(30, BULLY_ASK_APPEND);
+    member.look(40, member.settlement(), own);
+    EXPECT(member.next(50).kind == BULLY_STEP_BEGIN && member.owned(&token) == Owners{0} && token == 5 && member.planned() == Owners{1});
+    EXPECT(bully_member_group(*member, &shown) == BULLY_OK && shown.events == 6);
+    EXPECT(bully_member_node(*member, 1, &state) == BULLY_OK && state.status == BULLY_NORMAL);
+    EXPECT(bully_member_woke(*member) == BULLY_OK && bully_member_lost(*member, 5) == BULLY_OK);
+    EXPECT(member.next(60).kind == BULLY_STEP_STOP && bully_member_stopped(*member) == BULLY_OK);
+    EXPECT(bully_member_passed(*member) == BULLY_OK && member.next(70).request == BULLY_ASK_FOLLOW);
+    EXPECT(bully_member_followed(*member, 80, member.header.data(), member.header.size(), 2, 1, 22, nullptr, 0) == BULLY_OK);
+    EXPECT(member.show(80).epoch == 2 && bully_member_passed(*member) == BULLY_OK && member.next(90).request == BULLY_ASK_FOLLOW);
+    EXPECT(bully_member_not_there(*member) == BULLY_OK && bully_member_leave(*member) == BULLY_OK);
+    member.ask(100, BULLY_ASK_RELEASE);
+    EXPECT(member.next(110).kind == BULLY_STEP_END && member.show(110).ending == BULLY_ENDING_NOT_THERE);
+}
+
 } // namespace
 
 int main() {
@@ -284,6 +409,8 @@ int main() {
     EXPECT(kept.told(bully_agent_claim) == "saw,1,down,-,-,-,1 1 2\n");
     plan();
     share();
+    settle();
+    act();
     tell();
     std::printf("%d passed, %d failed\n", passed, failed);
     return failed == 0 ? 0 : 1;

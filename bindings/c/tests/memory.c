@@ -146,12 +146,62 @@ static bully_status learn_claim(void) {
     return bully_replica_learn(&replica, claim, strlen(claim), &length);
 }
 
+/* ---- What settles a group, and the calls of a member of one that settles itself ---- */
+
+#define MEMBER_HEADER "bully,1,2,2\n"
+#define ROWS_MAX 44
+
+static bully_member member, opened_member;
+static uint32_t token;
+
+static bully_status settle(void) {
+    static const uint16_t present[2] = {1, 2}, old[2] = {2, 0};
+    return bully_replica_settle(&replica, present, 2, old, 2, text, sizeof text, &length);
+}
+
+static bully_status owned(void) {
+    return bully_replica_owned(&replica, 2, 0, &token, owners, 2, &length);
+}
+
+static bully_status open_member(void) {
+    static const uint16_t old[2] = {2, 0};
+    return bully_member_open(&opened_member, MEMBER_HEADER, strlen(MEMBER_HEADER), 1, 1, ROWS_MAX, old, 2, 9, BULLY_TTL_MIN);
+}
+
+static bully_status find(void) {
+    static const bully_presence presences[2] = {{9, 1, 1, 0, 1}, {8, 1, 1, 0, 2}};
+    return bully_member_looked(&member, 40, 1, presences, 2, 0, 0);
+}
+
+static bully_status settlement(void) {
+    return bully_member_settlement(&member, text, sizeof text, &length);
+}
+
+static bully_status learn_first(void) {
+    return bully_member_learn(&member, "recover,1\n", 10, &length);
+}
+
+static bully_status learn_table(void) {
+    return bully_member_learn(&member, PLAN, strlen(PLAN), &length);
+}
+
+static bully_status own(void) {
+    return bully_member_owned(&member, &token, owners, 2, &length);
+}
+
+static bully_status follow(void) {
+    static const uint16_t old[3] = {1, 0, 2};
+    return bully_member_followed(&member, 90, "bully,1,2,3\n", 12, 2, 2, ROWS_MAX, old, 3);
+}
+
 /* ---- Refusing ---- */
 
-/* All that the pair and the replica show, as far as they are open. */
+/* All that the pair, the replica and the member show, as far as they are open. */
 struct sight {
     struct look first, second;
     struct seen seen;
+    bully_member_state state;
+    bully_group group;
 };
 
 static void look(struct sight *sight) {
@@ -163,11 +213,16 @@ static void look(struct sight *sight) {
     if (replica.held != NULL) {
         see(&replica, &sight->seen);
     }
+    if (member.held != NULL) {
+        ANSWERS(OK, bully_member_show(&member, 50, &sight->state));
+        ANSWERS(OK, bully_member_group(&member, &sight->group));
+    }
 }
 
 static int is_same_sight(const struct sight *one, const struct sight *other) {
     return is_same_look(&one->first, &other->first) && is_same_look(&one->second, &other->second) &&
-           is_same_seen(&one->seen, &other->seen);
+           is_same_seen(&one->seen, &other->seen) && memcmp(&one->state, &other->state, sizeof one->state) == 0 &&
+           memcmp(&one->group, &other->group, sizeof one->group) == 0;
 }
 
 /* What the calls write: nothing, if they are refused, but for the number of a verdict, and of the rows that were learned. */
@@ -177,18 +232,23 @@ static void spoil(void) {
     memset(&verdict, 77, sizeof verdict);
     memset(text, 77, sizeof text);
     owners[0] = owners[1] = moves = 77;
+    token = 77;
     length = 77;
 }
 
+static int learns(bully_status (*call)(void)) {
+    return call == learn_move || call == learn_plan || call == learn_claim || call == learn_first || call == learn_table;
+}
+
 static int is_spoiled(bully_status (*call)(void)) {
-    size_t at, length_left = call == learn_move || call == learn_plan || call == learn_claim ? 0 : 77;
+    size_t at, length_left = learns(call) ? 0 : 77;
     for (at = 0; at < sizeof text; at++) {
         if (text[at] != 77) {
             return 0;
         }
     }
     return owners[0] == 77 && owners[1] == 77 && moves == 77 && length == length_left && verdict.kind == SPOILED &&
-           verdict.cause == SPOILED && opened.held == NULL && opened_replica.held == NULL;
+           verdict.cause == SPOILED && opened.held == NULL && opened_replica.held == NULL && opened_member.held == NULL && token == 77;
 }
 
 /* Refuses one request of the call; answers whether it came to that. */
@@ -279,6 +339,55 @@ static void refuse_of_replica(void) {
     ANSWERS(OK, bully_replica_close(&replica));
 }
 
+static void refuse_of_settling(void) {
+    ANSWERS(OK, bully_replica_open(&replica, VERSION_3, strlen(VERSION_3)));
+    refuse_each("bully_replica_settle", BULLY_OK, settle, 1);
+    EXPECT(is_text(text, length, "recover,1\nrecover,2\nmove,2\nstart,2\nrun,2\nreturn,2\nmove,2\nstart,2\nrun,2\nreturn,2\nmove,2\n"
+                                 "plan,2,2 1\nstart,2\nrun,2\nreturn,2\nmove,2\n"));
+    {
+        /* (the text lies where a refusal writes) */
+        char rows[ROOM];
+        size_t count = length;
+        memcpy(rows, text, count);
+        ANSWERS(OK, bully_replica_learn(&replica, rows, count, &length));
+    }
+    refuse_each("bully_replica_owned", BULLY_OK, owned, 1);
+    EXPECT(token == 12 && length == 1 && owners[0] == 0 && owners[1] == 77);
+    ANSWERS(OK, bully_replica_close(&replica));
+}
+
+/* The member looks and takes its presence; then it looks, and both nodes are present. */
+static void take_presence(void) {
+    bully_step step;
+    ANSWERS(OK, bully_member_next(&member, 0, &step));
+    ANSWERS(OK, bully_member_looked(&member, 5, 1, NULL, 0, 0, 0));
+    ANSWERS(OK, bully_member_next(&member, 10, &step));
+    ANSWERS(OK, bully_member_answered(&member, 20, BULLY_STORE_DONE));
+    ANSWERS(OK, bully_member_next(&member, 30, &step));
+    EXPECT(step.request == BULLY_ASK_LOOK);
+    refuse_each("bully_member_looked", BULLY_OK, find, 1);
+}
+
+static void refuse_of_member(void) {
+    bully_step step;
+    refuse_each("bully_member_open", BULLY_OK, open_member, 1);
+    member = opened_member;
+    opened_member.held = NULL;
+    take_presence();
+    refuse_each("bully_member_settlement", BULLY_OK, settlement, 1);
+    refuse_each("bully_member_learn, first", BULLY_OK, learn_first, 0);
+    ANSWERS(OK, bully_member_learn(&member, ANNOUNCED MOVE + 10, strlen(ANNOUNCED MOVE) - 10, &length));
+    refuse_each("bully_member_learn, plan", BULLY_OK, learn_table, 1);
+    ANSWERS(OK, bully_member_learn(&member, "start,2\nrun,2\n", 14, &length));
+    refuse_each("bully_member_owned", BULLY_OK, own, 1);
+    EXPECT(token == 12 && length == 1 && owners[0] == 0);
+    ANSWERS(OK, bully_member_passed(&member));
+    ANSWERS(OK, bully_member_next(&member, 80, &step));
+    EXPECT(step.request == BULLY_ASK_FOLLOW);
+    refuse_each("bully_member_followed", BULLY_OK, follow, 1);
+    ANSWERS(OK, bully_member_close(&member));
+}
+
 /* Two rows, of which the first may be learned before a request is refused: it stays then, and the replica goes on behind it. Answers
  * whether it came to a refusal, and counts those behind the first row. */
 static int refuse_learning(long number, int *behind_first) {
@@ -321,6 +430,8 @@ int main(void) {
         refuse_at_rest();
         refuse_of_replica();
         refuse_while_learning();
+        refuse_of_settling();
+        refuse_of_member();
         EXPECT(blocks == before);
     }
     return tell_counts();

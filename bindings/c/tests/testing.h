@@ -81,5 +81,8 @@ void try_elections(void);
 void try_replicas(void);
 void try_replica_arguments(void);
 void try_learning(const char *folder);
+void try_settling(void);
+void try_members(void);
+void try_member_arguments(void);
 
 #endif

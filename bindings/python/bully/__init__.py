@@ -3,7 +3,8 @@
 This is the binding of `include/bully.h` by ctypes. It needs Python 3.9 or later and its standard library alone. There are two
 ways to build on it. An `Agent` is one node on its own, which sends calls to the others: `docs/NODE.md` says which calls it wants
 when, and what the program has to keep. A `Replica` is what a process knows of a group whose history is a log in a store outside; and a
-`Member` is such a process, over a log of `bully.logs`: `docs/MEMBERS.md`. The command `bully-member` runs one.
+`Member` is such a process, over a log of `bully.logs`: `docs/MEMBERS.md`. The command `bully-member` runs one. `bully.member` has the
+proved rules of one alone.
 
 `bin/library FOLDER` of the repository builds the library. This module finds it by
 
@@ -41,14 +42,14 @@ from .agent import Agent
 from .faults import (
     BullyError, Refused, BadArgument, LineFault, TraceFault, NotLearned, Full, BadNode, IsDown, IsUp, Busy, NoStep, SlotBusy,
     NoCall, CalleeDown, CalleeUp, BadTable, NotOrphan, Null, Closed, Open, OutOfMemory, Short, BadNodes, BadPartitions, BadLimit,
-    BadWeights, TableLength, TableOwner, NoMember, BadEvent, LineWord, LineCaller, LineNumber, LineCallee, LineKind, LineTable,
-    LineAnswer, BadHeader, BadRow, TooManyRows, RowDiffers, RowEnd,
+    BadWeights, TableLength, TableOwner, NoMember, BadEvent, BadRowsMax, BadTtl, BadAnswer, LineWord, LineCaller, LineNumber,
+    LineCallee, LineKind, LineTable, LineAnswer, BadHeader, BadRow, TooManyRows, RowDiffers, RowEnd,
 )  # fmt: skip
 from .group import Setup, check, plan_table, status_name, version
 from .library import load
 from .replica import Replica
 from .values import (
-    EVENTS_MAX, NODES_MAX, PARTITIONS_MAX, WEIGHT_MAX, Answer, Call, CallKind, Line, Rows, State, Status, TablePlan,
+    EVENTS_MAX, NODES_MAX, PARTITIONS_MAX, WEIGHT_MAX, Answer, Call, CallKind, Line, Owned, Rows, State, Status, TablePlan,
     Verdict, VerdictKind, Want,
 )  # fmt: skip
 
@@ -68,11 +69,11 @@ def __getattr__(name: str) -> Any:
 
 
 __all__ = [
-    'Agent', 'Answer', 'BadArgument', 'BadEvent', 'BadHeader', 'BadLimit', 'BadNode', 'BadNodes', 'BadPartitions', 'BadRow',
-    'BadTable', 'BadWeights', 'BullyError', 'Busy', 'Call', 'CallKind', 'CalleeDown', 'CalleeUp', 'Closed', 'EVENTS_MAX', 'Full',
-    'IsDown', 'IsUp', 'Line', 'LineAnswer', 'LineCallee', 'LineCaller', 'LineFault', 'LineKind', 'LineNumber', 'LineTable',
-    'LineWord', 'Member', 'NODES_MAX', 'NoCall', 'NoMember', 'NoStep', 'NotLearned', 'NotOrphan', 'Null', 'Open', 'OutOfMemory',
-    'PARTITIONS_MAX', 'Refused', 'Replica', 'RowDiffers', 'RowEnd', 'Rows', 'Setup', 'Short', 'SlotBusy', 'State', 'Status',
-    'TableLength', 'TableOwner', 'TablePlan', 'TooManyRows', 'TraceFault', 'Verdict', 'VerdictKind', 'WEIGHT_MAX', 'Want',
-    'check', 'load', 'plan_table', 'status_name', 'version',
+    'Agent', 'Answer', 'BadAnswer', 'BadArgument', 'BadEvent', 'BadHeader', 'BadLimit', 'BadNode', 'BadNodes', 'BadPartitions',
+    'BadRow', 'BadRowsMax', 'BadTable', 'BadTtl', 'BadWeights', 'BullyError', 'Busy', 'Call', 'CallKind', 'CalleeDown',
+    'CalleeUp', 'Closed', 'EVENTS_MAX', 'Full', 'IsDown', 'IsUp', 'Line', 'LineAnswer', 'LineCallee', 'LineCaller', 'LineFault',
+    'LineKind', 'LineNumber', 'LineTable', 'LineWord', 'Member', 'NODES_MAX', 'NoCall', 'NoMember', 'NoStep', 'NotLearned',
+    'NotOrphan', 'Null', 'Open', 'OutOfMemory', 'Owned', 'PARTITIONS_MAX', 'Refused', 'Replica', 'RowDiffers', 'RowEnd', 'Rows',
+    'Setup', 'Short', 'SlotBusy', 'State', 'Status', 'TableLength', 'TableOwner', 'TablePlan', 'TooManyRows', 'TraceFault',
+    'Verdict', 'VerdictKind', 'WEIGHT_MAX', 'Want', 'check', 'load', 'plan_table', 'status_name', 'version',
 ]  # fmt: skip

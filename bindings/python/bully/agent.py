@@ -19,7 +19,7 @@ class Agent(Opened):
     Each call that changes it is refused, by an exception, and changes nothing; or it is an event of the group, two where a call
     failed, and `rows` has them for the log. An agent holds memory of the library until it is closed: `with` closes it."""
 
-    _closing = 'bully_agent_close'
+    _kind = 'bully_agent'
     _single = 'an agent is not copied: two of them would be two agents of one node'
 
     def __init__(self, setup: Setup, node: int, events: int = 0, task: Optional[Sequence[int]] = None) -> None:

@@ -23,10 +23,10 @@ import sys
 import time
 from typing import Callable, List, Optional, Tuple, Type, TypeVar
 
+from .appending import Assignment
 from .epochs import Opening, cut_end
 from .faults import BullyError
 from .logs import LogError, SqliteLog, Unanswered
-from .member import Assignment
 from .page import Page
 from .resizing import NotEnded, resize
 from .running import Member, NotInGroup, OtherGroup

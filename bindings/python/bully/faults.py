@@ -120,7 +120,7 @@ class Null(BadArgument):
 
 
 class Closed(BadArgument):
-    """The agent or the replica is closed."""
+    """The agent, the replica or the member is closed."""
 
     status = 21
 
@@ -189,6 +189,24 @@ class BadEvent(BadArgument):
     """No number of a kind of event. This module hands none on."""
 
     status = 32
+
+
+class BadRowsMax(BadArgument):
+    """A member's log has room for fewer than 22 rows for each node, or for more than EVENTS_MAX."""
+
+    status = 33
+
+
+class BadTtl(BadArgument):
+    """A member's ttl is below a millisecond or above a day."""
+
+    status = 34
+
+
+class BadAnswer(BadArgument):
+    """No number of an answer of a store. This module hands none on."""
+
+    status = 35
 
 
 class LineWord(LineFault):

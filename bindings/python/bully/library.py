@@ -8,7 +8,7 @@ from types import TracebackType
 from typing import Any, Callable, Dict, Iterable, Iterator, List, NoReturn, Optional, Sequence, Tuple, Type, TypeVar, Union
 
 from .faults import BullyError, Short, TableLength, expect_ok
-from .values import Call, CallKind, Line, Rows, State, Status, Want
+from .values import Call, CallKind, Line, Owned, Rows, State, Status, Want
 
 FILE = 'libbully.so'
 HOW_TO_FIND = f'an archive of Cinnabarloom has {FILE} in lib, or bin/library FOLDER builds it; BULLY_LIBRARY=FOLDER tells where it is'
@@ -16,6 +16,7 @@ REPLY_MAX = 32
 ROOM_MIN = 256
 UINT16_MAX = 0xFFFF
 UINT32_MAX = 0xFFFF_FFFF
+UINT64_MAX = 0xFFFF_FFFF_FFFF_FFFF
 
 
 class RawSetup(ctypes.Structure):
@@ -63,16 +64,62 @@ class RawGroup(ctypes.Structure):
     ]
 
 
+class RawStep(ctypes.Structure):
+    _fields_ = [
+        ('at_most', ctypes.c_uint64),
+        ('process', ctypes.c_uint64),
+        ('number', ctypes.c_uint64),
+        ('kind', ctypes.c_uint32),
+        ('request', ctypes.c_uint32),
+        ('until', ctypes.c_uint32),
+        ('place', ctypes.c_uint32),
+        ('token', ctypes.c_uint32),
+        ('ending', ctypes.c_uint32),
+    ]
+
+
+class RawPresence(ctypes.Structure):
+    _fields_ = [
+        ('process', ctypes.c_uint64),
+        ('number', ctypes.c_uint64),
+        ('epoch', ctypes.c_uint32),
+        ('place', ctypes.c_uint32),
+        ('node', ctypes.c_uint16),
+    ]
+
+
+class RawMember(ctypes.Structure):
+    _fields_ = [
+        ('process', ctypes.c_uint64),
+        ('number', ctypes.c_uint64),
+        ('since', ctypes.c_uint64),
+        ('sure_left', ctypes.c_uint64),
+        ('life', ctypes.c_uint32),
+        ('promised', ctypes.c_uint32),
+        ('work', ctypes.c_uint32),
+        ('token', ctypes.c_uint32),
+        ('ending', ctypes.c_uint32),
+        ('epoch', ctypes.c_uint32),
+        ('place', ctypes.c_uint32),
+        ('node', ctypes.c_uint16),
+        ('is_wished', ctypes.c_uint16),
+    ]
+
+
 _SIZE = ctypes.c_size_t
 _SIZE_OUT = ctypes.POINTER(ctypes.c_size_t)
 _UINT32_OUT = ctypes.POINTER(ctypes.c_uint32)
 _NUMBERS = ctypes.POINTER(ctypes.c_uint16)
-_AGENT = _REPLICA = ctypes.POINTER(RawHandle)
+_AGENT = _REPLICA = _MEMBER = ctypes.POINTER(RawHandle)
 _NODE = ctypes.c_uint16
 _SETUP = (ctypes.POINTER(RawSetup), _NUMBERS, _SIZE)
 _LINE = (ctypes.c_char_p, _SIZE)
 _TEXT_OUT = (ctypes.c_char_p, _SIZE, _SIZE_OUT)
 _NUMBERS_OUT = (_NUMBERS, _SIZE, _SIZE_OUT)
+_OWNED_OUT = (_UINT32_OUT, *_NUMBERS_OUT)
+_EPOCH = (*_LINE, ctypes.c_uint32, _NODE, ctypes.c_uint32, _NUMBERS, _SIZE)
+_NOW = ctypes.c_uint64
+_SEEN = (ctypes.c_uint32, ctypes.POINTER(RawPresence), _SIZE, ctypes.c_uint32, ctypes.c_uint32)
 
 _PARAMETERS: Dict[str, Tuple[Any, ...]] = {
     'bully_check': (*_LINE, ctypes.POINTER(RawVerdict)),
@@ -108,6 +155,28 @@ _PARAMETERS: Dict[str, Tuple[Any, ...]] = {
     'bully_replica_task': (_REPLICA, _NODE, *_NUMBERS_OUT),
     'bully_replica_group': (_REPLICA, ctypes.POINTER(RawGroup)),
     'bully_replica_planned': (_REPLICA, *_NUMBERS_OUT),
+    'bully_replica_settle': (_REPLICA, _NUMBERS, _SIZE, _NUMBERS, _SIZE, *_TEXT_OUT),
+    'bully_replica_is_at_rest': (_REPLICA, _NUMBERS, _SIZE, ctypes.c_uint32, _UINT32_OUT),
+    'bully_replica_owned': (_REPLICA, _NODE, ctypes.c_uint32, *_OWNED_OUT),
+    'bully_member_open': (_MEMBER, *_EPOCH, ctypes.c_uint64, ctypes.c_uint64),
+    'bully_member_close': (_MEMBER,),
+    'bully_member_next': (_MEMBER, _NOW, ctypes.POINTER(RawStep)),
+    'bully_member_answered': (_MEMBER, _NOW, ctypes.c_uint32),
+    'bully_member_learn': (_MEMBER, *_LINE, _SIZE_OUT),
+    'bully_member_looked': (_MEMBER, _NOW, *_SEEN),
+    'bully_member_passed': (_MEMBER,),
+    'bully_member_followed': (_MEMBER, _NOW, *_EPOCH),
+    'bully_member_not_there': (_MEMBER,),
+    'bully_member_woke': (_MEMBER,),
+    'bully_member_leave': (_MEMBER,),
+    'bully_member_lost': (_MEMBER, ctypes.c_uint32),
+    'bully_member_stopped': (_MEMBER,),
+    'bully_member_settlement': (_MEMBER, *_TEXT_OUT),
+    'bully_member_owned': (_MEMBER, *_OWNED_OUT),
+    'bully_member_show': (_MEMBER, _NOW, ctypes.POINTER(RawMember)),
+    'bully_member_node': (_MEMBER, _NODE, ctypes.POINTER(RawState)),
+    'bully_member_group': (_MEMBER, ctypes.POINTER(RawGroup)),
+    'bully_member_planned': (_MEMBER, *_NUMBERS_OUT),
 }
 
 _loaded: Optional[ctypes.CDLL] = None
@@ -262,6 +331,13 @@ def list_of(room: int, function: Callable[..., int], *arguments: Any) -> Tuple[i
     return tuple(numbers[: count.value])
 
 
+def owned_of(room: int, function: Callable[..., int], *arguments: Any) -> Optional[Owned]:
+    """What a node owns, as the function writes it, called with these arguments and room for so many partitions."""
+    token, partitions, count = ctypes.c_uint32(), (ctypes.c_uint16 * room)(), ctypes.c_size_t()
+    expect_ok(function(*arguments, ctypes.byref(token), partitions, room, ctypes.byref(count)))
+    return Owned(token.value, tuple(partitions[: count.value])) if count.value else None
+
+
 def call_of(told: RawState) -> Optional[Call]:
     """The call that the library tells of a node, if any."""
     return Call(CallKind(told.call), told.callee, bool(told.orphan)) if told.callee else None
@@ -273,13 +349,18 @@ def state_of(told: RawState) -> State:
     return State(told.node, status, told.coordinator or None, told.halter or None, wants, call_of(told), told.generation)
 
 
+def texts_of(text: str) -> List[str]:
+    """The rows of a text, without their line ends."""
+    return text.split('\n')[:-1]
+
+
 Self = TypeVar('Self', bound='Opened')
 
 
 class Opened:
     """A handle of the library, which holds memory of it until it is closed."""
 
-    _closing = ''  # the function that closes it
+    _kind = ''  # how the library's functions of it begin
     _single = ''  # why it isn't copied
 
     def __init__(self) -> None:
@@ -298,7 +379,7 @@ class Opened:
         return not self._handle.held
 
     def _close(self) -> int:
-        return int(getattr(self._library, self._closing)(self._held))
+        return int(getattr(self._library, f'{self._kind}_close')(self._held))
 
     def _words(self) -> str:
         """What it is of, while it is open."""

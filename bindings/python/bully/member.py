@@ -1,598 +1,448 @@
-"""The rules of a member: a process that acts for one node of a group whose history is a shared log.
+"""The rules of a member, as the library has them proved: a process that acts for one node of a group over a shared log.
 
-`Core` has the rules as a value. It has no clock, store, thread or chance of its own: `next` says what is to be done now, whoever
-drives it does that, and tells what became of it by the call that the step names. All times are seconds of one clock, from any
-moment on. `docs/MEMBERS.md` says why the rules are as they are; `bully.running` drives a core by threads.
+A `Core` has no clock, store, thread or chance of its own: `next` says what is to be done now, whoever drives it does that, and tells what
+became of it by the call that the step names. `docs/ALGORITHM.md` has the rules, `docs/DECISIONS.md` why they are so. All times are whole
+nanoseconds of one clock that never goes back. A *place* in an epoch's log is how many rows stand behind its header, and each of them is an event.
 """
 from __future__ import annotations
 
+import ctypes
 import enum
-from dataclasses import dataclass, field
-from typing import AbstractSet, FrozenSet, List, Optional, Sequence, Tuple, Union
+from dataclasses import dataclass
+from typing import Callable, Dict, List, Optional, Sequence, Tuple, Union
 
-from .epochs import Opening, Token, cut_end
-from .faults import BullyError, Full, NotLearned
-from .replica import Replica
-from .settings import Settings
-from .values import CallKind, Status, Want
+from .faults import BullyError, NotLearned, OutOfMemory, expect_ok, fault_at
+from .learned import Learned
+from .library import (
+    UINT16_MAX, UINT32_MAX, UINT64_MAX, RawMember, RawPresence, RawStep, line_bytes, number_of, owned_of, owners_of, texts_of,
+)  # fmt: skip
+from .values import Line, Owned
 
-NEVER = float('-inf')
+TTL_MIN, TTL_MAX = 1_000_000, 86_400_000_000_000
+
+
+# ---- What is told to it.
+
+
+@dataclass(frozen=True, order=True)
+class Promise:
+    """The life works by no plan before that place of that epoch."""
+
+    epoch: int = 0
+    place: int = 0
+
+
+@dataclass(frozen=True, order=True)
+class Life:
+    """A try of a process to be present: no other process of the group ever has its number, and the process counts its tries."""
+
+    process: int
+    number: int
+
+
+@dataclass(frozen=True, order=True)
+class Presence:
+    """Who is present for a node."""
+
+    node: int
+    life: Life
+    promise: Promise
 
 
 @dataclass(frozen=True)
-class Pace:
-    """How long things take, in seconds. All follow from how long a presence lasts behind its last renewal."""
+class Opening:
+    """What an epoch begins with, for one member: the header of its log; its number; the node; how many rows the log may have; and the last
+    table of the epoch before, by the numbers of this one, if it had as many partitions: there 0 is an owner that this group hasn't."""
 
-    ttl: float = 5.0
-
-    @property
-    def margin(self) -> float:
-        """How long before a presence may end its node stops to work. A unit of work has to be shorter."""
-        return self.ttl / 5
-
-    @property
-    def renewal(self) -> float:
-        """From one renewal to the next."""
-        return self.ttl / 4
-
-    @property
-    def look(self) -> float:
-        """How old may be what is known of the others' presences."""
-        return self.ttl / 10
-
-    @property
-    def again(self) -> float:
-        """Before something is tried again that wasn't answered, or was refused for now."""
-        return self.ttl / 20
+    header: Line
+    epoch: int
+    node: int
+    rows_max: int
+    old: Optional[Tuple[int, ...]] = None
 
 
 @dataclass(frozen=True)
-class Assignment:
-    """What the node owns: its partitions, counted from 0, by the table of this coordinator with this token; the settings of the epoch,
-    by which nodes are numbered; and until when that is sure, as far as is told."""
+class Seen:
+    """What a look finds beside the rows, at the same moment: the current epoch; who is present for a node of it, by rising nodes; whether
+    somebody is present whose name no node of it has; and whether something else is wished for. In another epoch than the member's nothing
+    but its number counts."""
 
-    token: Token
-    coordinator: int
-    partitions: Tuple[int, ...]
-    settings: Settings
-    until: float = field(default=NEVER, compare=False)
+    epoch: int
+    presences: Tuple[Presence, ...] = ()
+    has_strangers: bool = False
+    is_wished: bool = False
+
+
+class StoreAnswer(enum.Enum):
+    """What became of a request: it was done; it wasn't, and won't be; or it may be done later, or never, or was done already."""
+
+    DONE, REFUSED, UNANSWERED = 'done', 'refused', 'unanswered'
 
 
 class Ending(enum.Enum):
-    """Why a member has ended."""
+    """Why a member ends: it was told to leave; the group has no node of its name any more; or its log has a row that isn't learned, or that
+    tells no event."""
 
-    LEFT = 'it was told to leave'
-    NOT_THERE = 'its node is not in the group any more'
-    FULL = 'the log is full'
-    NOT_LEARNED = 'a row of the log is refused'
+    LEFT, NOT_THERE, BROKEN = 'left', 'not there', 'broken'
 
 
-# ---- Steps: what is to be done. Each names the call that tells what became of it.
+class Until(enum.Enum):
+    """What ends a wait before its time: other rows, lives or wishes than were seen, and no more; or also that somebody that is present
+    is idle up to the end of the log, and wasn't when the member looked last; or that all are."""
+
+    NEWS, ANY_IDLE, ALL_IDLE = 'news', 'any idle', 'all idle'
+
+
+# ---- What is asked of a store. Each is done at one moment, or not at all.
 
 
 @dataclass(frozen=True)
 class Take:
-    """Take the presence for this life; then `held`."""
+    """The node's presence for this life, which promises the place: if nobody has it, and the log ends there."""
 
-    life: str
+    life: Life
+    place: int
 
 
 @dataclass(frozen=True)
 class Renew:
-    """Renew the presence of this life; then `held`."""
+    """The presence once more, if this life has it, without a gap."""
 
-    life: str
+    life: Life
 
 
 @dataclass(frozen=True)
 class Release:
-    """Release the presence of this life; then `released`."""
+    """The end of the presence, if this life has it."""
 
-    life: str
-
-
-@dataclass(frozen=True)
-class Read:
-    """Read the rows from this place on; then `read`."""
-
-    place: int
+    life: Life
 
 
 @dataclass(frozen=True)
 class Look:
-    """See who is present, and what is wished for; then `looked`."""
+    """The rows behind all that was learned, for `learn`, and what `looked` is told."""
+
+
+@dataclass(frozen=True)
+class BeIdle:
+    """This life's promise of the place, if it has the presence; a higher one stays."""
+
+    life: Life
+    place: int
 
 
 @dataclass(frozen=True)
 class Append:
-    """Append the rows at this place, if the node `absent`, if any, isn't present; then `appended`."""
+    """To append the rows of `settlement`: if the log ends at the place, somebody is present, and all that are, strangers too, have
+    promised this place of this epoch."""
 
     place: int
-    rows: Tuple[str, ...]
-    absent: Optional[int] = None
 
 
 @dataclass(frozen=True)
 class Finish:
-    """End the epoch at this place, if that is what is wished for, with the opening of the next one; then `finished`."""
+    """To end the epoch, and to begin the next one: on the same conditions."""
 
     place: int
-    wish: Optional[str]
-    opening: Opening
 
 
 @dataclass(frozen=True)
 class Follow:
-    """See with what opening the current epoch has begun; then `followed`."""
+    """What the current epoch began with, for `followed`."""
+
+
+Request = Union[Take, Renew, Release, Look, BeIdle, Append, Finish, Follow]
+
+
+# ---- Steps.
+
+
+@dataclass(frozen=True)
+class Ask:
+    """To ask the store, and to tell what became of that: by `answered`, `looked`, `followed` or `passed`."""
+
+    request: Request
 
 
 @dataclass(frozen=True)
 class Begin:
-    """Begin to work on what is assigned. Nothing is to be told."""
+    """To begin to work by this token, on what `owned` gives. Nothing is written first."""
 
-    assignment: Assignment
+    token: int
 
 
 @dataclass(frozen=True)
 class Stop:
-    """See to it that all work ends; once nothing is worked on any more, `stopped`. Meanwhile `next` goes on."""
-
-    assignment: Assignment
+    """To see to it that all work ends, and to tell when it has, by `stopped`."""
 
 
 @dataclass(frozen=True)
 class Wait:
-    """Wait until a row stands at this place, or the presences or the wish change, so many seconds at most; then `woke`."""
+    """To wait for so long at most, and to tell `woke`."""
 
-    place: int
-    seconds: float
+    at_most: int
+    until: Until
 
 
 @dataclass(frozen=True)
 class Rest:
-    """Wait so many seconds at most, or until `stopped` or `leave` was called. Nothing is to be told."""
+    """To do nothing for so long, or until something is told."""
 
-    seconds: float
+    at_most: int
 
 
 @dataclass(frozen=True)
 class End:
-    """The member has ended: nothing more is to be done."""
+    """Nothing more."""
 
-    cause: Ending
-
-
-Step = Union[Take, Renew, Release, Read, Look, Append, Finish, Follow, Begin, Stop, Wait, Rest, End]
+    ending: Ending
 
 
-class Core:
-    """What a member knows, and what it does next."""
+Step = Union[Ask, Begin, Stop, Wait, Rest, End]
 
-    def __init__(self, opening: Opening, node: int, name: str, pace: Pace = Pace()) -> None:
-        """A member that acts for the node of an epoch with this opening, and for the node of that name in later ones. No other process
-        ever has its own `name`.
 
-        Raises BadHeader, BadNode, OutOfMemory."""
-        self.pace = pace
-        self.fault: Optional[BullyError] = None  # why it ended, if it wasn't told to leave
-        self._name = name
-        self._tries = 0
-        self._work: Optional[Assignment] = None
-        self._is_stopping = False
-        self._is_lost = False  # whether the work has ended outside
-        self._quiet = NEVER  # until when nothing is asked of the store
-        self._is_leaving = False
-        self._left_at = float('inf')  # when it leaves without more tries
-        self._ending: Optional[Ending] = None
-        self._enter(opening, node)
+# ---- What it shows.
 
-    def _enter(self, opening: Opening, node: int) -> None:
-        """It acts for this node of the epoch from now on, of which it knows nothing more."""
-        self.replica = Replica(opening.header)
-        self.replica.status(node)
-        self.opening = opening
-        self.node = node
-        self._life: Optional[str] = None  # the life that holds the presence, as far as is known
-        self._lost: Optional[str] = None  # one that may hold it: whether it took it wasn't answered
-        self._held = NEVER  # when the last renewal began that was done
-        self._has_begun = False  # whether the log has the recovery of this life, and no crash behind it
-        self._is_over = False
-        self._is_past = False  # whether the epoch has ended
-        self._alone_from = float('inf')  # when it stands for election also if others aren't back yet
-        self._present: FrozenSet[int] = frozenset()
-        self._wish: Optional[str] = None  # what the next epoch is to begin with
-        self._looked = NEVER
-        self._must_read = True
-        self._place = 1  # behind all that it has learned
-        self._append = Append(1, ())  # the last one
-        self._unanswered: List[Append] = []  # at that place
 
-    # What it shows.
+@dataclass(frozen=True)
+class Unknown:
+    """Whether the life is present wasn't answered."""
 
-    @property
-    def sure_until(self) -> float:
-        """Until when its node surely holds its presence, less the margin. Until then it may work on what it was told to begin."""
-        return self._held + self.pace.ttl - self.pace.margin if self._life and not self._is_over else NEVER
+    life: Life
 
-    @property
-    def work(self) -> Optional[Assignment]:
-        """What it was told to begin, and hasn't stopped."""
-        return self._work
 
-    @property
-    def is_stopping(self) -> bool:
-        """Whether `stopped` is awaited."""
-        return self._is_stopping
+@dataclass(frozen=True)
+class Present:
+    """The life is present: when the last renewal that was done was asked for."""
 
-    @property
-    def present(self) -> FrozenSet[int]:
-        """Who was present when it looked last."""
-        return self._present
+    life: Life
+    since: int
 
-    @property
-    def wish(self) -> Optional[str]:
-        """What was wished for then."""
-        return self._wish
 
-    # What is told to it.
+class Way(enum.Enum):
+    """How a member stands about work that was begun: it goes on, or it ended outside, or it is told to stop."""
 
-    def leave(self) -> None:
-        """The member has to end in order."""
-        self._is_leaving = True
+    WORKING, LOST, STOPPING = 'working', 'lost', 'stopping'
 
-    def held(self, begun: float, now: float, answer: Optional[bool]) -> None:
-        """What became of a Take or a Renew that was begun then: None, if it wasn't answered."""
-        if self._life is None:
-            self._taken(begun, now, answer)
-        elif answer is None:
-            self._pause(now)
-        elif answer:
-            self._held = begun
-        else:
-            self._is_over = True
 
-    def released(self, now: float, answer: bool) -> None:
-        """Whether a Release was answered."""
-        if self._life is None:
-            self._pause(now)
-        self._life = self._lost = None
-        self._is_over = self._has_begun = False
+@dataclass(frozen=True)
+class Work:
+    """Work that was begun, by its token."""
 
-    def read(self, now: float, rows: Optional[Sequence[str]]) -> None:
-        """The rows that stand behind all that it has learned; None, if that wasn't answered."""
-        if rows is None:
-            self._pause(now)
-            return
-        self._must_read = False
-        rows, is_past = cut_end(rows)
-        self._is_past |= is_past
-        if not rows:
-            return
-        own = max((len(append.rows) for append in self._unanswered if append.rows == tuple(rows[: len(append.rows)])), default=0)
-        self._unanswered.clear()
-        try:
-            self._learn_own(rows[:own] if own else ())
-            self._learn(rows[own:] if own else rows)
-        except NotLearned as refused:
-            self._ending, self.fault = Ending.NOT_LEARNED, refused
+    way: Way
+    token: int
 
-    def looked(self, begun: float, now: float, present: Optional[AbstractSet[int]], wish: Optional[str] = None) -> None:
-        """Who was present when it looked, and what was wished for, which was begun then; None is present, if that wasn't answered."""
-        if present is None:
-            self._pause(now)
-            return
-        self._present = frozenset(present)
-        self._wish = wish
-        self._looked = begun
 
-    def appended(self, now: float, answer: Optional[bool]) -> None:
-        """What became of an Append: None, if it wasn't answered."""
-        if answer:
-            self._unanswered.clear()
-            self._learn_own(self._append.rows)
-            return
-        self._must_read = True
-        self._looked = NEVER
-        if answer is None:
-            self._unanswered.append(self._append)
-            self._pause(now)
+# ---- As the library numbers them: what stands first has number 1.
 
-    def finished(self, now: float, answer: Optional[bool]) -> None:
-        """What became of a Finish: None, if it wasn't answered."""
-        if answer:
-            self._is_past = True
-            return
-        self._must_read = True
-        self._looked = NEVER
-        if answer is None:
-            self._pause(now)
+_ENDINGS, _UNTILS, _WAYS, _ANSWERS = list(Ending), list(Until), list(Way), list(StoreAnswer)
 
-    def passed(self) -> None:
-        """In place of any other answer of the store: the epoch is over, and was taken away."""
-        self._is_past = True
+_REQUESTS: Dict[int, Callable[[Life, int], Request]] = {
+    1: Take,
+    2: lambda life, place: Renew(life),
+    3: lambda life, place: Release(life),
+    4: lambda life, place: Look(),
+    5: BeIdle,
+    6: lambda life, place: Append(place),
+    7: lambda life, place: Finish(place),
+    8: lambda life, place: Follow(),
+}
 
-    def followed(self, now: float, opening: Optional[Opening]) -> None:
-        """With what the current epoch has begun; None, if that wasn't answered. Raises BadHeader, OutOfMemory."""
-        if opening is None or opening.epoch == self.opening.epoch:
-            self._pause(now)
-            return
-        name = self.opening.names[self.node - 1]
-        if name not in opening.names:
-            self._ending = Ending.NOT_THERE
-            return
-        self.replica.close()
-        self._enter(opening, opening.names.index(name) + 1)
+_STEPS: Dict[int, Callable[[RawStep], Step]] = {
+    1: lambda raw: Ask(_REQUESTS[raw.request](Life(raw.process, raw.number), raw.place)),
+    2: lambda raw: Begin(raw.token),
+    3: lambda raw: Stop(),
+    4: lambda raw: Wait(raw.at_most, _UNTILS[raw.until - 1]),
+    5: lambda raw: Rest(raw.at_most),
+    6: lambda raw: End(_ENDINGS[raw.ending - 1]),
+}
 
-    def woke(self) -> None:
-        """A Wait is over."""
-        self._must_read = True
-        self._looked = NEVER
 
-    def lost(self, work: Assignment) -> None:
-        """What was begun by this Begin has ended outside: it is stopped, and begun again if the node still owns it."""
-        self._is_lost |= work is self._work
+def _moment(now: int) -> int:
+    return number_of('a time', now, UINT64_MAX)
 
-    def stopped(self, now: float) -> None:
-        """Nothing is worked on any more."""
-        self._work = None
-        self._is_stopping = False
-        if self._is_leaving or self._ending:
-            self._left_at = min(self._left_at, now + self.pace.ttl)
+
+def _raw_presence(presence: Presence) -> RawPresence:
+    life, promise = presence.life, presence.promise
+    return RawPresence(
+        number_of('a process', life.process, UINT64_MAX),
+        number_of('a number of a life', life.number, UINT64_MAX),
+        number_of('an epoch', promise.epoch, UINT32_MAX),
+        number_of('a place', promise.place, UINT32_MAX),
+        number_of('a node', presence.node, UINT16_MAX),
+    )
+
+
+class Core(Learned):
+    """A process that acts for one node of a group: what it knows, and what it does next.
+
+    A core holds memory of the library until it is closed: `with` closes it. Each call of a closed one raises Closed."""
+
+    _kind, _showing = 'bully_member', 'node'
+    _single = 'a member is not copied: there is one of it'
+
+    def __init__(self, opening: Opening, process: int, ttl: int) -> None:
+        """A member that has learned nothing, and asked for nothing. No other process of the group ever has the number of this one. The ttl
+        is for how long a presence lasts from its last renewal.
+
+        Raises BadHeader, BadNode, TableLength, TableOwner; BadRowsMax: `rows_max` is below 22 for each node, or above EVENTS_MAX; BadTtl:
+        the ttl is below TTL_MIN or above TTL_MAX; OutOfMemory."""
+        super().__init__()
+        self.fault: Optional[BullyError] = None  # why its log is broken, if a row wasn't learned
+        number, length = number_of('a process', process, UINT64_MAX), number_of('a ttl', ttl, UINT64_MAX)
+        status = self._library.bully_member_open(self._held, *self._epoch_of(opening), number, length)
+        if status:
+            raise fault_at(1, status)
+        self._partitions = self._group().partitions
+
+    def _words(self) -> str:
+        shown = self._shown()
+        return f'of node {shown.node} in epoch {shown.epoch}, {shown.place} rows'
+
+    @staticmethod
+    def _epoch_of(opening: Opening) -> Tuple[object, ...]:
+        """The arguments of the library."""
+        text, owners = line_bytes(opening.header), owners_of(opening.old)
+        node = number_of('a node', opening.node, UINT16_MAX)
+        epoch, most = number_of('an epoch', opening.epoch, UINT32_MAX), number_of('rows_max', opening.rows_max, UINT32_MAX)
+        return (text, len(text), epoch, node, most, owners, len(owners))
 
     # What it does next.
 
-    def next(self, now: float) -> Step:
-        """What is to be done now."""
-        if self._is_stopping:
-            return self._next_while_stopping(now)
-        is_at_end = self._is_leaving or self._ending is not None
-        if self._work is not None and (now >= self.sure_until or is_at_end or self._is_past or self._is_lost):
-            return self._stop(self._work)
-        if now < self._quiet:
-            return self._rest(now, self._quiet)
-        if is_at_end:
-            return self._next_to_leave(now)
-        return self._next_to_follow() if self._is_past else self._next_of_life(now)
+    def next(self, now: int) -> Step:
+        """What is to be done now: by the first of the rules that applies. It is noted that this is done."""
+        raw = RawStep()
+        expect_ok(self._library.bully_member_next(self._held, _moment(now), ctypes.byref(raw)))
+        return _STEPS[raw.kind](raw)
 
-    def _next_while_stopping(self, now: float) -> Step:
-        """The presence is renewed, so that nobody takes over before the work has ended."""
-        renewal = max(self._held + self.pace.renewal, self._quiet)
-        if self._life is None or self._is_over or self._is_past:
-            return Rest(self.pace.ttl)
-        return Renew(self._life) if now >= renewal else Rest(renewal - now)
+    def settlement(self) -> List[str]:
+        """The rows of an Append, without line ends: they bring the group to rest among those present, or, if the member ends, among nobody.
 
-    def _next_to_leave(self, now: float) -> Step:
-        """Its crash is appended, if that can be; then its presence is released."""
-        self._left_at = min(self._left_at, now + self.pace.ttl)
-        is_down = not self._has_begun or self.replica.status(self.node) is Status.DOWN
-        if self._life and not (self._ending or self._is_over or self._is_past or is_down) and now < self._left_at:
-            return self._next_of_life(now)
-        held = self._life or self._lost
-        return Release(held) if held else End(self._ending or Ending.LEFT)
+        Raises Full, if the log has no room for them; OutOfMemory."""
+        return texts_of(self._room.text(self._library.bully_member_settlement, self._held))
 
-    def _next_to_follow(self) -> Step:
-        """Its presence in the epoch that is over is released, and then it goes on in the current one."""
-        held = self._life or self._lost
-        return Release(held) if held else Follow()
+    def owned(self) -> Optional[Owned]:
+        """By which token the node may work, by a plan behind all that the life has promised, and on which partitions, if on any.
 
-    def _next_of_life(self, now: float) -> Step:
-        """A life first takes its presence, then keeps it, and acts for its node only while that is sure."""
-        if self._is_over or self._lost:
-            return Release(self._life or self._lost or '')
-        if self._life is None:
-            self._tries += 1
-            return Take(self._life_name())
-        if now >= min(self._held + self.pace.renewal, self.sure_until):
-            return Renew(self._life)
-        if self._must_read:
-            return Read(self._place)
-        if now >= self._looked + self.pace.look:
-            return Look()
-        return self._act(now)
+        Raises OutOfMemory."""
+        return owned_of(self._partitions, self._library.bully_member_owned, self._held)
 
-    def _act(self, now: float) -> Step:
-        """It appends what it has to, once it has stopped the work that this ends; works; or waits."""
-        if self._may_finish():
-            return self._finish()
+    # What is told to it.
+
+    def answered(self, now: int, answer: StoreAnswer) -> None:
+        """What became of what was asked for last. A Look or a Follow whose result doesn't come wasn't answered."""
+        expect_ok(self._library.bully_member_answered(self._held, _moment(now), _ANSWERS.index(answer) + 1))
+
+    def learn(self, rows: Sequence[Line]) -> None:
+        """The rows that a look found behind its place, before `looked`. A row that isn't learned, or that tells no event, ends the
+        member as BROKEN; if it isn't learned, `fault` tells why.
+
+        Raises a NotLearned whose cause is OutOfMemory, and then the member doesn't end; and as `Replica.learn` a ValueError or a
+        TypeError."""
         try:
-            append = self._due(now)
-        except Full as full:
-            self._ending, self.fault = Ending.FULL, full
-            return self.next(now)
-        if append.rows:
-            if self._work is not None and self._ends_work(append.rows):
-                return self._stop(self._work)
-            self._append = append
-            return append
-        return self._work_or_wait(now)
+            self._learn(rows)
+        except NotLearned as fault:
+            if fault.cause is OutOfMemory:
+                raise
+            self.fault = self.fault or fault
 
-    def _work_or_wait(self, now: float) -> Step:
-        if self._work is not None and not self._owns(self._work):
-            return self._stop(self._work)
-        if self._work is None and self._may_begin():
-            self._work = self._assignment()
-            if self._work is not None:
-                return Begin(self._work)
-        end = self._held + self.pace.renewal
-        return Wait(self._place, max(0.0, (min(end, self._alone_from) if self._awaits_others(now) else end) - now))
+    def looked(self, now: int, seen: Seen) -> None:
+        """What a look found beside the rows. Nothing changes if no look is awaited.
 
-    def _stop(self, work: Assignment) -> Step:
-        self._is_stopping = True
-        self._is_lost = False
-        return Stop(work)
+        Raises BadNode; OutOfMemory."""
+        presences = list(map(_raw_presence, seen.presences))
+        array, count = (RawPresence * len(presences))(*presences), len(presences)
+        epoch = number_of('an epoch', seen.epoch, UINT32_MAX)
+        flags = (bool(seen.has_strangers), bool(seen.is_wished))
+        expect_ok(self._library.bully_member_looked(self._held, _moment(now), epoch, array, count, *flags))
 
-    def _rest(self, now: float, end: float) -> Step:
-        """It waits up to then, or until its work isn't sure any more."""
-        return Rest(max(0.0, (end if self._work is None else min(end, self.sure_until)) - now))
+    def passed(self) -> None:
+        """In place of any other answer: the epoch is over, and its log was taken away."""
+        expect_ok(self._library.bully_member_passed(self._held))
 
-    def _pause(self, now: float) -> None:
-        self._quiet = now + self.pace.again
+    def followed(self, now: int, opening: Optional[Opening]) -> None:
+        """With what the current epoch begins; none, if the member's name isn't in it. Nothing changes if no follow is awaited.
 
-    # Its life.
-
-    def _taken(self, begun: float, now: float, answer: Optional[bool]) -> None:
-        """What became of a Take."""
-        life = self._life_name()
-        if answer:
-            self._life, self._held = life, begun
-            self._must_read, self._looked = True, NEVER
-            self._alone_from = min(self._alone_from, begun + self.pace.ttl)
-        elif answer is None:
-            self._lost = life
-        else:
-            self._pause(now)
-
-    def _learn_own(self, rows: Sequence[str]) -> None:
-        """Rows that this life has appended, or would have: the same text at the same place is the same event."""
-        self._place += self.replica.learn(rows)
-        self._has_begun = (self._has_begun or self._recovery() in rows) and not self._is_down(self.node)
-
-    def _learn(self, rows: Sequence[str]) -> None:
-        """Rows of others. A crash of this node among them ends this life, whatever stands behind it."""
-        if not self._has_begun:
-            self._place += self.replica.learn(rows)
+        Raises as `Core` does, but for BadTtl; then nothing changes."""
+        if opening is None:
+            expect_ok(self._library.bully_member_not_there(self._held))
             return
-        for row in rows:
-            self._place += self.replica.learn([row])
-            self._is_over |= self._is_down(self.node)
+        status = self._library.bully_member_followed(self._held, _moment(now), *self._epoch_of(opening))
+        if status:
+            raise fault_at(1, status)
+        self._partitions = self._group().partitions
 
-    def _recovery(self) -> str:
-        return f'recover,{self.node}'
+    def woke(self) -> None:
+        """A wait is over."""
+        expect_ok(self._library.bully_member_woke(self._held))
 
-    def _life_name(self) -> str:
-        return f'{self._name}.{self._tries}'
+    def leave(self) -> None:
+        """It has to end in order."""
+        expect_ok(self._library.bully_member_leave(self._held))
 
-    # What it appends.
+    def lost(self, token: int) -> None:
+        """What was begun by this token has ended outside."""
+        expect_ok(self._library.bully_member_lost(self._held, number_of('a token', token, UINT32_MAX)))
 
-    def _due(self, now: float) -> Append:
-        """What it appends behind the rows that it has learned: the first line of the table in docs/MEMBERS.md that applies."""
-        if self._is_closing():
-            return self._due_at_end()
-        if not self._has_begun:
-            return self._of_rows(self._recovery()) if self._is_down(self.node) else self._anew()
-        if self._is_leaving:
-            return self._of_rows(self.replica.crash(self.node))
-        gone = self._gone()
-        if gone is not None:
-            return self._crash_of(gone)
-        row = self._next_row(now)
-        if row is not None:
-            return self._of_rows(row)
-        return self._idle_due() if self._is_idle(self.node) else self._of_rows()
+    def stopped(self) -> None:
+        """Nothing is worked on any more."""
+        expect_ok(self._library.bully_member_stopped(self._held))
 
-    def _due_at_end(self) -> Append:
-        """The same where the epoch has to end: nothing but what brings nodes Down."""
-        gone = self._gone()
-        if not self._is_down(self.node):
-            return self._of_rows(self.replica.crash(self.node))
-        return self._of_rows() if gone is None else self._crash_of(gone)
+    # How it stands.
 
-    def _gone(self) -> Optional[int]:
-        """A node that isn't Down, and whose process is gone."""
-        return next((other for other in self._others() if other not in self._present and not self._is_down(other)), None)
-
-    def _next_row(self, now: float) -> Optional[str]:
-        """What its node does next. The first plan of an epoch keeps to the last table of the one before."""
-        row = self.replica.next(self.node)
-        if row is None or row.startswith('run'):
-            return row
-        if self._awaits_others(now):
+    @property
+    def life(self) -> Union[None, Unknown, Present]:
+        """Whether its process has the presence of its node."""
+        shown = self._shown()
+        if not shown.life:
             return None
-        if not row.startswith('plan') or self.replica.token is not None or not self.opening.table:
-            return row
-        owners = self.opening.plan([self.node, *self.replica.up(self.node)])
-        return f'plan,{self.node},{" ".join(map(str, owners))}'
+        life = Life(shown.process, shown.number)
+        return Unknown(life) if shown.life == 1 else Present(life, shown.since)
 
-    def _awaits_others(self, now: float) -> bool:
-        """Whether those who were present at the end of the last epoch aren't all back, and there is still time. Else the first one would
-        plan without them, and all partitions would move to it and back."""
-        return now < self._alone_from and self.replica.token is None and any(map(self._is_down, self.opening.expected))
+    @property
+    def sure_until(self) -> int:
+        """Until when its presence is sure: so long it may work on what it was told to begin. 0 without one."""
+        shown = self._shown()
+        return int(shown.since + shown.sure_left)  # (that is of time 0)
 
-    def _idle_due(self) -> Append:
-        """The same of a node that has nothing to do."""
-        shown = self.replica.state(self.node)
-        leads = shown.coordinator == self.node
-        is_left = not leads and shown.coordinator is not None and self._is_down(shown.coordinator)
-        if is_left or shown.status is Status.ELECTION:
-            is_highest = all(self._is_down(other) for other in self._others() if other > self.node)
-            return self._of_rows(self.replica.timeout(self.node)) if is_highest else self._of_rows()
-        if leads and (shown.status is Status.REORGANIZATION or self._is_owner_down() or any(map(self._waits, self._others()))):
-            return self._anew()
-        return self._of_rows()
+    @property
+    def promised(self) -> int:
+        """Up to which place of this epoch its life has promised to be idle, whether or not the store heard of that."""
+        return int(self._shown().promised)
 
-    def _anew(self) -> Append:
-        """Its crash and its recovery: what it was before is over, and it stands for election."""
-        return self._of_rows(self.replica.crash(self.node), self._recovery())
+    @property
+    def work(self) -> Optional[Work]:
+        """How far its work is, if there is any."""
+        shown = self._shown()
+        return Work(_WAYS[shown.work - 1], shown.token) if shown.work else None
 
-    def _crash_of(self, other: int) -> Append:
-        """The crash of a node whose process is gone; refused if it comes back."""
-        return self._of_rows(self.replica.crash(other), absent=other)
+    @property
+    def ending(self) -> Optional[Ending]:
+        """Why it ends, if it does."""
+        shown = self._shown()
+        return _ENDINGS[shown.ending - 1] if shown.ending else None
 
-    def _of_rows(self, *rows: str, absent: Optional[int] = None) -> Append:
-        return Append(self._place, rows, absent)
+    @property
+    def is_wished(self) -> bool:
+        """Whether its last look found that something else is wished for."""
+        return bool(self._shown().is_wished)
 
-    def _nodes(self) -> List[int]:
-        return list(range(1, self.replica.nodes + 1))
+    @property
+    def epoch(self) -> int:
+        """Which epoch it is in."""
+        return int(self._shown().epoch)
 
-    def _others(self) -> List[int]:
-        return [other for other in self._nodes() if other != self.node]
+    @property
+    def node(self) -> int:
+        """Its node."""
+        return int(self._shown().node)
 
-    def _is_down(self, node: int) -> bool:
-        return self.replica.status(node) is Status.DOWN
+    @property
+    def place(self) -> int:
+        """The end of the log, as far as it was learned."""
+        return int(self._shown().place)
 
-    def _is_idle(self, node: int) -> bool:
-        shown = self.replica.state(node)
-        return shown.status is not Status.DOWN and shown.wants is Want.NOTHING and shown.call is None
-
-    def _waits(self, node: int) -> bool:
-        """Whether the node is up, idle and not Normal."""
-        return self._is_idle(node) and self.replica.status(node) is not Status.NORMAL
-
-    def _is_owner_down(self) -> bool:
-        """Whether the node's table has an owner that is Down."""
-        return any(map(self._is_down, set(self.replica.task(self.node) or ())))
-
-    # The end of the epoch.
-
-    def _is_closing(self) -> bool:
-        """Whether the epoch has to end: something else is wished for, or its log is nearly full."""
-        return self._wish is not None or self.replica.rows >= self.opening.limit
-
-    def _may_finish(self) -> bool:
-        """Whether nothing is left to be done in the epoch: nobody works any more."""
-        return self._is_closing() and all(map(self._is_down, self._nodes()))
-
-    def _finish(self) -> Finish:
-        table = self.replica.last_table or self.opening.table
-        return Finish(self._place, self._wish, self.opening.next(self._wish, table, self._present | {self.node}))
-
-    # Its work.
-
-    def _token(self) -> Optional[Token]:
-        """The token of the last plan."""
-        events = self.replica.token
-        return None if events is None else Token.of(self.opening.epoch, events)
-
-    def _ends_work(self, rows: Sequence[str]) -> bool:
-        """Whether the first of these rows of its own may end what it owns: its crash, its move, or the run of a Halt at it."""
-        word, node = rows[0].split(',')[:2]
-        if word == 'run':
-            call = self.replica.call(int(node))
-            return call is not None and call.kind is CallKind.HALT
-        return word in ('crash', 'move') and int(node) == self.node
-
-    def _may_begin(self) -> bool:
-        """Whether no row that ends its work may still come to stand behind all that it has learned."""
-        return not any(self._ends_work(append.rows) for append in self._unanswered)
-
-    def _owns(self, work: Assignment) -> bool:
-        """Whether the log still gives its node this work."""
-        return self.replica.status(self.node) is Status.NORMAL and self._token() == work.token
-
-    def _assignment(self) -> Optional[Assignment]:
-        """What its node owns."""
-        shown, token, task = self.replica.state(self.node), self._token(), self.replica.task(self.node)
-        if shown.status is not Status.NORMAL or shown.coordinator is None or token is None:
-            return None
-        partitions = tuple(partition for partition, owner in enumerate(task or ()) if owner == self.node)
-        return Assignment(token, shown.coordinator, partitions, self.opening.settings) if partitions else None
+    def _shown(self, now: int = 0) -> RawMember:
+        shown = RawMember()
+        expect_ok(self._library.bully_member_show(self._held, now, ctypes.byref(shown)))
+        return shown

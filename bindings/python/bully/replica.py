@@ -2,14 +2,17 @@
 from __future__ import annotations
 
 import ctypes
-from typing import Iterable, Optional, Tuple
+from typing import Iterable, List, Optional, Tuple
 
-from .faults import BadArgument, BullyError, NotLearned, expect_ok, fault_at, fault_of
-from .library import Opened, RawGroup, RawState, call_of, line_bytes, list_of, node_of, rows_bytes, state_of
-from .values import Call, Event, Line, Rows, State, Status, Want
+from .faults import expect_ok, fault_at
+from .learned import Learned
+from .library import (
+    UINT32_MAX, call_of, line_bytes, list_of, node_of, number_of, numbers_of, owned_of, owners_of, texts_of,
+)  # fmt: skip
+from .values import Call, Event, Line, Owned, Status, Want
 
 
-class Replica(Opened):
+class Replica(Learned):
     """What a process knows of a group whose history is a log: rows in a store outside, which many processes read, and in which a
     row is appended behind all the rows that were read, or not at all.
 
@@ -20,7 +23,7 @@ class Replica(Opened):
 
     A replica holds memory of the library until it is closed: `with` closes it."""
 
-    _closing = 'bully_replica_close'
+    _kind, _showing = 'bully_replica', 'show'
     _single = 'a replica is not copied: open one more of the same header, and have it learn the rows'
 
     def __init__(self, header: Line) -> None:
@@ -49,24 +52,7 @@ class Replica(Opened):
         Raises NotLearned, which tells the first row that isn't learned, and why: what was learned before it stays. Else nothing
         was learned: a ValueError tells a row that is blank or has a line end inside, so that it isn't exactly one row; a
         TypeError one that is no line, or that `rows` is a single line; and it raises Closed."""
-        if isinstance(rows, (str, bytes)):
-            raise TypeError('the rows to learn are several lines, and not one')
-        text, taken = rows_bytes(rows if isinstance(rows, Rows) else list(rows)), ctypes.c_size_t()
-        status = self._library.bully_replica_learn(self._held, text, len(text), ctypes.byref(taken))
-        if status:
-            raise self._not_learned(status, taken.value)
-        return taken.value
-
-    def _not_learned(self, status: int, taken: int) -> BullyError:
-        """The exception that tells that so many rows were learned, and the next one wasn't, for this status."""
-        why = fault_of(status)
-        if isinstance(why, BadArgument):
-            return why
-        row = self.rows + 2
-        refused = NotLearned(f'row {row}: {why}')
-        refused.status, refused.taken, refused.row, refused.cause = status, taken, row, type(why)
-        refused.__cause__ = fault_at(row, status)
-        return refused
+        return self._learn(rows)
 
     # Rows to append. Nothing changes by these.
 
@@ -105,11 +91,39 @@ class Replica(Opened):
     def _event(self, node: int, event: Event) -> str:
         return self._room.row(self._library.bully_replica_event, self._held, node_of(node), event)
 
-    # How a node stands, behind the rows that were learned. Each raises Closed and BadNode.
+    # Who works, and how a group comes to rest. Nothing changes by these.
 
-    def state(self, node: int) -> State:
-        """How the node stands, by one look."""
-        return state_of(self._show(node))
+    def settle(self, present: Iterable[int], old: Optional[Iterable[int]] = None) -> List[str]:
+        """The rows that bring the group to rest among the nodes that are present, in any order, without line ends. They are to be
+        appended behind exactly the rows that were learned, with nothing between, and by one process alone. With nobody present all
+        crash; else the highest is elected, and plans, from the last plan's table. If the log has no plan, it plans from the old table, the
+        last one of an epoch before: there 0 is an owner that the group hasn't. They are at most 11 for each node of the group.
+
+        Raises Closed; BadNode, of one that is present; TableLength, TableOwner; Full, if the log has no room for them; OutOfMemory."""
+        nodes, owners = numbers_of('a node', present), owners_of(old)
+        return texts_of(
+            self._room.text(self._library.bully_replica_settle, self._held, nodes, len(nodes), owners, len(owners))
+        )
+
+    def is_at_rest(self, present: Iterable[int], place: int = 0) -> bool:
+        """Whether the group is at rest among the nodes that are present: all of these are Normal under the highest of them, all others
+        are Down, and if any is present, there is a last plan, its token is above this place, and all its owners are present.
+
+        Raises Closed, BadNode."""
+        nodes, rests = numbers_of('a node', present), ctypes.c_uint32()
+        at = number_of('a place', place, UINT32_MAX)
+        expect_ok(self._library.bully_replica_is_at_rest(self._held, nodes, len(nodes), at, ctypes.byref(rests)))
+        return bool(rests.value)
+
+    def owned(self, node: int, place: int = 0) -> Optional[Owned]:
+        """By which token the node's process may work behind so many events, and on which partitions, if on any: the node is Normal, and
+        the last plan's token is above this place.
+
+        Raises Closed, BadNode, OutOfMemory."""
+        at = number_of('a place', place, UINT32_MAX)
+        return owned_of(self._partitions, self._library.bully_replica_owned, self._held, node_of(node), at)
+
+    # How a node stands, behind the rows that were learned. `state` has all. Each raises Closed and BadNode.
 
     def status(self, node: int) -> Status:
         """The node's status."""
@@ -142,57 +156,3 @@ class Replica(Opened):
     def generation(self, node: int) -> int:
         """How often the node was stopped or crashed in the log."""
         return int(self._show(node).generation)
-
-    def _show(self, node: int) -> RawState:
-        state = RawState()
-        expect_ok(self._library.bully_replica_show(self._held, node_of(node), ctypes.byref(state)))
-        return state
-
-    # How the group stands, behind the rows that were learned. Each raises Closed.
-
-    @property
-    def rows(self) -> int:
-        """How many rows were learned, claims too: so the next one of a list of them, without the header, has this index."""
-        return int(self._group().rows)
-
-    @property
-    def events(self) -> int:
-        """How many events these rows told."""
-        return int(self._group().events)
-
-    @property
-    def token(self) -> Optional[int]:
-        """The token of the last plan, if there is one: how many events there are up to it and with it, which is at least 1. So a
-        later plan has a higher token. Each node that is Normal goes by the last plan: it has its planner as coordinator, and its
-        table as task."""
-        return self._group().token or None
-
-    @property
-    def planner(self) -> Optional[int]:
-        """Whose the last plan is, if there is one."""
-        return self._group().planner or None
-
-    @property
-    def last_table(self) -> Optional[Tuple[int, ...]]:
-        """The owner of each partition in the last plan's table, if there is a plan."""
-        return list_of(self._partitions, self._library.bully_replica_planned, self._held) or None
-
-    @property
-    def nodes(self) -> int:
-        """How many nodes the header tells."""
-        return int(self._group().nodes)
-
-    @property
-    def partitions(self) -> int:
-        """How many partitions the header tells."""
-        return int(self._group().partitions)
-
-    @property
-    def keeps(self) -> bool:
-        """Whether a node keeps its task over a crash, as the header tells."""
-        return bool(self._group().keeps)
-
-    def _group(self) -> RawGroup:
-        group = RawGroup()
-        expect_ok(self._library.bully_replica_group(self._held, ctypes.byref(group)))
-        return group

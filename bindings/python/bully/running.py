@@ -12,11 +12,11 @@ from functools import partial
 from types import TracebackType
 from typing import Callable, List, Optional, Tuple, Type, TypeVar, Union
 
-from .epochs import FIRST, Opening
-from .logs import Log, NoEpoch, Unanswered, current, seconds_of_boot
-from .member import (
+from .appending import (
     Append, Assignment, Begin, Core, End, Ending, Finish, Follow, Look, Pace, Read, Release, Renew, Rest, Step, Stop, Take, Wait,
 )  # fmt: skip
+from .epochs import FIRST, Opening
+from .logs import Log, NoEpoch, Unanswered, current, seconds_of_boot
 from .settings import Settings, shown_name
 
 SLICE = 0.2  # seconds after which a wait looks whether it has to end

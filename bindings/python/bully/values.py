@@ -163,3 +163,11 @@ class Event(Named):
     CHECK = 3
     TIMEOUT = 4
     DROP = 5
+
+
+class Owned(NamedTuple):
+    """What a node's process may work on: the token of the last plan, and the node's partitions by it, rising, the first of a group
+    being 0. There is one at least."""
+
+    token: int
+    partitions: Tuple[int, ...]

@@ -10,7 +10,7 @@ from contextlib import suppress
 from pathlib import Path
 from typing import Callable, Dict, Optional, Sequence
 
-from .member import Assignment
+from .appending import Assignment
 
 GUARD = str(Path(__file__).with_name('guard.py'))
 NANOSECONDS = 1_000_000_000

@@ -2,19 +2,20 @@
 //!
 //! What `bully.h` wants of a program and no test can see is kept here:
 //!
-//! - A handle is zeroed at first, and private to an [`AgentHandle`] or a [`ReplicaHandle`], which can't be copied. So only the
-//!   library writes it.
-//! - What changes something takes its handle as `&mut`. What shows something takes it as `&`, but neither type is `Sync`, and the
+//! - A handle is zeroed at first, and private to an [`AgentHandle`], a [`ReplicaHandle`] or a [`MemberHandle`], which can't be
+//!   copied. So only the library writes it.
+//! - What changes something takes its handle as `&mut`. What shows something takes it as `&`, but no such type is `Sync`, and the
 //!   library calls nothing back: so a handle has one call at a time. It may go to another thread, as `Send` says.
 //! - Pointers and lengths are those of slices and of values that live through the call. What is written is a value of the call's
 //!   own, so it overlaps nothing.
 //! - The library takes memory from the C library, whichever allocator the program has, and gives it back itself.
 
 use crate::raw::{
-    self, bully_agent, bully_group, bully_replica, bully_setup, bully_state, bully_status,
-    bully_verdict,
+    self, bully_agent, bully_group, bully_member, bully_member_state, bully_presence,
+    bully_replica, bully_setup, bully_state, bully_status, bully_step, bully_verdict,
 };
 use crate::setup::Setup;
+use crate::shown::Owned;
 use std::cell::UnsafeCell;
 use std::ffi::CStr;
 use std::ptr;
@@ -60,6 +61,11 @@ handle! {
 handle! {
     /// The same of a replica.
     ReplicaHandle: bully_replica, bully_replica_close
+}
+
+handle! {
+    /// The same of a member.
+    MemberHandle: bully_member, bully_member_close
 }
 
 macro_rules! texts {
@@ -250,6 +256,183 @@ impl ReplicaHandle {
         show(node: u16): bully_replica_show, bully_state;
         group(): bully_replica_group, bully_group;
     }
+
+    /// The rows that settle the group, each with its line end.
+    pub(crate) fn settle(&self, present: &[u16], old: &[u16]) -> Result<String, bully_status> {
+        let bytes = filled(|room: &mut [u8], length| {
+            // SAFETY: the handle is open, and no other call of it is under way. The slices are read alone, and the room is as long as
+            // is said.
+            unsafe {
+                raw::bully_replica_settle(
+                    self.0.get(),
+                    present.as_ptr(),
+                    present.len(),
+                    old.as_ptr(),
+                    old.len(),
+                    room.as_mut_ptr().cast(),
+                    room.len(),
+                    length,
+                )
+            }
+        })?;
+        Ok(text_of(bytes))
+    }
+
+    pub(crate) fn is_at_rest(&self, present: &[u16], place: u32) -> Result<bool, bully_status> {
+        let (nodes, count, mut rests) = (present.as_ptr(), present.len(), 0);
+        // SAFETY: the handle is open, and no other call of it is under way. The slice is read alone.
+        ok(unsafe {
+            raw::bully_replica_is_at_rest(self.0.get(), nodes, count, place, &mut rests)
+        })?;
+        Ok(rests != 0)
+    }
+
+    pub(crate) fn owned(&self, node: u16, place: u32) -> Result<Option<Owned>, bully_status> {
+        owned_of(|token, room, count| {
+            let (partitions, size) = (room.as_mut_ptr(), room.len());
+            // SAFETY: the handle is open, and no other call of it is under way. The room is as long as is said.
+            unsafe {
+                raw::bully_replica_owned(self.0.get(), node, place, token, partitions, size, count)
+            }
+        })
+    }
+}
+
+/// What an epoch begins with, for a member. The old table is empty if there is none.
+pub(crate) struct RawOpening<'a> {
+    pub(crate) header: &'a str,
+    pub(crate) epoch: u32,
+    pub(crate) node: u16,
+    pub(crate) rows_max: u32,
+    pub(crate) old: &'a [u16],
+}
+
+macro_rules! tellings {
+    ($($(#[$about:meta])* $told:ident($($argument:ident: $kind:ty),*): $call:ident;)*) => {
+        $($(#[$about])* pub(crate) fn $told(&mut self, $($argument: $kind),*) {
+            // SAFETY: the handle is open, and `&mut` lets no other call of it be under way.
+            let status = unsafe { raw::$call(self.0.get(), $($argument),*) };
+            ok(status).unwrap_or_else(|status| unexpected(status));
+        })*
+    };
+}
+
+impl MemberHandle {
+    pub(crate) fn open(
+        opening: &RawOpening,
+        process: u64,
+        ttl: u64,
+    ) -> Result<MemberHandle, bully_status> {
+        let mut opened = bully_member {
+            held: ptr::null_mut(),
+        };
+        // SAFETY: the handle is zeroed, and the slices are read alone.
+        ok(unsafe {
+            raw::bully_member_open(
+                &mut opened,
+                opening.header.as_ptr().cast(),
+                opening.header.len(),
+                opening.epoch,
+                opening.node,
+                opening.rows_max,
+                opening.old.as_ptr(),
+                opening.old.len(),
+                process,
+                ttl,
+            )
+        })?;
+        Ok(MemberHandle(UnsafeCell::new(opened)))
+    }
+
+    pub(crate) fn next(&mut self, now: u64) -> Result<bully_step, bully_status> {
+        let mut step = bully_step::default();
+        // SAFETY: the handle is open, and `&mut` lets no other call of it be under way.
+        ok(unsafe { raw::bully_member_next(self.0.get(), now, &mut step) })?;
+        Ok(step)
+    }
+
+    /// Learns rows, each with its line end, and tells how many. So it does beside the status of the first that isn't learned.
+    pub(crate) fn learn(&mut self, rows: &str) -> Result<usize, (bully_status, usize)> {
+        let (place, mut taken) = (rows.as_ptr().cast(), 0);
+        // SAFETY: the handle is open, and `&mut` lets no other call of it be under way. The rows are read alone.
+        let status =
+            unsafe { raw::bully_member_learn(self.0.get(), place, rows.len(), &mut taken) };
+        match ok(status) {
+            Ok(()) => Ok(taken),
+            Err(status) => Err((status, taken)),
+        }
+    }
+
+    pub(crate) fn looked(
+        &mut self,
+        now: u64,
+        epoch: u32,
+        presences: &[bully_presence],
+        has_strangers: bool,
+        is_wished: bool,
+    ) -> Result<(), bully_status> {
+        // SAFETY: the handle is open, and `&mut` lets no other call of it be under way. The slice is read alone.
+        ok(unsafe {
+            raw::bully_member_looked(
+                self.0.get(),
+                now,
+                epoch,
+                presences.as_ptr(),
+                presences.len(),
+                u32::from(has_strangers),
+                u32::from(is_wished),
+            )
+        })
+    }
+
+    pub(crate) fn followed(&mut self, now: u64, opening: &RawOpening) -> Result<(), bully_status> {
+        // SAFETY: the handle is open, and `&mut` lets no other call of it be under way. The slices are read alone.
+        ok(unsafe {
+            raw::bully_member_followed(
+                self.0.get(),
+                now,
+                opening.header.as_ptr().cast(),
+                opening.header.len(),
+                opening.epoch,
+                opening.node,
+                opening.rows_max,
+                opening.old.as_ptr(),
+                opening.old.len(),
+            )
+        })
+    }
+
+    tellings! {
+        answered(now: u64, answer: u32): bully_member_answered;
+        passed(): bully_member_passed;
+        not_there(): bully_member_not_there;
+        woke(): bully_member_woke;
+        leave(): bully_member_leave;
+        lost(token: u32): bully_member_lost;
+        stopped(): bully_member_stopped;
+    }
+
+    pub(crate) fn owned(&self) -> Result<Option<Owned>, bully_status> {
+        owned_of(|token, room, count| {
+            let (partitions, size) = (room.as_mut_ptr(), room.len());
+            // SAFETY: the handle is open, and no other call of it is under way. The room is as long as is said.
+            unsafe { raw::bully_member_owned(self.0.get(), token, partitions, size, count) }
+        })
+    }
+
+    texts! {
+        settlement(): bully_member_settlement;
+    }
+
+    numbers! {
+        planned(): bully_member_planned;
+    }
+
+    structs! {
+        show(now: u64): bully_member_show, bully_member_state;
+        node(node: u16): bully_member_node, bully_state;
+        group(): bully_member_group, bully_group;
+    }
 }
 
 /// Judges a trace. Beside the status of one that has a fault of form stands its row.
@@ -344,6 +527,15 @@ fn filled<T: Clone + Default>(
     Ok(room)
 }
 
+// What a node owns, if anything. The call is told where to write the token, the room, and where to write how many partitions it has.
+fn owned_of(
+    mut call: impl FnMut(&mut u32, &mut [u16], &mut usize) -> bully_status,
+) -> Result<Option<Owned>, bully_status> {
+    let mut token = 0;
+    let partitions = filled(|room: &mut [u16], count| call(&mut token, room, count))?;
+    Ok((!partitions.is_empty()).then_some(Owned { token, partitions }))
+}
+
 fn ok(status: bully_status) -> Result<(), bully_status> {
     match status {
         raw::BULLY_OK => Ok(()),
@@ -361,6 +553,11 @@ pub(crate) fn without_end(mut row: String) -> String {
     let end = row.pop();
     assert_eq!(end, Some('\n'), "the end of a row of the bully library");
     row
+}
+
+/// The rows of this text without their line ends, with which the library writes them.
+pub(crate) fn rows_of(text: &str) -> Vec<String> {
+    text.lines().map(String::from).collect()
 }
 
 fn raw_setup(setup: &Setup) -> bully_setup {

@@ -51,6 +51,14 @@ faults! {
 }
 
 faults! {
+    /// What is wrong with how a member begins.
+    TermsFault {
+        BadRowsMax = BULLY_BAD_ROWS_MAX, "the log may have fewer than 22 rows for each node, or more than 1,000,000";
+        BadTtl = BULLY_BAD_TTL, "the ttl is below a millisecond, or above a day";
+    }
+}
+
+faults! {
     /// The first fault of a line, from its left, as `docs/NODE.md` lists them.
     LineFault {
         Word = BULLY_LINE_WORD, "the line doesn't begin with `ask`, or with `tell`";
@@ -317,5 +325,55 @@ errors! {
         Line: LineFault;
         /// The event is refused.
         Refused: Refused;
+    }
+}
+
+errors! {
+    /// Why nothing settles a group. Nothing changed.
+    SettleError {
+        /// A node that is present is none of the group's.
+        Present: NodeFault;
+        /// The old table is none of the group.
+        Old: TableFault;
+        /// An allocation failed.
+        Memory: OutOfMemory;
+        /// The log has no room for the rows: `Full`.
+        Refused: Refused;
+    }
+}
+
+errors! {
+    /// Why it isn't told what a node owns.
+    OwnedError {
+        /// The node is none of the group's.
+        Node: NodeFault;
+        /// An allocation failed.
+        Memory: OutOfMemory;
+    }
+}
+
+errors! {
+    /// Why a member doesn't begin, or doesn't go on in another epoch. Nothing changed.
+    OpeningError {
+        /// The text is no header, or rows stand behind it: `BadHeader`.
+        Header: FormFault;
+        /// The node is none of the group's.
+        Node: NodeFault;
+        /// The old table is none of the group.
+        Old: TableFault;
+        /// The bound of the rows, or the ttl.
+        Terms: TermsFault;
+        /// An allocation failed.
+        Memory: OutOfMemory;
+    }
+}
+
+errors! {
+    /// Why a member wasn't told what a look found. Nothing changed.
+    SeenError {
+        /// A presence is of none of the group's nodes.
+        Node: NodeFault;
+        /// An allocation failed.
+        Memory: OutOfMemory;
     }
 }

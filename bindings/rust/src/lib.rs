@@ -6,6 +6,7 @@ mod agent;
 mod calls;
 mod coded;
 mod faults;
+mod member;
 mod raw;
 mod replica;
 mod setup;
@@ -16,12 +17,16 @@ mod trace;
 pub use agent::{Agent, AgentBuilder};
 pub use faults::{
     FormFault, HeaderError, LearnError, LearnFault, LineFault, LogError, MembersError, NodeFault,
-    OpenError, OutOfMemory, PlanError, PrepareError, Refused, ReplyError, RowError, ServeError,
-    SetupFault, TableFault, TraceFault,
+    OpenError, OpeningError, OutOfMemory, OwnedError, PlanError, PrepareError, Refused, ReplyError,
+    RowError, SeenError, ServeError, SettleError, SetupFault, TableFault, TermsFault, TraceFault,
+};
+pub use member::{
+    Ending, Life, LifeState, Member, MemberState, Opening, Presence, Promise, Request, Seen, Step,
+    StoreAnswer, Until, Work, TTL_MAX, TTL_MIN,
 };
 pub use replica::{Replica, ReplicaEvent};
 pub use setup::{Setup, EVENTS_MAX, NODES_MAX, PARTITIONS_MAX, WEIGHT_MAX};
-pub use shown::{Answer, Call, CallKind, Group, State, Status, Want};
+pub use shown::{Answer, Call, CallKind, Group, Owned, State, Status, Want};
 pub use table::{plan_table, PlannedTable};
 pub use trace::{check, Verdict};
 

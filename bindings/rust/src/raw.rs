@@ -10,6 +10,9 @@ pub const BULLY_EVENTS_MAX: u32 = 1000000;
 
 pub const BULLY_REPLY_MAX: usize = 32;
 
+pub const BULLY_TTL_MIN: u64 = 1000000;
+pub const BULLY_TTL_MAX: u64 = 86400000000000;
+
 pub type bully_status = u32;
 
 pub const BULLY_OK: bully_status = 0;
@@ -38,6 +41,9 @@ pub const BULLY_TABLE_LENGTH: bully_status = 29;
 pub const BULLY_TABLE_OWNER: bully_status = 30;
 pub const BULLY_NO_MEMBER: bully_status = 31;
 pub const BULLY_BAD_EVENT: bully_status = 32;
+pub const BULLY_BAD_ROWS_MAX: bully_status = 33;
+pub const BULLY_BAD_TTL: bully_status = 34;
+pub const BULLY_BAD_ANSWER: bully_status = 35;
 pub const BULLY_LINE_WORD: bully_status = 40;
 pub const BULLY_LINE_CALLER: bully_status = 41;
 pub const BULLY_LINE_NUMBER: bully_status = 42;
@@ -137,6 +143,90 @@ pub struct bully_group {
     pub nodes: u16,
     pub partitions: u16,
     pub keeps: u16,
+}
+
+#[repr(C)]
+pub struct bully_member {
+    pub held: *mut c_void,
+}
+
+pub const BULLY_STEP_ASK: u32 = 1;
+pub const BULLY_STEP_BEGIN: u32 = 2;
+pub const BULLY_STEP_STOP: u32 = 3;
+pub const BULLY_STEP_WAIT: u32 = 4;
+pub const BULLY_STEP_REST: u32 = 5;
+pub const BULLY_STEP_END: u32 = 6;
+
+pub const BULLY_ASK_TAKE: u32 = 1;
+pub const BULLY_ASK_RENEW: u32 = 2;
+pub const BULLY_ASK_RELEASE: u32 = 3;
+pub const BULLY_ASK_LOOK: u32 = 4;
+pub const BULLY_ASK_PROMISE: u32 = 5;
+pub const BULLY_ASK_APPEND: u32 = 6;
+pub const BULLY_ASK_FINISH: u32 = 7;
+pub const BULLY_ASK_FOLLOW: u32 = 8;
+
+pub const BULLY_UNTIL_NEWS: u32 = 1;
+pub const BULLY_UNTIL_ANY_IDLE: u32 = 2;
+pub const BULLY_UNTIL_ALL_IDLE: u32 = 3;
+
+pub const BULLY_ENDING_NONE: u32 = 0;
+pub const BULLY_ENDING_LEFT: u32 = 1;
+pub const BULLY_ENDING_NOT_THERE: u32 = 2;
+pub const BULLY_ENDING_BROKEN: u32 = 3;
+
+#[derive(Default)]
+#[repr(C)]
+pub struct bully_step {
+    pub at_most: u64,
+    pub process: u64,
+    pub number: u64,
+    pub kind: u32,
+    pub request: u32,
+    pub until: u32,
+    pub place: u32,
+    pub token: u32,
+    pub ending: u32,
+}
+
+pub const BULLY_STORE_DONE: u32 = 1;
+pub const BULLY_STORE_REFUSED: u32 = 2;
+pub const BULLY_STORE_UNANSWERED: u32 = 3;
+
+#[repr(C)]
+pub struct bully_presence {
+    pub process: u64,
+    pub number: u64,
+    pub epoch: u32,
+    pub place: u32,
+    pub node: u16,
+}
+
+pub const BULLY_LIFE_ABSENT: u32 = 0;
+pub const BULLY_LIFE_UNKNOWN: u32 = 1;
+pub const BULLY_LIFE_PRESENT: u32 = 2;
+
+pub const BULLY_WORK_IDLE: u32 = 0;
+pub const BULLY_WORK_WORKING: u32 = 1;
+pub const BULLY_WORK_LOST: u32 = 2;
+pub const BULLY_WORK_STOPPING: u32 = 3;
+
+#[derive(Default)]
+#[repr(C)]
+pub struct bully_member_state {
+    pub process: u64,
+    pub number: u64,
+    pub since: u64,
+    pub sure_left: u64,
+    pub life: u32,
+    pub promised: u32,
+    pub work: u32,
+    pub token: u32,
+    pub ending: u32,
+    pub epoch: u32,
+    pub place: u32,
+    pub node: u16,
+    pub is_wished: u16,
 }
 
 extern "C" {
@@ -309,6 +399,114 @@ extern "C" {
     ) -> bully_status;
     pub fn bully_replica_planned(
         replica: *mut bully_replica,
+        owners: *mut u16,
+        room: usize,
+        count: *mut usize,
+    ) -> bully_status;
+
+    pub fn bully_replica_settle(
+        replica: *mut bully_replica,
+        present: *const u16,
+        present_count: usize,
+        old: *const u16,
+        old_count: usize,
+        rows: *mut c_char,
+        room: usize,
+        length: *mut usize,
+    ) -> bully_status;
+    pub fn bully_replica_is_at_rest(
+        replica: *mut bully_replica,
+        present: *const u16,
+        present_count: usize,
+        place: u32,
+        rests: *mut u32,
+    ) -> bully_status;
+    pub fn bully_replica_owned(
+        replica: *mut bully_replica,
+        node: u16,
+        place: u32,
+        token: *mut u32,
+        partitions: *mut u16,
+        room: usize,
+        count: *mut usize,
+    ) -> bully_status;
+    pub fn bully_member_open(
+        member: *mut bully_member,
+        header: *const c_char,
+        length: usize,
+        epoch: u32,
+        node: u16,
+        rows_max: u32,
+        old: *const u16,
+        old_count: usize,
+        process: u64,
+        ttl: u64,
+    ) -> bully_status;
+    pub fn bully_member_close(member: *mut bully_member) -> bully_status;
+    pub fn bully_member_next(
+        member: *mut bully_member,
+        now: u64,
+        step: *mut bully_step,
+    ) -> bully_status;
+    pub fn bully_member_answered(member: *mut bully_member, now: u64, answer: u32) -> bully_status;
+    pub fn bully_member_learn(
+        member: *mut bully_member,
+        rows: *const c_char,
+        length: usize,
+        taken: *mut usize,
+    ) -> bully_status;
+    pub fn bully_member_looked(
+        member: *mut bully_member,
+        now: u64,
+        epoch: u32,
+        presences: *const bully_presence,
+        presence_count: usize,
+        has_strangers: u32,
+        is_wished: u32,
+    ) -> bully_status;
+    pub fn bully_member_passed(member: *mut bully_member) -> bully_status;
+    pub fn bully_member_followed(
+        member: *mut bully_member,
+        now: u64,
+        header: *const c_char,
+        length: usize,
+        epoch: u32,
+        node: u16,
+        rows_max: u32,
+        old: *const u16,
+        old_count: usize,
+    ) -> bully_status;
+    pub fn bully_member_not_there(member: *mut bully_member) -> bully_status;
+    pub fn bully_member_woke(member: *mut bully_member) -> bully_status;
+    pub fn bully_member_leave(member: *mut bully_member) -> bully_status;
+    pub fn bully_member_lost(member: *mut bully_member, token: u32) -> bully_status;
+    pub fn bully_member_stopped(member: *mut bully_member) -> bully_status;
+    pub fn bully_member_settlement(
+        member: *mut bully_member,
+        rows: *mut c_char,
+        room: usize,
+        length: *mut usize,
+    ) -> bully_status;
+    pub fn bully_member_owned(
+        member: *mut bully_member,
+        token: *mut u32,
+        partitions: *mut u16,
+        room: usize,
+        count: *mut usize,
+    ) -> bully_status;
+    pub fn bully_member_show(
+        member: *mut bully_member,
+        now: u64,
+        shown: *mut bully_member_state,
+    ) -> bully_status;
+    pub fn bully_member_node(
+        member: *mut bully_member,
+        node: u16,
+        state: *mut bully_state,
+    ) -> bully_status;
+    pub fn bully_member_group(member: *mut bully_member, group: *mut bully_group) -> bully_status;
+    pub fn bully_member_planned(
+        member: *mut bully_member,
         owners: *mut u16,
         room: usize,
         count: *mut usize,

@@ -1,9 +1,11 @@
 //! A group whose history is a log outside.
 
 use crate::calls::{self, unexpected, ReplicaHandle};
-use crate::faults::{LearnError, LearnFault, LogError, NodeFault, RowError};
+use crate::faults::{
+    LearnError, LearnFault, LogError, NodeFault, OwnedError, RowError, SettleError,
+};
 use crate::raw;
-use crate::shown::{Group, State};
+use crate::shown::{Group, Owned, State};
 use std::fmt;
 
 /// What a process knows of a group whose history is a log in a store that many processes share.
@@ -82,6 +84,32 @@ impl Replica {
         row.map(calls::without_end).map_err(RowError::told)
     }
 
+    /// The rows that bring the group to rest among the nodes that are present, in any order. With nobody present all crash; else the
+    /// highest is elected, and plans, from the last plan's table. If the log has no plan, it plans from the old table, the last one of
+    /// an epoch before, if there is one, and it isn't empty: there 0 is an owner that the group hasn't. The rows are at most 11 for each
+    /// node of the group.
+    ///
+    /// The replica doesn't learn them. Append them to the log behind exactly the rows that were learned, with nothing between, and in one
+    /// process alone, and then learn them.
+    pub fn settle(&self, present: &[u16], old: Option<&[u16]>) -> Result<Vec<String>, SettleError> {
+        let text = self.handle.settle(present, old.unwrap_or_default());
+        Ok(calls::rows_of(&text.map_err(SettleError::told)?))
+    }
+
+    /// Whether the group is at rest among the nodes that are present: all of these are Normal under the highest of them, all others are
+    /// Down, and if any is present, there is a last plan, its token is above this place, and all its owners are present.
+    pub fn is_at_rest(&self, present: &[u16], place: u32) -> Result<bool, NodeFault> {
+        let rests = self.handle.is_at_rest(present, place);
+        rests.map_err(NodeFault::told)
+    }
+
+    /// By which token the node's process may work behind so many events, and on which partitions, if on any: the node is Normal, and the
+    /// last plan's token is above this place.
+    pub fn owned(&self, node: u16, place: u32) -> Result<Option<Owned>, OwnedError> {
+        let owned = self.handle.owned(node, place);
+        owned.map_err(OwnedError::told)
+    }
+
     /// How the node stands.
     pub fn state(&self, node: u16) -> Result<State, NodeFault> {
         let state = self.handle.show(node).map_err(NodeFault::told)?;
@@ -146,7 +174,9 @@ impl fmt::Display for ReplicaEvent {
 }
 
 // All the rows as one text, each with its line end; or the first that isn't one row.
-fn text_of<R: AsRef<str>>(rows: impl IntoIterator<Item = R>) -> Result<String, LearnFault> {
+pub(crate) fn text_of<R: AsRef<str>>(
+    rows: impl IntoIterator<Item = R>,
+) -> Result<String, LearnFault> {
     let mut text = String::new();
     for (place, row) in rows.into_iter().enumerate() {
         let row = row.as_ref();

@@ -142,6 +142,15 @@ pub struct Group {
     pub keeps: bool,
 }
 
+/// What a node's process may work on.
+#[derive(Clone, Debug, PartialEq, Eq, Hash)]
+pub struct Owned {
+    /// The token of the last plan.
+    pub token: u32,
+    /// The node's partitions by that plan, rising, the first of a group being 0. There is one at least.
+    pub partitions: Vec<u16>,
+}
+
 impl Group {
     // What the library shows of the group.
     pub(crate) fn of(shown: &bully_group) -> Group {
@@ -172,6 +181,6 @@ fn node_of(number: u16) -> Option<u16> {
 }
 
 // What the number stands for. It always stands for something, as `bully.h` has it.
-fn known<T>(number: u32, meaning: Option<T>) -> T {
+pub(crate) fn known<T>(number: u32, meaning: Option<T>) -> T {
     meaning.unwrap_or_else(|| unexpected_number(number))
 }

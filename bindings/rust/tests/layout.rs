@@ -26,14 +26,14 @@ fn constants_are_those_of_the_header() {
 #[test]
 fn structs_are_those_of_the_header() {
     let declared = structs_of_raw();
-    assert_eq!(declared.len(), 6);
+    assert_eq!(declared.len(), 10);
     assert_eq!(declared, structs_of_header());
 }
 
 #[test]
 fn functions_are_those_of_the_header() {
     let declared = functions_of_raw();
-    assert_eq!(declared.len(), 35);
+    assert_eq!(declared.len(), 57);
     assert_eq!(declared, functions_of_header());
 }
 
@@ -49,11 +49,11 @@ fn structs_are_laid_out_as_in_c() {
 #[test]
 fn statuses_are_named_as_in_the_header() {
     let statuses: Vec<(String, u64)> = statuses_of_header();
-    assert_eq!(statuses.len(), 38);
+    assert_eq!(statuses.len(), 41);
     for (name, value) in statuses {
         assert_eq!(Some(status_name(value as u32)), name.strip_prefix("BULLY_"));
     }
-    for no_status in [13, 19, 33, 39, 47, 49, 55, u32::MAX] {
+    for no_status in [13, 19, 36, 39, 47, 49, 55, u32::MAX] {
         assert_eq!(status_name(no_status), "?");
     }
 }
@@ -208,6 +208,7 @@ fn rust_name(kind: &str) -> String {
         "uint8_t" => "u8",
         "uint16_t" => "u16",
         "uint32_t" => "u32",
+        "uint64_t" => "u64",
         other => other,
     }
     .to_string()
@@ -255,6 +256,10 @@ fn layout_in_rust() -> Vec<String> {
         bully_state: status wants events generation call orphan number node coordinator halter callee;
         bully_replica: held;
         bully_group: rows events token planner nodes partitions keeps;
+        bully_member: held;
+        bully_step: at_most process number kind request until place token ending;
+        bully_presence: process number epoch place node;
+        bully_member_state: process number since sure_left life promised work token ending epoch place node is_wished;
     }
 }
 

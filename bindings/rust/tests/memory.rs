@@ -3,9 +3,10 @@
 mod counted;
 
 use bully::{
-    check, plan_table, Agent, HeaderError, LearnError, LearnFault, LogError, OpenError,
-    OutOfMemory, PlanError, PrepareError, Replica, ReplicaEvent, RowError, ServeError, Setup,
-    TraceFault, Want,
+    check, plan_table, Agent, HeaderError, LearnError, LearnFault, LogError, Member, OpenError,
+    Opening, OpeningError, OutOfMemory, OwnedError, PlanError, PrepareError, Replica, ReplicaEvent,
+    Request, RowError, Seen, SeenError, ServeError, SettleError, Setup, Step, TraceFault, Want,
+    TTL_MIN,
 };
 use counted::{held, refused_behind, Aside};
 
@@ -104,6 +105,27 @@ fn learned(count: usize) -> Replica {
     replica
 }
 
+// What an epoch begins with, for node 2 of the same group.
+fn opening(epoch: u32) -> Opening {
+    Opening {
+        header: "bully,1,2,3".to_string(),
+        epoch,
+        node: 2,
+        rows_max: 44,
+        old: Some(vec![2, 0, 1]),
+    }
+}
+
+// A member for it that learned the first so many of the rows that tell an event.
+fn member(count: usize) -> Member {
+    let mut member = Member::open(&opening(1), 9, TTL_MIN).expect("a member");
+    let rows = ROWS.iter().filter(|row| !row.starts_with("saw"));
+    let rows = rows.map(|row| row.split(',').take(2).collect::<Vec<_>>().join(","));
+    let rows = rows.map(|row| row.replace("plan,2", "plan,2,1 1 2"));
+    assert_eq!(member.learn(rows.take(count)), Ok(count));
+    member
+}
+
 /// What is compared, to see that nothing changed.
 trait Shown {
     fn shown(&self) -> String;
@@ -119,6 +141,13 @@ impl Shown for Replica {
     fn shown(&self) -> String {
         let nodes = [1, 2].map(|node| (self.state(node), self.up(node), self.task(node)));
         format!("{self:?} {nodes:?} {:?}", self.planned())
+    }
+}
+
+impl Shown for Member {
+    fn shown(&self) -> String {
+        let nodes = [1, 2].map(|node| self.node(node));
+        format!("{self:?} {nodes:?} {:?} {:?}", self.group(), self.planned())
     }
 }
 
@@ -153,6 +182,7 @@ fn all_calls() {
         );
         let _fault = Agent::builder(&setup(), 1).task(&[1, 2]).open();
         all_of_replicas();
+        all_of_members();
     };
     all();
     let before = held();
@@ -174,6 +204,35 @@ fn all_of_replicas() {
     }
     let _headers = (setup().header(), setup().with_weights([1]).header());
     let _faults = (Replica::open("bully,1,2"), Replica::open("bully,1,2,3\n?"));
+}
+
+fn all_of_members() {
+    for count in [0, 19] {
+        let mut member = member(count);
+        let _asked = (member.next(0), member.settlement(), member.owned());
+        let seen = Seen {
+            epoch: 1,
+            presences: Vec::new(),
+            has_strangers: false,
+            is_wished: false,
+        };
+        let _told = (member.looked(1, &seen), member.learn(["?"]));
+        member.passed();
+        let _asked = member.next(2);
+        let _told = member.followed(3, &opening(2));
+        let _shown = member.shown();
+    }
+    let mut wrong = opening(1);
+    wrong.node = 3;
+    let _fault = Member::open(&wrong, 9, TTL_MIN);
+    let replica = learned(ROWS.len());
+    let _all = (
+        replica.settle(&[1], None),
+        replica.settle(&[1, 2], Some(&[1, 0, 2])),
+        replica.settle(&[3], None),
+        replica.is_at_rest(&[1, 2], 0),
+        replica.owned(2, 0),
+    );
 }
 
 // Takes the call with all its allocations refused but the first none, one, two, .., until none is refused. Before that each call has to
@@ -239,6 +298,60 @@ fn refused_tables_of_replicas() {
         }),
         refusals(learned(PLAN), NONE_LEARNED, |replica| {
             replica.learn([ROWS[PLAN]])
+        }),
+    ];
+    assert!(tried.iter().all(|&count| count > 0), "{tried:?}");
+}
+
+/// What settles a group, and what a member makes, copies or learns.
+#[test]
+fn refused_members() {
+    let memory = OutOfMemory;
+    let out_of_memory = SettleError::Memory(memory);
+    let seen = Seen {
+        epoch: 1,
+        presences: vec![bully::Presence {
+            node: 1,
+            life: bully::Life {
+                process: 8,
+                number: 1,
+            },
+            promise: bully::Promise { epoch: 1, place: 0 },
+        }],
+        has_strangers: false,
+        is_wished: false,
+    };
+    let looking = || {
+        let mut member = member(19);
+        assert_eq!(member.next(0), Step::Ask(Request::Look));
+        member
+    };
+    let following = || {
+        let mut member = member(19);
+        member.passed();
+        assert_eq!(member.next(0), Step::Ask(Request::Follow));
+        member
+    };
+    let tried = [
+        refusals(learned(ROWS.len()), out_of_memory, |replica| {
+            replica.settle(&[2], Some(&[1, 0, 2]))
+        }),
+        refusals(learned(ROWS.len()), OwnedError::Memory(memory), |replica| {
+            replica.owned(1, 0)
+        }),
+        refusals(open(1), OpeningError::Memory(memory), |_| {
+            Member::open(&opening(1), 9, TTL_MIN)
+        }),
+        refusals(looking(), SeenError::Memory(memory), |member| {
+            member.looked(1, &seen)
+        }),
+        refusals(member(14), NONE_LEARNED, |member| {
+            member.learn(["plan,2,1 1 2"])
+        }),
+        refusals(member(19), out_of_memory, |member| member.settlement()),
+        refusals(member(19), memory, |member| member.owned()),
+        refusals(following(), OpeningError::Memory(memory), |member| {
+            member.followed(1, &opening(2))
         }),
     ];
     assert!(tried.iter().all(|&count| count > 0), "{tried:?}");

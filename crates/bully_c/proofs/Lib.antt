@@ -1,4 +1,8 @@
 pub mod RoomLemmas
+pub mod MappedLemmas
+pub mod OldTableLemmas
+pub mod PresenceLemmas
+pub mod EventTextLemmas
 pub mod SetLemmas
 pub mod SetupLemmas
 pub mod StepLemmas

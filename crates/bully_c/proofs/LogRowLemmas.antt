@@ -1,5 +1,5 @@
 -- The row of what a node appends next, or why there is none; and why a text isn't learned to its end.
-use Rattle.std.proofs.Common.{◌≡◌, ◌≤◌, ◌+◌, ℕ, List, Option, Some, Result, Ok, Err, inl, inr, subst, arith, IfErr, IfOk}
+use Rattle.std.proofs.Common.{◌≡◌, ◌≤◌, ℕ, List, Option, Some, Result, Ok, Err, inl, inr, subst, arith, IfErr, IfOk}
 use Rattle.bully_calls.specs.declared.event.Event.{Event}
 use Rattle.bully_replica.specs.Following.{FollowerState, FollowsUpTo, Stops}
 use Rattle.bully_replica.specs.Next.{IsNext}

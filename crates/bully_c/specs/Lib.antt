@@ -1,7 +1,13 @@
 pub mod Numbers
+pub mod MemberNumbers
 pub mod Ownership
 pub mod AgentSession
 pub mod Arguments
 pub mod Exports
 pub mod Judged
 pub mod Replicas
+pub mod OldTables
+pub mod Settlements
+pub mod Presences
+pub mod MemberShown
+pub mod Members

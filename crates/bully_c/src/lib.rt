@@ -1,5 +1,5 @@
-//! What C may call: each export is the call of bully_agent, bully_replica, bully_trace or bully_table behind it, of arguments that it
-//! tests.
+//! What C may call: each export is the call of bully_agent, bully_replica, bully_settling, bully_member, bully_trace or bully_table
+//! behind it, of arguments that it tests.
 //!
 //! It stands on these, on the crates below them, and on bully_lines for requests and replies. `include/bully.h` says what each export
 //! does, answers and in which order, and `bindings/c/bully.c` stands between it and C.
@@ -9,10 +9,18 @@ mod agents;
 mod handle;
 mod logs;
 mod loose;
+mod member_handle;
+mod member_shown;
+mod member_told;
+mod members;
+mod old_tables;
+mod openings;
+mod presences;
 mod replica_handle;
 mod replicas;
 mod requests;
 mod session;
+mod settlements;
 mod shown;
 mod status;
 mod tables;

@@ -35,8 +35,8 @@ pub fn opened(alloc: Global, text: &[u8]) -> Result<Box<LogSession>, u32>
     }
 }
 
-// The header of this text.
-fn header_in(alloc: Global, text: &[u8]) -> Result<Header, u32>
+/// The header of this text.
+pub fn header_in(alloc: Global, text: &[u8]) -> Result<Header, u32>
     ensures ok { IfOk result (IsHeaderAlone text.now) }
     ensures err { IfErr result (RefusesHeader text.now) }
 {
@@ -99,8 +99,8 @@ fn learn_rows(alloc: Global, follower: &mut Follower, text: &[u8]) -> u32
     }
 }
 
-// Why no row is learned of a text that begins with a byte-order mark.
-fn of_mark(follower: &Follower) -> u32
+/// Why no row is learned of a text that begins with a byte-order mark.
+pub fn of_mark(follower: &Follower) -> u32
     ensures { result ≡ mark_number follower.now }
 {
     let cause = if follower.rows() == ROWS_MAX {
@@ -111,15 +111,15 @@ fn of_mark(follower: &Follower) -> u32
     status::of_trace(cause)
 }
 
-// Whether the text is empty, or its last line has a line end.
-fn has_end(text: &[u8]) -> bool
+/// Whether the text is empty, or its last line has a line end.
+pub fn has_end(text: &[u8]) -> bool
     ensures { result ≡ has_end text.now }
 {
     text.is_empty() || text.ends_with(b"\n")
 }
 
-// Whether it begins with a byte-order mark.
-fn has_mark(text: &[u8]) -> bool
+/// Whether it begins with a byte-order mark.
+pub fn has_mark(text: &[u8]) -> bool
     ensures { result ≡ has_mark text.now }
 {
     text.starts_with(b"\xEF\xBB\xBF")

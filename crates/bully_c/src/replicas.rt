@@ -3,10 +3,12 @@ ghost use Rattle.std.specs.Prelude.{◌≡◌, None, IfErr, IfOk, string_bytes};
 ghost use Rattle.bully_c.specs.Arguments.{IsCopied, setup_given};
 ghost use Rattle.bully_c.specs.Exports.{IsClosing};
 ghost use Rattle.bully_c.specs.Replicas.{AtLog, IsEventRow, IsHeaderRow, IsLearning, IsLogOpening, IsNextRow, IsWritten, RefusesEvent, RefusesHeaderRow, RefusesNext, IsListShown, IsStateShown, ShowsLog, group_shown, table_shown, task_in, up_in};
+ghost use Rattle.bully_c.specs.Settlements.{IsAtRestShown, IsOwnedShown, IsSettlementOf, RefusesSettlement};
 ghost use Rattle.bully_c.specs.declared.status.TheConstants.{OK as OkNumber};
 
 use crate::logs::{learn, opened, write_event, write_next};
 use crate::replica_handle::ReplicaHandle;
+use crate::settlements::{write_owned, write_rest, write_settlement};
 use crate::shown::{CState, copy_owners, copy_text, copy_up, number_of, state_in};
 use crate::status::{CLOSED, OK, OPEN, OUT_OF_MEMORY};
 use crate::tables::{CSetup, node_of, setup_of};
@@ -170,8 +172,8 @@ pub extern "C" fn bully_c_replica_show(
     status
 }
 
-// Writes how the node of this number stands.
-fn show_node(world: &World, node: u16, state: &mut CState) -> u32
+/// Writes how the node of this number stands.
+pub fn show_node(world: &World, node: u16, state: &mut CState) -> u32
     ensures { IsStateShown world.now node state.old result state.new }
 {
     match node_of(world.setup(), node) {
@@ -261,8 +263,8 @@ pub extern "C" fn bully_c_replica_group(
     OK
 }
 
-// How the group stands of which this was learned.
-fn group_of(follower: &Follower) -> CGroup
+/// How the group stands of which this was learned.
+pub fn group_of(follower: &Follower) -> CGroup
     ensures { result ≡ group_shown follower.now }
 {
     let replica = follower.replica();
@@ -293,6 +295,77 @@ pub extern "C" fn bully_c_replica_planned(
         return CLOSED;
     };
     let status = copy_owners(session.follower.replica().last_table(), owners, count);
+    replica.put(alloc, session);
+    status
+}
+
+/// The rows that bring the group to rest among these nodes: [`bully_settling::settle`].
+#[unsafe(no_mangle)]
+pub extern "C" fn bully_c_replica_settle(
+    alloc: Global,
+    replica: &mut ReplicaHandle,
+    present: &[u16],
+    old: &[u16],
+    rows: &mut [u8],
+    length: &mut usize,
+) -> u32
+    ensures open { AtLog (ShowsLog (λ session status. IsWritten (IsSettlementOf session.follower present.now old.now) (RefusesSettlement session.follower present.now old.now) rows.old length.old status rows.new length.new)) replica.old.value result replica.new.value }
+    ensures closed { replica.old.value ≡ None → (rows.new ≡ rows.old) × (length.new ≡ length.old) }
+{
+    let Some(session) = replica.take(alloc) else {
+        return CLOSED;
+    };
+    let status = write_settlement(alloc, &session.follower, present, old, rows, length);
+    replica.put(alloc, session);
+    status
+}
+
+/// Whether the group is at rest among these nodes: [`bully_settling::is_at_rest`].
+#[unsafe(no_mangle)]
+pub extern "C" fn bully_c_replica_is_at_rest(
+    alloc: Global,
+    replica: &mut ReplicaHandle,
+    present: &[u16],
+    place: u32,
+    rests: &mut u32,
+) -> u32
+    ensures open { AtLog (ShowsLog (λ session status. IsAtRestShown session.follower.replica present.now place rests.old status rests.new)) replica.old.value result replica.new.value }
+    ensures closed { replica.old.value ≡ None → rests.new ≡ rests.old }
+{
+    let Some(session) = replica.take(alloc) else {
+        return CLOSED;
+    };
+    let status = write_rest(&session.follower, present, place, rests);
+    replica.put(alloc, session);
+    status
+}
+
+/// What the node owns behind so many events: [`bully_settling::owned`].
+#[unsafe(no_mangle)]
+pub extern "C" fn bully_c_replica_owned(
+    alloc: Global,
+    replica: &mut ReplicaHandle,
+    node: u16,
+    place: u32,
+    token: &mut u32,
+    partitions: &mut [u16],
+    count: &mut usize,
+) -> u32
+    ensures open { AtLog (ShowsLog (λ session status. IsOwnedShown session.follower.replica node place token.old partitions.old count.old status token.new partitions.new count.new)) replica.old.value result replica.new.value }
+    ensures closed { replica.old.value ≡ None → (token.new ≡ token.old) × (partitions.new ≡ partitions.old) × (count.new ≡ count.old) }
+{
+    let Some(session) = replica.take(alloc) else {
+        return CLOSED;
+    };
+    let status = write_owned(
+        alloc,
+        session.follower.replica(),
+        node,
+        place,
+        token,
+        partitions,
+        count,
+    );
     replica.put(alloc, session);
     status
 }

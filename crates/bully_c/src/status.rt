@@ -2,7 +2,7 @@
 ghost use Rattle.std.specs.Prelude.{◌≡◌};
 ghost use Rattle.bully_calls.specs.declared.event.Refused.{Refused};
 ghost use Rattle.bully_lines.specs.declared.fault.RequestFault.{RequestFault};
-ghost use Rattle.bully_c.specs.declared.status.TheConstants.{BAD_EVENT, BAD_HEADER, BAD_NODE, BAD_ROW, CLOSED, LINE_WORD, NO_MEMBER, OK, OPEN, OUT_OF_MEMORY, ROW_DIFFERS, ROW_END, SHORT, TABLE_LENGTH, TABLE_OWNER};
+ghost use Rattle.bully_c.specs.declared.status.TheConstants.{BAD_ANSWER, BAD_EVENT, BAD_HEADER, BAD_NODE, BAD_ROW, BAD_ROWS_MAX, BAD_TTL, CLOSED, FULL, LINE_WORD, NO_MEMBER, OK, OPEN, OUT_OF_MEMORY, ROW_DIFFERS, ROW_END, SHORT, TABLE_LENGTH, TABLE_OWNER};
 ghost use Rattle.bully_calls.specs.Events.{refusal_number};
 ghost use Rattle.bully_c.specs.Numbers.{answer_number, event_numbered, follow_number, kind_number, reply_number, request_number, setup_number, status_number, trace_number, want_number};
 
@@ -17,6 +17,8 @@ use bully_trace::Violation;
 use bully_world::{Event, Refused};
 
 pub const OK: u32 = 0;
+
+pub const FULL: u32 = 1;
 
 pub const BAD_NODE: u32 = 2;
 
@@ -36,6 +38,12 @@ pub const NO_MEMBER: u32 = 31;
 
 pub const BAD_EVENT: u32 = 32;
 
+pub const BAD_ROWS_MAX: u32 = 33;
+
+pub const BAD_TTL: u32 = 34;
+
+pub const BAD_ANSWER: u32 = 35;
+
 pub const LINE_WORD: u32 = 40;
 
 pub const BAD_HEADER: u32 = 50;
@@ -49,6 +57,7 @@ pub const ROW_END: u32 = 54;
 /// The numbers that stand by themselves.
 pub fn numbers()
     ensures ok { OK ≡ 0 }
+    ensures full { FULL ≡ refusal_number Refused.Full }
     ensures node { BAD_NODE ≡ refusal_number Refused.BadNode }
     ensures closed { CLOSED ≡ 21 }
     ensures open { OPEN ≡ 22 }
@@ -58,6 +67,9 @@ pub fn numbers()
     ensures owner { TABLE_OWNER ≡ 30 }
     ensures member { NO_MEMBER ≡ 31 }
     ensures event { BAD_EVENT ≡ 32 }
+    ensures rows { BAD_ROWS_MAX ≡ 33 }
+    ensures ttl { BAD_TTL ≡ 34 }
+    ensures answer { BAD_ANSWER ≡ 35 }
     ensures word { LINE_WORD ≡ 40 }
     ensures header { BAD_HEADER ≡ 50 }
     ensures row { BAD_ROW ≡ 51 }

@@ -109,8 +109,8 @@ fn planned(
     }
 }
 
-// The set of the nodes of these numbers. Refused where the setup lacks one.
-fn members_of(setup: &Setup, numbers: &[u16]) -> Result<NodeSet, u32>
+/// The set of the nodes of these numbers. Refused where the setup lacks one.
+pub fn members_of(setup: &Setup, numbers: &[u16]) -> Result<NodeSet, u32>
     ensures set { IfOk result (IsSetOf numbers.now) }
     ensures nodes { IfOk result (λ set. All (IsNode setup.now) set) }
     ensures all { IfOk result (λ _. All (IsNode setup.now) numbers.now) }

@@ -1,4 +1,5 @@
 //! What a row changed of what its nodes show.
+ghost use Rattle.std.specs.Prelude.{◌≡◌, ◌||◌, None, is_some};
 
 use bully_base::{Node, OutOfMemory, Status};
 use bully_calls::{Call, CallKind, EventKind, NodeEventKind};
@@ -32,7 +33,10 @@ pub struct Changed {
 
 impl Changed {
     /// No node.
-    pub fn none() -> Changed {
+    pub fn none() -> Changed
+        ensures named { result.named ≡ None }
+        ensures callee { result.callee ≡ None }
+    {
         Changed {
             named: None,
             callee: None,
@@ -40,7 +44,9 @@ impl Changed {
     }
 
     /// Whether there is one.
-    pub fn is_any(self) -> bool {
+    pub fn is_any(self) -> bool
+        ensures { result ≡ (is_some self.named || is_some self.callee) }
+    {
         self.named.is_some() || self.callee.is_some()
     }
 }

@@ -3,7 +3,7 @@
 use crate::changes::{Changed, vector_of};
 use bully_base::{Node, OutOfMemory};
 use bully_handlers::Vector;
-use bully_json::{json_line, owners_of};
+use bully_json::{json_line, task_of};
 use bully_rows::{push_node, push_task, status_word};
 use bully_world::World;
 use serde::Serialize;
@@ -120,17 +120,13 @@ fn push_node_object(
     node: Node,
     vector: &Vector,
 ) -> Result<(), OutOfMemory> {
-    let task = match vector.task() {
-        Some(table) => Some(owners_of(alloc, table)?),
-        None => None,
-    };
     let object = ChangeObject {
         time,
         row,
         node: node.number(),
         status: status_word(vector.status()),
         coordinator: vector.coordinator().map(Node::number),
-        task,
+        task: task_of(alloc, vector.task())?,
     };
     let line = json_line(alloc, &object).ok_or(AllocError)?;
     text.push_str(line.as_str())

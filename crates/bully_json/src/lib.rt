@@ -9,7 +9,7 @@ mod plans;
 mod verdicts;
 
 pub use objects::{HeadObject, NodeObject, PlanObject, SheetObject, VerdictObject};
-pub use plans::{owners_of, plan_object};
+pub use plans::{plan_object, task_of};
 use serde::Serialize;
 use std::alloc::Global;
 pub use verdicts::{head_object, verdict_object};

@@ -1,5 +1,7 @@
 //! Plans as objects.
 ghost use Rattle.std.specs.Prelude.{◌≡◌, IfOk};
+ghost use Rattle.std.specs.Option.{option_copied};
+ghost use Rattle.bully_json.specs.Objects.{task_in};
 
 use crate::objects::PlanObject;
 use bully_base::OutOfMemory;
@@ -19,8 +21,8 @@ pub fn plan_object(alloc: Global, plan: &TablePlan) -> Result<PlanObject, OutOfM
     })
 }
 
-/// The owners of the table, from partition 0 on. Refused where an allocation fails.
-pub fn owners_of(alloc: Global, table: &Table) -> Result<Vec<u16>, OutOfMemory>
+// The owners of the table, from partition 0 on.
+fn owners_of(alloc: Global, table: &Table) -> Result<Vec<u16>, OutOfMemory>
     ensures { IfOk result (λ owners. owners.items ≡ table.now) }
 {
     let mut owners = Vec::new(alloc);
@@ -28,4 +30,14 @@ pub fn owners_of(alloc: Global, table: &Table) -> Result<Vec<u16>, OutOfMemory>
         owners.push(table.owner(place).number())?;
     }
     Ok(owners)
+}
+
+/// The owners of the task, from partition 0 on, if there is one. Refused where an allocation fails.
+pub fn task_of(alloc: Global, task: Option<&Table>) -> Result<Option<Vec<u16>>, OutOfMemory>
+    ensures { IfOk result (λ owners. task_in owners ≡ option_copied task.entry) }
+{
+    match task {
+        Some(table) => Ok(Some(owners_of(alloc, table)?)),
+        None => Ok(None),
+    }
 }

@@ -1,15 +1,13 @@
 //! Verdicts as objects.
 ghost use Rattle.std.specs.Prelude.{◌≡◌, IfOk};
-ghost use Rattle.std.specs.Option.{option_copied};
-ghost use Rattle.bully_json.specs.Objects.{AreNodeObjects, IsHeadObject, IsNodeObject, IsVerdictObject, task_in};
+ghost use Rattle.bully_json.specs.Objects.{AreNodeObjects, IsHeadObject, IsNodeObject, IsVerdictObject};
 ghost use Rattle.bully_world.specs.State.{world_of};
 
 use crate::objects::{HeadObject, NodeObject, VerdictObject};
-use crate::plans::owners_of;
+use crate::plans::task_of;
 use bully_base::{Node, OutOfMemory};
 use bully_handlers::Vector;
 use bully_rows::status_word;
-use bully_table::Table;
 use bully_trace::Verdict;
 use bully_world::World;
 use std::alloc::Global;
@@ -81,15 +79,5 @@ fn number_of(node: Option<Node>) -> Option<u16>
     match node {
         Some(node) => Some(node.number()),
         None => None,
-    }
-}
-
-// The owners of the task, where there is one.
-fn task_of(alloc: Global, task: Option<&Table>) -> Result<Option<Vec<u16>>, OutOfMemory>
-    ensures { IfOk result (λ owners. task_in owners ≡ option_copied task.entry) }
-{
-    match task {
-        Some(table) => Ok(Some(owners_of(alloc, table)?)),
-        None => Ok(None),
     }
 }

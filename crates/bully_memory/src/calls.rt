@@ -26,7 +26,7 @@ pub enum Call {
 }
 
 // The name of each call.
-const NAMES: [(&str, Call); 65] = [
+const NAMES: [(&str, Call); 67] = [
     ("Setup::weighted", Call::New(NewCall::Weighted)),
     ("Table::read", Call::New(NewCall::Table)),
     ("Table::read_in", Call::New(NewCall::TableIn)),
@@ -97,6 +97,8 @@ const NAMES: [(&str, Call); 65] = [
     ("Replica::new", Call::Replica(ReplicaCall::New)),
     ("Replica::learn", Call::Replica(ReplicaCall::Learn)),
     ("Replica::next", Call::Replica(ReplicaCall::Next)),
+    ("settle", Call::Replica(ReplicaCall::Settle)),
+    ("owned", Call::Replica(ReplicaCall::Owned)),
     ("Follower::take_all", Call::Follow(Version::First)),
     ("Follower::take_all/2", Call::Follow(Version::Second)),
     ("Follower::take_all/3", Call::Follow(Version::Third)),

@@ -89,6 +89,8 @@ check/3
 Replica::new
 Replica::learn
 Replica::next
+settle
+owned
 Follower::take_all
 Follower::take_all/2
 Follower::take_all/3

@@ -1,7 +1,9 @@
 use crate::texts::{Version, trace_of};
 use crate::trying::{Outcome, Text, Trial};
+use bully_base::{Node, NodeSet};
 use bully_replica::{Follower, Replica};
 use bully_rows::{Header, RowReader};
+use bully_settling::{owned, settle};
 use bully_world::Event;
 use std::alloc::Global;
 use std::io::Read;
@@ -13,6 +15,10 @@ pub enum ReplicaCall {
     /// It takes no memory: it is tried with all events of an election.
     Learn,
     Next,
+    /// What settles the group, from which nodes 1 and 2 are present.
+    Settle,
+    /// What the node that plans owns behind the election.
+    Owned,
 }
 
 pub fn replica_call<R: Print>(trial: &Trial<R>, call: ReplicaCall) -> Option<Outcome> {
@@ -42,7 +48,9 @@ fn call_of<R: Print>(
 ) -> Option<Outcome> {
     match call {
         ReplicaCall::Learn => learn_call(trial, replica),
-        _ => next_call(trial, replica),
+        ReplicaCall::Settle => settle_call(trial, replica),
+        ReplicaCall::Owned => owned_call(trial, replica),
+        ReplicaCall::New | ReplicaCall::Next => next_call(trial, replica),
     }
 }
 
@@ -65,6 +73,28 @@ fn next_call<R: Print>(trial: &Trial<R>, replica: &mut Replica) -> Option<Outcom
     }
     trial.begin();
     trial.outcome(replica.next(trial.alloc, node), "AllocError")
+}
+
+// What settles the group behind its election, if nodes 1 and 2 are present.
+fn settle_call<R: Print>(trial: &Trial<R>, replica: &mut Replica) -> Option<Outcome> {
+    let mut present = NodeSet::new();
+    present.insert(Node::new(1)?);
+    present.insert(Node::new(2)?);
+    if !learns(replica, trial.events) || !replica.world().setup().has_all(&present) {
+        return None;
+    }
+    trial.begin();
+    trial.outcome(settle(trial.alloc, replica, &present, None), "OutOfMemory")
+}
+
+// What the node that plans owns behind the election.
+fn owned_call<R: Print>(trial: &Trial<R>, replica: &mut Replica) -> Option<Outcome> {
+    let node = trial.plan.node();
+    if !learns(replica, trial.events) || replica.world().setup().nodes() < node.number() {
+        return None;
+    }
+    trial.begin();
+    trial.outcome(owned(trial.alloc, replica, node, 0), "AllocError")
 }
 
 // Learns the events, and tells whether none was refused.

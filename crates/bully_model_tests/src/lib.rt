@@ -1,6 +1,7 @@
 //! Tries the definitions on the scripts: short lists of events, with what is known to come of them.
-//! It stands on the definitions of bully_world and bully_agree, and of the crates below them, and its tests on bully_trace
-//! and bully_config: they try tables, procedures, configurations, traces, runs, and each value for the largest group.
+//! It stands on the definitions of bully_world and bully_agree, and of the crates below them, and its tests on bully_trace,
+//! bully_settling and bully_config: they try tables, procedures, configurations, traces, runs, what settles a group, and each value
+//! for the largest group.
 //! It may be used to judge a change of a definition, and no crate stands on it.
 #![tactic(auto)]
 

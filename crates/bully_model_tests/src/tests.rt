@@ -8,6 +8,7 @@ mod preparing;
 mod replicas;
 mod runs;
 mod scripts;
+mod settling;
 mod streams;
 mod traces;
 mod worlds;

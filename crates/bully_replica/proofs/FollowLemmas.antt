@@ -185,3 +185,16 @@ rows_grow (Ok u) reader now before f (n, mid, taken, last) part = (counted_to n 
 rows_grow (Err fault) reader now before f all (n, mid, between, taken, stops) =
     let same : f ≡ between = stays mid now between f fault stops in
     rw same (counted_to n reader mid before between taken).1
+
+-- the setup stays
+setup_to : (n : ℕ) (reader now : ReadSoFar) (before f : FollowerState) → AreTakenBy LearnsRow n reader before now f → f.replica.world.setup ≡ before.replica.world.setup
+setup_to n reader now before f taken = kept-by-all LearnsRow (λ now f. f.replica.world.setup ≡ before.replica.world.setup) keeps n reader before now f taken refl
+  where
+    keeps : (mid now : ReadSoFar) (f after : FollowerState) → IsNext mid now → LearnsRow now f after → f.replica.world.setup ≡ before.replica.world.setup → after.replica.world.setup ≡ before.replica.world.setup
+    keeps mid now f after next ((row, told, learns), room, counted) same = taken_setup row f.replica.world after.replica.world learns.taken ∙ same
+
+pub setup_stays : (r : Result (Unit {0}) FollowFault) (reader now : ReadSoFar) (before f : FollowerState) → OnOk r (AllTaken LearnsRow reader before now f)
+    → IfErr r (StopsBehind LearnsRow RefusesRow TellsForm reader before now f) → f.replica.world.setup ≡ before.replica.world.setup
+setup_stays (Ok u) reader now before f (n, mid, taken, last) part = setup_to n reader mid before f taken
+setup_stays (Err fault) reader now before f all (n, mid, between, taken, stops) =
+    ap (λ (f : FollowerState). f.replica.world.setup) (stays mid now between f fault stops) ∙ setup_to n reader mid before between taken

@@ -115,6 +115,7 @@ impl Follower {
         ensures part { IfErr result (λ fault. (records : List Record) → reader.old.records ≡ Some records
             → (left : List Record) × FollowsUpTo records self.old self.new left × Stops reader.old self.old left self.new fault) }
         ensures counted { self.old.rows ≤ self.new.rows }
+        ensures setup { self.new.replica.world.setup ≡ self.old.replica.world.setup }
         ensures within { self.new.rows ≤ ROWS_MAX }
     {
         let taken = take_each(alloc, reader, self);

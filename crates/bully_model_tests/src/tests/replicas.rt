@@ -51,7 +51,7 @@ fn goes_on(alloc: Global, replica: &mut Replica, event: &Event) -> bool {
 }
 
 // The replica of this log, each event of which its node appended next.
-fn replica_of(alloc: Global, text: &str) -> Option<Replica> {
+pub fn replica_of(alloc: Global, text: &str) -> Option<Replica> {
     let Ok(trace) = read_trace(alloc, text.as_bytes()) else {
         return None;
     };

@@ -1,4 +1,4 @@
-use Rattle.bully_replica.proofs.FollowLemmas.{all_followed, part_followed, rows_grow}
+use Rattle.bully_replica.proofs.FollowLemmas.{all_followed, part_followed, rows_grow, setup_stays}
 use Rattle.bully_replica.proofs.follower.Follower.take_all.Goals as goal
 
 pub returns-clause-all : goal.returns-clause-all
@@ -9,3 +9,6 @@ returns-clause-part g c = part_followed c.take_each-taken.result c.args.reader.n
 
 pub returns-clause-counted : goal.returns-clause-counted
 returns-clause-counted g c = rows_grow c.take_each-taken.result c.args.reader.now c.take_each-taken.new.rows c.args.self.now c.take_each-taken.new.taker c.take_each-taken.ensures.all c.take_each-taken.ensures.part
+
+pub returns-clause-setup : goal.returns-clause-setup
+returns-clause-setup g c = setup_stays c.take_each-taken.result c.args.reader.now c.take_each-taken.new.rows c.args.self.now c.take_each-taken.new.taker c.take_each-taken.ensures.all c.take_each-taken.ensures.part

@@ -1,0 +1,343 @@
+/* Members: what each does next, by the rules in docs/ALGORITHM.md, and what it makes of what it is told. All times follow from a ttl of
+ * 1,000,000 ns: the margin is 200,000, a renewal comes every 250,000, and what wasn't answered is asked again behind 50,000. */
+#include "testing.h"
+
+#include <string.h>
+
+#define ONE "bully,1,1,1\n"
+#define TTL BULLY_TTL_MIN
+
+/* What settles a group of one node that is Down: 6 events, of which the fifth is the plan. */
+#define SETTLEMENT "recover,1\nmove,1\nmove,1\nmove,1\nplan,1,1\nmove,1\n"
+
+/* ---- Steps ---- */
+
+static int is_step(bully_member *member, uint64_t now, bully_step wanted) {
+    bully_step step;
+    memset(&step, 77, sizeof step);
+    ANSWERS(OK, bully_member_next(member, now, &step));
+    return step.at_most == wanted.at_most && step.process == wanted.process && step.number == wanted.number && step.kind == wanted.kind &&
+           step.request == wanted.request && step.until == wanted.until && step.place == wanted.place && step.token == wanted.token &&
+           step.ending == wanted.ending;
+}
+
+/* Whether it asks for this. A life is that of process 5. */
+static int asks_of(bully_member *member, uint64_t now, uint32_t request, uint64_t number, uint32_t place) {
+    bully_step wanted = {0, 0, 0, BULLY_STEP_ASK, 0, 0, 0, 0, 0};
+    wanted.request = request;
+    wanted.process = number == 0 ? 0 : 5;
+    wanted.number = number;
+    wanted.place = place;
+    return is_step(member, now, wanted);
+}
+
+static int asks(bully_member *member, uint64_t now, uint32_t request) {
+    return asks_of(member, now, request, 0, 0);
+}
+
+static int begins(bully_member *member, uint64_t now, uint32_t token) {
+    bully_step wanted = {0, 0, 0, BULLY_STEP_BEGIN, 0, 0, 0, 0, 0};
+    wanted.token = token;
+    return is_step(member, now, wanted);
+}
+
+static int stops(bully_member *member, uint64_t now) {
+    bully_step wanted = {0, 0, 0, BULLY_STEP_STOP, 0, 0, 0, 0, 0};
+    return is_step(member, now, wanted);
+}
+
+static int waits(bully_member *member, uint64_t now, uint64_t at_most, uint32_t until) {
+    bully_step wanted = {0, 0, 0, BULLY_STEP_WAIT, 0, 0, 0, 0, 0};
+    wanted.at_most = at_most;
+    wanted.until = until;
+    return is_step(member, now, wanted);
+}
+
+static int rests(bully_member *member, uint64_t now, uint64_t at_most) {
+    bully_step wanted = {0, 0, 0, BULLY_STEP_REST, 0, 0, 0, 0, 0};
+    wanted.at_most = at_most;
+    return is_step(member, now, wanted);
+}
+
+static int ends(bully_member *member, uint64_t now, uint32_t ending) {
+    bully_step wanted = {0, 0, 0, BULLY_STEP_END, 0, 0, 0, 0, 0};
+    wanted.ending = ending;
+    return is_step(member, now, wanted);
+}
+
+/* ---- What is told ---- */
+
+static void open_one(bully_member *member) {
+    static const bully_member closed = BULLY_MEMBER_CLOSED;
+    *member = closed;
+    ANSWERS(OK, bully_member_open(member, ONE, strlen(ONE), 7, 1, 22, NULL, 0, 5, TTL));
+}
+
+static void answer(bully_member *member, uint64_t now, uint32_t told) {
+    ANSWERS(OK, bully_member_answered(member, now, told));
+}
+
+static void learn(bully_member *member, const char *rows, size_t count) {
+    size_t taken = 77;
+    ANSWERS(OK, bully_member_learn(member, rows, strlen(rows), &taken));
+    EXPECT(taken == count);
+}
+
+/* A look in epoch 7 finds nobody, or life 1 of process 5 with this promise. */
+static void find_nobody(bully_member *member, uint64_t now) {
+    ANSWERS(OK, bully_member_looked(member, now, 7, NULL, 0, 0, 0));
+}
+
+static void find_own(bully_member *member, uint64_t now, uint32_t place, uint32_t is_wished) {
+    bully_presence presence = {5, 1, 7, 0, 1};
+    presence.place = place;
+    ANSWERS(OK, bully_member_looked(member, now, 7, &presence, 1, 0, is_wished));
+}
+
+static bully_member_state state_of(bully_member *member, uint64_t now) {
+    bully_member_state state;
+    memset(&state, 77, sizeof state);
+    ANSWERS(OK, bully_member_show(member, now, &state));
+    return state;
+}
+
+/* It looks, and takes its presence at time 10. */
+static void take(bully_member *member) {
+    EXPECT(asks(member, 0, BULLY_ASK_LOOK));
+    find_nobody(member, 5);
+    EXPECT(asks_of(member, 10, BULLY_ASK_TAKE, 1, 0));
+    answer(member, 20, BULLY_STORE_DONE);
+    EXPECT(asks(member, 30, BULLY_ASK_LOOK));
+    find_own(member, 40, 0, 0);
+}
+
+/* And settles its group, and works at time 90. */
+static void begin(bully_member *member) {
+    char text[ROOM];
+    size_t length = 77;
+    take(member);
+    EXPECT(asks_of(member, 50, BULLY_ASK_APPEND, 0, 0));
+    ANSWERS(OK, bully_member_settlement(member, text, sizeof text, &length));
+    EXPECT(is_shown("settlement", text, length, SETTLEMENT));
+    answer(member, 60, BULLY_STORE_DONE);
+    EXPECT(asks(member, 70, BULLY_ASK_LOOK));
+    learn(member, SETTLEMENT, 6);
+    find_own(member, 80, 0, 0);
+    EXPECT(begins(member, 90, 5));
+}
+
+/* ---- Stories ---- */
+
+static void show_worker(bully_member *member) {
+    bully_member_state shown = state_of(member, 100);
+    bully_group group = {77, 77, 77, 77, 77, 77, 77};
+    bully_state state;
+    uint16_t numbers[2] = {77, 77};
+    uint32_t token = 77;
+    size_t count = 77;
+    EXPECT(shown.process == 5 && shown.number == 1 && shown.since == 10 && shown.sure_left == 799910);
+    EXPECT(shown.life == BULLY_LIFE_PRESENT && shown.promised == 0 && shown.work == BULLY_WORK_WORKING && shown.token == 5);
+    EXPECT(shown.ending == BULLY_ENDING_NONE && shown.epoch == 7 && shown.place == 6 && shown.node == 1 && shown.is_wished == 0);
+    EXPECT(state_of(member, 800009).sure_left == 1 && state_of(member, 800010).sure_left == 0 && state_of(member, 0).sure_left == 800000);
+    ANSWERS(OK, bully_member_owned(member, &token, numbers, 2, &count));
+    EXPECT(token == 5 && count == 1 && numbers[0] == 0 && numbers[1] == 77);
+    ANSWERS(SHORT, bully_member_owned(member, &token, NULL, 0, &count));
+    EXPECT(token == 5 && count == 1);
+    ANSWERS(OK, bully_member_group(member, &group));
+    EXPECT(group.rows == 6 && group.events == 6 && group.token == 5 && group.planner == 1 && group.nodes == 1 && group.partitions == 1);
+    ANSWERS(OK, bully_member_planned(member, numbers, 2, &count));
+    EXPECT(count == 1 && numbers[0] == 1 && numbers[1] == 77);
+    ANSWERS(SHORT, bully_member_planned(member, NULL, 0, &count));
+    memset(&state, 77, sizeof state);
+    ANSWERS(OK, bully_member_node(member, 1, &state));
+    EXPECT(state.status == BULLY_NORMAL && state.events == 6 && state.node == 1 && state.coordinator == 1);
+    ANSWERS(BAD_NODE, bully_member_node(member, 2, &state));
+    ANSWERS(BAD_NODE, bully_member_node(member, 0, &state));
+    EXPECT(state.node == 1);
+}
+
+/* It works while its presence is sure, and stops once it has lost that. */
+static void work_and_stop(void) {
+    bully_member member;
+    open_one(&member);
+    begin(&member);
+    show_worker(&member);
+    EXPECT(waits(&member, 100, 249910, BULLY_UNTIL_ANY_IDLE));
+    ANSWERS(OK, bully_member_woke(&member));
+    EXPECT(asks(&member, 110, BULLY_ASK_LOOK));
+    answer(&member, 120, BULLY_STORE_UNANSWERED);
+    EXPECT(rests(&member, 130, 49990));
+    EXPECT(asks_of(&member, 260010, BULLY_ASK_RENEW, 1, 0));
+    answer(&member, 260020, BULLY_STORE_REFUSED);
+    EXPECT(stops(&member, 260030) && rests(&member, 260040, TTL));
+    EXPECT(state_of(&member, 260040).work == BULLY_WORK_STOPPING && state_of(&member, 260040).life == BULLY_LIFE_ABSENT);
+    EXPECT(state_of(&member, 260040).process == 0 && state_of(&member, 260040).sure_left == 0);
+    ANSWERS(OK, bully_member_stopped(&member));
+    EXPECT(state_of(&member, 260050).work == BULLY_WORK_IDLE && state_of(&member, 260050).token == 0);
+    EXPECT(asks(&member, 260060, BULLY_ASK_LOOK));
+    find_nobody(&member, 260070);
+    /* its second life promises the end of the log, so that it waits for a plan behind it */
+    EXPECT(asks_of(&member, 260080, BULLY_ASK_TAKE, 2, 6) && state_of(&member, 260080).promised == 6);
+    answer(&member, 260090, BULLY_STORE_UNANSWERED);
+    EXPECT(state_of(&member, 260090).life == BULLY_LIFE_UNKNOWN && state_of(&member, 260090).number == 2);
+    EXPECT(rests(&member, 260090, 50000) && asks_of(&member, 310090, BULLY_ASK_RELEASE, 2, 0));
+    ANSWERS(OK, bully_member_close(&member));
+    EXPECT(member.held == NULL);
+}
+
+/* What it began ends outside; its presence ends meanwhile unless it is renewed. */
+static void lose(void) {
+    bully_member member;
+    open_one(&member);
+    begin(&member);
+    ANSWERS(OK, bully_member_lost(&member, 4));
+    EXPECT(state_of(&member, 100).work == BULLY_WORK_WORKING);
+    ANSWERS(OK, bully_member_lost(&member, 5));
+    EXPECT(state_of(&member, 100).work == BULLY_WORK_LOST && state_of(&member, 100).token == 5);
+    EXPECT(stops(&member, 110) && rests(&member, 120, 249890) && asks_of(&member, 250010, BULLY_ASK_RENEW, 1, 0));
+    answer(&member, 250020, BULLY_STORE_DONE);
+    EXPECT(state_of(&member, 250020).since == 250010);
+    ANSWERS(OK, bully_member_stopped(&member));
+    EXPECT(begins(&member, 250030, 5));
+    ANSWERS(OK, bully_member_close(&member));
+}
+
+/* It leaves alone: first it stops, then all crash, and then it goes. */
+static void leave(void) {
+    bully_member member;
+    char text[ROOM];
+    size_t length = 77;
+    open_one(&member);
+    begin(&member);
+    ANSWERS(OK, bully_member_leave(&member));
+    EXPECT(state_of(&member, 100).ending == BULLY_ENDING_LEFT && stops(&member, 100));
+    ANSWERS(OK, bully_member_stopped(&member));
+    EXPECT(asks_of(&member, 110, BULLY_ASK_PROMISE, 1, 6) && state_of(&member, 110).promised == 6);
+    answer(&member, 120, BULLY_STORE_DONE);
+    EXPECT(asks_of(&member, 130, BULLY_ASK_APPEND, 0, 6));
+    ANSWERS(OK, bully_member_settlement(&member, text, sizeof text, &length));
+    EXPECT(is_shown("settlement", text, length, "crash,1\n"));
+    ANSWERS(SHORT, bully_member_settlement(&member, text, 7, &length));
+    EXPECT(length == 8);
+    answer(&member, 140, BULLY_STORE_DONE);
+    EXPECT(asks(&member, 150, BULLY_ASK_LOOK));
+    learn(&member, "crash,1\n", 1);
+    find_own(&member, 160, 6, 0);
+    EXPECT(asks_of(&member, 170, BULLY_ASK_RELEASE, 1, 0));
+    answer(&member, 180, BULLY_STORE_DONE);
+    EXPECT(ends(&member, 190, BULLY_ENDING_LEFT) && ends(&member, 200, BULLY_ENDING_LEFT));
+    ANSWERS(OK, bully_member_close(&member));
+}
+
+/* Something else is wished for: it stops, ends the epoch, and goes on in the next one; then it isn't there any more. */
+static void follow(void) {
+    static const uint16_t old[] = {0};
+    bully_member member;
+    open_one(&member);
+    begin(&member);
+    ANSWERS(OK, bully_member_woke(&member));
+    EXPECT(asks(&member, 100, BULLY_ASK_LOOK));
+    find_own(&member, 110, 0, 9);
+    EXPECT(state_of(&member, 110).is_wished == 1 && stops(&member, 120));
+    ANSWERS(OK, bully_member_stopped(&member));
+    EXPECT(asks_of(&member, 130, BULLY_ASK_PROMISE, 1, 6));
+    answer(&member, 140, BULLY_STORE_DONE);
+    EXPECT(asks_of(&member, 150, BULLY_ASK_FINISH, 0, 6));
+    answer(&member, 160, BULLY_STORE_DONE);
+    EXPECT(asks(&member, 170, BULLY_ASK_FOLLOW));
+    ANSWERS(BAD_NODE, bully_member_followed(&member, 180, ONE, strlen(ONE), 8, 2, 22, old, 1));
+    ANSWERS(BAD_ROWS_MAX, bully_member_followed(&member, 180, ONE, strlen(ONE), 8, 1, 21, old, 1));
+    EXPECT(state_of(&member, 180).epoch == 7 && state_of(&member, 180).place == 6);
+    ANSWERS(OK, bully_member_followed(&member, 180, ONE, strlen(ONE), 8, 1, 22, old, 1));
+    EXPECT(state_of(&member, 180).epoch == 8 && state_of(&member, 180).place == 0 && state_of(&member, 180).promised == 0);
+    EXPECT(state_of(&member, 180).life == BULLY_LIFE_PRESENT && state_of(&member, 180).is_wished == 0);
+    EXPECT(asks(&member, 190, BULLY_ASK_LOOK));
+    ANSWERS(OK, bully_member_passed(&member));
+    EXPECT(asks(&member, 200, BULLY_ASK_FOLLOW));
+    ANSWERS(OK, bully_member_not_there(&member));
+    EXPECT(asks_of(&member, 210, BULLY_ASK_RELEASE, 1, 0));
+    answer(&member, 220, BULLY_STORE_REFUSED);
+    EXPECT(ends(&member, 230, BULLY_ENDING_NOT_THERE));
+    ANSWERS(OK, bully_member_close(&member));
+}
+
+/* What isn't awaited changes nothing. */
+static void tell_in_vain(void) {
+    static const uint32_t numbers[] = {0, 4, 65537, UINT32_MAX};
+    bully_member member;
+    size_t at;
+    open_one(&member);
+    take(&member);
+    find_nobody(&member, 45);
+    ANSWERS(OK, bully_member_followed(&member, 45, ONE, strlen(ONE), 8, 1, 22, NULL, 0));
+    ANSWERS(OK, bully_member_not_there(&member));
+    answer(&member, 45, BULLY_STORE_UNANSWERED);
+    EXPECT(state_of(&member, 45).epoch == 7 && state_of(&member, 45).ending == BULLY_ENDING_NONE);
+    EXPECT(asks_of(&member, 50, BULLY_ASK_APPEND, 0, 0));
+    for (at = 0; at < COUNT(numbers); at++) {
+        ANSWERS(BAD_ANSWER, bully_member_answered(&member, 60, numbers[at]));
+    }
+    answer(&member, 60, BULLY_STORE_REFUSED);
+    EXPECT(asks(&member, 70, BULLY_ASK_LOOK));
+    ANSWERS(OK, bully_member_close(&member));
+}
+
+/* ---- Several present, of whom the highest is first ---- */
+
+static void wait_for_turn(void) {
+    static const bully_presence presences[] = {{5, 1, 7, 0, 1}, {9, 3, 7, 0, 2}, {8, 1, 6, 44, 3}};
+    bully_member member = BULLY_MEMBER_CLOSED;
+    ANSWERS(OK, bully_member_open(&member, "bully,1,3,1\n", 12, 7, 1, 66, NULL, 0, 5, TTL));
+    EXPECT(asks(&member, 0, BULLY_ASK_LOOK));
+    find_nobody(&member, 5);
+    EXPECT(asks_of(&member, 10, BULLY_ASK_TAKE, 1, 0));
+    answer(&member, 20, BULLY_STORE_DONE);
+    EXPECT(asks(&member, 30, BULLY_ASK_LOOK));
+    ANSWERS(OK, bully_member_looked(&member, 40, 7, presences, 3, 0, 0));
+    /* two are above: two turns of 200,000 from the look on; the renewal comes first */
+    EXPECT(waits(&member, 50, 249960, BULLY_UNTIL_NEWS));
+    EXPECT(asks_of(&member, 250010, BULLY_ASK_RENEW, 1, 0));
+    answer(&member, 250020, BULLY_STORE_DONE);
+    EXPECT(waits(&member, 250030, 150010, BULLY_UNTIL_NEWS));
+    /* then not all are idle: the third one's promise is of an epoch before */
+    EXPECT(waits(&member, 400040, 99970, BULLY_UNTIL_ALL_IDLE));
+    /* in another epoch nothing counts but its number */
+    ANSWERS(OK, bully_member_woke(&member));
+    EXPECT(asks(&member, 400050, BULLY_ASK_LOOK));
+    ANSWERS(OK, bully_member_looked(&member, 400060, 8, presences, 3, 1, 1));
+    EXPECT(asks(&member, 400070, BULLY_ASK_FOLLOW));
+    ANSWERS(OK, bully_member_close(&member));
+}
+
+/* ---- Rows that aren't learned ---- */
+
+static void break_log(const char *header, const char *rows, bully_status status, size_t wanted, uint32_t ending) {
+    bully_member member = BULLY_MEMBER_CLOSED;
+    size_t taken = 77;
+    ANSWERS(OK, bully_member_open(&member, header, strlen(header), 1, 1, 22, NULL, 0, 5, TTL));
+    EXPECT(bully_member_learn(&member, rows, strlen(rows), &taken) == status && taken == wanted);
+    EXPECT(state_of(&member, 0).ending == ending);
+    ANSWERS(OK, bully_member_close(&member));
+}
+
+static void try_broken(void) {
+    static const char version_3[] = "bully,3,1,1,1,clear\n";
+    break_log(ONE, "recover,1\nmove,1\n", BULLY_OK, 2, BULLY_ENDING_NONE);
+    break_log(ONE, "", BULLY_OK, 0, BULLY_ENDING_NONE);
+    break_log(ONE, "recover,1\ncrash,1", BULLY_ROW_END, 0, BULLY_ENDING_NONE);
+    break_log(ONE, "recover,1\nrecover,1\n", BULLY_IS_UP, 1, BULLY_ENDING_BROKEN);
+    break_log(ONE, "recover,1\nnothing,1\n", BULLY_BAD_ROW, 1, BULLY_ENDING_BROKEN);
+    break_log(ONE, "\xEF\xBB\xBFrecover,1\n", BULLY_BAD_ROW, 0, BULLY_ENDING_BROKEN);
+    break_log(version_3, "recover,1\nsaw,1,election,-,-,-,-\n", BULLY_OK, 2, BULLY_ENDING_BROKEN);
+    break_log(version_3, "saw,1,down,-,-,-,1\n", BULLY_ROW_DIFFERS, 0, BULLY_ENDING_BROKEN);
+}
+
+void try_members(void) {
+    work_and_stop();
+    lose();
+    leave();
+    follow();
+    tell_in_vain();
+    wait_for_turn();
+    try_broken();
+}

@@ -1,0 +1,220 @@
+/* Settlements, rest and what nodes own: rows, tokens and partitions worked out by docs/ALGORITHM.md. And each argument wrong in turn. */
+#include "shared.h"
+
+#include <string.h>
+
+#define TWO "bully,1,2,2\n"
+#define THREE "bully,1,3,3\n"
+
+/* What the rows of a settlement of two nodes are before its plan, and behind it, if both are present and Down. */
+#define BOTH_BEFORE "recover,1\nrecover,2\nmove,2\nstart,2\nrun,2\nreturn,2\nmove,2\nstart,2\nrun,2\nreturn,2\nmove,2\n"
+#define BOTH_BEHIND "start,2\nrun,2\nreturn,2\nmove,2\n"
+
+/* If node 1 alone is present, and both are up. */
+#define FIRST_ALONE \
+    "crash,1\nrecover,1\ncrash,2\nstart,1\nlose,1\nreturn,1\nmove,1\nmove,1\nmove,1\nplan,1,1 1\nmove,1\n"
+
+static const uint16_t both[] = {2, 1, 2}, first[] = {1}, none[] = {0}, none_above[] = {1, 3};
+
+static int settles(bully_replica *replica, const uint16_t *present, size_t present_count, const uint16_t *old, size_t old_count,
+                   const char *rows) {
+    char text[ROOM];
+    size_t length = 77;
+    ANSWERS(OK, bully_replica_settle(replica, present, present_count, old, old_count, text, sizeof text, &length));
+    return is_shown("settlement", text, length, rows);
+}
+
+static int rests(bully_replica *replica, const uint16_t *present, size_t present_count, uint32_t place) {
+    uint32_t answer = 77;
+    ANSWERS(OK, bully_replica_is_at_rest(replica, present, present_count, place, &answer));
+    EXPECT(answer <= 1);
+    return answer == 1;
+}
+
+/* Whether the node owns this one partition by this token. */
+static int owns(bully_replica *replica, uint16_t node, uint32_t place, uint32_t token, uint16_t partition) {
+    uint16_t partitions[2] = {77, 77};
+    uint32_t told = 77;
+    size_t count = 77;
+    ANSWERS(OK, bully_replica_owned(replica, node, place, &told, partitions, 2, &count));
+    return told == token && count == 1 && partitions[0] == partition && partitions[1] == 77;
+}
+
+static int owns_nothing(bully_replica *replica, uint16_t node, uint32_t place) {
+    uint16_t partitions[1] = {77};
+    uint32_t told = 77;
+    size_t count = 77;
+    ANSWERS(OK, bully_replica_owned(replica, node, place, &told, partitions, 1, &count));
+    return told == 0 && count == 0 && partitions[0] == 77;
+}
+
+/* ---- A group that settles three times ---- */
+
+static void settle_both(struct shared *shared) {
+    static const uint16_t swapped[] = {2, 1}, one_gone[] = {0, 1}, all_gone[] = {0, 0};
+    bully_replica *replica = &shared->replicas[0];
+    EXPECT(settles(replica, NULL, 0, NULL, 0, "") && rests(replica, NULL, 0, 0) && rests(replica, NULL, 0, UINT32_MAX));
+    EXPECT(!rests(replica, both, 2, 0) && owns_nothing(replica, 1, 0));
+    /* from an old table, of which as many owners stay as can */
+    EXPECT(settles(replica, both, 2, swapped, 2, BOTH_BEFORE "plan,2,2 1\n" BOTH_BEHIND));
+    EXPECT(settles(replica, both, 2, one_gone, 2, BOTH_BEFORE "plan,2,2 1\n" BOTH_BEHIND));
+    EXPECT(settles(replica, both, 2, all_gone, 2, BOTH_BEFORE "plan,2,1 2\n" BOTH_BEHIND));
+    /* (each node counts once) */
+    EXPECT(settles(replica, both, 3, NULL, 0, BOTH_BEFORE "plan,2,1 2\n" BOTH_BEHIND));
+    append(shared, 16, BOTH_BEFORE "plan,2,1 2\n" BOTH_BEHIND);
+    EXPECT(rests(replica, both, 2, 0) && rests(replica, both, 3, 11) && !rests(replica, both, 2, 12));
+    EXPECT(!rests(replica, first, 1, 0) && !rests(replica, NULL, 0, 0));
+    EXPECT(owns(replica, 1, 0, 12, 0) && owns(replica, 1, 11, 12, 0) && owns(replica, 2, 11, 12, 1));
+    EXPECT(owns_nothing(replica, 1, 12) && owns_nothing(replica, 2, UINT32_MAX));
+}
+
+static void settle_one(struct shared *shared) {
+    static const uint16_t old[] = {2, 1};
+    bully_replica *replica = &shared->replicas[0];
+    uint16_t partitions[3] = {77, 77, 77};
+    uint32_t token = 77;
+    size_t count = 77;
+    /* (a log with a plan plans from that) */
+    EXPECT(settles(replica, first, 1, NULL, 0, FIRST_ALONE) && settles(replica, first, 1, old, 2, FIRST_ALONE));
+    append(shared, 11, FIRST_ALONE);
+    EXPECT(rests(replica, first, 1, 25) && !rests(replica, first, 1, 26) && !rests(replica, both, 2, 0));
+    EXPECT(owns_nothing(replica, 2, 0) && owns_nothing(replica, 1, 26));
+    ANSWERS(OK, bully_replica_owned(replica, 1, 25, &token, partitions, 3, &count));
+    EXPECT(token == 26 && count == 2 && partitions[0] == 0 && partitions[1] == 1 && partitions[2] == 77);
+    partitions[0] = 77;
+    token = 77;
+    count = 77;
+    ANSWERS(SHORT, bully_replica_owned(replica, 1, 25, &token, partitions, 1, &count));
+    EXPECT(token == 26 && count == 2 && partitions[0] == 77);
+    count = 77;
+    ANSWERS(SHORT, bully_replica_owned(replica, 1, 25, &token, NULL, 0, &count));
+    EXPECT(token == 26 && count == 2);
+}
+
+static void settle_nobody(struct shared *shared) {
+    bully_replica *replica = &shared->replicas[0];
+    EXPECT(settles(replica, NULL, 0, NULL, 0, "crash,1\n"));
+    append(shared, 1, "crash,1\n");
+    EXPECT(rests(replica, NULL, 0, UINT32_MAX) && !rests(replica, first, 1, 0) && owns_nothing(replica, 1, 0));
+}
+
+static void try_settling_of_two(void) {
+    static struct shared shared;
+    static struct seen before, behind;
+    open_shared(&shared, 2, TWO);
+    settle_both(&shared);
+    see(&shared.replicas[0], &before);
+    EXPECT(settles(&shared.replicas[0], first, 1, NULL, 0, FIRST_ALONE));
+    see(&shared.replicas[0], &behind);
+    EXPECT(is_same_seen(&before, &behind));
+    settle_one(&shared);
+    settle_nobody(&shared);
+    judge_shared(&shared);
+    close_shared(&shared);
+}
+
+/* A settlement of whatever a log came to is lawful, and brings rest. */
+static void try_settling_of_three(void) {
+    static struct shared shared;
+    static const uint16_t present[] = {1, 3};
+    char text[ROOM];
+    size_t length = 77, rows = 0, at;
+    open_shared(&shared, 3, THREE);
+    append(&shared, 4, "recover,2\nstart,2\nrecover,3\nmove,3\n");
+    ANSWERS(OK, bully_replica_settle(&shared.replicas[0], present, 2, NULL, 0, text, sizeof text - 1, &length));
+    for (at = 0; at < length; at++) {
+        rows += text[at] == '\n';
+    }
+    EXPECT(rows <= 33);
+    text[length] = 0;
+    append(&shared, (uint32_t)rows, text);
+    EXPECT(rests(&shared.replicas[0], present, 2, 4));
+    judge_shared(&shared);
+    close_shared(&shared);
+}
+
+/* ---- Arguments ---- */
+
+static void try_null_of_settling(bully_replica *replica) {
+    char text[ROOM] = "as it was";
+    uint16_t partitions[1] = {77};
+    uint32_t number = 77;
+    size_t length = 77;
+    ANSWERS(NULL, bully_replica_settle(NULL, first, 1, first, 1, text, sizeof text, &length));
+    ANSWERS(NULL, bully_replica_settle(replica, NULL, 1, first, 1, text, sizeof text, &length));
+    ANSWERS(NULL, bully_replica_settle(replica, first, TOO_MANY_PAIRS, first, 1, text, sizeof text, &length));
+    ANSWERS(NULL, bully_replica_settle(replica, first, 1, NULL, 1, text, sizeof text, &length));
+    ANSWERS(NULL, bully_replica_settle(replica, first, 1, first, TOO_MANY_PAIRS, text, sizeof text, &length));
+    ANSWERS(NULL, bully_replica_settle(replica, first, 1, first, 1, NULL, 1, &length));
+    ANSWERS(NULL, bully_replica_settle(replica, first, 1, first, 1, text, TOO_MANY_BYTES, &length));
+    ANSWERS(NULL, bully_replica_settle(replica, none, 1, first, 1, text, sizeof text, NULL));
+    ANSWERS(NULL, bully_replica_is_at_rest(NULL, first, 1, 0, &number));
+    ANSWERS(NULL, bully_replica_is_at_rest(replica, NULL, 1, 0, &number));
+    ANSWERS(NULL, bully_replica_is_at_rest(replica, first, TOO_MANY_PAIRS, 0, &number));
+    ANSWERS(NULL, bully_replica_is_at_rest(replica, none, 1, 0, NULL));
+    ANSWERS(NULL, bully_replica_owned(NULL, 1, 0, &number, partitions, 1, &length));
+    ANSWERS(NULL, bully_replica_owned(replica, 0, 0, NULL, partitions, 1, &length));
+    ANSWERS(NULL, bully_replica_owned(replica, 0, 0, &number, NULL, 1, &length));
+    ANSWERS(NULL, bully_replica_owned(replica, 0, 0, &number, partitions, TOO_MANY_PAIRS, &length));
+    ANSWERS(NULL, bully_replica_owned(replica, 0, 0, &number, partitions, 1, NULL));
+    EXPECT(length == 77 && number == 77 && partitions[0] == 77 && strcmp(text, "as it was") == 0);
+}
+
+static void try_closed_settling(bully_replica *replica) {
+    char text[ROOM] = "as it was";
+    uint16_t partitions[1] = {77};
+    uint32_t number = 77;
+    size_t length = 77;
+    ANSWERS(CLOSED, bully_replica_settle(replica, none, 1, first, 1, text, sizeof text, &length));
+    ANSWERS(CLOSED, bully_replica_settle(replica, NULL, 0, NULL, 0, NULL, 0, &length));
+    ANSWERS(CLOSED, bully_replica_is_at_rest(replica, none, 1, 0, &number));
+    ANSWERS(CLOSED, bully_replica_owned(replica, 0, 0, &number, partitions, 1, &length));
+    EXPECT(length == 77 && number == 77 && partitions[0] == 77 && strcmp(text, "as it was") == 0);
+}
+
+static void try_bad_settling(bully_replica *replica) {
+    static const uint16_t short_table[] = {1}, long_table[] = {1, 2, 1}, other_owner[] = {1, 3}, last_owner[] = {2, 65535};
+    char text[ROOM] = "as it was";
+    uint16_t partitions[1] = {77};
+    uint32_t number = 77;
+    size_t length = 77;
+    ANSWERS(BAD_NODE, bully_replica_settle(replica, none, 1, short_table, 1, text, sizeof text, &length));
+    ANSWERS(BAD_NODE, bully_replica_settle(replica, none_above, 2, other_owner, 2, NULL, 0, &length));
+    ANSWERS(TABLE_LENGTH, bully_replica_settle(replica, first, 1, short_table, 1, text, sizeof text, &length));
+    ANSWERS(TABLE_LENGTH, bully_replica_settle(replica, NULL, 0, long_table, 3, text, sizeof text, &length));
+    ANSWERS(TABLE_OWNER, bully_replica_settle(replica, first, 1, other_owner, 2, text, sizeof text, &length));
+    ANSWERS(TABLE_OWNER, bully_replica_settle(replica, first, 1, last_owner, 2, text, 0, &length));
+    ANSWERS(BAD_NODE, bully_replica_is_at_rest(replica, none, 1, 0, &number));
+    ANSWERS(BAD_NODE, bully_replica_is_at_rest(replica, none_above, 2, UINT32_MAX, &number));
+    ANSWERS(BAD_NODE, bully_replica_owned(replica, 0, 0, &number, partitions, 1, &length));
+    ANSWERS(BAD_NODE, bully_replica_owned(replica, 3, 0, &number, partitions, 1, &length));
+    ANSWERS(BAD_NODE, bully_replica_owned(replica, 65535, UINT32_MAX, &number, NULL, 0, &length));
+    EXPECT(length == 77 && number == 77 && partitions[0] == 77 && strcmp(text, "as it was") == 0);
+}
+
+static void try_short_settling(bully_replica *replica) {
+    char text[ROOM];
+    size_t length = 77, room, wanted = strlen(BOTH_BEFORE "plan,2,1 2\n" BOTH_BEHIND);
+    memset(text, '#', sizeof text);
+    for (room = 0; room < wanted; room++) {
+        ANSWERS(SHORT, bully_replica_settle(replica, both, 2, NULL, 0, text, room, &length));
+        EXPECT(length == wanted && text[0] == '#' && memcmp(text, text + 1, sizeof text - 1) == 0);
+        length = 77;
+    }
+    ANSWERS(OK, bully_replica_settle(replica, both, 2, NULL, 0, text, wanted, &length));
+    EXPECT(is_text(text, length, BOTH_BEFORE "plan,2,1 2\n" BOTH_BEHIND) && text[wanted] == '#');
+}
+
+void try_settling(void) {
+    bully_replica replica = BULLY_REPLICA_CLOSED;
+    try_settling_of_two();
+    try_settling_of_three();
+    try_null_of_settling(&replica);
+    try_closed_settling(&replica);
+    ANSWERS(OK, bully_replica_open(&replica, TWO, strlen(TWO)));
+    try_null_of_settling(&replica);
+    try_bad_settling(&replica);
+    try_short_settling(&replica);
+    ANSWERS(OK, bully_replica_close(&replica));
+    try_closed_settling(&replica);
+}

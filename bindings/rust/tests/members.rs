@@ -1,0 +1,356 @@
+//! Settlements, and members: what each does next, by the rules in `docs/ALGORITHM.md`. All times follow from a ttl of 1,000,000 ns.
+
+use bully::{
+    check, Ending, Life, LifeState, Member, Opening, OpeningError, Presence, Promise, Replica,
+    Request, Seen, SettleError, Status, Step, StoreAnswer, Until, Verdict, Work, TTL_MAX, TTL_MIN,
+};
+use bully::{FormFault, LearnFault, NodeFault, OwnedError, SeenError, TableFault, TermsFault};
+
+const ONE: &str = "bully,1,1,1";
+const LIFE: Life = Life {
+    process: 5,
+    number: 1,
+};
+
+// ---- Settlements ----
+
+// What settles two nodes that are Down and present, if this table is planned.
+fn both(table: &str) -> Vec<String> {
+    let before =
+        "recover,1 recover,2 move,2 start,2 run,2 return,2 move,2 start,2 run,2 return,2 move,2";
+    let behind = "start,2 run,2 return,2 move,2";
+    let plan = format!("plan,2,{table}");
+    let rows = before.split(' ').map(String::from);
+    rows.chain([plan])
+        .chain(behind.split(' ').map(String::from))
+        .collect()
+}
+
+#[test]
+fn a_group_settles() {
+    let mut replica = Replica::open("bully,1,2,2").unwrap();
+    assert_eq!(replica.settle(&[], None), Ok(Vec::new()));
+    assert_eq!(replica.is_at_rest(&[], u32::MAX), Ok(true));
+    assert_eq!(replica.is_at_rest(&[1, 2], 0), Ok(false));
+    assert_eq!(replica.settle(&[2, 1], None), Ok(both("1 2")));
+    assert_eq!(replica.settle(&[2, 1], Some(&[])), Ok(both("1 2")));
+    // as many owners as can stay do so, and 0 is gone
+    assert_eq!(replica.settle(&[1, 2, 1], Some(&[2, 1])), Ok(both("2 1")));
+    assert_eq!(replica.settle(&[1, 2], Some(&[0, 1])), Ok(both("2 1")));
+    replica.learn(both("1 2")).unwrap();
+    assert_eq!(replica.is_at_rest(&[2, 1], 11), Ok(true));
+    assert_eq!(replica.is_at_rest(&[2, 1], 12), Ok(false));
+    assert_eq!(replica.is_at_rest(&[1], 0), Ok(false));
+    let owned = replica.owned(2, 11).unwrap().expect("a partition");
+    assert_eq!((owned.token, owned.partitions), (12, vec![1]));
+    assert_eq!(replica.owned(2, 12), Ok(None));
+    let rows =
+        "crash,1 recover,1 crash,2 start,1 lose,1 return,1 move,1 move,1 move,1 plan,1,1 1 move,1";
+    let rows = rows.replace("1 1 ", "1_1 ");
+    let rows: Vec<String> = rows.split(' ').map(|row| row.replace('_', " ")).collect();
+    assert_eq!(replica.settle(&[1], Some(&[2, 2])), Ok(rows.clone()));
+    replica.learn(rows).unwrap();
+    assert_eq!(replica.is_at_rest(&[1], 25), Ok(true));
+    let owned = replica.owned(1, 25).unwrap().expect("both partitions");
+    assert_eq!((owned.token, owned.partitions), (26, vec![0, 1]));
+    assert_eq!(replica.owned(2, 0), Ok(None));
+    assert_eq!(replica.settle(&[], None), Ok(vec!["crash,1".to_string()]));
+}
+
+#[test]
+fn a_settlement_is_refused() {
+    let replica = Replica::open("bully,1,2,2").unwrap();
+    let no_node = SettleError::Present(NodeFault::BadNode);
+    assert_eq!(replica.settle(&[1, 0], Some(&[1])), Err(no_node));
+    assert_eq!(replica.settle(&[3], None), Err(no_node));
+    let length = SettleError::Old(TableFault::Length);
+    assert_eq!(replica.settle(&[1], Some(&[1])), Err(length));
+    let owner = SettleError::Old(TableFault::Owner);
+    assert_eq!(replica.settle(&[1], Some(&[1, 3])), Err(owner));
+    assert_eq!(replica.is_at_rest(&[3], 0), Err(NodeFault::BadNode));
+    let no_node = OwnedError::Node(NodeFault::BadNode);
+    assert_eq!(replica.owned(0, 0), Err(no_node));
+    assert_eq!(replica.owned(3, 0), Err(no_node));
+}
+
+// ---- Members ----
+
+fn opening() -> Opening {
+    Opening {
+        header: ONE.to_string(),
+        epoch: 7,
+        node: 1,
+        rows_max: 22,
+        old: None,
+    }
+}
+
+fn seen(presences: &[Presence]) -> Seen {
+    Seen {
+        epoch: 7,
+        presences: presences.to_vec(),
+        has_strangers: false,
+        is_wished: false,
+    }
+}
+
+fn own(place: u32) -> Presence {
+    Presence {
+        node: 1,
+        life: LIFE,
+        promise: Promise { epoch: 7, place },
+    }
+}
+
+// A member that has its presence since 10, has settled its group of one, and works since 90.
+fn worker() -> Member {
+    let mut member = Member::open(&opening(), 5, TTL_MIN).unwrap();
+    assert_eq!(member.next(0), Step::Ask(Request::Look));
+    member.looked(5, &seen(&[])).unwrap();
+    assert_eq!(member.next(10), Step::Ask(Request::Take(LIFE, 0)));
+    member.answered(20, StoreAnswer::Done);
+    assert_eq!(member.next(30), Step::Ask(Request::Look));
+    member.looked(40, &seen(&[own(0)])).unwrap();
+    assert_eq!(member.next(50), Step::Ask(Request::Append(0)));
+    let rows = member.settlement().unwrap();
+    let wanted = [
+        "recover,1",
+        "move,1",
+        "move,1",
+        "move,1",
+        "plan,1,1",
+        "move,1",
+    ];
+    assert_eq!(rows, wanted);
+    member.answered(60, StoreAnswer::Done);
+    assert_eq!(member.next(70), Step::Ask(Request::Look));
+    assert_eq!(member.learn(rows), Ok(6));
+    member.looked(80, &seen(&[own(0)])).unwrap();
+    assert_eq!(member.next(90), Step::Begin(5));
+    member
+}
+
+#[test]
+fn a_member_works_and_stops() {
+    let mut member = worker();
+    let owned = member.owned().unwrap().expect("the partition");
+    assert_eq!((owned.token, owned.partitions), (5, vec![0]));
+    let state = member.state(100);
+    assert_eq!(state.life, LifeState::Present(LIFE, 10));
+    assert_eq!(
+        (state.sure_left, state.promised, state.place),
+        (799_910, 0, 6)
+    );
+    assert_eq!((state.work, state.ending), (Work::Working(5), None));
+    assert_eq!((state.epoch, state.node, state.is_wished), (7, 1, false));
+    assert_eq!(member.node(1).unwrap().status, Status::Normal);
+    assert_eq!(member.node(2), Err(NodeFault::BadNode));
+    assert_eq!(member.group().token, Some(5));
+    assert_eq!(member.planned(), Some(vec![1]));
+    assert_eq!(member.next(100), Step::Wait(249_910, Until::AnyIdle));
+    member.woke();
+    assert_eq!(member.next(110), Step::Ask(Request::Look));
+    member.answered(120, StoreAnswer::Unanswered);
+    assert_eq!(member.next(130), Step::Rest(49_990));
+    assert_eq!(member.next(260_010), Step::Ask(Request::Renew(LIFE)));
+    member.answered(260_020, StoreAnswer::Refused);
+    assert_eq!(member.state(260_020).life, LifeState::Absent);
+    assert_eq!(member.next(260_030), Step::Stop);
+    assert_eq!(member.state(260_030).work, Work::Stopping(5));
+    member.stopped();
+    assert_eq!(member.next(260_040), Step::Ask(Request::Look));
+    member.looked(260_050, &seen(&[])).unwrap();
+    let next = Life { number: 2, ..LIFE };
+    assert_eq!(member.next(260_060), Step::Ask(Request::Take(next, 6)));
+    member.answered(260_070, StoreAnswer::Unanswered);
+    assert_eq!(member.state(260_070).life, LifeState::Unknown(next));
+    assert_eq!(member.next(310_070), Step::Ask(Request::Release(next)));
+}
+
+#[test]
+fn a_member_leaves() {
+    let mut member = worker();
+    member.lost(4);
+    assert_eq!(member.state(100).work, Work::Working(5));
+    member.lost(5);
+    assert_eq!(member.state(100).work, Work::Lost(5));
+    member.leave();
+    assert_eq!(member.next(110), Step::Stop);
+    member.stopped();
+    assert_eq!(member.next(120), Step::Ask(Request::Promise(LIFE, 6)));
+    member.answered(130, StoreAnswer::Done);
+    assert_eq!(member.next(140), Step::Ask(Request::Append(6)));
+    assert_eq!(member.settlement(), Ok(vec!["crash,1".to_string()]));
+    member.answered(150, StoreAnswer::Done);
+    assert_eq!(member.next(160), Step::Ask(Request::Look));
+    member.learn(["crash,1"]).unwrap();
+    member.looked(170, &seen(&[own(6)])).unwrap();
+    assert_eq!(member.next(180), Step::Ask(Request::Release(LIFE)));
+    member.answered(190, StoreAnswer::Done);
+    assert_eq!(member.next(200), Step::End(Ending::Left));
+    assert_eq!(format!("{}", Ending::NotThere), "not there");
+}
+
+#[test]
+fn a_member_goes_on_in_another_epoch() {
+    let mut member = worker();
+    member.woke();
+    assert_eq!(member.next(100), Step::Ask(Request::Look));
+    let mut wish = seen(&[own(0)]);
+    wish.is_wished = true;
+    member.looked(110, &wish).unwrap();
+    assert_eq!(member.next(120), Step::Stop);
+    member.stopped();
+    assert_eq!(member.next(130), Step::Ask(Request::Promise(LIFE, 6)));
+    member.answered(140, StoreAnswer::Done);
+    assert_eq!(member.next(150), Step::Ask(Request::Finish(6)));
+    member.answered(160, StoreAnswer::Done);
+    assert_eq!(member.next(170), Step::Ask(Request::Follow));
+    let mut next = opening();
+    next.epoch = 8;
+    next.old = Some(vec![0]);
+    next.node = 2;
+    let no_node = OpeningError::Node(NodeFault::BadNode);
+    assert_eq!(member.followed(180, &next), Err(no_node));
+    next.node = 1;
+    member.followed(180, &next).unwrap();
+    assert_eq!((member.state(180).epoch, member.state(180).place), (8, 0));
+    assert_eq!(member.next(190), Step::Ask(Request::Look));
+    member.passed();
+    assert_eq!(member.next(200), Step::Ask(Request::Follow));
+    member.not_there();
+    assert_eq!(member.state(210).ending, Some(Ending::NotThere));
+}
+
+#[test]
+fn a_log_is_broken() {
+    let broken = |rows: &[&str]| {
+        let mut member = Member::open(&opening(), 5, TTL_MIN).unwrap();
+        let told = member.learn(rows);
+        (told, member.state(0).ending)
+    };
+    assert_eq!(broken(&["recover,1"]), (Ok(1), None));
+    let (told, ending) = broken(&["recover,1", "recover,1"]);
+    let error = told.expect_err("a row that is refused");
+    assert_eq!((error.taken, ending), (1, Some(Ending::Broken)));
+    assert_eq!(error.fault, LearnFault::Refused(bully::Refused::IsUp));
+    let (told, ending) = broken(&["\u{feff}recover,1"]);
+    let fault = told.expect_err("a mark").fault;
+    assert_eq!(fault, LearnFault::Form(FormFault::BadRow));
+    assert_eq!(ending, Some(Ending::Broken));
+    let (told, ending) = broken(&["recover,1", ""]);
+    let fault = told.expect_err("a blank").fault;
+    assert_eq!((fault, ending), (LearnFault::NotOneRow { place: 1 }, None));
+}
+
+#[test]
+fn a_member_is_refused() {
+    let open = |change: &dyn Fn(&mut Opening), ttl| {
+        let mut with = opening();
+        change(&mut with);
+        Member::open(&with, 5, ttl)
+            .map(|_| ())
+            .expect_err("a fault")
+    };
+    let header = OpeningError::Header(FormFault::BadHeader);
+    assert_eq!(open(&|with| with.header = String::new(), TTL_MIN), header);
+    let node = OpeningError::Node(NodeFault::BadNode);
+    assert_eq!(open(&|with| with.node = 0, TTL_MIN), node);
+    assert_eq!(open(&|with| with.node = 2, TTL_MIN), node);
+    let length = OpeningError::Old(TableFault::Length);
+    assert_eq!(open(&|with| with.old = Some(vec![1, 1]), TTL_MIN), length);
+    let owner = OpeningError::Old(TableFault::Owner);
+    assert_eq!(open(&|with| with.old = Some(vec![2]), TTL_MIN), owner);
+    let rows = OpeningError::Terms(TermsFault::BadRowsMax);
+    assert_eq!(open(&|with| with.rows_max = 21, TTL_MIN), rows);
+    assert_eq!(open(&|with| with.rows_max = 1_000_001, TTL_MIN), rows);
+    let ttl = OpeningError::Terms(TermsFault::BadTtl);
+    assert_eq!(open(&|_| {}, TTL_MIN - 1), ttl);
+    assert_eq!(open(&|_| {}, TTL_MAX + 1), ttl);
+    let mut member = Member::open(&opening(), 5, TTL_MAX).unwrap();
+    member.next(0);
+    let third = Presence { node: 3, ..own(0) };
+    let no_node = SeenError::Node(NodeFault::BadNode);
+    assert_eq!(member.looked(1, &seen(&[third])), Err(no_node));
+}
+
+// Two members over a log in memory settle their group, and the log is lawful.
+#[test]
+fn members_settle_their_group() {
+    let mut log = vec!["bully,1,2,3".to_string()];
+    let with = |node| Opening {
+        header: log[0].clone(),
+        epoch: 1,
+        node,
+        rows_max: 44,
+        old: None,
+    };
+    let mut members = [
+        Member::open(&with(1), 1, TTL_MAX).unwrap(),
+        Member::open(&with(2), 2, TTL_MAX).unwrap(),
+    ];
+    let mut presences: Vec<Presence> = Vec::new();
+    let mut begun = 0;
+    for now in 0..40 {
+        let at = (now % 2) as usize;
+        let member = &mut members[at];
+        let node = at as u16 + 1;
+        match member.next(now) {
+            Step::Ask(Request::Look) => {
+                let place = member.state(now).place as usize;
+                member.learn(&log[1 + place..]).unwrap();
+                let found = Seen {
+                    epoch: 1,
+                    ..seen(&presences)
+                };
+                member.looked(now, &found).unwrap();
+            }
+            Step::Ask(request) => {
+                let promise = |place| Promise { epoch: 1, place };
+                let place = log.len() as u32 - 1;
+                let is_done = match request {
+                    Request::Take(life, at) if at == place => {
+                        presences.push(Presence {
+                            node,
+                            life,
+                            promise: promise(at),
+                        });
+                        presences.sort_by_key(|presence| presence.node);
+                        true
+                    }
+                    Request::Promise(life, at) => {
+                        let held = presences.iter_mut().find(|held| held.life == life);
+                        held.expect("its presence").promise = promise(at);
+                        true
+                    }
+                    Request::Append(at) if at == place => {
+                        let are_idle = presences.iter().all(|held| held.promise.place == at);
+                        if are_idle {
+                            log.extend(member.settlement().unwrap());
+                        }
+                        are_idle
+                    }
+                    _ => false,
+                };
+                let answer = if is_done {
+                    StoreAnswer::Done
+                } else {
+                    StoreAnswer::Refused
+                };
+                member.answered(now, answer);
+            }
+            Step::Wait(..) => member.woke(),
+            Step::Begin(_) => begun += 1,
+            Step::Stop => member.stopped(),
+            step => panic!("{step:?}"),
+        }
+    }
+    assert!(begun >= 2);
+    let owned: Vec<u16> = members
+        .iter()
+        .flat_map(|member| member.owned().unwrap().expect("partitions").partitions)
+        .collect();
+    assert_eq!(owned.len(), 3);
+    let text = log.join("\n") + "\n";
+    assert!(matches!(check(text.as_bytes()), Ok(Verdict::Lawful { .. })));
+}

@@ -1,0 +1,67 @@
+-- The numbers by which C knows what bully_member names: those of include/bully.h.
+use Rattle.std.specs.Prelude.{ℕ, ◌==◌, Option, None, Some, if◌then◌else◌}
+use Rattle.bully_member.specs.declared.opening.MemberFault.{MemberFault}
+use Rattle.bully_member.specs.declared.values.Await.{Await}
+use Rattle.bully_member.specs.declared.values.Ending.{Ending}
+use Rattle.bully_member.specs.declared.values.LifeState.{LifeState}
+use Rattle.bully_member.specs.declared.values.StoreAnswer.{StoreAnswer}
+use Rattle.bully_member.specs.declared.values.Work.{Work}
+
+abbrev pub member_number : MemberFault → ℕ
+member_number MemberFault.BadNode = 2
+member_number MemberFault.TableLength = 29
+member_number MemberFault.BadRowsMax = 33
+member_number MemberFault.BadTtl = 34
+member_number MemberFault.OutOfMemory = 23
+
+-- the answer of this number, if it is one
+abbrev pub answer_numbered : ℕ → Option StoreAnswer
+answer_numbered number =
+    if number == 1 then Some StoreAnswer.Done else if number == 2 then Some StoreAnswer.Refused else if number == 3 then Some StoreAnswer.Unanswered else None
+
+abbrev pub await_number : Await → ℕ
+await_number Await.News = 1
+await_number Await.AnyIdle = 2
+await_number Await.AllIdle = 3
+
+abbrev pub ending_number : Ending → ℕ
+ending_number Ending.Left = 1
+ending_number Ending.NotThere = 2
+ending_number Ending.Broken = 3
+
+abbrev pub ending_or_none : Option Ending → ℕ
+ending_or_none None = 0
+ending_or_none (Some ending) = ending_number ending
+
+abbrev pub life_number : LifeState → ℕ
+life_number LifeState.Absent = 0
+life_number (LifeState.Unknown life) = 1
+life_number (LifeState.Present life since) = 2
+
+abbrev pub life_process : LifeState → ℕ
+life_process LifeState.Absent = 0
+life_process (LifeState.Unknown life) = life.process
+life_process (LifeState.Present life since) = life.process
+
+-- how many lives its process asked for up to this one
+abbrev pub life_count : LifeState → ℕ
+life_count LifeState.Absent = 0
+life_count (LifeState.Unknown life) = life.number
+life_count (LifeState.Present life since) = life.number
+
+abbrev pub life_since : LifeState → ℕ
+life_since LifeState.Absent = 0
+life_since (LifeState.Unknown life) = 0
+life_since (LifeState.Present life since) = since
+
+abbrev pub work_number : Work → ℕ
+work_number Work.Idle = 0
+work_number (Work.Working token) = 1
+work_number (Work.Lost token) = 2
+work_number (Work.Stopping token) = 3
+
+abbrev pub work_token : Work → ℕ
+work_token Work.Idle = 0
+work_token (Work.Working token) = token
+work_token (Work.Lost token) = token
+work_token (Work.Stopping token) = token

@@ -1,0 +1,51 @@
+//! What C holds of a member.
+ghost use Rattle.std.specs.Prelude.{◌≡◌, Option, None, Some, MatchOption};
+ghost use Rattle.bully_c.specs.declared.openings.MemberSession.{MemberSession};
+
+use crate::loose::Loose;
+use crate::openings::MemberSession;
+use std::alloc::Global;
+use std::marker::Model;
+
+/// A pointer to what is kept of a member, which the handle owns, or null if the handle is closed.
+#[repr(C)]
+pub struct MemberHandle {
+    at: *mut u8,
+    pub ghost value: { Option MemberSession },
+}
+
+impl Model for MemberHandle {
+    ghost use Rattle.std.specs.Prelude.{Option};
+    ghost use Rattle.bully_c.specs.Ownership.{loose_owns};
+    ghost use Rattle.bully_c.specs.contracts.openings.MemberSession.{the_row};
+
+    ghost also_owns = { λ h. loose_owns the_row h.at h.value };
+}
+
+impl MemberHandle {
+    // Puts `with` in the place of what the handle has.
+    fn swap(&mut self, with: Loose<MemberSession>) -> Loose<MemberSession>
+        ensures now { self.new.value ≡ with.value }
+        ensures before { result.value ≡ self.old.value }
+    {
+        let Loose { at } = with;
+        let before = self.at as *mut MemberSession;
+        self.at = at as *mut u8;
+        Loose { at: before }
+    }
+
+    /// Takes what the handle has, and leaves it closed.
+    pub fn take(&mut self, alloc: Global) -> Option<Box<MemberSession>>
+        ensures taken { MatchOption result (self.old.value ≡ None) (λ session. self.old.value ≡ Some session.value) }
+        ensures closed { self.new.value ≡ None }
+    {
+        self.swap(Loose::none()).into_box(alloc)
+    }
+
+    /// Puts this in, and drops what was there.
+    pub fn put(&mut self, alloc: Global, session: Box<MemberSession>)
+        ensures { self.new.value ≡ Some session.value }
+    {
+        drop(self.swap(Loose::of(session)).into_box(alloc));
+    }
+}

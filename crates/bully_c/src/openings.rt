@@ -1,0 +1,102 @@
+//! What is kept of a member behind a handle, and what it begins with.
+ghost use Rattle.std.specs.Prelude.{◌≡◌, IfErr, IfOk, IfSome, length};
+ghost use Rattle.bully_c.specs.Members.{AreTerms, IsMemberOpened, IsOpeningOf, RefusesMemberOpening, RefusesOpeningOf, RefusesTermsGiven, terms_given};
+ghost use Rattle.bully_c.specs.MemberNumbers.{member_number};
+
+use crate::logs::header_in;
+use crate::old_tables::old_table;
+use crate::status::{BAD_NODE, BAD_ROWS_MAX, BAD_TTL, OUT_OF_MEMORY, TABLE_LENGTH};
+use crate::tables::node_of;
+use bully_base::{OutOfMemory, Setup};
+use bully_member::{Member, MemberFault, Terms};
+use bully_rows::Header;
+use std::alloc::Global;
+
+/// A member.
+#[derive(Drop)]
+pub struct MemberSession {
+    pub member: Member,
+}
+
+/// What an epoch is for a member, as it is told, beside the header of its log.
+#[derive(Clone, Copy)]
+pub struct TermsTold {
+    pub epoch: u32,
+    pub node: u16,
+    pub rows_max: u32,
+}
+
+/// What an epoch begins with, for a member.
+#[derive(Drop)]
+pub struct Opening {
+    pub header: Header,
+    pub terms: Terms,
+}
+
+/// What an epoch begins with, of this header and this old table.
+pub fn opening_of(alloc: Global, text: &[u8], told: TermsTold, old: &[u16]) -> Result<Opening, u32>
+    ensures ok { IfOk result (IsOpeningOf text.now told old.now) }
+    ensures err { IfErr result (RefusesOpeningOf text.now told old.now) }
+{
+    let header = header_in(alloc, text)?;
+    let terms = terms_of(alloc, &header.setup, told, old)?;
+    Ok(Opening { header, terms })
+}
+
+// The same beside the header.
+fn terms_of(alloc: Global, setup: &Setup, told: TermsTold, old: &[u16]) -> Result<Terms, u32>
+    ensures ok { IfOk result (λ terms. terms ≡ terms_given setup.now told old.now) }
+    ensures are { IfOk result (λ _. AreTerms setup.now told old.now) }
+    ensures err { IfErr result (RefusesTermsGiven setup.now told old.now) }
+{
+    let node = node_of(setup, told.node)?;
+    let old = old_table(alloc, setup, old)?;
+    Ok(Terms {
+        epoch: told.epoch,
+        node,
+        rows_max: told.rows_max,
+        old,
+    })
+}
+
+/// The member that begins so, on the heap.
+pub fn opened_member(
+    alloc: Global,
+    text: &[u8],
+    told: TermsTold,
+    old: &[u16],
+    process: u64,
+    ttl: u64,
+) -> Result<Box<MemberSession>, u32>
+    ensures ok { IfOk result (λ session. IsMemberOpened text.now told old.now process ttl session.value) }
+    ensures err { IfErr result (RefusesMemberOpening text.now told old.now ttl) }
+{
+    let Opening { header, terms } = opening_of(alloc, text, told, old)?;
+    match Member::new(alloc, header, terms, process, ttl) {
+        Ok(member) => match boxed(alloc, member) {
+            Ok(session) => Ok(session),
+            Err(_) => Err(OUT_OF_MEMORY),
+        },
+        Err(fault) => Err(of_member(fault)),
+    }
+}
+
+// The member on the heap.
+fn boxed(alloc: Global, member: Member) -> Result<Box<MemberSession>, OutOfMemory>
+    ensures { IfOk result (λ session. session.value ≡ record { member = member }) }
+{
+    Ok(Box::new(alloc, MemberSession { member })?)
+}
+
+/// Of a member that doesn't begin.
+pub fn of_member(fault: MemberFault) -> u32
+    ensures { result ≡ member_number fault }
+{
+    match fault {
+        MemberFault::BadNode => BAD_NODE,
+        MemberFault::TableLength => TABLE_LENGTH,
+        MemberFault::BadRowsMax => BAD_ROWS_MAX,
+        MemberFault::BadTtl => BAD_TTL,
+        MemberFault::OutOfMemory => OUT_OF_MEMORY,
+    }
+}

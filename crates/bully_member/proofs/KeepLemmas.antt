@@ -1,0 +1,188 @@
+-- What is due keeps the rules.
+use Rattle.std.proofs.Common.{rules, ◌≡◌, ◌↔◌, ◌⊎◌, inl, inr, List, [], ◌∷◌, ◌&&◌, ◌||◌, ◌==◌, ◌-◌, ◌/◌, not, ℕ, Bool, true, false, Option, Some, None, if◌then◌else◌, nat_lt, arith, refl, sym, subst, ap, ◌∙◌}
+use Rattle.std.proofs.lemmas.Bool.Decides.{nat_tests}
+use Rattle.std.specs.Prelude.{IsTrue}
+use Rattle.bully_member.specs.Due.{absent_step, due, ending_step, going_step, goes_on, has_to_stop, idle_step, is_due, is_left, is_none_of, is_some_token, leaving_step, life_step, present_step, resting_step, restless_step, settling_left, step_by_work, step_of_life, step_without_life, stopping_step, taking_step, token_now}
+use Rattle.bully_member.specs.Keeping.{AsksAt, Keeps}
+use Rattle.bully_member.specs.Member.{MemberState, Rests, above, all_idle, are_of, others_promise, has_room, here, is_alone, is_closing, place_of, presence_of, same_promise}
+use Rattle.bully_member.specs.Times.{pause_left, renewal_left, stopping_rest, sure, turn_left}
+use Rattle.bully_member.specs.declared.values.Ending.{Ending}
+use Rattle.bully_member.specs.declared.values.LifeId.{LifeId}
+use Rattle.bully_member.specs.declared.values.LifeState.{LifeState}
+use Rattle.bully_member.specs.declared.values.Presence.{Presence}
+use Rattle.bully_member.specs.declared.values.Promise.{Promise}
+use Rattle.bully_member.specs.declared.values.Step.{Step}
+use Rattle.bully_member.specs.declared.values.Work.{Work}
+
+-- both parts of a test that passed
+both : (a b : Bool) → a && b ≡ true → (a ≡ true) × (b ≡ true)
+both true true is = (refl, refl)
+both true false is = absurd (cc is)
+both false b is = absurd (cc is)
+
+twice : (b : Bool) → not b ≡ false → b ≡ true
+twice true is = refl
+twice false is = absurd (cc is)
+
+apart : (b : Bool) → b ≡ true → b ≡ false → ⊥
+apart b is not_it = absurd (cc (is, not_it))
+
+either : (a b : Bool) → a ≡ true → a || b ≡ false → ⊥
+either true b is neither = absurd (cc neither)
+either false b is neither = absurd (cc is)
+
+-- who is alone has only to be idle itself
+joined : (a b c : Bool) → a ≡ true → c ≡ true → (a || b) && c ≡ true
+joined true b true a_is c_is = refl
+joined true b false a_is c_is = absurd (cc c_is)
+joined false b c a_is c_is = absurd (cc a_is)
+
+others_alone : (node : ℕ) (promise : Promise) (ps : List Presence) → are_of node ps ≡ true → others_promise node promise ps ≡ true
+others_alone node promise [] is = refl
+others_alone node promise (p ∷ ps) is =
+    let (here, rest) = both (p.node == node) (are_of node ps) is in
+    joined (p.node == node) (same_promise p.promise promise) (others_promise node promise ps) here (others_alone node promise ps rest)
+
+three : (a b c : Bool) → a ≡ true → b ≡ true → c ≡ true → a && b && c ≡ true
+three true true true a_is b_is c_is = refl
+three true true false a_is b_is c_is = absurd (cc c_is)
+three true false c a_is b_is c_is = absurd (cc b_is)
+three false b c a_is b_is c_is = absurd (cc a_is)
+
+alone_idle : (m : MemberState) → is_alone m ≡ true → same_promise m.own (here m) ≡ true → all_idle m ≡ true
+alone_idle m alone own =
+    let (none, of_it) = both (not m.has_strangers) (are_of m.terms.node m.presences) alone in
+    three (not m.has_strangers) (same_promise m.own (here m)) (others_promise m.terms.node (here m) m.presences) none own (others_alone m.terms.node (here m) m.presences of_it)
+
+-- whichever way a test goes, what is due keeps the rules
+keeps_if : (m : MemberState) (now : ℕ) (b : Bool) (x y : Step) → (b ≡ true → Keeps m now x) → (b ≡ false → Keeps m now y) → Keeps m now (if b then x else y)
+keeps_if m now true x y then_x else_y = then_x refl
+keeps_if m now false x y then_x else_y = else_y refl
+
+-- a presence that isn't due to be renewed is sure
+sure_before : (ttl now since : ℕ) → renewal_left (LifeState.Present (record { process = 0; number = 0 }) since) ttl now == 0 ≡ false → nat_lt (now - since) (ttl - ttl / 5) ≡ true
+sure_before ttl now since is = grind (arith, nat_tests, is)
+
+-- it works on nothing, or by a token by which its work goes on
+abbrev Free : MemberState → (now : ℕ) → (rests : Bool) → Type 0
+Free m now rests = (m.work ≡ Work.Idle) ⊎ ((token : ℕ) × (goes_on m now rests token ≡ true))
+
+-- what is known where work goes on
+record Goes (m : MemberState) (now : ℕ) (rests : Bool) : Type 0 where
+  present : sure m.life m.ttl now ≡ true
+  stays : is_none_of m.ending ≡ true
+  within : m.is_past ≡ false
+  at_rest : rests ≡ true
+
+goes : (m : MemberState) (now : ℕ) (rests : Bool) (token : ℕ) → goes_on m now rests token ≡ true → Goes m now rests
+goes m now rests token is =
+    let (all4, by) = both (sure m.life m.ttl now && is_none_of m.ending && not m.is_past && rests) (is_some_token (token_now m) token) is in
+    let (all3, rest) = both (sure m.life m.ttl now && is_none_of m.ending && not m.is_past) rests all4 in
+    let (all2, past) = both (sure m.life m.ttl now && is_none_of m.ending) (not m.is_past) all3 in
+    let (here, none) = both (sure m.life m.ttl now) (is_none_of m.ending) all2 in
+    record { present = here; stays = none; within = not_past m.is_past past; at_rest = rest }
+  where
+    not_past : (b : Bool) → not b ≡ true → b ≡ false
+    not_past true is = absurd (cc is)
+    not_past false is = refl
+
+-- Each part of what is due, from the last rule to the first.
+
+module _ (m : MemberState) (now : ℕ) (rests are_down : Bool) (tells : IsTrue rests ↔ Rests m now) where
+  -- it works on nothing, if it isn't known to go on
+  idle_of : Free m now rests → (Goes m now rests → ⊥) → m.work ≡ Work.Idle
+  idle_of (inl idle) stays = idle
+  idle_of (inr (token, is)) stays = absurd (stays (goes m now rests token is))
+
+  asks_here : m.work ≡ Work.Idle → AsksAt m (place_of m)
+  asks_here idle = record { idle = idle; end = refl }
+
+  rests_true : rests ≡ true → IsTrue rests
+  rests_true is = search (rules, is)
+
+  idle_keeps : m.work ≡ Work.Idle → same_promise m.own (here m) ≡ true → Keeps m now (idle_step m now)
+  idle_keeps idle own = keeps_if m now (not (all_idle m)) _ _ (λ wait. tt)
+      (λ all. keeps_if m now (is_closing m) _ _
+      (λ closing. record { asks = asks_here idle; all = twice (all_idle m) all })
+      (λ goes_on. record { asks = asks_here idle; all = twice (all_idle m) all }))
+
+  restless_keeps : (life : LifeId) → m.work ≡ Work.Idle → Keeps m now (restless_step m now life)
+  restless_keeps life idle = keeps_if m now (not (same_promise m.own (here m))) _ _ (λ other. asks_here idle)
+      (λ own. keeps_if m now (nat_lt 0 (turn_left (above m) m.ttl now m.unrest.at)) _ _ (λ turn. tt) (λ come. idle_keeps idle (twice (same_promise m.own (here m)) own)))
+
+  resting_keeps : (w : Work) (token : Option ℕ) → m.work ≡ w → token_now m ≡ token → rests ≡ true → sure m.life m.ttl now ≡ true → Keeps m now (resting_step m now w token)
+  resting_keeps Work.Idle (Some token) idle owner at_rest present = record { idle = idle; present = present; rests = tells.0 (rests_true at_rest); owner = owner }
+  resting_keeps Work.Idle None idle owner at_rest present = tt
+  resting_keeps (Work.Working by) token idle owner at_rest present = tt
+  resting_keeps (Work.Lost by) token idle owner at_rest present = tt
+  resting_keeps (Work.Stopping by) token idle owner at_rest present = tt
+
+  leaving_keeps : (life : LifeId) → m.work ≡ Work.Idle → Keeps m now (leaving_step m are_down life)
+  leaving_keeps life idle = keeps_if m now (is_alone m && not are_down && has_room m && not m.has_closed) _ _
+      (λ last. keeps_if m now (same_promise m.own (here m)) _ _ (λ own. record { asks = asks_here idle; all = alone_idle m (alone last) own }) (λ other. asks_here idle))
+      (λ others. idle)
+    where
+      alone : is_alone m && not are_down && has_room m && not m.has_closed ≡ true → is_alone m ≡ true
+      alone last = (both (is_alone m) (not are_down) (both (is_alone m && not are_down) (has_room m) (both (is_alone m && not are_down && has_room m) (not m.has_closed) last).0).0).0
+
+  ending_keeps : (life : LifeId) (ending : Ending) → m.work ≡ Work.Idle → Keeps m now (ending_step m now are_down life ending)
+  ending_keeps life ending idle = keeps_if m now (not (is_left ending) || m.is_past || not (sure m.life m.ttl now)) _ _ (λ release. idle) (λ stays. keeps_if m now m.must_look _ _ (λ look. tt) (λ looked. leaving_keeps life idle))
+
+  present_keeps : (life : LifeId) → Free m now rests → sure m.life m.ttl now ≡ true → Keeps m now (present_step m now rests life)
+  present_keeps life free present = keeps_if m now m.is_past _ _ (λ past. idle_of free (λ g. apart m.is_past past g.within)) (λ within. keeps_if m now m.must_look _ _ (λ look. tt)
+      (λ looked. keeps_if m now rests _ _ (λ at_rest. resting_keeps m.work (token_now m) refl refl at_rest present)
+      (λ unrest. restless_keeps life (idle_of free (λ g. apart rests g.at_rest unrest)))))
+
+  of_life_keeps : (life : LifeId) (ending : Option Ending) → m.ending ≡ ending → Free m now rests → (is_none_of m.ending ≡ true → sure m.life m.ttl now ≡ true) → Keeps m now (step_of_life m now rests are_down life ending)
+  of_life_keeps life (Some ending) is free present = ending_keeps life ending (idle_of free (λ g. ends g.stays))
+    where
+      ends : is_none_of m.ending ≡ true → ⊥
+      ends none = let some : is_none_of m.ending ≡ false = ap is_none_of is in apart (is_none_of m.ending) none some
+  of_life_keeps life None is free present = present_keeps life free (present (ap is_none_of is))
+
+  taking_keeps : (here : Option Presence) → m.work ≡ Work.Idle → Keeps m now (taking_step m now here)
+  taking_keeps (Some p) idle = keeps_if m now (p.life.process == m.process) _ _ (λ own. idle) (λ other. tt)
+  taking_keeps None idle = keeps_if m now (nat_lt 0 (settling_left m now)) _ _ (λ wait. tt) (λ free. asks_here idle)
+
+  absent_keeps : m.work ≡ Work.Idle → Keeps m now (absent_step m now)
+  absent_keeps idle = keeps_if m now m.is_past _ _ (λ past. idle) (λ within. keeps_if m now m.must_look _ _ (λ look. tt)
+      (λ looked. taking_keeps (presence_of m.terms.node m.presences) idle))
+
+  without_life_keeps : (ending : Option Ending) → m.work ≡ Work.Idle → Keeps m now (step_without_life m now ending)
+  without_life_keeps (Some ending) idle = tt
+  without_life_keeps None idle = absent_keeps idle
+
+  life_keeps : (life : LifeState) → m.life ≡ life → Free m now rests → Keeps m now (life_step m now rests are_down life)
+  life_keeps (LifeState.Unknown life) is free = idle_of free (λ g. apart (sure m.life m.ttl now) g.present (ap (λ l. sure l m.ttl now) is))
+  life_keeps LifeState.Absent is free = without_life_keeps m.ending (idle_of free (λ g. apart (sure m.life m.ttl now) g.present (ap (λ l. sure l m.ttl now) is)))
+  life_keeps (LifeState.Present life since) is free = keeps_if m now (is_due m now) _ _ (λ renew. tt) (λ before. of_life_keeps life m.ending refl free (present before))
+    where
+      early : renewal_left m.life m.ttl now == 0 ≡ false → sure m.life m.ttl now ≡ true
+      early before =
+          let same : renewal_left m.life m.ttl now ≡ renewal_left (LifeState.Present life since) m.ttl now = ap (λ l. renewal_left l m.ttl now) is in
+          ap (λ l. sure l m.ttl now) is ∙ sure_before m.ttl now since (subst (λ left. left == 0 ≡ false) same before)
+
+      by_test : (b c : Bool) → b && (is_none_of m.ending || c) ≡ false → is_none_of m.ending ≡ true → b ≡ false
+      by_test true c before none = absurd (either (is_none_of m.ending) c none before)
+      by_test false c before none = refl
+
+      present : is_due m now ≡ false → is_none_of m.ending ≡ true → sure m.life m.ttl now ≡ true
+      present before none = early (by_test (renewal_left m.life m.ttl now == 0) (sure m.life m.ttl now) before none)
+
+  going_keeps : (has_to_stop m now rests m.work ≡ false → Free m now rests) → Keeps m now (going_step m now rests are_down)
+  going_keeps free = keeps_if m now (has_to_stop m now rests m.work) _ _ (λ stop. tt)
+      (λ goes_on. keeps_if m now (nat_lt 0 (pause_left m.paused m.ttl now)) _ _ (λ pause. tt) (λ asks. life_keeps m.life refl (free goes_on)))
+
+  stopping_keeps : (life : LifeState) → Keeps m now (stopping_step m now life)
+  stopping_keeps (LifeState.Present life since) = keeps_if m now (stopping_rest m.life m.ttl now m.paused == 0) _ _ (λ renew. tt) (λ rest. tt)
+  stopping_keeps LifeState.Absent = tt
+  stopping_keeps (LifeState.Unknown life) = tt
+
+  by_work : (w : Work) → m.work ≡ w → Keeps m now (step_by_work m now rests are_down w)
+  by_work Work.Idle is = going_keeps (λ goes_on. inl is)
+  by_work (Work.Working token) is = going_keeps (λ stays. inr (token, twice (goes_on m now rests token) (sym (ap (has_to_stop m now rests) is) ∙ stays)))
+  by_work (Work.Lost token) is = going_keeps (λ stays. absurd (apart (has_to_stop m now rests m.work) (ap (has_to_stop m now rests) is) stays))
+  by_work (Work.Stopping token) is = stopping_keeps m.life
+
+pub keeps : (m : MemberState) (now : ℕ) (rests are_down : Bool) → (IsTrue rests ↔ Rests m now) → Keeps m now (due m now rests are_down)
+keeps m now rests are_down tells = by_work m now rests are_down tells m.work refl

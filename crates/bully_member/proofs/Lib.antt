@@ -1,0 +1,3 @@
+pub mod PresentLemmas
+pub mod KeepLemmas
+pub mod AskLemmas

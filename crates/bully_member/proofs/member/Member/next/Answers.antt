@@ -1,0 +1,9 @@
+use Rattle.std.proofs.Common.{subst, sym}
+use Rattle.bully_member.proofs.KeepLemmas.{keeps}
+use Rattle.bully_member.proofs.member.Member.next.Goals as goal
+use Rattle.bully_member.specs.Keeping.{Keeps}
+
+pub returns-clause-keeps : goal.returns-clause-keeps
+returns-clause-keeps c =
+    let m = c.args.self.now in
+    subst (Keeps m c.args.now) (sym c.due-step.ensures) (keeps m c.args.now c.rests.result c.are_down.result c.rests.ensures)

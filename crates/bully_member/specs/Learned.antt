@@ -1,0 +1,74 @@
+-- What a member makes of rows that it learns, and of an epoch into which it goes on.
+use Rattle.std.specs.Prelude.{nat_le, ◌≡◌, ◌==◌, not, if◌then◌else◌, ℕ, Bool, true, false, [], Option, Some, None, Result, Ok, Err, replicate}
+use Rattle.bully_member.specs.Member.{MemberState, nobody_yet}
+use Rattle.bully_member.specs.Told.{end_for, to_pause}
+use Rattle.bully_member.specs.declared.opening.MemberFault.{MemberFault}
+use Rattle.bully_member.specs.declared.opening.Terms.{Terms}
+use Rattle.bully_member.specs.declared.values.Asked.{Asked}
+use Rattle.bully_member.specs.declared.values.Ending.{Ending}
+use Rattle.bully_member.specs.declared.values.Request.{Request}
+use Rattle.bully_replica.specs.Following.{FollowerState}
+use Rattle.bully_replica.specs.Replica.{first_replica}
+use Rattle.bully_replica.specs.declared.follower.FollowFault.{FollowFault}
+use Rattle.bully_rows.specs.declared.header.Header.{Header}
+use Rattle.bully_rows.specs.declared.trace.TraceCause.{TraceCause}
+
+-- whether the fault is the log's, and not one of memory or of reading
+abbrev pub is_of_log : FollowFault → Bool
+is_of_log (FollowFault.Form TraceCause.OutOfMemory) = false
+is_of_log (FollowFault.Form TraceCause.Read) = false
+is_of_log fault = true
+
+-- whether no member can go on behind what was learned: a row isn't learned, or was one that tells no event
+abbrev pub is_broken : FollowerState → Result (Unit {0}) FollowFault → Bool
+is_broken f (Ok done) = not (f.rows == f.replica.world.events)
+is_broken f (Err fault) = is_of_log fault
+
+-- why a member ends, if its log may be broken
+abbrev pub ending_behind : Option Ending → Bool → Option Ending
+ending_behind None true = Some Ending.Broken
+ending_behind ending is_broken = ending
+
+-- what was learned, by how that ended
+abbrev pub learned : MemberState → FollowerState → Result (Unit {0}) FollowFault → MemberState
+learned m f taken = record m { follower = f; ending = ending_behind m.ending (is_broken f taken) }
+
+abbrev pub is_follow : Request → Bool
+is_follow Request.Follow = true
+is_follow request = false
+
+abbrev pub is_following : Option Asked → Bool
+is_following None = false
+is_following (Some asked) = is_follow asked.request
+
+-- behind a log of this epoch of which nothing was learned. The life stays, and has promised nothing of it
+abbrev pub in_epoch : MemberState → (now : ℕ) → FollowerState → Terms → MemberState
+in_epoch m now f t = record m {
+  follower = f;
+  terms = t;
+  promised = 0;
+  own = record { epoch = 0; place = 0 };
+  presences = [];
+  arrivals = replicate f.replica.world.setup.nodes nobody_yet;
+  has_strangers = false;
+  is_wished = false;
+  must_look = true;
+  unrest = record { at = now; place = 0 };
+  is_past = false;
+  has_closed = false;
+  asked = None;
+}
+
+abbrev pub followed : MemberState → (now : ℕ) → Header → Terms → MemberState
+followed m now header t =
+    if not (is_following m.asked) then m else
+    if nat_le t.epoch m.terms.epoch then to_pause (record m { asked = None; is_past = false; must_look = true }) now else
+    in_epoch m now (record { replica = first_replica header; rows = 0 }) t
+
+-- refused for the terms' first fault, or for want of memory
+abbrev pub RefusesTerms : Option MemberFault → MemberFault → Type 0
+RefusesTerms None why = why ≡ MemberFault.OutOfMemory
+RefusesTerms (Some fault) why = why ≡ fault
+
+abbrev pub not_there : MemberState → MemberState
+not_there m = if is_following m.asked then end_for (record m { asked = None }) Ending.NotThere m.ending else m

@@ -1,0 +1,9 @@
+pub mod Opening
+pub mod Times
+pub mod Member
+pub mod Due
+pub mod Told
+pub mod Learned
+pub mod Settlement
+pub mod Keeping
+pub mod Asking

@@ -1,0 +1,237 @@
+ghost use Rattle.std.specs.Prelude.{◌≡◌, ◌≤◌, [], None, true, false, IfOk, IfErr, replicate};
+ghost use Rattle.bully_member.specs.Member.{IsMember, member_with, new_member, nobody_yet, place_of, replica_of};
+ghost use Rattle.bully_member.specs.Opening.{RefusesMember, member_fault};
+ghost use Rattle.bully_member.specs.Times.{sure_left};
+ghost use Rattle.bully_replica.specs.Replica.{first_replica};
+
+mod answers;
+mod learning;
+mod looks;
+mod owning;
+mod rules;
+
+use crate::opening::{MemberFault, TTL_MAX, TTL_MIN, Terms, terms_fault};
+use crate::times::sure_left;
+use crate::values::{Arrival, Asked, Ending, LifeState, Presence, Promise, Unrest, Work};
+use bully_base::OutOfMemory;
+use bully_replica::{Follower, Replica};
+use bully_rows::Header;
+use std::alloc::Global;
+use std::marker::Model;
+
+/// A process that acts for one node of a group: what it knows, and what it does next.
+#[derive(Drop)]
+pub struct Member {
+    follower: Follower,
+    terms: Terms,
+    process: u64,
+    ttl: u64,
+    life: LifeState,
+    tries: u64,
+    promised: u32,
+    own: Promise,
+    presences: Vec<Presence>,
+    arrivals: Vec<Arrival>, // of each node
+    has_strangers: bool,
+    is_wished: bool,
+    must_look: bool,
+    unrest: Unrest,
+    is_past: bool,
+    has_closed: bool,
+    work: Work,
+    ending: Option<Ending>,
+    paused: Option<u64>,
+    asked: Option<Asked>,
+}
+
+impl Model for Member {
+    ghost use Rattle.std.specs.Prelude.{◌≤◌};
+    ghost use Rattle.bully_member.specs.Member.{MemberState, IsMember};
+
+    ghost Value = { MemberState };
+
+    ghost view = { λ m. record {
+      follower = m.follower;
+      terms = m.terms;
+      process = m.process;
+      ttl = m.ttl;
+      life = m.life;
+      tries = m.tries;
+      promised = m.promised;
+      own = m.own;
+      presences = m.presences.items;
+      arrivals = m.arrivals.items;
+      has_strangers = m.has_strangers;
+      is_wished = m.is_wished;
+      must_look = m.must_look;
+      unrest = m.unrest;
+      is_past = m.is_past;
+      has_closed = m.has_closed;
+      work = m.work;
+      ending = m.ending;
+      paused = m.paused;
+      asked = m.asked;
+    } };
+
+    ghost invariant = { λ m. IsMember m.follower m.terms m.ttl m.presences.items m.arrivals.items };
+}
+
+// What a member begins an epoch with: a log of which it has learned nothing, and nobody who was seen.
+#[derive(Drop)]
+struct Beginning {
+    follower: Follower,
+    arrivals: Vec<Arrival>,
+}
+
+impl Beginning {
+    fn new(alloc: Global, header: Header) -> Result<Beginning, OutOfMemory>
+        ensures follower { IfOk result (λ b. b.follower ≡ record { replica = first_replica header; rows = 0 }) }
+        ensures arrivals { IfOk result (λ b. b.arrivals.items ≡ replicate header.setup.nodes nobody_yet) }
+    {
+        let nodes = usize::from(header.setup.nodes());
+        let arrivals = vec![in alloc; NOBODY_YET; nodes]?;
+        let follower = Follower::new(alloc, header)?;
+        Ok(Beginning { follower, arrivals })
+    }
+}
+
+// Nobody was seen for a node.
+const NOBODY_YET: Arrival = Arrival {
+    life: None,
+    at: 0,
+    stay: 0,
+};
+
+impl Member {
+    /// A member that acts for the node of these terms, of a group whose log has this header. Its process is a number that no other
+    /// process of the group ever has, and the ttl is in nanoseconds. Refused by the first that holds: `BadNode`, `TableLength`,
+    /// `BadRowsMax`, `BadTtl`, `OutOfMemory`.
+    pub fn new(
+        alloc: Global,
+        header: Header,
+        terms: Terms,
+        process: u64,
+        ttl: u64,
+    ) -> Result<Member, MemberFault>
+        ensures ok { IfOk result (λ m. m ≡ new_member header terms process ttl) }
+        ensures can { IfOk result (λ m. member_fault header.setup terms ttl ≡ None) }
+        ensures fault { IfErr result (λ fault. RefusesMember (member_fault header.setup terms ttl) fault) }
+    {
+        if let Some(fault) = terms_fault(&header.setup, &terms) {
+            return Err(fault);
+        }
+        if !(TTL_MIN..=TTL_MAX).contains(&ttl) {
+            return Err(MemberFault::BadTtl);
+        }
+        match Beginning::new(alloc, header) {
+            Ok(beginning) => Ok(Member::with(alloc, beginning, terms, process, ttl)),
+            Err(_) => Err(MemberFault::OutOfMemory),
+        }
+    }
+
+    // The same behind a log of which nothing was learned, if nothing is wrong with the terms.
+    fn with(alloc: Global, beginning: Beginning, terms: Terms, process: u64, ttl: u64) -> Member
+        requires { IsMember beginning.follower terms ttl [] beginning.arrivals.items }
+        ensures { result ≡ member_with beginning.follower beginning.arrivals.items terms process ttl }
+    {
+        Member {
+            follower: beginning.follower,
+            terms,
+            process,
+            ttl,
+            life: LifeState::Absent,
+            tries: 0,
+            promised: 0,
+            own: Promise { epoch: 0, place: 0 },
+            presences: Vec::new(alloc),
+            arrivals: beginning.arrivals,
+            has_strangers: false,
+            is_wished: false,
+            must_look: true,
+            unrest: Unrest { at: 0, place: 0 },
+            is_past: false,
+            has_closed: false,
+            work: Work::Idle,
+            ending: None,
+            paused: None,
+            asked: None,
+        }
+    }
+
+    /// What it has learned, and of how many rows.
+    pub fn follower(&self) -> &Follower
+        ensures { result.now ≡ self.now.follower }
+    {
+        &self.follower
+    }
+
+    /// What it has learned.
+    pub fn replica(&self) -> &Replica
+        ensures { result.now ≡ replica_of self.now }
+    {
+        self.follower.replica()
+    }
+
+    /// The end of the log, as far as it was learned: how many rows stand behind the header.
+    pub fn place(&self) -> u32
+        ensures { result ≡ place_of self.now }
+    {
+        self.follower.replica().events()
+    }
+
+    /// Which epoch it is in, for which node, and what else that began with.
+    pub fn terms(&self) -> &Terms
+        ensures { result.now ≡ self.now.terms }
+    {
+        &self.terms
+    }
+
+    /// Whether its process has the presence of its node.
+    pub fn life(&self) -> LifeState
+        ensures { result ≡ self.now.life }
+    {
+        self.life
+    }
+
+    /// For how many nanoseconds its presence is sure yet: so long it may work on what it was told to begin.
+    pub fn sure_left(&self, now: u64) -> u64
+        ensures { result ≡ sure_left self.now.life self.now.ttl now }
+    {
+        sure_left(self.life, self.ttl, now)
+    }
+
+    /// Up to which place of this epoch its life has promised to be idle, whether or not the store heard of that.
+    pub fn promised(&self) -> u32
+        ensures { result ≡ self.now.promised }
+    {
+        self.promised
+    }
+
+    /// How far its work is.
+    pub fn work(&self) -> Work
+        ensures { result ≡ self.now.work }
+    {
+        self.work
+    }
+
+    /// Why it ends, if it does.
+    pub fn ending(&self) -> Option<Ending>
+        ensures { result ≡ self.now.ending }
+    {
+        self.ending
+    }
+
+    /// Who was present when it looked last.
+    pub fn presences(&self) -> &[Presence]
+        ensures { result.now ≡ self.now.presences }
+    {
+        &self.presences
+    }
+
+    /// Whether something else was wished for then.
+    pub fn is_wished(&self) -> bool
+        ensures { result ≡ self.now.is_wished }
+    {
+        self.is_wished
+    }
+}

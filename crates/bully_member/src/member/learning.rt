@@ -1,0 +1,161 @@
+//! What a member learns of its epoch's log, and how it goes on in the next one.
+ghost use Rattle.std.specs.Prelude.{◌≡◌, ◌≤◌, IfErr, IfOk, List, None, OnOk, Some, [], true, false, replicate};
+ghost use Rattle.bully_member.specs.Learned.{RefusesTerms, ending_behind, followed, in_epoch, is_broken, is_following, is_of_log, learned, not_there};
+ghost use Rattle.bully_member.specs.Member.{nobody_yet};
+ghost use Rattle.bully_member.specs.Opening.{terms_fault};
+ghost use Rattle.bully_replica.specs.Following.{FollowsUpTo, Stops};
+ghost use Rattle.bully_rows.specs.Headers.{Record};
+ghost use Rattle.bully_rows.specs.declared.TheConstants.{ROWS_MAX};
+ghost use Rattle.bully_member.specs.Told.{end_for, to_pause};
+ghost use Rattle.bully_member.specs.declared.values.Ending.{Ending as EndingState};
+
+use super::{Beginning, Member};
+use crate::opening::{MemberFault, Terms, terms_fault};
+use crate::values::{Asked, Ending, Promise, Request, Unrest};
+use bully_replica::{FollowFault, Follower};
+use bully_rows::{Header, RowReader, TraceCause};
+use std::alloc::Global;
+use std::io::Read;
+
+impl Member {
+    /// Learns the rows that a look found behind all that it has learned, as [`Follower::take_all`] does. If one isn't learned, but
+    /// for want of memory or since it can't be read, or if one tells no event, the member ends as `Broken`.
+    pub fn learn<R: Read + Drop>(
+        &mut self,
+        alloc: Global,
+        reader: &mut RowReader<R>,
+    ) -> Result<(), FollowFault>
+        ensures all { OnOk result ((records : List Record) → reader.old.records ≡ Some records → FollowsUpTo records self.old.follower self.new.follower []) }
+        ensures part { IfErr result (λ fault. (records : List Record) → reader.old.records ≡ Some records
+            → (left : List Record) × FollowsUpTo records self.old.follower self.new.follower left × Stops reader.old self.old.follower left self.new.follower fault) }
+        ensures rest { self.new ≡ learned self.old self.new.follower result }
+        ensures counted { self.old.follower.rows ≤ self.new.follower.rows }
+        ensures within { self.new.follower.rows ≤ ROWS_MAX }
+    {
+        let taken = self.follower.take_all(alloc, reader);
+        self.ending = ending_behind(self.ending, is_broken(&self.follower, &taken));
+        taken
+    }
+
+    /// The rows that a look found can't even be read as rows: the member ends as `Broken`.
+    pub fn broken(&mut self)
+        ensures { self.new ≡ end_for self.old EndingState.Broken self.old.ending }
+    {
+        self.end_for(Ending::Broken);
+    }
+
+    /// What the current epoch began with: the member goes on there, by its life, and has learned nothing of it. Nothing changes if that isn't
+    /// awaited; and if it is no later epoch than that in which the member is, this one isn't over: it looks again in a moment. Refused, and then nothing changes, by the first
+    /// that holds: `BadNode`, `TableLength`, `BadRowsMax`, `OutOfMemory`.
+    pub fn followed(
+        &mut self,
+        alloc: Global,
+        now: u64,
+        header: Header,
+        terms: Terms,
+    ) -> Result<(), MemberFault>
+        ensures ok { OnOk result (self.new ≡ followed self.old now header terms) }
+        ensures can { OnOk result (terms_fault header.setup terms ≡ None) }
+        ensures fault { IfErr result (RefusesTerms (terms_fault header.setup terms)) }
+        ensures unchanged { IfErr result (λ _. self.new ≡ self.old) }
+    {
+        if let Some(fault) = terms_fault(&header.setup, &terms) {
+            return Err(fault);
+        }
+        if !is_following(self.asked) {
+            return Ok(());
+        }
+        if terms.epoch <= self.terms.epoch {
+            self.stay_in_epoch(now);
+            return Ok(());
+        }
+        match Beginning::new(alloc, header) {
+            Ok(beginning) => {
+                self.begin_epoch(alloc, now, beginning, terms);
+                Ok(())
+            }
+            Err(_) => Err(MemberFault::OutOfMemory),
+        }
+    }
+
+    // The epoch isn't over, as it seemed.
+    fn stay_in_epoch(&mut self, now: u64)
+        ensures { self.new ≡ to_pause (record self.old { asked = None; is_past = false; must_look = true }) now }
+    {
+        self.asked = None;
+        self.is_past = false;
+        self.must_look = true;
+        self.paused = Some(now);
+    }
+
+    /// The current epoch's group has no node of the member's name: it ends. Nothing changes if a follow isn't awaited.
+    pub fn not_there(&mut self)
+        ensures { self.new ≡ not_there self.old }
+    {
+        if is_following(self.asked) {
+            self.asked = None;
+            self.end_for(Ending::NotThere);
+        }
+    }
+
+    // It goes on in this epoch, of whose log nothing was learned.
+    fn begin_epoch(&mut self, alloc: Global, now: u64, beginning: Beginning, terms: Terms)
+        requires fits { terms_fault beginning.follower.replica.world.setup terms ≡ None }
+        requires nobody { beginning.arrivals.items ≡ replicate beginning.follower.replica.world.setup.nodes nobody_yet }
+        ensures { self.new ≡ in_epoch self.old now beginning.follower terms }
+    {
+        self.follower = beginning.follower;
+        self.arrivals = beginning.arrivals;
+        self.terms = terms;
+        self.promised = 0;
+        self.own = Promise { epoch: 0, place: 0 };
+        self.presences = Vec::new(alloc);
+        self.has_strangers = false;
+        self.is_wished = false;
+        self.must_look = true;
+        self.unrest = Unrest { at: now, place: 0 };
+        self.is_past = false;
+        self.has_closed = false;
+        self.asked = None;
+    }
+}
+
+// Whether no member can go on behind what was learned.
+fn is_broken(follower: &Follower, taken: &Result<(), FollowFault>) -> bool
+    ensures { result ≡ is_broken follower.now taken.now }
+{
+    match taken {
+        Ok(()) => follower.rows() != follower.replica().events(),
+        Err(fault) => is_of_log(*fault),
+    }
+}
+
+// Why a member ends, if its log may be broken.
+fn ending_behind(ending: Option<Ending>, is_broken: bool) -> Option<Ending>
+    ensures { result ≡ ending_behind ending is_broken }
+{
+    match ending {
+        None if is_broken => Some(Ending::Broken),
+        _ => ending,
+    }
+}
+
+// Whether the fault is the log's.
+fn is_of_log(fault: FollowFault) -> bool
+    ensures { result ≡ is_of_log fault }
+{
+    match fault {
+        FollowFault::Form(TraceCause::OutOfMemory | TraceCause::Read) => false,
+        FollowFault::Form(_) | FollowFault::Violation(_) => true,
+    }
+}
+
+// Whether a follow is awaited.
+fn is_following(asked: Option<Asked>) -> bool
+    ensures { result ≡ is_following asked }
+{
+    match asked {
+        Some(asked) => matches!(asked.request, Request::Follow),
+        None => false,
+    }
+}

@@ -1,0 +1,57 @@
+//! What a member's node owns, and what settles its group.
+ghost use Rattle.std.specs.Prelude.{◌≡◌, ◌↔◌, ◌+◌, ◌<◌, ◌≤◌, IfErr, IfOk, List, All, length};
+ghost use Rattle.bully_calls.specs.declared.event.Event.{Event as EventState};
+ghost use Rattle.bully_member.specs.Member.{place_of, replica_of};
+ghost use Rattle.bully_member.specs.Settlement.{settlement, settlers};
+ghost use Rattle.bully_replica.specs.Replica.{IsLogOf};
+ghost use Rattle.bully_settling.specs.Owning.{owned_by};
+ghost use Rattle.bully_settling.specs.Settling.{Settles, table_before};
+ghost use Rattle.bully_settling.specs.declared.settling.SettleFault.{SettleFault as FaultState};
+
+use super::Member;
+use bully_base::{NodeSet, OutOfMemory};
+use bully_settling::{Owned, SettleFault, owned, settle};
+use bully_world::Event;
+use std::alloc::Global;
+
+impl Member {
+    /// What its node owns, by a plan behind all that its life has promised: the token, and the partitions. None if it owns nothing. Refused if
+    /// an allocation fails.
+    pub fn owned(&self, alloc: Global) -> Result<Option<Owned>, OutOfMemory>
+        ensures { IfOk result (λ owned. owned ≡ owned_by (replica_of self.now) self.now.terms.node self.now.promised) }
+    {
+        owned(
+            alloc,
+            self.follower.replica(),
+            self.terms.node,
+            self.promised,
+        )
+    }
+
+    /// What an `Append` appends: the events that settle the group among those that are present, as [`settle`] gives them; if the member was
+    /// told to leave, among nobody. Refused as that is.
+    pub fn settlement(&self, alloc: Global) -> Result<Vec<Event>, SettleFault>
+        ensures events { IfOk result (λ events. events.items ≡ settlement self.now) }
+        ensures settles { IfOk result (λ events. (log : List EventState) → IsLogOf (replica_of self.now) log
+            → Settles (replica_of self.now).world.setup log (table_before (replica_of self.now).last self.now.terms.old) (settlers self.now) events.items) }
+        ensures full { IfErr result (λ fault. (fault ≡ FaultState.Full) ↔ ((replica_of self.now).world.setup.events_max < place_of self.now + length (settlement self.now))) }
+    {
+        settle(
+            alloc,
+            self.follower.replica(),
+            &self.settlers(),
+            self.terms.old.as_ref(),
+        )
+    }
+
+    // Among which nodes it settles the group.
+    fn settlers(&self) -> NodeSet
+        ensures settlers { result ≡ settlers self.now }
+        ensures nodes { All (λ m. m ≤ (replica_of self.now).world.setup.nodes) result }
+    {
+        match self.ending {
+            None => self.present(),
+            Some(_) => NodeSet::new(),
+        }
+    }
+}

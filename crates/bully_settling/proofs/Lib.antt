@@ -1,0 +1,14 @@
+pub mod PartitionLemmas
+pub mod OwnLemmas
+pub mod RestLemmas
+pub mod SizeLemmas
+pub mod SettleLemmas
+pub mod RestWorks
+pub mod Reaching
+pub mod Electing
+pub mod Telling
+pub mod Preparing
+pub mod Crashing
+pub mod Gathering
+pub mod Resettling
+pub mod SettledLemmas

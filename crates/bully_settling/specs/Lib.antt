@@ -1,0 +1,3 @@
+pub mod Owning
+pub mod Resting
+pub mod Settling

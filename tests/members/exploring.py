@@ -1,0 +1,174 @@
+"""All states of a small store and of what is under way between it and its members, up to a bound: does any reach what must not be?
+
+Abstract: an append is one plan. A place is a number, EPOCH * 100 + ROWS with the header, so places of a later epoch are higher, and the last
+plan stands one before the end of the log, if more than the header is there. A member looks, asks, gives up, begins and stops work whenever it
+may. Requests are done in any order, late, or never. A presence may end at any time, and work by it has ended then: that is the clocks'
+premise. Wrong is that one works by another plan than the last one of the current epoch, or that a node uses a token below one that it used,
+or uses it again in another life.
+"""
+from __future__ import annotations
+
+from collections import deque
+from typing import Deque, Dict, FrozenSet, Iterator, NamedTuple, Optional, Tuple
+
+EPOCH = 100
+FIRST = EPOCH + 1  # the end of a log of the first epoch with its header alone
+
+# Conditions that may be left out, one at a time. Each has to lead to what is wrong.
+CONDITIONS = (
+    'append while not idle', 'append anywhere', 'finish while not idle', 'finish anywhere', 'take anywhere', 'take promises nothing',
+    'promise forgotten', 'promises while it works', 'promise lost',
+)  # fmt: skip
+
+
+class Bounds(NamedTuple):
+    nodes: int = 2
+    rows: int = 2  # plans of an epoch
+    epochs: int = 2
+    lives: int = 2
+    under_way: int = 2
+
+
+class Node(NamedTuple):
+    """What the store has of a node: a life (0: none), and its promise. And what its process knows: its life; the one that it asks for; how
+    many it asked for; up to where it has read; what its life has promised; the plan by which it works (0: none); and what it used last, in
+    which life."""
+
+    held: int = 0
+    promise: int = 0
+    life: int = 0
+    asking: int = 0
+    lives: int = 0
+    learned: int = FIRST
+    promised: int = 0
+    work: int = 0
+    used: Tuple[int, int] = (0, 0)
+
+
+class Request(NamedTuple):
+    """What is under way: of which node (-1: of any), for which life, at which place."""
+
+    kind: str
+    node: int
+    life: int
+    place: int
+
+
+class State(NamedTuple):
+    end: int
+    nodes: Tuple[Node, ...]
+    asked: FrozenSet[Request] = frozenset()
+
+
+Way = Tuple[str, State]
+
+
+def plan_before(end: int) -> int:
+    """The last plan of a log that ends there; 0, if it has none."""
+    return end - 1 if end % EPOCH > 1 else 0
+
+
+class Explorer:
+    """The states within some bounds, with one condition left out, or none."""
+
+    def __init__(self, bounds: Bounds, without: str = '') -> None:
+        self.bounds, self.without = bounds, without
+
+    def steps(self, state: State) -> Iterator[Way]:
+        for number in range(len(state.nodes)):
+            yield from self.steps_of(state, number)
+        for request in sorted(state.asked):
+            rest = state._replace(asked=state.asked - {request})
+            yield from self.done_to_log(rest, request) if request.node < 0 else self.done_to_node(rest, request)
+
+    def steps_of(self, state: State, number: int) -> Iterator[Way]:
+        node, end = state.nodes[number], state.end
+
+        def to(more: Optional[Request] = None, **changes: object) -> State:
+            nodes = (*state.nodes[:number], node._replace(**changes), *state.nodes[number + 1 :])  # type: ignore[arg-type]
+            return state._replace(nodes=nodes, asked=state.asked | ({more} if more else frozenset()))
+
+        has_room = len(state.asked) < self.bounds.under_way
+        if not node.life and not node.asking and node.lives < self.bounds.lives and has_room:
+            life, promised = node.lives + 1, 0 if self.without == 'take promises nothing' else node.learned
+            yield 'asks for a presence', to(Request('take', number, life, node.learned), asking=life, lives=life, promised=promised)
+        if node.asking:
+            yield 'gives up', to(asking=0)
+        if node.learned != end:
+            yield 'looks', to(learned=end)
+        if node.life and (not node.work or self.without == 'promises while it works') and has_room:
+            promised = node.promised if self.without == 'promise forgotten' else node.learned
+            yield 'asks to be idle', to(Request('promise', number, node.life, node.learned), promised=promised)
+        if node.life and has_room:
+            for kind in ('append', 'finish'):
+                yield f'asks to {kind}', to(Request(kind, -1, 0, node.learned))
+        plan = plan_before(node.learned)
+        if node.life and node.held == node.life and not node.work and plan and plan >= node.promised:
+            yield 'begins', to(work=plan, used=(plan, node.life))
+        if node.work:
+            yield 'stops', to(work=0)
+        if node.held:
+            yield 'presence ends', to(held=0, promise=0, work=0, life=0 if node.life == node.held else node.life)
+        if node.held and self.without == 'promise lost':
+            yield 'promise is lost', to(promise=end)
+
+    def done_to_log(self, state: State, request: Request) -> Iterator[Way]:
+        end = state.end
+        promises = {node.promise for node in state.nodes if node.held}
+        is_idle = promises == {request.place} or self.without == f'{request.kind} while not idle' and bool(promises)
+        is_there = end == request.place or self.without == f'{request.kind} anywhere'
+        after = end + 1 if request.kind == 'append' else (end // EPOCH + 1) * EPOCH + 1
+        is_within = after % EPOCH <= self.bounds.rows + 1 and after // EPOCH <= self.bounds.epochs
+        done = is_idle and is_there and is_within
+        yield f'{request.kind} is {"done" if done else "refused"}', state._replace(end=after if done else end)
+
+    def done_to_node(self, state: State, request: Request) -> Iterator[Way]:
+        node = state.nodes[request.node]
+
+        def to(**changes: object) -> State:
+            nodes = (*state.nodes[: request.node], node._replace(**changes), *state.nodes[request.node + 1 :])  # type: ignore[arg-type]
+            return state._replace(nodes=nodes)
+
+        if request.kind == 'promise':
+            yield 'is idle', to(promise=max(request.place, node.promise)) if node.held == request.life else state
+        elif node.held or state.end != request.place and self.without != 'take anywhere':
+            yield 'presence is refused', to(asking=0 if node.asking == request.life else node.asking)
+        else:
+            promise = 0 if self.without == 'take promises nothing' else request.place
+            yield 'is present', to(held=request.life, promise=promise)
+            if node.asking == request.life and not node.life:
+                yield 'is present, and knows', to(held=request.life, promise=promise, life=request.life, asking=0)
+
+    def explore(self, most: int) -> Tuple[Optional[str], int]:
+        """How what must not be is reached, if it is, by the fewest steps; and how many states were seen, which is `most` if there are more."""
+        first = State(FIRST, (Node(),) * self.bounds.nodes)
+        seen: Dict[State, Optional[Tuple[State, str]]] = {first: None}
+        queue: Deque[State] = deque([first])
+        while queue and len(seen) < most:
+            state = queue.popleft()
+            for what, after in self.steps(state):
+                wrong = wrong_with(state, after)
+                if wrong:
+                    return f'{wrong}: {path_to(seen, state, what)}', len(seen)
+                if after not in seen:
+                    seen[after] = state, what
+                    queue.append(after)
+        return None, len(seen)
+
+
+def path_to(seen: Dict[State, Optional[Tuple[State, str]]], state: State, what: str) -> str:
+    path, before = [what], seen[state]
+    while before is not None:
+        path.append(before[1])
+        before = seen[before[0]]
+    return f'{len(path)} steps: {", ".join(reversed(path))}'
+
+
+def wrong_with(before: State, after: State) -> Optional[str]:
+    last = plan_before(after.end)
+    for old, new in zip(before.nodes, after.nodes):
+        if new.work and new.work != last:
+            return f'a node works by {new.work}, and the last plan is {last}'
+        if new.used != old.used and (new.used[0] < old.used[0] or new.used[0] == old.used[0] and new.used[1] != old.used[1]):
+            return f'a node uses {new.used} behind {old.used}'
+    return None
