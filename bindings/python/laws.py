@@ -1,11 +1,15 @@
-"""What each store of a shared log does: tests that `test_members.py` and `test_etcd.py` have for their stores."""
+"""What each store of a shared log does: tests that `test_stores.py` and `test_etcd.py` have for their stores."""
+import contextlib
 import random
+import socket
 import threading
 import time
 import unittest
-from typing import TYPE_CHECKING, Callable, FrozenSet, List, Optional, Tuple
+from typing import TYPE_CHECKING, Callable, Dict, List, Optional, Tuple
 
-from bully.logs import Log, MemoryLog
+from bully.epochs import Opening
+from bully.logs import SECOND, Holder, Log, LogError, MemoryLog, NoEpoch
+from bully.member import Life, Promise, Until
 
 if TYPE_CHECKING:
     Tests = unittest.TestCase
@@ -13,7 +17,10 @@ else:
     Tests = object
 
 HEADER = 'bully,1,3,6'
+OPENING = Opening.first(HEADER)
 PATIENCE = 60.0
+A, B, C = Life(2**64 - 1, 1), Life(7, 1), Life(7, 2)
+EMPTY = Promise(1, 0)
 
 
 def wait_until(is_so: Callable[[], object]) -> None:
@@ -29,34 +36,68 @@ class Clock:
     """A clock that stands, until it is set."""
 
     def __init__(self) -> None:
-        self.now = 100.0
+        self.now = 100 * SECOND
 
-    def __call__(self) -> float:
+    def __call__(self) -> int:
         return self.now
 
 
-def looked(log: Log, place: int) -> Tuple[List[str], FrozenSet[int], Optional[str]]:
-    """What a look from that place on finds."""
-    rows, present, wish = log.look(place)
-    return list(rows), present, wish
+def present(log: Log) -> Dict[str, Holder]:
+    """Who is present."""
+    return dict(log.look(1, 0).presences)
+
+
+def looked(log: Log, epoch: int, place: int) -> object:
+    """What a look finds."""
+    found = log.look(epoch, place)
+    return found.epoch, list(found.rows), dict(found.presences), found.wish
+
+
+def end_of(log: Log) -> Promise:
+    """The end of the log."""
+    epoch = log.epochs()[-1]
+    return Promise(epoch, len(log.read(epoch, 0)))
+
+
+def be_idle(log: Log, *presences: Tuple[str, Life], here: Optional[Promise] = None) -> Promise:
+    """These promise the end of the log, or that place."""
+    there = here or end_of(log)
+    for name, life in presences:
+        assert log.promise(name, life, there), (name, life, there)
+    return there
+
+
+def add(log: Log, rows: List[str], name: str = 'a', life: Life = A) -> Promise:
+    """The rows are appended, while that one alone is present. The end of the log."""
+    here = be_idle(log, (name, life))
+    assert log.append(here.epoch, here.place, rows), here
+    return Promise(here.epoch, here.place + len(rows))
 
 
 class Laws(Tests):
     """The laws of a store."""
 
-    TTL = 5.0  # seconds
-    PACK = 1000  # rows that the store keeps or reads together
-    MOST = 1001  # rows of an append
+    TTL = 5 * SECOND
+    LONG = 1000 * SECOND  # longer than a test
+    PAGE = 10  # appends that the store reads together
 
-    def pair(self) -> Tuple[Log, Log]:
-        """Two handles of one new log, which has HEADER alone. They are closed at the end of the test."""
+    def created(self) -> Log:
+        """A new log, which has begun with OPENING. It is closed at the end of the test."""
         raise NotImplementedError
 
-    def now(self) -> float:
+    def handle(self, log: Log) -> Log:
+        """Another handle of the log, as another process has one."""
+        raise NotImplementedError
+
+    def pair(self) -> Tuple[Log, Log]:
+        log = self.created()
+        return log, self.handle(log)
+
+    def now(self) -> int:
         """The time by which presences last."""
         raise NotImplementedError
 
-    def pass_time(self, seconds: float) -> None:
+    def pass_time(self, time: int) -> None:
         """So much time passes."""
         raise NotImplementedError
 
@@ -64,122 +105,440 @@ class Laws(Tests):
         """The time passes that the presences of the log last, and not much more."""
         raise NotImplementedError
 
-    def test_append(self) -> None:
-        log, other = self.pair()
-        self.assertTrue(log.append(1, ['recover,1', 'start,1']))
-        for place in (0, 1, 2, 4):
-            self.assertFalse(other.append(place, ['recover,2']))
-        self.assertTrue(other.append(3, ['recover,2']))
-        self.assertEqual(list(log.read(0)), [HEADER, 'recover,1', 'start,1', 'recover,2'])
-        self.assertEqual([list(log.read(place)) for place in (3, 4, 9)], [['recover,2'], [], []])
+    # Presences.
 
-    def test_many_rows(self) -> None:
-        """Whatever is kept or read together, the rows are the same."""
-        choice, (log, other) = random.Random(1), self.pair()
-        rows = [HEADER]
-        while len(rows) < 5 * self.PACK:
-            count = choice.choice([1, 2, self.MOST - 2, self.MOST - 1, self.MOST, choice.randint(1, self.MOST // 2)])
-            more = [f'start,{choice.randint(1, 3)}' for _ in range(count)]
-            self.assertTrue(log.append(len(rows), more))
-            rows += more
-            for place in {0, 1, len(rows) - 1, len(rows), len(rows) + 1, choice.randrange(len(rows)), len(rows) // self.PACK * self.PACK}:
-                self.assertEqual(list(log.read(place)), rows[place:])
-                self.assertEqual(len(log.look(place).rows), len(rows[place:]))
-        self.assertEqual(list(other.read(0)), rows)
-
-    def test_absent(self) -> None:
+    def test_take(self) -> None:
         log, other = self.pair()
-        self.assertTrue(log.hold(2, 'x', self.TTL, False))
-        self.assertFalse(other.append(1, ['recover,1'], absent=2))
-        self.assertTrue(other.append(1, ['recover,1'], absent=1))
-        self.pass_end(other)
-        self.assertTrue(other.append(2, ['recover,2'], absent=2))
+        for promise in (Promise(1, 1), Promise(2, 0), Promise(0, 0), Promise(0, 1)):
+            self.assertFalse(log.take('a', A, promise, self.TTL), 'the log does not end there')
+        self.assertTrue(log.take('a', A, EMPTY, self.LONG))
+        for life in (A, B):
+            self.assertFalse(other.take('a', life, EMPTY, self.LONG))
+        self.assertTrue(other.take('b', B, EMPTY, self.LONG))
+        self.assertEqual(present(log), {'a': Holder(A, EMPTY), 'b': Holder(B, EMPTY)})
+        other.release('a', B)
+        self.assertEqual(set(present(log)), {'a', 'b'})
+        other.release('a', A)
+        self.assertEqual(set(present(log)), {'b'})
 
-    def test_presence(self) -> None:
+    def test_take_behind_rows(self) -> None:
+        """A life takes its presence at the end of the log alone, which is what it has promised."""
         log, other = self.pair()
-        self.assertFalse(log.hold(2, 'x', self.TTL, True))
-        self.assertTrue(log.hold(2, 'x', self.TTL, False))
-        for life, renews in (('x', False), ('y', False), ('y', True)):
-            self.assertFalse(other.hold(2, life, 10 * self.TTL, renews))
+        self.assertTrue(log.take('a', A, EMPTY, self.LONG))
+        end = add(log, ['recover,1', 'start,1'])
+        for place in (0, 1, 3):
+            self.assertFalse(other.take('b', B, Promise(1, place), self.LONG))
+        self.assertTrue(other.take('b', B, end, self.LONG))
+        self.assertEqual(present(log)['b'], Holder(B, Promise(1, 2)))
+
+    def test_renewals(self) -> None:
+        log, other = self.pair()
+        self.assertFalse(log.renew('a', A, self.TTL))
+        self.assertTrue(log.take('a', A, EMPTY, self.TTL))
+        self.assertFalse(other.renew('a', B, 10 * self.TTL))
         begun = self.now()
         while self.now() < begun + 2 * self.TTL:
-            self.pass_time(self.TTL / 5)
-            self.assertTrue(log.hold(2, 'x', self.TTL, True))
-        self.assertEqual(other.present(), {2})
+            self.pass_time(self.TTL // 5)
+            self.assertTrue(log.renew('a', A, self.TTL))
+        self.assertEqual(set(present(other)), {'a'})
         self.pass_end(other)
-        self.assertEqual(other.present(), set())
-        self.assertFalse(log.hold(2, 'x', self.TTL, True), 'a presence that has ended is not renewed')
-        self.assertTrue(other.hold(2, 'y', self.TTL, False))
-        log.release(2, 'x')
-        self.assertEqual(log.present(), {2})
-        other.release(2, 'y')
-        self.assertEqual(log.present(), set())
+        self.assertEqual(present(other), {})
+        self.assertFalse(log.renew('a', A, self.TTL), 'a presence that has ended is not renewed')
+        self.assertTrue(other.take('a', B, EMPTY, self.LONG))
+        log.release('a', A)
+        self.assertEqual(present(log), {'a': Holder(B, EMPTY)})
 
     def test_closing(self) -> None:
         """Presences stay."""
         log, other = self.pair()
-        self.assertTrue(log.hold(3, 'x', 100 * self.TTL, False))
+        self.assertTrue(log.take('c', A, EMPTY, self.LONG))
         log.close()
-        self.assertEqual(other.present(), {3})
+        self.assertEqual(set(present(other)), {'c'})
+
+    def test_names(self) -> None:
+        """They are told apart, whatever is in them."""
+        log, other = self.pair()
+        names = ['a', 'a/b', 'a/', '/', 'life/a', 'promise', 'größer', ' ', 'a\nb', '\U0001f600', "'", '"', '%', 'A', 'x' * 200]
+        for number, name in enumerate(names):
+            self.assertTrue(log.take(name, Life(number, number), EMPTY, self.LONG), name)
+        for name in names[::2]:
+            self.assertTrue(log.promise(name, present(log)[name].life, Promise(1, 7)), name)
+        wanted = {name: Holder(Life(number, number), EMPTY if number % 2 else Promise(1, 7)) for number, name in enumerate(names)}
+        self.assertEqual(present(other), wanted)
+
+    # Promises.
+
+    def test_promises_rise(self) -> None:
+        """Whatever comes late, the latest one stays."""
+        log, other = self.pair()
+        self.assertFalse(log.promise('a', A, Promise(1, 3)))
+        self.assertTrue(log.take('a', A, EMPTY, self.LONG))
+        most = EMPTY
+        told = [(1, 12), (1, 3), (1, 9), (1, 13), (2, 2), (1, 999_999), (2, 1), (2, 10), (2, 9), (10, 0), (9, 5), (3, 100)]
+        for place in told:
+            self.assertTrue((log, other)[place[1] % 2].promise('a', A, Promise(*place)))
+            most = max(most, Promise(*place))
+            self.assertEqual(present(other)['a'].promise, most)
+        self.assertFalse(other.promise('a', B, Promise(11, 0)))
+        self.assertEqual(present(log), {'a': Holder(A, Promise(10, 0))})
+
+    def test_a_renewal_keeps_the_promise(self) -> None:
+        log, other = self.pair()
+        self.assertTrue(log.take('a', A, EMPTY, self.TTL))
+        self.assertTrue(other.promise('a', A, Promise(1, 5)))
+        for renews, ttl in ((log, self.TTL), (other, self.TTL), (log, 2 * self.TTL), (other, 3 * self.TTL)):
+            self.assertTrue(renews.renew('a', A, ttl))
+            self.assertEqual(present(log), {'a': Holder(A, Promise(1, 5))})
+        self.pass_time(3 * self.TTL // 2)
+        self.assertEqual(present(other), {'a': Holder(A, Promise(1, 5))}, 'also when earlier renewals are over')
+        self.assertFalse(other.append(1, 0, ['recover,1']))
+
+    def test_late_requests(self) -> None:
+        """What a life asks for behind its presence's end does nothing, also while another one has it."""
+        log, other = self.pair()
+        self.assertTrue(log.take('a', A, EMPTY, self.TTL))
+        self.pass_end(other)
+        self.assertFalse(log.append(1, 0, ['recover,1']))
+        for is_taken in (False, True):
+            self.assertEqual(other.take('a', B, EMPTY, self.LONG), is_taken) if is_taken else None
+            self.assertFalse(log.promise('a', A, Promise(1, 4)))
+            self.assertFalse(log.renew('a', A, self.LONG))
+            self.assertEqual(present(other), {'a': Holder(B, EMPTY)} if is_taken else {})
+        log.release('a', A)
+        self.assertEqual(present(other), {'a': Holder(B, EMPTY)})
+
+    def test_a_new_life(self) -> None:
+        """It has promised what it took its presence with, whatever the one before did."""
+        log, other = self.pair()
+        self.assertTrue(log.take('a', A, EMPTY, self.TTL))
+        self.assertTrue(log.promise('a', A, Promise(1, 8)))
+        self.pass_end(other)
+        self.assertTrue(other.take('a', B, EMPTY, self.LONG))
+        self.assertEqual(present(log), {'a': Holder(B, EMPTY)})
+        other.release('a', B)
+        self.assertTrue(log.take('a', C, EMPTY, self.LONG))
+        self.assertFalse(other.promise('a', B, Promise(1, 3)))
+        self.assertEqual(present(other), {'a': Holder(C, EMPTY)})
+
+    # Rows.
+
+    def test_append(self) -> None:
+        log, other = self.pair()
+        self.assertFalse(log.append(1, 0, ['recover,1']), 'nobody is present')
+        self.assertTrue(log.take('a', A, EMPTY, self.LONG))
+        for epoch, place in ((1, 1), (2, 0), (0, 0)):
+            self.assertFalse(log.append(epoch, place, ['recover,1']))
+        self.assertTrue(log.append(1, 0, ['recover,1', 'start,1']))
+        self.assertFalse(other.append(1, 0, ['recover,2']), 'it comes late')
+        self.assertFalse(other.append(1, 2, ['recover,2']), 'nobody has promised that')
+        self.assertTrue(other.promise('a', A, Promise(1, 2)))
+        self.assertTrue(other.append(1, 2, ['recover,2']))
+        self.assertEqual(list(log.read(1, 0)), ['recover,1', 'start,1', 'recover,2'])
+        self.assertEqual([list(log.read(1, place)) for place in (1, 2, 3, 9)], [['start,1', 'recover,2'], ['recover,2'], [], []])
+        for epoch in (0, 2):
+            with self.assertRaises(NoEpoch):
+                log.read(epoch, 0)
+
+    def test_rows_that_are_none(self) -> None:
+        log, _ = self.pair()
+        self.assertTrue(log.take('a', A, EMPTY, self.LONG))
+        none: List[List[str]] = [[], ['recover,1\n'], ['recover,1\nrecover,2']]
+        for rows in none:
+            with self.assertRaises(ValueError):
+                log.append(1, 0, rows)
+        self.assertEqual(list(log.read(1, 0)), [])
+
+    def test_all_have_to_be_idle(self) -> None:
+        """At exactly that place: strangers, too, and whoever has promised more."""
+        log, other = self.pair()
+        for name, life in (('1', A), ('2', B), ('stranger', C)):
+            self.assertTrue(log.take(name, life, EMPTY, self.LONG))
+        self.assertTrue(log.append(1, 0, ['recover,1']))
+        here = Promise(1, 1)
+        for name, life in (('1', A), ('2', B), ('stranger', C)):
+            self.assertFalse(other.append(1, 1, ['recover,2']))
+            self.assertTrue(other.promise(name, life, here))
+        self.assertTrue(other.append(1, 1, ['recover,2']))
+        be_idle(log, ('1', A), ('2', B))
+        self.assertFalse(log.append(1, 2, ['recover,3']))
+        self.assertTrue(log.promise('stranger', C, Promise(1, 3)))
+        self.assertFalse(log.append(1, 2, ['recover,3']), 'it knows more rows than there are')
+        log.release('stranger', C)
+        self.assertTrue(log.append(1, 2, ['recover,3']))
+        self.assertEqual(len(other.read(1, 0)), 3)
+
+    def test_who_is_gone_need_not_be_idle(self) -> None:
+        log, other = self.pair()
+        self.assertTrue(log.take('b', B, EMPTY, self.TTL))
+        self.assertTrue(log.append(1, 0, ['recover,1']))
+        self.pass_end(other)
+        self.assertFalse(log.append(1, 1, ['start,1']), 'nobody is present')
+        self.assertTrue(log.take('a', A, Promise(1, 1), self.LONG))
+        self.assertTrue(log.append(1, 1, ['start,1']))
+
+    def test_many_rows(self) -> None:
+        """Whatever is kept or read together, the rows are the same, from each place on."""
+        choice, (log, other) = random.Random(1), self.pair()
+        self.assertTrue(log.take('a', A, EMPTY, self.LONG))
+        rows: List[str] = []
+        for number in range(5 * self.PAGE):
+            more = [f'start,{choice.randint(1, 3)}' for _ in range(choice.choice([1, 1, 2, 3, 10, 1001]))]
+            add(log, more)
+            rows += more
+            if number % self.PAGE in (0, 1, self.PAGE - 1) or number < 5:
+                for place in {0, 1, len(rows) - 1, len(rows), len(rows) + 1, len(rows) - len(more), choice.randrange(len(rows))}:
+                    self.assertEqual(list(other.read(1, place)), rows[place:], place)
+                    self.assertEqual(list(other.look(1, place).rows), rows[place:], place)
+        self.assertEqual(len(other.read(1, 0)), len(rows))
+
+    def test_racers(self) -> None:
+        """Of many that append at one place one does, and each append stands as a whole."""
+        log = self.created()
+        self.assertTrue(log.take('a', A, EMPTY, self.LONG))
+        logs = [self.handle(log) for _ in range(4)]
+        done, refused = self.race(logs, 25)
+        rows = list(log.read(1, 0))
+        self.assertEqual((done, len(rows)), (25, 3 * 25))
+        self.assertEqual([rows[place : place + 3] for place in range(0, len(rows), 3)], [[rows[place]] * 3 for place in range(0, len(rows), 3)])
+        self.assertGreater(refused, 0, 'no two have met')
+
+    def race(self, logs: List[Log], times: int) -> Tuple[int, int]:
+        """Each handle appends so often, in a thread of its own. How many appends were done, and how many were refused."""
+        counts, barrier = [0, 0], threading.Barrier(len(logs))
+        guard = threading.Lock()
+
+        def run(number: int, log: Log) -> None:
+            for turn in range(times):
+                barrier.wait(PATIENCE)
+                here = be_idle(log, ('a', A))
+                barrier.wait(PATIENCE)
+                done = log.append(here.epoch, here.place, [f'{number},{turn}'] * 3)
+                with guard:
+                    counts[not done] += 1
+
+        threads = [threading.Thread(target=run, args=each) for each in enumerate(logs)]
+        for thread in threads:
+            thread.start()
+        for thread in threads:
+            thread.join()
+        return counts[0], counts[1]
+
+    # Whatever is asked.
 
     def test_as_in_memory(self) -> None:
-        """Whatever is asked for, the answer is that of a log in memory."""
-        choice, logs, memory = random.Random(2), self.pair(), MemoryLog([HEADER], Clock())
-        for number in range(300):
-            log, count, node, life = choice.choice(logs), len(memory.rows), choice.randint(1, 3), choice.choice('xyz')
-            rows, absent = [f'{life},{each}' for each in range(choice.randint(1, 3))], choice.choice([None, node])
-            place, renews = max(0, count + choice.choice([-2, -1, 0, 0, 0, 1])), choice.random() < 0.5
-            asked: List[Tuple[str, Callable[[Log], object]]] = [
-                (f'append {place} {rows} {absent}', lambda log: log.append(place, rows, absent)),
-                (f'hold {node} {life} {renews}', lambda log: log.hold(node, life, 100 * self.TTL, renews)),
-                (f'release {node} {life}', lambda log: log.release(node, life)), ('present', lambda log: log.present()),
-                (f'read {place}', lambda log: list(log.read(place))), (f'look {place}', lambda log: looked(log, place)),
-            ]  # fmt: skip
-            name, ask = choice.choice(asked)
-            self.assertEqual(ask(log), ask(memory), f'{number}: {name}')
+        """The answers are those of a log in memory."""
+        for seed in range(4):
+            memory, logs = MemoryLog(OPENING, Clock()), self.pair()
+            calls = Calls(random.Random(seed), memory)
+            for number in range(250):
+                name, ask = calls.choose()
+                log = calls.choice.choice(logs)
+                self.assertEqual(answer_of(ask, log), answer_of(ask, memory), f'seed {seed}, {number}: {name}')
+            self.assertGreater(min(calls.done.values()), 0, calls.done)
+
+
+def answer_of(ask: Callable[[Log], object], log: Log) -> object:
+    """What the log answers; or the kind of its error."""
+    try:
+        return ask(log)
+    except LogError as error:
+        return type(error)
+
+
+class Calls:
+    """Calls of a log, by chance: mostly such as are done, as far as a log in memory tells."""
+
+    TTL = 1000 * SECOND
+
+    def __init__(self, choice: random.Random, memory: MemoryLog) -> None:
+        self.choice, self.memory = choice, memory
+        self.done = dict.fromkeys(('take', 'promise', 'append', 'finish', 'ask'), 0)
+
+    def choose(self) -> Tuple[str, Callable[[Log], object]]:
+        """The name of a call, and the call."""
+        name, ask = self._chosen()
+        kind = name.split()[0]
+
+        def asked(log: Log) -> object:
+            told = ask(log)
+            if log is self.memory and kind in self.done:
+                self.done[kind] += bool(told)
+            return told
+
+        return name, asked
+
+    def _chosen(self) -> Tuple[str, Callable[[Log], object]]:
+        choice, memory = self.choice, self.memory
+        name, life = choice.choice('abc'), Life(choice.randint(1, 2), choice.randint(1, 2))
+        held = memory.presences.get(name)
+        if held is not None and choice.random() < 0.8:
+            life = held.life
+        is_odd = choice.random() < 0.2
+        epoch = max(1, memory.epoch + choice.choice([-1, -1, 0, 1]) * is_odd)
+        place = max(0, len(memory.rows) + choice.choice([-2, -1, 0, 1]) * is_odd)
+        promise, rows = Promise(epoch, place), [f'{name},{number}' for number in range(choice.randint(1, 4))]
+        wish = Opening(epoch + 1, 'bully,1,3,6', choice.choice([('a', 'b', 'c'), ('c', 'd', 'e')]), choice.choice([66, 500]))
+        opening = self._opening().next(choice.choice([memory.wish, memory.wish, None, wish]), (1, 2, 3, 1, 2, 0))
+        many, some = 8, 4
+        asked: List[Tuple[int, str, Callable[[Log], object]]] = [
+            (some, f'take {name} {life} {promise}', lambda log: log.take(name, life, promise, self.TTL)),
+            (2, f'renew {name} {life}', lambda log: log.renew(name, life, self.TTL)),
+            (some, f'release {name} {life}', lambda log: log.release(name, life)),
+            (some, f'promise {name} {life} {promise}', lambda log: log.promise(name, life, promise)),
+            (many, f'append {promise} {rows}', lambda log: log.append(epoch, place, rows)),
+            (some, f'finish {promise} {opening}', lambda log: log.finish(epoch, place, opening)),
+            (some, f'look {promise}', lambda log: looked(log, epoch, place)), (1, f'read {promise}', lambda log: list(log.read(epoch, place))),
+            (1, f'ask {wish} {epoch}', lambda log: log.ask(wish, epoch)), (1, f'cancel {epoch}', lambda log: log.cancel(epoch)),
+            (1, 'epochs', lambda log: log.epochs()), (1, f'opening {epoch}', lambda log: log.opening(epoch)),
+            (1, 'opening', lambda log: log.opening()), (1, f'prune {epoch - 1}', lambda log: log.prune(epoch - 1)),
+        ]  # fmt: skip
+        if choice.random() < 0.3 and not is_odd:  # all are idle up to the end of the log
+            idle = dict(memory.presences)
+            return 'promise of all', lambda log: [log.promise(each, idle[each].life, Promise(epoch, place)) for each in sorted(idle)]
+        _, told, ask = choice.choices(asked, [weight for weight, _, _ in asked])[0]
+        return told, ask
+
+    def _opening(self) -> Opening:
+        return self.memory.opening()
 
 
 class Waits(Tests):
     """What a wait of a store does, by the true clock."""
 
-    SHORT = 0.2  # seconds: a short presence
+    SHORT = SECOND // 5  # a short presence
+    LONG = 1000 * SECOND
 
-    def pair(self) -> Tuple[Log, Log]:
+    def created(self) -> Log:
         """The same as for `Laws`."""
         raise NotImplementedError
 
-    def test_wait(self) -> None:
+    def handle(self, log: Log) -> Log:
+        """The same."""
+        raise NotImplementedError
+
+    def pair(self) -> Tuple[Log, Log]:
+        log = self.created()
+        return log, self.handle(log)
+
+    def ends_by(self, act: Callable[[], object], wait: Callable[[float], None]) -> None:
+        """The wait ends by the act, before its time."""
+        later = threading.Timer(0.05, act)
+        later.start()
+        begun = time.monotonic()
+        wait(PATIENCE)
+        self.assertLess(time.monotonic(), begun + PATIENCE)
+        later.join()
+
+    def test_news(self) -> None:
         log, other = self.pair()
+        wish = OPENING.after(None)
         acts: List[Callable[[], object]] = [
-            lambda: other.append(1, ['recover,1']), lambda: other.hold(1, 'x', self.SHORT, False), lambda: None,
-            lambda: other.hold(1, 'x', 50, False), lambda: other.release(1, 'x'), lambda: other.append(2, ['recover,2', 'start,1']),
+            lambda: other.take('1', A, EMPTY, self.LONG), lambda: other.take('2', B, EMPTY, self.SHORT), lambda: None,
+            lambda: other.append(1, 0, ['recover,1']), lambda: other.release('1', A), lambda: other.take('1', B, Promise(1, 1), self.LONG),
+            lambda: other.ask(wish, 1), lambda: other.cancel(1), lambda: other.promise('1', B, Promise(1, 1)) and other.append(1, 1, ['x', 'y']),
+            lambda: other.promise('1', B, Promise(1, 3)) and other.finish(1, 3, wish),
         ]  # fmt: skip
         for number, act in enumerate(acts):
             with self.subTest(act=number):
-                looked(log, 9) if number % 2 else log.present()
-                later = threading.Timer(0.05, act)
-                later.start()
+                found = log.look(1, 0)
+                place = len(found.rows)
+                self.ends_by(act, lambda seconds: log.wait(1, place, found.lives, Until.NEWS, seconds))
+                if number == 1:
+                    wait_until(lambda: '2' in log.look(1, 0).presences)
+        self.assertEqual(log.look(1, 0).epoch, 2)
+
+    def test_idle(self) -> None:
+        """One that is present, or all, have promised the end of the log."""
+        for until, acts in ((Until.ANY_IDLE, ['2']), (Until.ALL_IDLE, ['2', '1', '3'])):
+            log, other = self.pair()
+            for name in '123':
+                self.assertTrue(other.take(name, A, EMPTY, self.LONG))
+            self.assertTrue(other.append(1, 0, ['recover,1']))
+            lives = log.look(1, 0).lives
+            for name in acts[:-1]:
+                self.assertTrue(other.promise(name, A, Promise(1, 1)))
+            with self.subTest(until=until):
+                self.ends_by(
+                    lambda: other.promise(acts[-1], A, Promise(1, 1)), lambda seconds: log.wait(1, 1, lives, until, seconds)
+                )
                 begun = time.monotonic()
-                log.wait((1, 2, 2, 2, 2, 3)[number], PATIENCE)
-                self.assertLess(time.monotonic(), begun + PATIENCE)
-                later.join()
+                log.wait(1, 1, lives, until, PATIENCE)
+                self.assertLess(time.monotonic(), begun + PATIENCE, 'it is so already')
+
+    def test_who_was_idle_before(self) -> None:
+        """A wait for one goes on where the last look found it idle, and ends with the next one."""
+        log, other = self.pair()
+        for name in '12':
+            self.assertTrue(other.take(name, A, EMPTY, self.LONG))
+        self.assertTrue(other.append(1, 0, ['recover,1']))
+        self.assertTrue(other.promise('2', A, Promise(1, 1)))
+        lives = log.look(1, 0).lives
+        begun = time.monotonic()
+        log.wait(1, 1, lives, Until.ANY_IDLE, 0.3)
+        self.assertGreaterEqual(time.monotonic(), begun + 0.3)
+        self.ends_by(lambda: other.promise('1', A, Promise(1, 1)), lambda seconds: log.wait(1, 1, lives, Until.ANY_IDLE, seconds))
+
+    def test_promises_are_no_news(self) -> None:
+        """A wait for less goes on. (It need not, but then each would wake all.)"""
+        log, other = self.pair()
+        for name in '123':
+            self.assertTrue(other.take(name, A, EMPTY, self.LONG))
+        self.assertTrue(other.append(1, 0, ['recover,1']))
+        lives = log.look(1, 0).lives
+        for until, names in ((Until.NEWS, '12'), (Until.ALL_IDLE, '1')):
+            def act() -> None:
+                for name in names:
+                    other.promise(name, A, Promise(1, 1))
+                    other.renew(name, A, self.LONG)
+
+            later = threading.Timer(0.1, act)
+            later.start()
+            begun = time.monotonic()
+            log.wait(1, 1, lives, until, 0.6)
+            self.assertGreaterEqual(time.monotonic(), begun + 0.6)
+            later.join()
 
     def test_time(self) -> None:
         log, _ = self.pair()
-        log.present()
-        for seconds in (0.0, 0.1, 0.4):
-            begun = time.monotonic()
-            log.wait(1, seconds)
-            self.assertGreaterEqual(time.monotonic(), begun + seconds)
+        lives = log.look(1, 0).lives
+        for until in Until:
+            for seconds in (0.0, 0.1, 0.4):
+                begun = time.monotonic()
+                log.wait(1, 0, lives, until, seconds)
+                self.assertGreaterEqual(time.monotonic(), begun + seconds)
+
+    def test_woken(self) -> None:
+        """A descriptor that has something to read ends a wait, also if it had that before."""
+        log, other = self.pair()
+        lives = log.look(1, 0).lives
+        woken, wakes = socket.socketpair()
+        with woken, wakes:
+            for until in Until:
+                self.ends_by(lambda: wakes.send(b'.'), lambda seconds: log.wait(1, 0, lives, until, seconds, woken.fileno()))
+                begun = time.monotonic()
+                log.wait(1, 0, lives, until, PATIENCE, woken.fileno())
+                self.assertLess(time.monotonic(), begun + PATIENCE)
+                woken.recv(10)
+                log.wait(1, 0, lives, until, 0.1, woken.fileno())
+            self.ends_by(
+                lambda: other.take('1', A, EMPTY, self.LONG), lambda seconds: log.wait(1, 0, lives, Until.NEWS, seconds, woken.fileno())
+            )
 
     def test_what_was_there(self) -> None:
-        """Nothing is awaited that is there already, also if it came before an earlier wait began."""
+        """Nothing is awaited that is there already, also if it came before an earlier wait began, and whoever told of these lives."""
         log, other = self.pair()
-        other.append(1, ['recover,1', 'start,1'])
-        log.wait(9, 0.01)
         begun = time.monotonic()
-        for place in (2, 1, 0):
-            log.wait(place, PATIENCE)
-        other.hold(2, 'x', 50, False)
-        log.wait(9, PATIENCE)
+        log.wait(1, 0, {'1': A}, Until.NEWS, PATIENCE)
+        log.wait(2, 0, {}, Until.NEWS, PATIENCE)
+        self.assertTrue(other.take('1', A, EMPTY, self.LONG))
+        log.wait(1, 0, {}, Until.NEWS, PATIENCE)
+        log.wait(1, 0, {'1': B}, Until.NEWS, PATIENCE)
+        log.wait(1, 0, {'1': A}, Until.ALL_IDLE, PATIENCE)
+        self.assertTrue(other.append(1, 0, ['recover,1', 'start,1']))
+        with contextlib.suppress(NoEpoch):
+            log.wait(1, 9, {'1': A}, Until.NEWS, 0.01)
+        for place in (1, 0):
+            log.wait(1, place, {'1': A}, Until.NEWS, PATIENCE)
+        self.assertTrue(other.ask(OPENING.after(None), 1))
+        log.wait(1, 2, {'1': A}, Until.NEWS, PATIENCE)
         self.assertLess(time.monotonic(), begun + PATIENCE)

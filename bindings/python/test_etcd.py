@@ -1,8 +1,8 @@
 #!/usr/bin/env python3
 """Tests of logs in etcd, over servers of their own. `try` runs them; without the program `etcd` on the path they are skipped."""
 import contextlib
-import io
-import os
+import itertools
+import random
 import shutil
 import socket
 import ssl
@@ -12,20 +12,24 @@ import tempfile
 import threading
 import time
 import unittest
-from base64 import b64encode
+from base64 import b64decode, b64encode
 from pathlib import Path
 from typing import Any, Callable, Dict, List, Optional, Sequence, Tuple, Type
 from unittest import mock
 
-from bully import Setup, check, command, etcd, gateway, resizing, settings, stores
-from bully.epochs import Opening, cut_end
+from bully import etcd, gateway
+from bully.epochs import Opening
 from bully.etcd import EtcdLog
-from bully.gateway import Address, Client, Denied, Endpoint, read_address
-from bully.logs import DamagedLog, ForeignLog, Log, LogError, LogExists, NoEpoch, NoLog, Unanswered
-from bully.running import Member
-from epoch_laws import OPENING, EpochLaws
+from bully.gateway import Address, Client, Denied, Endpoint, one, read_address
+from bully.logs import SECOND, DamagedLog, ForeignLog, Holder, Log, LogError, LogExists, NoEpoch, NoLog, Unanswered
+from bully.member import Life, Promise, Until
+from bully.stores import EtcdStore
+from epoch_laws import EpochLaws
 from etcd_servers import PROGRAM, QUICK, Json, Server, Servers, coded, decoded, free_ports
-from laws import HEADER, PATIENCE, Laws, Waits, wait_until
+from laws import EMPTY, OPENING, PATIENCE, A, B, C, Laws, Waits, add, be_idle, present, wait_until
+from test_stores import has_failed, race
+
+LONG = 1000 * SECOND
 
 
 class Proxy:
@@ -100,6 +104,7 @@ class Proxy:
 
 
 ALONE: Servers
+NUMBERS = itertools.count()  # of tests, so that none meets what another one left
 TXN, GRANT, KEEPALIVE = b'POST /v3/kv/txn ', b'POST /v3/lease/grant ', b'POST /v3/lease/keepalive '
 PUT = b'request_put'
 
@@ -122,11 +127,17 @@ class InEtcd(unittest.TestCase):
 
     def setUp(self) -> None:
         self.server = ALONE.each[0]
-        self.prefix = self.id().replace('.', '/')
+        self.prefix = f'{self.id()}/{next(NUMBERS)}'.replace('.', '/')
         self.address = ALONE.address(self.prefix)
 
     def created(self, address: str = '', opening: Opening = OPENING, patience: float = 5.0, **more: Any) -> EtcdLog:
         return self.closing(EtcdLog.create(address or self.address, opening, patience, **more))
+
+    def begun(self, address: str = '', **more: Any) -> EtcdLog:
+        """A log in which 'a' is present."""
+        log = self.created(address, **more)
+        self.assertTrue(log.take('a', A, EMPTY, LONG))
+        return log
 
     def opened(self, address: str = '', patience: float = 5.0, **more: Any) -> EtcdLog:
         return self.closing(EtcdLog(address or self.address, patience, **more))
@@ -135,7 +146,7 @@ class InEtcd(unittest.TestCase):
         self.addCleanup(log.close)
         return log
 
-    def begun(self, count: int = 1, words: Sequence[str] = (), tls: Optional[ssl.SSLContext] = None) -> Servers:
+    def servers(self, count: int = 1, words: Sequence[str] = (), tls: Optional[ssl.SSLContext] = None) -> Servers:
         """Servers of the test's own."""
         servers = Servers(count, [*QUICK, *words], tls)
         self.addCleanup(servers.close)
@@ -146,51 +157,76 @@ class InEtcd(unittest.TestCase):
         self.addCleanup(proxy.close)
         return proxy
 
-    def renewed(self, log: EtcdLog, life: str = 'x', ttl: float = 2.0) -> bool:
-        """Whether a presence of node 1 is renewed, once that is answered."""
+    def renewed(self, log: EtcdLog, life: Life = A, ttl: int = 2 * SECOND) -> bool:
+        """Whether the presence of 'a' is renewed, once that is answered."""
         while True:
             with contextlib.suppress(Unanswered):
-                return log.hold(1, life, ttl, True)
+                return log.renew('a', life, ttl)
+
+    def leases(self, server: Optional[Server] = None, prefix: str = '') -> Dict[str, Optional[str]]:
+        """The leases of lives and promises."""
+        root = f'{prefix or self.prefix}/presence/'
+        return {key[len(root) :]: pair.get('lease') for key, pair in (server or self.server).keys(root).items()}
 
 
-class OverEtcd(Laws, Waits, InEtcd):
+class Laid(InEtcd):
+    """Logs for the laws."""
+
+    def created(self, address: str = '', opening: Opening = OPENING, patience: float = 20.0, **more: Any) -> EtcdLog:
+        self.address = ALONE.address(f'{self.prefix}/{next(NUMBERS)}')
+        return super().created(address, opening, patience, **more)
+
+    def handle(self, log: Log) -> Log:
+        assert isinstance(log, EtcdLog)
+        return self.opened(log.address, 20.0)
+
+
+class OverEtcd(Laid, Laws, Waits):
     """The laws of a log in etcd."""
 
-    TTL = 2.0
-    SHORT = 1.0
-    PACK = 50
-    MOST = 128
+    TTL = 2 * SECOND
+    SHORT = SECOND
+    PAGE = 10
 
     def setUp(self) -> None:
         super().setUp()
-        patch = mock.patch.object(etcd, 'PAGE', self.PACK)
+        patch = mock.patch.object(etcd, 'PAGE', self.PAGE)
         patch.start()
         self.addCleanup(patch.stop)
 
-    def pair(self) -> Tuple[Log, Log]:
-        return self.created(), self.opened()
+    def now(self) -> int:
+        return time.monotonic_ns()
 
-    def now(self) -> float:
-        return time.monotonic()
-
-    def pass_time(self, seconds: float) -> None:
-        time.sleep(seconds)
+    def pass_time(self, time_: int) -> None:
+        time.sleep(time_ / SECOND)
 
     def pass_end(self, log: Log) -> None:
-        wait_until(lambda: not log.present())
+        wait_until(lambda: not present(log))
+
+    def test_processes(self) -> None:
+        race(self, self.begun(), 'etcd', self.address)
 
 
-class EpochsOverEtcd(EpochLaws, InEtcd):
+class ManyOverEtcd(Laid, Waits):
+    """The same waits, where so many are present that promises are told only where they are waited for."""
+
+    SHORT = SECOND
+
+    def setUp(self) -> None:
+        super().setUp()
+        patch = mock.patch.object(etcd, 'FEW', 0)
+        patch.start()
+        self.addCleanup(patch.stop)
+
+
+class EpochsOverEtcd(Laid, EpochLaws):
     """The laws of epochs of a log in etcd."""
 
     def setUp(self) -> None:
         super().setUp()
-        patch = mock.patch.object(etcd, 'PAGE', 500)
+        patch = mock.patch.object(etcd, 'PAGE', 10)
         patch.start()
         self.addCleanup(patch.stop)
-
-    def pair(self) -> Tuple[Log, Log]:
-        return self.created(), self.opened()
 
 
 class Keys(InEtcd):
@@ -198,33 +234,38 @@ class Keys(InEtcd):
 
     def test_keys(self) -> None:
         log = self.created()
-        log.append(1, ['recover,1', 'größer'])
-        log.hold(3, 'x', 2, False)
-        pairs = self.server.keys(f'{self.prefix}/')
+        self.assertTrue(log.take('größer', Life(17, 3), EMPTY, 2 * SECOND))
+        self.assertTrue(log.append(1, 0, ['recover,1', 'größer']))
+        wish = Opening(2, 'bully,1,2,4', ('a', 'b'), 500)
+        self.assertTrue(log.ask(wish, 1))
         wanted = {
-            'opening/0000000001': OPENING.text(), 'log/0000000001/0000000000': HEADER, 'log/0000000001/0000000001': 'recover,1',
-            'log/0000000001/0000000002': 'größer', 'presence/0000000001/3': 'x',
+            'opening/0000000001': OPENING.text().replace('{"epoch"', '{"form": 3, "epoch"'), 'first': '0000000001',
+            'place': '0000000001/0000000002', 'log/0000000001/0000000000': 'recover,1\ngrößer\n', 'next': wish.text(), 'presence/life/größer': '17.3',
+            'presence/promise/größer': '0000000001/0000000000',
         }  # fmt: skip
+        pairs = self.server.keys(f'{self.prefix}/')
         found = {key[len(self.prefix) + 1 :]: decoded(pair['value']) for key, pair in pairs.items()}
         self.assertEqual(found, wanted)
-        self.assertEqual([key for key, pair in pairs.items() if 'lease' in pair], [f'{self.prefix}/presence/0000000001/3'])
-        self.assertEqual(log.read(2)[0], 'größer')
+        leased = {key for key, pair in pairs.items() if 'lease' in pair}
+        self.assertEqual(leased, {f'{self.prefix}/presence/{each}/größer' for each in ('life', 'promise')})
+        self.assertEqual(len(set(self.leases().values())), 1)
+        self.assertEqual(list(log.read(1, 1)), ['größer'])
 
     def test_seconds_of_leases(self) -> None:
         """A ttl is rounded up to whole seconds, and etcd has a shortest one."""
         log = self.created()
         for number, (ttl, seconds) in enumerate([(0.01, '1'), (1.0, '1'), (1.01, '2'), (7, '7'), (86400.0, '86400')]):
             with self.subTest(ttl=ttl):
-                self.assertTrue(log.hold(number, 'x', ttl, False))
-                lease = self.server.keys(f'{self.prefix}/presence/0000000001/{number}')[f'{self.prefix}/presence/0000000001/{number}']['lease']
+                self.assertTrue(log.take(str(number), A, EMPTY, int(ttl * SECOND)))
+                lease = self.leases()[f'life/{number}']
                 self.assertEqual(self.server.ask('/v3/lease/timetolive', {'ID': lease})['grantedTTL'], seconds)
 
     def test_shorter_lease(self) -> None:
         log = self.created()
         with mock.patch.object(Client, 'ask', self.granting(Client.ask, '4')), self.assertRaises(LogError) as caught:
-            log.hold(1, 'x', 4.1, False)
+            log.take('a', A, EMPTY, 4 * SECOND + 1)
         self.assertNotIsInstance(caught.exception, Unanswered)
-        self.assertEqual(log.present(), set())
+        self.assertEqual(present(log), {})
 
     def granting(self, ask: Callable[..., Json], seconds: str) -> Callable[..., Json]:
         """The answers of etcd, but for the seconds of a lease."""
@@ -236,20 +277,181 @@ class Keys(InEtcd):
         return answer
 
     def test_many_rows_at_once(self) -> None:
-        log = self.created()
-        self.assertTrue(log.append(1, ['start,1'] * 128))
-        with self.assertRaisesRegex(ValueError, '129 rows'):
-            log.append(129, ['start,1'] * 129)
+        """A settlement of the largest group is one append."""
+        log = self.begun()
+        rows = ['return,1024'] * 11_000 + [f'plan,1024,{" ".join(["1024"] * 4096)}']
+        self.assertTrue(log.append(1, 0, rows))
+        self.assertEqual(list(self.opened().read(1, 0)), rows)
 
     def test_renewals_write_nothing(self) -> None:
-        log, other = self.created(), self.opened()
-        log.hold(1, 'x', 5, False)
+        log, other = self.begun(), self.opened()
         before = self.server.keys(self.prefix)
         for _ in range(3):
-            self.assertTrue(log.hold(1, 'x', 5, True))
+            self.assertTrue(log.renew('a', A, LONG))
         self.assertEqual(self.server.keys(self.prefix), before)
-        self.assertTrue(other.hold(1, 'x', 9, True), 'by another handle, and for longer')
-        self.assertTrue(log.hold(1, 'x', 5, True))
+        self.assertTrue(other.renew('a', A, LONG + SECOND), 'by another handle, and for longer')
+        self.assertNotEqual(self.server.keys(self.prefix), before)
+        self.assertTrue(log.renew('a', A, LONG))
+
+    def test_no_lease_for_nothing(self) -> None:
+        """What is refused grants none."""
+        log, other = self.begun(), self.opened()
+        with mock.patch.object(Client, 'ask', self.granting(Client.ask, '0')):
+            self.assertFalse(other.take('a', B, EMPTY, LONG))
+            self.assertFalse(other.take('b', B, Promise(1, 1), LONG))
+            self.assertFalse(other.renew('b', B, LONG))
+            self.assertTrue(log.renew('a', A, LONG))
+
+
+class Promises(InEtcd):
+    """What becomes of a promise whose presence moves to another lease, and of requests that come late."""
+
+    def setUp(self) -> None:
+        super().setUp()
+        self.log, self.other = self.begun(), self.opened()
+        self.assertTrue(self.log.promise('a', A, Promise(1, 5)))
+
+    def late(self, call: Callable[[], object], part: str = 'request_put') -> Json:
+        """The transaction of this call that writes, which isn't done; it may be so later."""
+        asked: List[Json] = []
+        ask = Client.ask
+
+        def lose(client: Client, path: str, told: Json, repeats: bool = False) -> Json:
+            if path == gateway.KV_TXN and any(part in each for each in told['success']):
+                asked.append(told)
+                raise Unanswered('lost')
+            return ask(client, path, told, repeats)
+
+        with mock.patch.object(Client, 'ask', lose), self.assertRaises(Unanswered):
+            call()
+        self.assertEqual(len(asked), 1)
+        return asked[0]
+
+    def is_done(self, asked: Json) -> bool:
+        """Whether it is done now that it comes. (etcd refuses what puts a key that isn't there.)"""
+        with contextlib.suppress(ValueError):
+            return 'succeeded' in self.server.ask('/v3/kv/txn', asked)
+        return False
+
+    def revoke(self, lease: Optional[str]) -> None:
+        """The lease ends."""
+        self.server.ask('/v3/lease/revoke', {'ID': lease})
+
+    def test_moved_together(self) -> None:
+        """The end of the lease of before takes nothing away."""
+        before = self.leases()
+        self.assertTrue(self.other.renew('a', A, LONG))
+        after = self.leases()
+        self.assertEqual((set(after), len(set(after.values()))), ({'life/a', 'promise/a'}, 1))
+        self.assertNotEqual(after, before)
+        self.revoke(before['life/a'])
+        self.assertEqual(present(self.log), {'a': Holder(A, Promise(1, 5))})
+        self.assertFalse(self.log.append(1, 0, ['recover,1']))
+
+    def test_lost_together(self) -> None:
+        self.revoke(self.leases()['life/a'])
+        self.assertEqual((self.leases(), present(self.log)), ({}, {}))
+        self.assertFalse(self.log.renew('a', A, LONG))
+        self.assertFalse(self.log.promise('a', A, Promise(1, 6)))
+
+    def test_a_promise_behind_a_move(self) -> None:
+        """It stands under the new lease, whoever makes it, and however late it comes."""
+        late = self.late(lambda: self.log.promise('a', A, Promise(1, 7)))
+        before = self.leases()
+        self.assertTrue(self.other.renew('a', A, LONG))
+        after = self.leases()
+        self.assertTrue(self.is_done(late))
+        self.assertTrue(self.log.promise('a', A, Promise(1, 8)))
+        self.assertEqual(self.leases(), after)
+        self.revoke(before['life/a'])
+        self.assertEqual(present(self.log), {'a': Holder(A, Promise(1, 8))})
+
+    def test_a_promise_while_it_moves(self) -> None:
+        """The move keeps it."""
+        ask = Client.ask
+        done: List[bool] = []
+
+        def promise_first(client: Client, path: str, told: Json, repeats: bool = False) -> Json:
+            if path == gateway.LEASE_GRANT:
+                with mock.patch.object(Client, 'ask', ask):
+                    done.append(self.log.promise('a', A, Promise(1, 9)))
+            return ask(client, path, told, repeats)
+
+        with mock.patch.object(Client, 'ask', promise_first):
+            self.assertTrue(self.other.renew('a', A, LONG))
+        self.assertEqual((done, present(self.log)), ([True], {'a': Holder(A, Promise(1, 9))}))
+
+    def test_a_late_move(self) -> None:
+        """What is done later than a newer renewal changes nothing."""
+        late = self.late(lambda: self.other.renew('a', A, 50 * SECOND))
+        self.assertTrue(self.other.renew('a', A, 60 * SECOND))
+        self.assertTrue(self.log.promise('a', A, Promise(1, 6)))
+        before = self.server.keys(f'{self.prefix}/')
+        self.assertFalse(self.is_done(late))
+        self.assertEqual(self.server.keys(f'{self.prefix}/'), before)
+
+    def test_late_requests_of_a_life_that_ended(self) -> None:
+        """Promise, renewal, release and append of a life that is over do nothing to the next one."""
+        lates = [
+            self.late(lambda: self.log.promise('a', A, Promise(1, 7))), self.late(lambda: self.other.renew('a', A, LONG)),
+            self.late(lambda: self.log.release('a', A), 'request_delete_range'), self.late(lambda: self.log.append(1, 0, ['recover,1'])),
+        ]  # fmt: skip
+        self.revoke(self.leases()['life/a'])
+        for is_taken in (False, True):
+            if is_taken:
+                self.assertTrue(self.log.take('a', B, EMPTY, LONG))
+                self.assertTrue(self.log.promise('a', B, Promise(1, 3)))
+            for late in lates:
+                self.assertFalse(self.is_done(late))
+            self.assertEqual(present(self.log), {'a': Holder(B, Promise(1, 3))} if is_taken else {})
+            self.assertEqual(list(self.log.read(1, 0)), [])
+
+    def test_a_late_take(self) -> None:
+        """It is done at the place alone that it was asked for, and if nobody is there."""
+        late = self.late(lambda: self.other.take('b', B, EMPTY, LONG))
+        self.log.release('a', A)
+        self.assertTrue(self.log.take('a', A, EMPTY, LONG))
+        add(self.log, ['recover,1'])
+        self.assertFalse(self.is_done(late))
+        again = self.late(lambda: self.other.take('b', B, Promise(1, 1), LONG))
+        self.assertTrue(self.log.take('b', C, Promise(1, 1), LONG))
+        self.assertFalse(self.is_done(again))
+        self.log.release('b', C)
+        self.assertTrue(self.is_done(again), 'then it is there until it is released, or its lease is over')
+        self.assertEqual(present(self.log)['b'], Holder(B, Promise(1, 1)))
+
+    def test_a_late_append(self) -> None:
+        """It is done at its place alone, and while all that are present have promised that."""
+        self.log.release('a', A)
+        self.assertTrue(self.log.take('a', A, EMPTY, LONG))
+        late = self.late(lambda: self.log.append(1, 0, ['recover,1']))
+        self.assertTrue(self.other.take('b', B, EMPTY, LONG))
+        self.assertTrue(self.other.promise('b', B, Promise(1, 1)))
+        self.assertFalse(self.is_done(late), 'one is not idle there')
+        self.other.release('b', B)
+        again = self.late(lambda: self.log.finish(1, 0, OPENING.after(None)))
+        self.assertTrue(self.is_done(late))
+        self.assertFalse(self.is_done(late))
+        be_idle(self.log, ('a', A))
+        self.assertFalse(self.is_done(again))
+        self.assertEqual((list(self.log.read(1, 0)), self.log.epochs()), (['recover,1'], range(1, 2)))
+
+    def test_a_wish_while_an_epoch_ends(self) -> None:
+        """Whatever is wished for meanwhile, the next epoch begins by what was wished for last."""
+        self.log.release('a', A)
+        self.assertTrue(self.log.take('a', A, EMPTY, LONG))
+        one, two = Opening(2, 'bully,1,2,4', ('a', 'b'), 500), Opening(2, 'bully,1,1,4', ('c',), 500)
+        late = self.late(lambda: self.log.finish(1, 0, OPENING.after(None)))
+        self.assertTrue(self.log.ask(one, 1))
+        self.assertFalse(self.is_done(late))
+        late = self.late(lambda: self.log.finish(1, 0, one))
+        self.assertTrue(self.log.ask(two, 1))
+        self.assertFalse(self.is_done(late))
+        self.assertTrue(self.log.ask(one, 1))
+        self.assertFalse(self.is_done(late), 'it was asked for anew')
+        late = self.late(lambda: self.log.finish(1, 0, one))
+        self.assertTrue(self.is_done(late))
+        self.assertEqual((self.log.opening(), self.log.look(2, 0).wish), (one, None))
 
 
 class Prefixes(InEtcd):
@@ -264,24 +466,26 @@ class Prefixes(InEtcd):
         """Logs whose prefixes are odd or alike don't meet."""
         logs = [self.created(f'{self.address}/{prefix}') for prefix in self.ODD]
         for number, log in enumerate(logs):
-            self.assertTrue(log.append(1, [f'recover,{number}']))
-            self.assertTrue(log.hold(number, 'x', 50, False))
+            self.assertTrue(log.take(str(number), A, EMPTY, LONG))
+            self.assertTrue(log.append(1, 0, [f'recover,{number}']))
         for number, prefix in enumerate(self.ODD):
             log = self.opened(f'{self.address}/{prefix}/')
-            self.assertEqual((list(log.read(0)), log.present()), ([HEADER, f'recover,{number}'], {number}))
+            self.assertEqual((list(log.read(1, 0)), set(present(log))), ([f'recover,{number}'], {str(number)}))
 
     def test_below_another(self) -> None:
         """What happens in a log below another one's prefix is no news of that one."""
-        log, below = self.created(), self.created(f'{self.address}/b')
-        log.present()
-        later = threading.Thread(target=lambda: [below.append(1, ['recover,1']), below.hold(1, 'x', 50, False)])
-        later.start()
-        begun = time.monotonic()
-        log.wait(1, 0.5)
-        self.assertGreaterEqual(time.monotonic(), begun + 0.5)
-        later.join()
-        self.assertEqual((list(log.read(0)), log.present()), ([HEADER], set()))
-        self.assertEqual((list(below.read(1)), below.present()), (['recover,1'], {1}))
+        log = self.created()
+        for part in ('b', 'next', 'place', 'first', 'oz'):
+            below = self.created(f'{self.address}/{part}')
+            lives = log.look(1, 0).lives
+            later = threading.Thread(target=lambda: [below.take('a', A, EMPTY, LONG), below.append(1, 0, ['recover,1'])])
+            later.start()
+            begun = time.monotonic()
+            log.wait(1, 0, lives, Until.ALL_IDLE, 0.5)
+            self.assertGreaterEqual(time.monotonic(), begun + 0.5)
+            later.join()
+            self.assertEqual((list(log.read(1, 0)), present(log), log.epochs()), ([], {}, range(1, 2)))
+            self.assertEqual((list(below.read(1, 0)), set(present(below))), (['recover,1'], {'a'}))
 
     def test_above_another(self) -> None:
         """No log is made where another one is below its prefix."""
@@ -316,10 +520,10 @@ class Prefixes(InEtcd):
             proxy = self.proxy('::1')
         except OSError:
             self.skipTest('there is no loopback of IPv6')
-        log = self.created(f'etcd://{proxy.endpoint}/{self.prefix}')
-        log.wait(1, 0.1)
-        self.assertTrue(log.append(1, ['recover,1']))
-        log.wait(1, PATIENCE)
+        log = self.begun(f'etcd://{proxy.endpoint}/{self.prefix}')
+        log.wait(1, 0, {'a': A}, Until.NEWS, 0.1)
+        self.assertTrue(log.append(1, 0, ['recover,1']))
+        log.wait(1, 0, {'a': A}, Until.NEWS, PATIENCE)
 
 
 class Contents(InEtcd):
@@ -334,7 +538,7 @@ class Contents(InEtcd):
         self.refused(NoLog, lambda: EtcdLog(self.address))
 
     def test_exists(self) -> None:
-        self.created().append(1, ['recover,1'])
+        self.begun().append(1, 0, ['recover,1'])
         before = self.server.keys(self.prefix)
         self.refused(LogExists, lambda: EtcdLog.create(self.address, Opening.first('bully,1,1,1')))
         self.assertEqual(self.server.keys(self.prefix), before)
@@ -351,98 +555,109 @@ class Contents(InEtcd):
 
         with mock.patch.object(Client, 'transact', other_makes_it):
             self.refused(LogExists, lambda: EtcdLog.create(self.address, OPENING))
-        self.assertEqual(list(self.opened().read(0)), ['bully,1,1,1'])
+        self.assertEqual(self.opened().opening().header, 'bully,1,1,1')
 
     def test_foreign(self) -> None:
-        for key, value in (('opening/0000000001', 'hello'), ('opening/0000000001', ''), ('x', HEADER), ('', HEADER)):
+        """Something else, or a log of another form."""
+        for key, value in (
+            ('opening/0000000001', 'hello'), ('opening/0000000001', ''), ('x', 'x'), ('', 'x'),
+            ('opening/0000000001', '{"form": 4, "epoch": 1}'), ('opening/0000000001', OPENING.text()),
+        ):  # fmt: skip
             with self.subTest(key=key, value=value):
                 self.server.put(f'{self.prefix}/{key}', value)
                 self.refused(ForeignLog, lambda: EtcdLog(self.address))
                 self.refused(LogExists if key.startswith('opening') else ForeignLog, lambda: EtcdLog.create(self.address, OPENING))
                 self.server.delete(f'{self.prefix}/{key}')
 
+    def key(self, place: int, end: str = '') -> str:
+        return f'{self.prefix}/log/0000000001/{place:010}{end}'
+
     def test_holes(self) -> None:
-        log = self.created()
-        log.append(1, ['recover,1', 'start,1', 'recover,2'])
-        self.server.delete(f'{self.prefix}/log/0000000001/0000000002')
-        for place in (0, 1, 2):
-            self.refused(DamagedLog, lambda: log.read(place))
-        self.assertEqual(list(log.read(3)), ['recover,2'])
-
-    def test_holes_in_any_part(self) -> None:
-        log = self.created()
-        log.append(1, ['recover,1'] * 40)
-        with mock.patch.object(etcd, 'PAGE', 10):
-            for place in range(1, 40):
-                key = f'{self.prefix}/log/0000000001/{place:010}'
-                self.server.delete(key)
-                self.refused(DamagedLog, lambda: log.read(0))
-                self.server.put(f'{key}0', 'recover,1')
-                self.refused(DamagedLog, lambda: log.read(0))
-                self.server.delete(f'{key}0')
-                self.server.put(key, 'recover,1')
-            self.assertEqual(len(log.read(0)), 41)
-
-    def test_long_holes(self) -> None:
-        log = self.created()
-        log.append(1, ['recover,1'] * 40)
-        self.server.delete(f'{self.prefix}/log/0000000001/0000000010', f'{self.prefix}/log/0000000001/0000000035')
-        with mock.patch.object(etcd, 'PAGE', 10):
-            for place in (0, 9, 10, 20, 34):
-                self.refused(DamagedLog, lambda: log.read(place))
-            self.assertEqual(len(log.read(35)), 6)
+        log = self.begun()
+        for number in range(20):
+            add(log, [f'start,{number}'] * 2)
+        rows = list(log.read(1, 0))
+        for page in (3, 100):
+            with mock.patch.object(etcd, 'PAGE', page):
+                for place in range(0, 40, 2):
+                    kept = self.server.keys(self.key(place))[self.key(place)]['value']
+                    self.server.delete(self.key(place))
+                    for first in (0, max(0, place - 1), place, place + 1):
+                        self.refused(DamagedLog, lambda: log.read(1, first))
+                        self.refused(DamagedLog, lambda: log.look(1, first))
+                    self.assertEqual(list(log.read(1, place + 2)), rows[place + 2 :])
+                    self.server.put(self.key(place, '0'), 'start,1\nstart,1\n')
+                    self.refused(DamagedLog, lambda: log.read(1, place))
+                    self.server.delete(self.key(place, '0'))
+                    self.server.put(self.key(place), decoded(kept))
+                self.assertEqual(list(log.read(1, 0)), rows)
 
     def test_no_rows(self) -> None:
-        log = self.created()
-        for value in ('recover,1\nrecover,2', ''):
-            self.server.put(f'{self.prefix}/log/0000000001/0000000001', value)
-            if value:
-                self.refused(DamagedLog, lambda: log.read(1))
-        self.server.ask('/v3/kv/put', {'key': coded(f'{self.prefix}/log/0000000001/0000000001'), 'value': b64encode(b'\xff').decode()})
-        self.refused(DamagedLog, lambda: log.read(0))
+        log = self.begun()
+        add(log, ['recover,1', 'recover,2'])
+        for value in ('recover,1\nrecover,2', 'recover,1\n', '', 'recover,1\nrecover,2\nrecover,3\n'):
+            self.server.put(self.key(0), value)
+            self.refused(DamagedLog, lambda: log.read(1, 0))
+        self.server.ask('/v3/kv/put', {'key': coded(self.key(0)), 'value': b64encode(b'\xff\n\n').decode()})
+        self.refused(DamagedLog, lambda: log.read(1, 0))
+
+    def test_no_presences(self) -> None:
+        cases = ('life/b', '1.2'), ('life/a', 'x'), ('life/a', '1'), ('promise/a', ''), ('promise/a', '1'), ('promise/b', 'x')
+        for number, (key, value) in enumerate(cases):
+            with self.subTest(key=key, value=value):
+                log = self.begun(f'{self.address}/{number}')
+                self.server.put(f'{self.prefix}/{number}/presence/{key}', value)
+                self.refused(DamagedLog, lambda: log.look(1, 0))
+
+    def test_no_end(self) -> None:
+        log = self.begun()
+        for value in ('', 'x', '1'):
+            self.server.put(f'{self.prefix}/place', value)
+            for call in (log.epochs, lambda: log.look(1, 0), lambda: log.read(1, 0)):
+                self.refused(DamagedLog, call)
 
     def calls(self, log: EtcdLog) -> List[Callable[[], object]]:
         """Each call of a log."""
         return [
-            lambda: log.read(0), lambda: log.read(2), lambda: log.append(2, ['recover,2']), lambda: log.hold(1, 'x', 5, True),
-            lambda: log.hold(2, 'y', 5, False), lambda: log.release(1, 'x'), log.present, lambda: log.wait(2, PATIENCE),
+            lambda: log.read(1, 0), lambda: log.look(1, 0), lambda: log.append(1, 0, ['recover,2']), lambda: log.renew('a', A, LONG),
+            lambda: log.take('b', B, EMPTY, LONG), lambda: log.release('a', A), lambda: log.promise('a', A, Promise(1, 1)), log.epochs,
+            log.opening, lambda: log.ask(OPENING.after(None), 1), lambda: log.cancel(1), lambda: log.finish(1, 0, OPENING.after(None)),
+            lambda: log.wait(1, 0, {'a': A}, Until.NEWS, PATIENCE),
         ]  # fmt: skip
 
     def test_removed(self) -> None:
-        log = self.created()
-        log.append(1, ['recover,1'])
-        log.hold(1, 'x', 50, False)
+        log = self.begun()
         self.server.delete(f'{self.prefix}/opening/', f'{self.prefix}/opening0')
         for call in self.calls(log):
             self.refused(DamagedLog, call)
         self.refused(DamagedLog, lambda: EtcdLog(self.address))
 
     def test_replaced(self) -> None:
-        log = self.created()
-        log.append(1, ['recover,1'])
-        log.hold(1, 'x', 50, False)
+        log = self.begun()
         self.server.delete(f'{self.prefix}/', f'{self.prefix}0')
-        self.created().append(1, ['recover,1'])
+        self.begun().append(1, 0, ['recover,1'])
         for call in self.calls(log):
             self.refused(ForeignLog, call)
-        self.assertEqual(len(self.opened().read(0)), 2)
+        self.assertEqual(len(self.opened().read(1, 0)), 1)
 
     def test_compacted(self) -> None:
         """Whatever is compacted while it is read, all rows are read."""
-        log = self.created()
-        log.append(1, ['recover,1'] * 40)
+        log = self.begun()
+        for _ in range(40):
+            add(log, ['recover,1'])
         with mock.patch.object(etcd, 'PAGE', 10), mock.patch.object(Client, 'ask', self.compacting(1)):
-            self.assertEqual(len(log.read(0)), 41)
+            self.assertEqual(len(log.read(1, 0)), 40)
+        self.assertEqual(self.left, 0)
         with mock.patch.object(etcd, 'PAGE', 10), mock.patch.object(Client, 'ask', self.compacting(100)):
-            self.refused(Unanswered, lambda: log.read(0))
+            self.refused(Unanswered, lambda: log.read(1, 0))
 
     def compacting(self, times: int) -> Callable[..., Json]:
         """The answers of an etcd that is compacted so often behind the first part of a read."""
-        ask, left = Client.ask, [times]
+        ask, self.left = Client.ask, times
 
         def answer(client: Client, path: str, told: Json, repeats: bool = False) -> Json:
-            if path == gateway.KV_RANGE and left[0]:
-                left[0] -= 1
+            if path == gateway.KV_RANGE and self.left:
+                self.left -= 1
                 self.server.put('x', 'y')
                 self.server.compact()
             return ask(client, path, told, repeats)
@@ -450,17 +665,22 @@ class Contents(InEtcd):
         return answer
 
     def test_compacted_watch(self) -> None:
-        log, other = self.created(), self.opened()
-        watch = Client.watch
-        from_start = mock.patch.object(Client, 'watch', lambda client, told: watch(client, {**told, 'start_revision': '1'}))
+        log, other = self.begun(), self.opened()
+        watch, asked = Client.watch, []
+
+        def from_start(client: Client, told: Json) -> gateway.Watch:
+            asked.append(told)
+            return watch(client, {**told, 'start_revision': '1'})
+
         self.server.put('x', 'y')
         self.server.compact()
-        with from_start:
-            log.wait(1, 0.3)
-        later = threading.Timer(0.1, lambda: other.append(1, ['recover,1']))
+        with mock.patch.object(Client, 'watch', from_start):
+            log.wait(1, 0, {'a': A}, Until.NEWS, 0.3)
+        self.assertGreater(len(asked), 0)
+        later = threading.Timer(0.1, lambda: other.append(1, 0, ['recover,1']))
         later.start()
         begun = time.monotonic()
-        log.wait(1, PATIENCE)
+        log.wait(1, 0, {'a': A}, Until.NEWS, PATIENCE)
         self.assertLess(time.monotonic(), begun + PATIENCE)
         later.join()
 
@@ -483,101 +703,109 @@ class Lost(InEtcd):
         self.assertIn(self.between.endpoint, str(caught.exception))
 
     def test_append(self) -> None:
-        count = 1
+        self.assertTrue(self.direct.take('a', A, EMPTY, LONG))
+        count = 0
         for what in ('answer', 'request', 'answer'):
-            self.loses(what, PUT, lambda: self.log.append(count, ['recover,1', 'start,1']))
+            self.assertTrue(self.direct.promise('a', A, Promise(1, count)))
+            self.loses(what, PUT, lambda: self.log.append(1, count, ['recover,1', 'start,1']))
             count += 2 * (what == 'answer')
-            self.assertEqual(len(self.direct.read(0)), count)
-            self.assertTrue(self.log.append(count, ['recover,2']))
+            self.assertEqual(len(self.direct.read(1, 0)), count)
+            self.assertTrue(self.direct.promise('a', A, Promise(1, count)))
+            self.assertTrue(self.log.append(1, count, ['recover,2']))
             count += 1
+
+    def test_finish(self) -> None:
+        self.assertTrue(self.direct.take('a', A, EMPTY, LONG))
+        opening = OPENING
+        for what in ('answer', 'request', 'answer'):
+            after = opening.next(None, (1,) * 6)
+            self.loses(what, PUT, lambda: self.log.finish(opening.epoch, 0, after))
+            opening = after if what == 'answer' else opening
+            self.assertEqual((self.direct.opening(), self.direct.epochs()[-1]), (opening, opening.epoch))
+            self.assertTrue(self.direct.promise('a', A, Promise(opening.epoch, 0)))
 
     def test_take(self) -> None:
         for number, (what, part) in enumerate([('answer', PUT), ('request', PUT), ('answer', GRANT), ('request', GRANT), ('answer', TXN)]):
+            life = Life(1, number)
             with self.subTest(what=what, part=part):
-                self.loses(what, part, lambda: self.log.hold(1, f'x{number}', 50, False))
-                self.assertEqual(self.direct.present(), {1} if (what, part) == ('answer', PUT) else set())
-                self.log.release(1, f'x{number}')
-                self.assertTrue(self.log.hold(1, 'y', 50, False))
-                self.log.release(1, 'y')
+                self.loses(what, part, lambda: self.log.take('a', life, EMPTY, LONG))
+                self.assertEqual(present(self.direct), {'a': Holder(life, EMPTY)} if (what, part) == ('answer', PUT) else {})
+                self.log.release('a', life)
+                self.assertTrue(self.log.take('a', B, EMPTY, LONG))
+                self.log.release('a', B)
+
+    def test_promise(self) -> None:
+        self.assertTrue(self.log.take('a', A, EMPTY, LONG))
+        for place, what in enumerate(('answer', 'request'), 1):
+            self.loses(what, PUT, lambda: self.log.promise('a', A, Promise(1, place)))
+            self.assertEqual(present(self.direct)['a'].promise, Promise(1, 1))
+            self.assertTrue(self.log.promise('a', A, Promise(1, 1)))
 
     def test_renewal(self) -> None:
-        self.assertTrue(self.log.hold(1, 'x', 50, False))
+        self.assertTrue(self.log.take('a', A, EMPTY, LONG))
         for what in ('answer', 'request'):
             for part in (KEEPALIVE, TXN):
-                self.loses(what, part, lambda: self.log.hold(1, 'x', 50, True))
-                self.assertTrue(self.log.hold(1, 'x', 50, True))
+                self.loses(what, part, lambda: self.log.renew('a', A, LONG))
+                self.assertTrue(self.log.renew('a', A, LONG))
 
     def test_renewal_by_another_lease(self) -> None:
-        self.assertTrue(self.log.hold(1, 'x', 50, False))
+        self.assertTrue(self.log.take('a', A, EMPTY, LONG))
+        self.assertTrue(self.log.promise('a', A, Promise(1, 5)))
         for what in ('answer', 'request'):
             for part in (GRANT, PUT):
-                self.assertTrue(self.direct.hold(1, 'x', 60, True))
-                self.loses(what, part, lambda: self.log.hold(1, 'x', 50, True))
-                self.assertTrue(self.log.hold(1, 'x', 50, True))
-                self.assertEqual(self.direct.present(), {1})
-
-    def test_late_renewal(self) -> None:
-        """What is done later than a newer renewal changes nothing."""
-        self.assertTrue(self.log.hold(1, 'x', 50, False))
-        asked: List[Json] = []
-        ask = Client.ask
-
-        def lose(client: Client, path: str, told: Json, repeats: bool = False) -> Json:
-            if path == gateway.KV_TXN and any('request_put' in each for each in told['success']):
-                asked.append(told)
-                raise Unanswered('lost')
-            return ask(client, path, told, repeats)
-
-        with mock.patch.object(Client, 'ask', lose), self.assertRaises(Unanswered):
-            self.log.hold(1, 'x', 40, True)
-        self.assertTrue(self.log.hold(1, 'x', 60, True))
-        before = self.server.keys(f'{self.prefix}/')
-        self.assertNotIn('succeeded', self.server.ask('/v3/kv/txn', asked[0]))
-        self.assertEqual(self.server.keys(f'{self.prefix}/'), before)
+                self.assertTrue(self.direct.renew('a', A, LONG + SECOND))
+                self.loses(what, part, lambda: self.log.renew('a', A, LONG))
+                self.assertTrue(self.log.renew('a', A, LONG))
+                self.assertEqual((present(self.direct), len(set(self.leases().values()))), ({'a': Holder(A, Promise(1, 5))}, 1))
 
     def test_renewal_that_was_done_meanwhile(self) -> None:
         """Of one's own, whose answer was lost: it isn't known to be a gap, and is tried again."""
-        self.assertTrue(self.log.hold(1, 'x', 50, False))
+        self.assertTrue(self.log.take('a', A, EMPTY, 50 * SECOND))
         granted = Client.ask
 
         def renew_first(client: Client, path: str, told: Json, repeats: bool = False) -> Json:
             if path == gateway.LEASE_GRANT:
                 with mock.patch.object(Client, 'ask', granted):
-                    self.assertTrue(self.direct.hold(1, 'x', 70, True))
+                    self.assertTrue(self.direct.renew('a', A, 70 * SECOND))
             return granted(client, path, told, repeats)
 
-        with mock.patch.object(Client, 'ask', renew_first), self.assertRaises(Unanswered):
-            self.log.hold(1, 'x', 60, True)
-        self.assertTrue(self.log.hold(1, 'x', 60, True))
+        with mock.patch.object(Client, 'ask', renew_first), self.assertRaisesRegex(Unanswered, 'just now'):
+            self.log.renew('a', A, 60 * SECOND)
+        self.assertTrue(self.log.renew('a', A, 60 * SECOND))
 
     def test_lease_that_has_ended_already(self) -> None:
         """Before the presence stands under it, as behind a pause. Then nothing is done, and it is tried again."""
         ask = Client.ask
+        ended: List[str] = []
 
         def end_at_once(client: Client, path: str, told: Json, repeats: bool = False) -> Json:
             answer = ask(client, path, told, repeats)
             if path == gateway.LEASE_GRANT:
                 self.server.ask('/v3/lease/revoke', {'ID': answer['ID']})
+                ended.append(answer['ID'])
             return answer
 
-        for renews, there in ((False, set()), (True, {1})):
-            with self.subTest(renews=renews):
+        calls: List[Callable[[], object]] = [
+            lambda: self.log.take('a', A, EMPTY, 50 * SECOND), lambda: self.log.renew('a', A, 60 * SECOND),
+        ]  # fmt: skip
+        for number, call in enumerate(calls):
+            with self.subTest(call=number):
                 with mock.patch.object(Client, 'ask', end_at_once), self.assertRaises(Unanswered):
-                    self.log.hold(1, 'x', 60, renews)
-                self.assertEqual(self.direct.present(), there)
-                self.assertTrue(self.log.hold(1, 'x', 50, renews))
+                    call()
+                self.assertEqual((len(ended), present(self.direct)), (number + 1, {'a': Holder(A, EMPTY)} if number else {}))
+                self.assertTrue(call())
 
     def test_release(self) -> None:
         for what in ('answer', 'request'):
-            self.assertTrue(self.log.hold(1, what, 50, False))
-            self.loses(what, TXN, lambda: self.log.release(1, what))
-            self.assertEqual(self.direct.present(), set() if what == 'answer' else {1})
-            self.log.release(1, what)
-            self.assertEqual(self.direct.present(), set())
+            self.assertTrue(self.log.take('a', A, EMPTY, LONG))
+            self.loses(what, TXN, lambda: self.log.release('a', A))
+            self.assertEqual(present(self.direct), {} if what == 'answer' else {'a': Holder(A, EMPTY)})
+            self.log.release('a', A)
+            self.assertEqual((present(self.direct), self.leases()), ({}, {}))
 
     def test_reads(self) -> None:
         """They are asked for again, of another server, if there is one."""
-        calls: List[Callable[[EtcdLog], object]] = [lambda log: list(log.read(0)), lambda log: log.present()]
+        calls: List[Callable[[EtcdLog], object]] = [lambda log: list(log.read(1, 0)), present, lambda log: log.epochs()]
         for call in calls:
             self.loses('answer', TXN, lambda: call(self.log))
             both = self.opened(f'etcd://{self.between.endpoint},127.0.0.1:{self.server.port}/{self.prefix}')
@@ -591,59 +819,183 @@ class Lost(InEtcd):
             self.loses(what, PUT, lambda: EtcdLog.create(address, OPENING))
             if what == 'request':
                 self.created(address)
-            self.assertEqual(list(self.opened(address).read(0)), [HEADER])
+            self.assertEqual(self.opened(address).opening(), OPENING)
 
-    def test_watch(self) -> None:
-        """A watch that breaks is begun again, and what came meanwhile is seen."""
-        self.log.wait(1, 0.1)
-        self.direct.append(1, ['recover,1'])
+    def test_another_etcd(self) -> None:
+        other = self.servers()
+        self.created(other.address(self.prefix))
+        self.between.port = other.each[0].port
+        self.loses('request', TXN, self.log.epochs)
+        calls: List[Callable[[], object]] = [
+            lambda: self.log.read(1, 0), lambda: self.log.append(1, 0, ['recover,1']), lambda: self.log.look(1, 0),
+        ]  # fmt: skip
+        for call in calls:
+            with self.assertRaisesRegex(ForeignLog, 'another etcd'):
+                call()
+
+
+class Watching(InEtcd):
+    """What a wait asks, and what its watch may miss."""
+
+    def setUp(self) -> None:
+        super().setUp()
+        self.between = self.proxy()
+        self.direct = self.begun()
+        self.log = self.opened(self.between.address(self.prefix))
+
+    def wait(self, place: int, seconds: Optional[float] = None, until: Until = Until.NEWS) -> float:
+        """How long it took."""
+        begun = time.monotonic()
+        self.log.wait(1, place, {'a': A}, until, PATIENCE if seconds is None else seconds)
+        return time.monotonic() - begun
+
+    def test_a_watch_that_breaks(self) -> None:
+        """It is begun again, and what came meanwhile is seen."""
+        self.assertGreaterEqual(self.wait(0, 0.1), 0.1)
+        add(self.direct, ['recover,1'])
         for lost in (TXN, b'POST /v3/watch'):
-            self.log._end_watch()
+            self.log._break_watch()
+            self.log._broken = 0.0
             self.between.lose('answer', lost)
             with contextlib.suppress(Unanswered):
-                self.log.wait(2, 0.3)
+                self.wait(1, 0.5)
             self.assertTrue(self.between.lost.is_set())
-        later = threading.Timer(0.1, lambda: self.direct.append(2, ['recover,2']))
+        later = threading.Timer(0.1, lambda: add(self.direct, ['recover,2']))
         later.start()
-        begun = time.monotonic()
-        self.log.wait(2, PATIENCE)
-        self.assertLess(time.monotonic(), begun + PATIENCE)
+        self.assertLess(self.wait(1), PATIENCE)
         later.join()
 
     def test_begin_of_a_watch(self) -> None:
         """What comes between the look and the watch is seen."""
         watch = Client.watch
-        acts: List[Callable[[], object]] = [lambda: self.direct.append(1, ['recover,1']), lambda: self.direct.hold(1, 'x', 50, False)]
-        for act in acts:
+        self.assertTrue(self.direct.append(1, 0, ['recover,1']))
+        acts: List[Tuple[Callable[[], object], Until]] = [
+            (lambda: self.direct.promise('a', A, Promise(1, 1)), Until.ALL_IDLE), (lambda: self.direct.append(1, 1, ['recover,1']), Until.NEWS),
+            (lambda: self.direct.ask(OPENING.after(None), 1), Until.NEWS), (lambda: self.direct.take('b', B, Promise(1, 2), LONG), Until.NEWS),
+        ]  # fmt: skip
+        for act, until in acts:
             self.log._end_watch()
+            place, done = len(self.log.look(1, 0).rows), []
 
             def begin(client: Client, told: Json) -> gateway.Watch:
-                act()
+                done.append(act())
                 return watch(client, told)
 
-            begun = time.monotonic()
             with mock.patch.object(Client, 'watch', begin):
-                self.log.wait(len(self.direct.read(0)), PATIENCE)
-            self.assertLess(time.monotonic(), begun + PATIENCE)
+                self.assertLess(self.wait(place, until=until), PATIENCE)
+            self.assertEqual(done, [True])
 
     def test_rest(self) -> None:
-        """Nothing is asked while nothing happens, also over many waits."""
-        self.log.present()
-        self.log.wait(1, 0.1)
+        """Nothing is asked while nothing happens, also over many waits; and one look is enough for the first one."""
+        self.log.look(1, 0)
         asked = self.between.requests
+        self.wait(0, 0.1)
+        self.assertEqual(self.between.requests, asked + 1, 'the watch')
         for _ in range(5):
-            self.log.wait(1, 0.1)
-        self.assertEqual(self.between.requests, asked)
+            self.wait(0, 0.1)
+        self.assertEqual(self.between.requests, asked + 1)
 
-    def test_another_etcd(self) -> None:
-        other = self.begun()
-        self.created(other.address(self.prefix))
-        self.between.port = other.each[0].port
-        self.loses('request', TXN, self.log.present)
-        calls: List[Callable[[], object]] = [lambda: self.log.read(0), lambda: self.log.append(1, ['recover,1']), self.log.present]
-        for call in calls:
-            with self.assertRaisesRegex(ForeignLog, 'another etcd'):
-                call()
+    def test_promises_among_many(self) -> None:
+        """They are told only where they are waited for: a watch is begun anew for that, without a look."""
+        self.assertTrue(self.direct.promise('a', A, Promise(1, 5)))
+        with mock.patch.object(etcd, 'FEW', 0):
+            self.log.look(1, 0)
+            self.wait(0, 0.1)
+            asked, seen = self.between.requests, self.seen()
+            self.assertTrue(self.direct.promise('a', A, Promise(1, 7)))
+            self.wait(0, 0.3)
+            self.assertEqual((self.between.requests, seen), (asked, []))
+            self.wait(0, 0.1, Until.ANY_IDLE)
+            self.assertEqual(self.between.requests, asked + 1)
+            self.assertTrue(self.direct.promise('a', A, Promise(1, 8)))
+            self.wait(0, 0.3, Until.ANY_IDLE)
+        self.assertIn(f'{self.prefix}/presence/promise/a', seen)
+
+    def seen(self) -> List[str]:
+        """The keys of all events from now on."""
+        found: List[str] = []
+        see = etcd.News.see
+
+        def note(news: etcd.News, event: Json) -> None:
+            found.append(decoded(event['kv']['key']))
+            see(news, event)
+
+        patch = mock.patch.object(etcd.News, 'see', note)
+        patch.start()
+        self.addCleanup(patch.stop)
+        return found
+
+    def test_looks(self) -> None:
+        """Each finds all, whatever it has read before, and whatever a watch told meanwhile."""
+        choice, names = random.Random(1), 'abcdef'
+        for few in (0, 64):
+            with mock.patch.object(etcd, 'FEW', few):
+                for number in range(100):
+                    name, life, here = choice.choice(names), Life(number, 1), Promise(1, 0)
+                    there = present(self.direct)
+                    for _ in range(choice.randrange(3)):
+                        self.direct.release(name, there[name].life) if name in there else self.direct.take(name, life, here, LONG)
+                    if there and choice.random() < 0.5:
+                        other = choice.choice(sorted(there))
+                        self.direct.promise(other, there[other].life, Promise(1, number))
+                    if choice.random() < 0.3:
+                        self.log.wait(1, 0, there_of(self.log), choice.choice(list(Until)), 0.02)
+                    self.assertEqual(present(self.log), present(self.opened()), number)
+
+    def test_what_a_look_reads(self) -> None:
+        """Of presences those alone that are newer than the last look, but for the first one."""
+        for number in range(20):
+            self.assertTrue(self.direct.take(str(number), A, EMPTY, LONG))
+        read: List[int] = []
+        pairs_of = gateway.pairs_of
+
+        def count(found: Json) -> List[gateway.Pair]:
+            pairs = pairs_of(found)
+            read.append(sum(b'/presence/' in pair.key for pair in pairs))
+            return pairs
+
+        acts: List[Callable[[], object]] = [
+            lambda: None, lambda: None, lambda: self.direct.promise('7', A, Promise(1, 1)), lambda: self.direct.take('x', A, EMPTY, LONG),
+            lambda: self.direct.renew('x', A, 2 * LONG), lambda: self.direct.release('x', A), lambda: None,
+        ]  # fmt: skip
+        counts = []
+        with mock.patch.object(etcd, 'pairs_of', count):
+            for act in acts:
+                act()
+                read.clear()
+                self.log.look(1, 0)
+                counts.append(sum(read))
+        self.assertEqual(counts, [42, 0, 1, 2, 2, 42, 0])
+
+    def test_damage(self) -> None:
+        """Whatever isn't as it has to be is left for a look to find."""
+        for key in ('presence/life/b', 'presence/promise/a', 'place'):
+            self.log.look(1, 0)
+            before = self.server.keys(f'{self.prefix}/{key}').get(f'{self.prefix}/{key}')
+            later = threading.Timer(0.1, lambda: self.server.put(f'{self.prefix}/{key}', 'x'))
+            later.start()
+            self.assertLess(self.wait(0, until=Until.ALL_IDLE if key == 'place' else Until.NEWS), PATIENCE)
+            later.join()
+            with self.assertRaises(DamagedLog):
+                self.log.look(1, 0)
+            if before:
+                self.server.put(f'{self.prefix}/{key}', decoded(before['value']))
+            else:
+                self.server.delete(f'{self.prefix}/{key}')
+
+    def test_removed(self) -> None:
+        self.log.look(1, 0)
+        later = threading.Timer(0.1, lambda: self.server.delete(f'{self.prefix}/', f'{self.prefix}0'))
+        later.start()
+        self.assertLess(self.wait(0), PATIENCE)
+        later.join()
+        with self.assertRaisesRegex(DamagedLog, 'removed'):
+            self.log.look(1, 0)
+
+
+def there_of(log: EtcdLog) -> Dict[str, Life]:
+    """The lives that a look finds."""
+    return log.look(1, 0).lives
 
 
 class Endpoints(InEtcd):
@@ -651,7 +1003,7 @@ class Endpoints(InEtcd):
 
     def setUp(self) -> None:
         super().setUp()
-        self.created().append(1, ['recover,1'])
+        add(self.begun(), ['recover,1'])
         self.silent = socket.create_server(('127.0.0.1', 0))  # it takes connections, and says nothing
         self.addCleanup(self.silent.close)
         self.dead, self.mute = (f'127.0.0.1:{port}' for port in (free_ports(1)[0], self.silent.getsockname()[1]))
@@ -663,10 +1015,9 @@ class Endpoints(InEtcd):
                 begun = time.monotonic()
                 log = self.opened(f'etcd://{first},{self.alive}/{self.prefix}', 4.0)
                 self.assertLess(time.monotonic(), begun + 4.0)
-                count = len(log.read(0))
-                self.assertTrue(log.append(count, ['recover,1']))
-                log.present()
-                log.wait(count, PATIENCE)
+                end = add(log, ['recover,1'])
+                self.assertEqual(set(present(log)), {'a'})
+                log.wait(1, end.place - 1, {'a': A}, Until.NEWS, PATIENCE)
 
     def test_none(self) -> None:
         for all_of_them in ((self.dead,), (self.mute,), (self.dead, self.mute), ('nowhere.invalid',)):
@@ -683,8 +1034,9 @@ class Endpoints(InEtcd):
         log._client._endpoints = read_address(f'etcd://{self.mute},{self.alive}/x').endpoints
         log._client.close()
         with self.assertRaisesRegex(Unanswered, f'^{self.mute}: it did not answer in time$'):
-            log.append(2, ['recover,2'])
-        self.assertTrue(log.append(2, ['recover,3']))
+            log.append(1, 1, ['recover,2'])
+        self.assertTrue(log.promise('a', A, Promise(1, 1)))
+        self.assertTrue(log.append(1, 1, ['recover,3']))
 
     def test_no_etcd(self) -> None:
         for said, fault in (
@@ -710,271 +1062,221 @@ class Endpoints(InEtcd):
             connection.sendall(said)
 
 
-class Told(InEtcd):
-    """What a wait tells of what came by its watch."""
-
-    def setUp(self) -> None:
-        super().setUp()
-        self.log, self.other = self.created(), self.opened()
-        self.log.look(1)
-        self.assertIsNone(self.log.wait(1, 0.1))
-
-    def told(self, place: int) -> Tuple[List[str], List[int], Optional[str]]:
-        """What a wait tells."""
-        seen = self.log.wait(place, PATIENCE)
-        assert seen is not None
-        return list(seen.rows), sorted(seen.present), seen.wish
-
-    def test_all(self) -> None:
-        """Each wait tells what is new, without a request."""
-        wish = Opening(2, 'bully,1,2,4', ('a', 'b'), 500).text()
-        with mock.patch.object(self.log._client, 'ask', side_effect=AssertionError):
-            self.other.append(1, ['recover,1', 'start,1'])
-            self.assertEqual(self.told(1), (['recover,1', 'start,1'], [], None))
-            self.other.hold(2, 'x', 50, False)
-            self.assertEqual(self.told(3), ([], [2], None))
-            self.other.ask(wish)
-            self.assertEqual(self.told(3), ([], [2], wish))
-            self.other.release(2, 'x')
-            self.assertEqual(self.told(3), ([], [], wish))
-            self.assertIsNone(self.log.wait(3, 0.1))
-
-    def test_own_rows(self) -> None:
-        """Rows that stand behind some that weren't waited for."""
-        self.assertTrue(self.log.append(1, ['recover,1', 'recover,2']))
-        self.other.append(3, ['start,1'])
-        self.assertEqual(self.told(3)[0], ['start,1'])
-        self.assertTrue(self.log.append(4, ['start,2']))
-        self.other.append(5, ['größer,1', 'größer,2'])
-        self.assertEqual(self.told(5)[0], ['größer,1', 'größer,2'])
-
-    def test_the_end(self) -> None:
-        """Of an epoch, and of one that is taken away."""
-        after = Opening(2, 'bully,1,2,4', ('a', 'b'), 500)
-        self.assertTrue(self.other.end(1, None, after))
-        self.assertEqual(self.told(1)[0], [after.end])
-        self.other.prune(2)
-        self.assertIsNone(self.log.wait(2, PATIENCE))
-        with self.assertRaises(NoEpoch):
-            self.log.look(2)
-
-    def test_damage(self) -> None:
-        """Whatever isn't a row is left for a look to find."""
-        self.server.put(f'{self.prefix}/log/0000000001/0000000001', 'recover,1\nrecover,2')
-        self.assertIsNone(self.log.wait(1, PATIENCE))
-        with self.assertRaises(DamagedLog):
-            self.log.look(1)
-
-    def test_removed(self) -> None:
-        self.server.delete(f'{self.prefix}/', f'{self.prefix}0')
-        self.assertIsNone(self.log.wait(1, PATIENCE))
-        with self.assertRaisesRegex(DamagedLog, 'removed'):
-            self.log.look(1)
-
-
 class Killed(InEtcd):
     """Servers that are killed and paused, and come back."""
 
     def test_one(self) -> None:
-        servers = self.begun()
-        log, other, server = self.created(servers.address('x')), self.opened(servers.address('x')), servers.each[0]
-        self.assertTrue(log.hold(1, 'x', 5.0, False))
-        log.present()
-        log.wait(1, 0.1)
+        servers = self.servers()
+        log, other, server = self.begun(servers.address('x')), self.opened(servers.address('x')), servers.each[0]
+        log.look(1, 0)
+        log.wait(1, 0, {'a': A}, Until.NEWS, 0.1)
         server.kill()
         calls: List[Callable[[], object]] = [
-            lambda: log.read(0), lambda: log.append(1, ['recover,1']), lambda: log.hold(1, 'x', 5.0, True), log.present,
-            lambda: log.wait(1, 1.0),
+            lambda: log.read(1, 0), lambda: log.append(1, 0, ['recover,1']), lambda: log.renew('a', A, LONG), lambda: log.look(1, 0),
+            lambda: log.promise('a', A, EMPTY), lambda: log.wait(1, 0, {'a': A}, Until.NEWS, 1.0),
         ]  # fmt: skip
         for call in calls:
             with self.assertRaisesRegex(Unanswered, f'^127.0.0.1:{server.port}: '):
                 call()
         server.start()
         wait_until(servers.are_up)
-        self.assertTrue(self.renewed(log, ttl=5.0))
-        self.assertTrue(other.append(1, ['recover,1']), 'its connection is a new one')
-        log.wait(1, PATIENCE)
-        self.assertEqual((list(log.read(1)), log.present()), (['recover,1'], {1}))
+        self.assertTrue(self.renewed(log, ttl=LONG))
+        self.assertTrue(other.append(1, 0, ['recover,1']), 'its connection is a new one')
+        log.wait(1, 0, {'a': A}, Until.NEWS, PATIENCE)
+        self.assertEqual((list(log.read(1, 0)), set(present(log))), (['recover,1'], {'a'}))
 
     def test_no_quorum(self) -> None:
-        servers = self.begun(3)
-        log = self.created(servers.address('x'))
+        servers = self.servers(3)
+        log = self.begun(servers.address('x'))
         for server in servers.each[1:]:
             server.kill()
         calls: List[Callable[[], object]] = [
-            lambda: log.read(0), lambda: log.append(1, ['recover,1']), lambda: log.hold(1, 'x', 5.0, False),
+            lambda: log.read(1, 0), lambda: log.append(1, 0, ['recover,1']), lambda: log.take('b', B, EMPTY, LONG),
         ]  # fmt: skip
         for call in calls:
             with self.assertRaises(Unanswered):
                 call()
         servers.each[1].start()
         wait_until(lambda: all(server.is_up() for server in servers.each[:2]))
-        count = len(log.read(0))  # the append may have been done now
-        self.assertTrue(log.append(count, ['recover,2']))
+        add(log, ['recover,2'])
+        self.assertIn(len(log.read(1, 0)), (1, 2), 'the append may have been done by now')
 
     def test_leader(self) -> None:
-        """A presence is kept while another leader is found, and the log goes on."""
-        servers = self.begun(3)
+        """A presence and a promise are kept while another leader is found, and the log goes on."""
+        servers = self.servers(3)
         leader = servers.leader()
         servers.each.sort(key=lambda server: server is not leader)
         log, other = self.created(servers.address('x'), patience=1.0), self.opened(servers.address('x'), 1.0)
-        self.assertTrue(log.hold(1, 'x', 3.0, False))
-        log.present()
-        log.wait(1, 0.1)
+        self.assertTrue(log.take('a', A, EMPTY, 3 * SECOND))
+        self.assertTrue(log.promise('a', A, Promise(0, 7)))
+        log.look(1, 0)
+        log.wait(1, 0, {'a': A}, Until.NEWS, 0.1)
+        before = self.leases(prefix='x', server=servers.each[1])
         leader.kill()
         for _ in range(3):
-            self.assertTrue(self.renewed(log, ttl=3.0))
+            self.assertTrue(self.renewed(log, ttl=3 * SECOND))
         wait_until(lambda: self.appended(other))
-        log.wait(1, PATIENCE)
-        self.assertEqual((log.read(1)[0], log.present()), ('recover,1', {1}))
-        self.assertEqual(servers.each[1].keys('x/presence/0000000001/1')['x/presence/0000000001/1']['value'], coded('x'))
+        log.wait(1, 0, {'a': A}, Until.NEWS, PATIENCE)
+        self.assertEqual((log.read(1, 0)[0], present(log)), ('recover,1', {'a': Holder(A, EMPTY)}))
+        after = self.leases(prefix='x', server=servers.each[1])
+        self.assertEqual((len(set(after.values())), set(after) == set(before), after == before), (1, True, False), 'both have moved')
 
     def test_paused_server(self) -> None:
         """A watch at a server that says nothing any more is begun at another one, once that one is asked."""
-        servers = self.begun(3)
+        servers = self.servers(3)
         leader = servers.leader()
         servers.each.sort(key=lambda server: server is leader)
         log, other = self.created(servers.address('x'), patience=1.0), self.opened(servers.address('x', leader))
-        log.present()
-        log.wait(1, 0.1)
+        self.assertTrue(other.take('a', A, EMPTY, LONG))
+        log.look(1, 0)
+        log.wait(1, 0, {'a': A}, Until.NEWS, 0.1)
         servers.each[0].pause()
-        self.assertEqual(log.present(), set())
-        self.assertTrue(other.append(1, ['recover,1']))
+        self.assertEqual(set(present(log)), {'a'})
+        self.assertTrue(other.append(1, 0, ['recover,1']))
         begun = time.monotonic()
-        log.wait(1, PATIENCE)
+        log.wait(1, 0, {'a': A}, Until.NEWS, PATIENCE)
         self.assertLess(time.monotonic(), begun + PATIENCE)
 
     def appended(self, log: EtcdLog) -> bool:
         with contextlib.suppress(Unanswered):
-            count = len(log.read(0))
-            return count > 1 or log.append(count, ['recover,1'])
+            return len(log.read(1, 0)) > 0 or log.append(1, 0, ['recover,1'])
         return False
 
     def test_all_paused(self) -> None:
         """A presence that is renewed behind a pause was never away."""
-        servers = self.begun(3)
+        servers = self.servers(3)
         log = self.created(servers.address('x'), patience=0.5)
-        self.assertTrue(log.hold(1, 'x', 2.0, False))
-        made = self.presence(servers)
+        self.assertTrue(log.take('a', A, EMPTY, 2 * SECOND))
+        made = self.made(servers)
         for server in servers.each:
             server.pause()
         for _ in range(5):
             with self.assertRaises(Unanswered):
-                log.hold(1, 'x', 2.0, True)
+                log.renew('a', A, 2 * SECOND)
         for server in servers.each:
             server.resume()
         is_renewed = self.renewed(log)
-        self.assertEqual(self.presence(servers), made if is_renewed else None)
-        wait_until(lambda: self.appended(log))
+        self.assertEqual(self.made(servers), made if is_renewed else None)
 
-    def presence(self, servers: Servers) -> Optional[str]:
+    def made(self, servers: Servers) -> Optional[str]:
         """The revision in which the presence was taken, if it is held."""
         wait_until(servers.are_up)
-        found = servers.each[0].keys('x/presence/0000000001/1').get('x/presence/0000000001/1')
+        found = servers.each[0].keys('x/presence/life/a').get('x/presence/life/a')
         return str(found['create_revision']) if found else None
 
     def test_leader_of_before(self) -> None:
-        """One that was paused, and doesn't know that another life holds the presence."""
-        servers = self.begun(3)
+        """One that was paused, and doesn't know that another life holds the presence: what is asked of it late is nothing to that one."""
+        servers = self.servers(3)
         self.created(servers.address('x'))
         for number in range(3):
-            leader = servers.leader()
+            leader, old, new = servers.leader(), Life(1, number), Life(2, number)
             log = self.opened(servers.address('x', leader))
             other = self.opened(servers.address('x', *(server for server in servers.each if server is not leader)), 1.0)
-            self.assertTrue(log.hold(1, f'x{number}', 1.0, False))
+            self.assertTrue(log.take('a', old, EMPTY, SECOND))
             leader.pause()
-            wait_until(lambda: self.taken(other, f'y{number}'))
+            late = threading.Thread(target=lambda: self.asked_late(log, old))
+            late.start()
+            wait_until(lambda: self.taken(other, new))
             leader.resume()
-            self.assertFalse(self.renewed(log, f'x{number}', 1.0))
+            late.join()
+            self.assertFalse(self.renewed(log, old, SECOND))
             wait_until(servers.are_up)
-            other.release(1, f'y{number}')
+            self.assertEqual(present(other), {'a': Holder(new, EMPTY)})
+            other.release('a', new)
 
-    def taken(self, log: EtcdLog, life: str) -> bool:
+    def asked_late(self, log: EtcdLog, life: Life) -> None:
+        """A promise, whatever becomes of it."""
         with contextlib.suppress(Unanswered):
-            return log.hold(1, life, 50.0, False) or log.hold(1, life, 50.0, True)
+            log.promise('a', life, Promise(1, 500))
+
+    def taken(self, log: EtcdLog, life: Life) -> bool:
+        with contextlib.suppress(Unanswered):
+            return log.take('a', life, EMPTY, LONG) or log.renew('a', life, LONG)
         return False
 
     def test_renewal_at_a_leader_of_before(self) -> None:
         """A renewal that was answered lasts, also if it was asked of a leader that was paused meanwhile."""
-        servers = self.begun(3)
+        servers = self.servers(3)
         self.created(servers.address('x'))
         for _ in range(3):
             leader = servers.leader()
             log = self.opened(servers.address('x', leader))
             others = [server for server in servers.each if server is not leader]
             other = self.opened(servers.address('x', *others), 1.0)
-            self.assertTrue(log.hold(1, 'x', 4.0, False))
+            self.assertTrue(log.take('a', A, EMPTY, 4 * SECOND))
             leader.pause()
             wait_until(lambda: any(servers.leads(server) for server in others))
             time.sleep(1.5)
             leader.resume()
             begun = time.monotonic()
             with contextlib.suppress(Unanswered):
-                if log.hold(1, 'x', 4.0, True):
+                if log.renew('a', A, 4 * SECOND):
                     wait_until(lambda: not self.is_present(other))
                     self.assertGreaterEqual(time.monotonic(), begun + 4.0)
             wait_until(servers.are_up)
-            other.release(1, 'x')
+            other.release('a', A)
 
     def is_present(self, log: EtcdLog) -> bool:
         try:
-            return bool(log.present())
+            return bool(present(log))
         except Unanswered:
             return True
 
     def test_late_end_by_a_leader_of_before(self) -> None:
-        """A leader that was paused for longer than a lease, and comes back, doesn't end what was renewed meanwhile."""
-        servers = self.begun(3)
+        """A leader that was paused for longer than a lease, and comes back, doesn't end what was renewed meanwhile: nor does it take promises
+        away."""
+        servers = self.servers(3)
         self.created(servers.address('x'))
         for number in range(3):
-            leader = servers.leader()
+            leader, life = servers.leader(), Life(1, number)
             address = servers.address('x', *(server for server in servers.each if server is not leader))
-            members = {node: self.opened(address, 1.0) for node in range(1, 31)}
-            for node, log in members.items():
-                self.assertTrue(log.hold(node, f'x{number}', 3.0, False))
-            self.renew_for(members, f'x{number}', 1.0)
+            members = {str(node): self.opened(address, 1.0) for node in range(1, 31)}
+            for name, log in members.items():
+                self.assertTrue(log.take(name, life, EMPTY, 3 * SECOND))
+                self.assertTrue(log.promise(name, life, Promise(1, 8)))
+            self.renew_for(members, life, 1.0)
             leader.pause()
-            self.renew_for(members, f'x{number}', 6.0)
+            self.renew_for(members, life, 6.0)
             leader.resume()
-            self.renew_for(members, f'x{number}', 2.0)
+            self.renew_for(members, life, 2.0)
             wait_until(servers.are_up)
-            self.assertEqual(members[1].present(), set(members))
-            for node, log in members.items():
-                log.release(node, f'x{number}')
+            self.assertEqual(present(members['1']), {name: Holder(life, Promise(1, 8)) for name in members})
+            for name, log in members.items():
+                log.release(name, life)
 
-    def renew_for(self, members: Dict[int, EtcdLog], life: str, seconds: float) -> None:
+    def renew_for(self, members: Dict[str, EtcdLog], life: Life, seconds: float) -> None:
         """The presences are renewed over and over, and are never found to be gone."""
         end = time.monotonic() + seconds
         while time.monotonic() < end:
-            for node, log in members.items():
+            for name, log in members.items():
                 with contextlib.suppress(Unanswered):
-                    self.assertTrue(log.hold(node, life, 3.0, True))
+                    self.assertTrue(log.renew(name, life, 3 * SECOND))
 
     def test_full(self) -> None:
         """An etcd that is full may have done what it refuses, the first time."""
-        servers = self.begun(words=['--quota-backend-bytes', '1000000'])
-        log, count = self.created(servers.address('x')), 1
+        servers = self.servers(words=['--quota-backend-bytes', '1000000'])
+        log, count = self.begun(servers.address('x')), 0
         with self.assertRaisesRegex(Unanswered, 'space exceeded'):
-            while log.append(count, ['x' * 100_000]):
+            while log.promise('a', A, Promise(1, count)) and log.append(1, count, ['x' * 100_000]):
                 count += 1
-        rows = len(log.read(0))
+        rows = len(log.read(1, 0))
         self.assertIn(rows, (count, count + 1))
         with self.assertRaisesRegex(Unanswered, 'space exceeded'):
-            log.append(rows, ['x'])
-        self.assertEqual(len(log.read(0)), rows)
+            log.promise('a', A, Promise(1, rows + 1))
+        self.assertEqual(len(log.read(1, 0)), rows)
 
 
 class Users(InEtcd):
     """An etcd whose users log in."""
 
-    servers: Servers
+    servers_of_users: Servers
     token: str
 
     @classmethod
     def setUpClass(cls) -> None:
-        cls.servers = Servers()
-        cls.addClassCleanup(cls.servers.close)
-        ask = cls.servers.each[0].ask
+        cls.servers_of_users = Servers()
+        cls.addClassCleanup(cls.servers_of_users.close)
+        ask = cls.servers_of_users.each[0].ask
         for user, role in (('root', 'root'), ('member', 'group'), ('reader', 'looking'), ('other', 'elsewhere')):
             ask('/v3/auth/user/add', {'name': user, 'password': f'{user} password'})
             ask('/v3/auth/role/add', {'name': role})
@@ -985,19 +1287,19 @@ class Users(InEtcd):
         ask('/v3/auth/enable', {})
 
     def setUp(self) -> None:
-        self.address = self.servers.address('x')
+        self.address = self.servers_of_users.address('x')
 
     def words(self, user: str) -> Dict[str, Any]:
         return {'user': user, 'password': f'{user} password'}
 
     def tearDown(self) -> None:
         """Nothing is left for the next test."""
-        server = self.servers.each[0]
+        server = self.servers_of_users.each[0]
         token = server.ask('/v3/auth/authenticate', {'name': 'root', 'password': 'root password'})['token']
         server.ask('/v3/kv/deleterange', {'key': coded('x/'), 'range_end': coded('x0')}, token=token)
 
     def denied(self, call: Callable[[], object], why: str) -> None:
-        with self.assertRaisesRegex(Denied, f'^127.0.0.1:{self.servers.each[0].port}: .*{why}'):
+        with self.assertRaisesRegex(Denied, f'^127.0.0.1:{self.servers_of_users.each[0].port}: .*{why}'):
             call()
 
     def test_denied(self) -> None:
@@ -1012,12 +1314,13 @@ class Users(InEtcd):
         self.denied(lambda: EtcdLog(self.address, **self.words('other')), 'permission denied')
 
     def test_reader(self) -> None:
-        self.created(**self.words('member')).append(1, ['recover,1'])
+        self.begun(**self.words('member')).append(1, 0, ['recover,1'])
         log = self.opened(**self.words('reader'))
-        self.assertEqual((list(log.read(1)), log.present()), (['recover,1'], set()))
-        log.wait(1, PATIENCE)
+        self.assertEqual((list(log.read(1, 0)), set(present(log))), (['recover,1'], {'a'}))
+        log.wait(1, 0, {'a': A}, Until.NEWS, PATIENCE)
         calls: List[Callable[[], object]] = [
-            lambda: log.append(2, ['recover,2']), lambda: log.hold(1, 'x', 5, False), lambda: log.release(1, 'x'),
+            lambda: log.append(1, 1, ['recover,2']), lambda: log.take('b', B, Promise(1, 1), LONG), lambda: log.release('a', A),
+            lambda: log.promise('a', A, Promise(1, 1)),
         ]  # fmt: skip
         for call in calls:
             self.denied(call, 'permission denied')
@@ -1025,22 +1328,22 @@ class Users(InEtcd):
     def test_member(self) -> None:
         """A server that came back knows no login of before, and is told again."""
         log, other = self.created(**self.words('member')), self.opened(**self.words('member'))
-        count = 1
+        end = EMPTY
         for _ in range(2):
-            self.assertTrue(log.hold(1, 'x', 50, False))
-            self.assertTrue(log.hold(1, 'x', 50, True))
-            log.present()
-            later = threading.Timer(0.1, lambda: other.append(count, ['recover,1']))
+            self.assertTrue(log.take('a', A, end, LONG))
+            self.assertTrue(log.renew('a', A, LONG))
+            log.look(1, 0)
+            later = threading.Timer(0.1, lambda: other.append(1, end.place, ['recover,1']))
             later.start()
-            log.wait(count, PATIENCE)
+            log.wait(1, end.place, {'a': A}, Until.NEWS, PATIENCE)
             later.join()
-            count += 1
-            self.assertEqual((len(log.read(0)), log.present()), (count, {1}))
-            self.assertTrue(log.hold(1, 'x', 50, True))
-            log.release(1, 'x')
-            self.servers.each[0].kill()
-            self.servers.each[0].start()
-            wait_until(self.servers.are_up)
+            end = Promise(1, end.place + 1)
+            self.assertEqual((len(log.read(1, 0)), set(present(log))), (end.place, {'a'}))
+            self.assertTrue(log.renew('a', A, LONG))
+            log.release('a', A)
+            self.servers_of_users.each[0].kill()
+            self.servers_of_users.each[0].start()
+            wait_until(self.servers_of_users.are_up)
 
     def test_no_users(self) -> None:
         with self.assertRaisesRegex(Denied, 'authentication is not enabled'):
@@ -1089,7 +1392,7 @@ class Certificates(InEtcd):
         files = ['--cert-file', str(self.folder / f'{certificate}.pem'), '--key-file', str(self.folder / f'{certificate}.key')]
         tls = self.tls(client='client')
         tls.check_hostname = False
-        return self.begun(1, [*files, *words], tls)
+        return self.servers(1, [*files, *words], tls)
 
     def refused(self, call: Callable[[], object], why: str, fault: Type[LogError] = Denied) -> None:
         with self.assertRaisesRegex(fault, f'^127.0.0.1:[0-9]+: .*{why}'):
@@ -1098,24 +1401,23 @@ class Certificates(InEtcd):
     def test_trusted(self) -> None:
         servers = self.secure()
         address, tls = servers.address('x', kind='etcds'), self.tls()
-        log, other = self.created(address, tls=tls), self.opened(address, tls=tls)
-        self.assertTrue(log.hold(1, 'x', 5, False))
-        self.assertTrue(log.hold(1, 'x', 5, True))
-        log.present()
-        later = threading.Timer(0.1, lambda: other.append(1, ['recover,1' * 100] * 20))
+        log, other = self.begun(address, tls=tls), self.opened(address, tls=tls)
+        self.assertTrue(log.renew('a', A, LONG))
+        log.look(1, 0)
+        later = threading.Timer(0.1, lambda: other.append(1, 0, ['recover,1' * 100] * 20))
         later.start()
-        log.wait(20, PATIENCE)
+        log.wait(1, 0, {'a': A}, Until.NEWS, PATIENCE)
         later.join()
-        self.assertEqual((len(log.read(1)), log.present()), (20, {1}))
+        self.assertEqual((len(log.read(1, 0)), set(present(log))), (20, {'a'}))
 
         self.refused(lambda: EtcdLog(address, 5.0), 'TLS: .*certificate')
         self.refused(lambda: EtcdLog(address, 5.0, self.tls('other')), 'TLS: .*certificate')
         self.refused(lambda: EtcdLog(servers.address('x'), 5.0), '', Unanswered)
         self.refused(lambda: EtcdLog(ALONE.address('x', kind='etcds'), 5.0, tls), 'TLS: ', LogError)
         dead, port = free_ports(1)[0], servers.each[0].port
-        self.assertEqual(len(self.opened(f'etcds://127.0.0.1:{dead},127.0.0.1:{port}/x', tls=tls).read(0)), 21)
+        self.assertEqual(len(self.opened(f'etcds://127.0.0.1:{dead},127.0.0.1:{port}/x', tls=tls).read(1, 0)), 20)
         mixed = f'etcds://127.0.0.1:{self.server.port},127.0.0.1:{port}/x'
-        self.assertEqual(len(self.opened(mixed, tls=tls).read(0)), 21, 'one server with a wrong certificate is passed over')
+        self.assertEqual(len(self.opened(mixed, tls=tls).read(1, 0)), 20, 'one server with a wrong certificate is passed over')
         with self.assertRaises(ValueError):
             EtcdLog(servers.address('x'), tls=tls)
 
@@ -1127,159 +1429,163 @@ class Certificates(InEtcd):
         servers = self.secure('server', '--client-cert-auth', '--trusted-ca-file', str(self.folder / 'mine.pem'))
         address = servers.address('x', kind='etcds')
         self.refused(lambda: EtcdLog.create(address, OPENING, 5.0, self.tls()), 'TLS: ')
-        log = self.created(address, tls=self.tls(client='client'))
-        self.assertTrue(log.append(1, ['recover,1']))
-        log.wait(1, PATIENCE)
+        log = self.begun(address, tls=self.tls(client='client'))
+        self.assertTrue(log.append(1, 0, ['recover,1']))
+        log.wait(1, 0, {'a': A}, Until.NEWS, PATIENCE)
 
 
-@unittest.skipIf(sys.version_info < (3, 11), 'the standard library reads TOML from Python 3.11 on')
-class Commands(InEtcd):
-    """`bully-member` over etcd."""
+# ---- Logs that are wrong, each of which some test has to find.
 
-    CONFIG = 'nodes = 1\npartitions = 3\nevents = 10\nturns = 5\nnames = ["the only"]\n'
+
+class Unconditional(EtcdLog):
+    """What some keys have to be isn't asked for."""
+
+    part = b''
+
+    def _change(self, conditions: Sequence[Json], done: Sequence[Json], *refused: Json) -> gateway.Answer:
+        kept = [each for each in conditions if not b64decode(each['key']).startswith(self._keys.root + self.part)]
+        return super()._change(kept, done, *refused)
+
+
+class NoLives(Unconditional):
+    part = b'presence/life/'
+
+
+class NoPromises(Unconditional):
+    part = b'presence/promise/'
+
+
+class NoPlace(Unconditional):
+    part = b'place'
+
+
+class NoWish(Unconditional):
+    part = b'next'
+
+
+class MovesLivesAlone(EtcdLog):
+    """The promise stays under the lease of before."""
+
+    def _change(self, conditions: Sequence[Json], done: Sequence[Json], *refused: Json) -> gateway.Answer:
+        return super()._change(conditions, [each for each in done if 'ignore_value' not in each.get('request_put', {})], *refused)
+
+
+class NamesItsLease(EtcdLog):
+    """A promise stands under the lease that its client knows of."""
+
+    def _change(self, conditions: Sequence[Json], done: Sequence[Json], *refused: Json) -> gateway.Answer:
+        lease = self._held.lease if self._held else 0
+        told = [self.named(each, lease) if 'ignore_lease' in each.get('request_put', {}) else each for each in done]
+        return super()._change(conditions, told, *refused)
+
+    @staticmethod
+    def named(step: Json, lease: int) -> Json:
+        kept = {name: value for name, value in step['request_put'].items() if name != 'ignore_lease'}
+        return {'request_put': {**kept, 'lease': str(lease)}}
+
+
+class MovesWhatItFound(EtcdLog):
+    """A promise that is made meanwhile is lost by a move."""
+
+    def renew(self, name: str, life: Life, ttl: int) -> bool:
+        self._promised = self._value(self._look(one(self._keys.promise(name))).ranges[0]) or b''
+        return super().renew(name, life, ttl)
+
+    def _change(self, conditions: Sequence[Json], done: Sequence[Json], *refused: Json) -> gateway.Answer:
+        told = [self.found(each) if 'ignore_value' in each.get('request_put', {}) else each for each in done]
+        return super()._change(conditions, told, *refused)
+
+    def found(self, step: Json) -> Json:
+        kept = {name: value for name, value in step['request_put'].items() if name != 'ignore_value'}
+        return {'request_put': {**kept, 'value': b64encode(self._promised).decode()}}
+
+
+class FromNowOn(EtcdLog):
+    """A watch begins when it begins, and not behind what was looked at."""
+
+    def _begin_watch(self, is_news: Callable[[], bool], is_wide: bool, seconds: float) -> bool:
+        watch = Client.watch
+
+        def now(client: Client, told: Json) -> gateway.Watch:
+            return watch(client, {name: value for name, value in told.items() if name != 'start_revision'})
+
+        with mock.patch.object(Client, 'watch', now):
+            return super()._begin_watch(is_news, is_wide, seconds)
+
+
+class Overlooks(EtcdLog):
+    """What is gone isn't missed."""
+
+    def _see_all(self, answer: gateway.Answer, since: int) -> bool:
+        keys, news = self._keys, self._news
+        for found, prefix, known in zip(answer.ranges[2:4], (keys.lives, keys.promises), (set(news.lives), set(news.promises))):
+            there = {keys.name(pair.key, prefix) for pair in gateway.pairs_of(found)}
+            found['count'] = str(len(there | known if since else there))
+        return super()._see_all(answer, since)
+
+
+PLANTED: Tuple[Tuple[Type[EtcdLog], unittest.TestCase], ...] = (
+    (NoLives, Promises('test_late_requests_of_a_life_that_ended')), (NoLives, Promises('test_a_late_move')),
+    (NoLives, Promises('test_a_late_take')), (NoPromises, Promises('test_a_late_append')), (NoPromises, OverEtcd('test_promises_rise')),
+    (NoPromises, OverEtcd('test_all_have_to_be_idle')), (NoPlace, Promises('test_a_late_take')), (NoPlace, Promises('test_a_late_append')), (NoPlace, OverEtcd('test_racers')),
+    (NoWish, Promises('test_a_wish_while_an_epoch_ends')), (MovesLivesAlone, Promises('test_moved_together')),
+    (MovesLivesAlone, OverEtcd('test_a_renewal_keeps_the_promise')), (NamesItsLease, Promises('test_a_promise_behind_a_move')),
+    (MovesWhatItFound, Promises('test_a_promise_while_it_moves')), (FromNowOn, Watching('test_begin_of_a_watch')),
+    (Overlooks, Watching('test_looks')),
+)  # fmt: skip
+
+
+class Planted(unittest.TestCase):
+    """A test that a wrong log doesn't break tells nothing."""
+
+    def test_planted(self) -> None:
+        for log, case in PLANTED:
+            with self.subTest(log=log.__name__, test=case.id()):
+                with mock.patch.object(sys.modules[__name__], 'EtcdLog', log), mock.patch.object(etcd, 'EtcdLog', log):
+                    with mock.patch(f'{__name__}.PATIENCE', 2.0):
+                        self.assertTrue(has_failed(case))
+
+
+class OlderForm(InEtcd):
+    """A log of the form before is read, and nothing more."""
 
     def setUp(self) -> None:
         super().setUp()
-        folder = tempfile.TemporaryDirectory()
-        self.addCleanup(folder.cleanup)
-        self.folder = Path(folder.name)
-        self.config = self.folder / 'group.toml'
-        self.config.write_text(self.CONFIG)
+        for epoch, rows in ((1, ['bully,1,3,6', *['start,1'] * 1200, 'end,bully,1,3,6']), (2, ['bully,1,3,6', 'recover,1'])):
+            self.server.put(f'{self.prefix}/opening/{epoch:010}', OPENING.text())
+            for place, row in enumerate(rows):
+                self.server.put(self.row(epoch, place), row)
+        self.store = EtcdStore(self.address, None, '', '')
 
-    def call(self, *words: str) -> Tuple[int, str, str]:
-        """The status, and what it said."""
-        with contextlib.redirect_stdout(io.StringIO()) as said, contextlib.redirect_stderr(io.StringIO()) as told:
-            status = command.main(list(words))
-        return status, said.getvalue(), told.getvalue()
+    def row(self, epoch: int, place: int) -> str:
+        return f'{self.prefix}/log/{epoch:010}/{place:010}'
 
-    def test_life_of_a_log(self) -> None:
-        config, log = ['--config', str(self.config)], ['--log', self.address]
-        self.assertEqual(self.call('status', *log)[0], 4)
-        self.assertEqual(self.call('init', *config, *log), (0, '', ''))
-        self.assertEqual(self.call('init', *config, *log)[0], 4)
-        self.opened().append(1, ['recover,1'])
-        self.assertEqual(self.call('history', *log), (0, 'bully,1,1,3\nrecover,1\n', ''))
-        self.assertIn('the only  election  no', self.call('status', *log)[1])
+    def test_refused(self) -> None:
+        with self.assertRaisesRegex(ForeignLog, 'older version, and not of form 3; history writes it'):
+            self.store.open()
+        with self.assertRaises(LogExists):
+            self.store.create(OPENING)
 
-    def test_bad_words(self) -> None:
-        certificates = [word for name in ('cacert', 'cert', 'key') for word in (f'--{name}', str(self.folder / 'none'))]
-        secure = self.address.replace('etcd:', 'etcds:')
-        for words, status, why in (
-            (['etcd://x'], 2, 'has to be'), (['etcd:x'], 2, 'has to be'), (['etcd://127.0.0.1:1/log'], 2, '`log`'),
-            ([self.address, '--cacert', 'x'], 2, 'etcds://'), ([self.address, '--cert', 'x', '--key', 'y'], 2, 'etcds://'),
-            ([secure, '--cert', 'x'], 2, '--key'), ([secure, *certificates], 4, 'none'), (['sqlite:x', '--user', 'x'], 2, '--user'),
-            ([self.address, '--user', 'x'], 2, 'BULLY_ETCD_PASSWORD'), ([self.address, '--password-file', 'x'], 2, '--user'),
-            ([self.address, '--user', 'x', '--password-file', '/nowhere/file'], 4, '/nowhere/file'),
-        ):  # fmt: skip
-            with self.subTest(words=words):
-                ended, said, told = self.call('status', '--log', *words)
-                self.assertEqual((ended, said), (status, ''))
-                self.assertIn(why, told)
+    def test_history(self) -> None:
+        self.assertEqual(list(self.store.history(1)), ['bully,1,3,6', *['start,1'] * 1200])
+        for epoch in (2, None):
+            self.assertEqual(list(self.store.history(epoch)), ['bully,1,3,6', 'recover,1'])
+        with self.assertRaises(NoEpoch):
+            self.store.history(3)
+        self.server.delete(self.row(1, 500))
+        with self.assertRaises(DamagedLog):
+            self.store.history(1)
 
-    def test_passwords(self) -> None:
-        """Of the environment, in which it doesn't stay, or of a file."""
-        options = command.parser().parse_args(['status', '--log', self.address, '--user', 'x'])
-        with mock.patch.dict(os.environ, {'BULLY_ETCD_PASSWORD': ' a b '}):
-            store = stores.store_of(options)
-            self.assertNotIn('BULLY_ETCD_PASSWORD', os.environ)
-        assert isinstance(store, stores.EtcdStore)
-        self.assertEqual(store.password, ' a b ')
-        (self.folder / 'password').write_text(' c d \r\nmore')
-        options.password_file = str(self.folder / 'password')
-        store = stores.store_of(options)
-        assert isinstance(store, stores.EtcdStore)
-        self.assertEqual((store.user, store.password), ('x', ' c d '))
-        self.assertNotIn('c d', repr(store))
-
-    def test_run(self) -> None:
-        config, log = ['--config', str(self.config)], ['--log', self.address]
-        self.assertEqual(self.call('init', *config, *log)[0], 0)
-        member = self.member(*config, *log, said=self.folder / 'said')
-        wait_until((self.folder / 'begun').exists)
-        self.assertEqual((self.folder / 'begun').read_text(), '0 1 2\n')
-        member.terminate()
-        self.assertEqual(member.wait(PATIENCE), 0)
-        log_after = self.opened()
-        self.assertEqual((log_after.read(0)[-1], log_after.present()), ('crash,1', set()))
-
-    def test_run_unanswered(self) -> None:
-        """A member that is started while no server answers waits for one."""
-        servers = self.begun()
-        server, said = servers.each[0], self.folder / 'said'
-        config, log = ['--config', str(self.config)], ['--log', servers.address('x')]
-        self.assertEqual(self.call('init', *config, *log)[0], 0)
-        for stop, start in ((server.pause, server.resume), (server.kill, server.start)):
-            with self.subTest(stop=stop):
-                stop()
-                member = self.member(*config, *log, said=said)
-                wait_until(lambda: said.read_text().count('bully-member: 127.0.0.1:') >= 2)
-                start()
-                wait_until((self.folder / 'begun').exists)
-                (self.folder / 'begun').unlink()
-                member.terminate()
-                self.assertEqual(member.wait(PATIENCE), 0)
-
-    def member(self, *words: str, said: Path) -> 'subprocess.Popen[bytes]':
-        """A member of the only node, whose worker tells what it works on."""
-        worker = ['sh', '-c', f'echo $BULLY_PARTITIONS > {self.folder}/new; mv {self.folder}/new {self.folder}/begun; exec sleep 1000']
-        run = ['run', *words, '--node', 'the only', '--ttl', '2', '--', *worker]
-        environment = {**os.environ, 'PYTHONPATH': str(Path(__file__).resolve().parent)}
-        with open(said, 'wb') as output:
-            member = subprocess.Popen([sys.executable, '-W', 'error', '-m', 'bully.command', *run], env=environment, stderr=output)
-        self.addCleanup(member.kill)
-        return member
+    def test_history_of_today(self) -> None:
+        self.server.delete(f'{self.prefix}/', f'{self.prefix}0')
+        with self.assertRaises(NoLog):
+            self.store.history()
+        log = self.begun()
+        add(log, ['recover,1', 'start,1'])
+        be_idle(log, ('a', A))
+        self.assertTrue(log.finish(1, 2, OPENING.after(None)))
+        self.assertEqual((self.store.history(1), self.store.history()), (['bully,1,3,6', 'recover,1', 'start,1'], ['bully,1,3,6']))
 
 
-class Members(InEtcd):
-    """Members in threads over three servers."""
-
-    def test_three(self) -> None:
-        """They share the partitions, and do so again once a server and a member are killed and left."""
-        servers = self.begun(3)
-        self.created(servers.address('x'))
-        members = {node: self.member(servers, node) for node in (1, 2, 3)}
-
-        def owners() -> List[int]:
-            owned = {node: member.assignment() for node, member in members.items()}
-            tokens = {each.token for each in owned.values() if each}
-            return [node for node, each in owned.items() if each and len(each.partitions) == 6 // len(members) and len(tokens) == 1]
-
-        wait_until(lambda: owners() == [1, 2, 3])
-        servers.leader().kill()
-        members.pop(3).leave()
-        wait_until(lambda: owners() == [1, 2])
-        alive = [server for server in servers.each if not server.has_ended]
-        rows = self.opened(servers.address('x', *alive)).read(0)
-        self.assertTrue(check('\n'.join([*rows, '']).encode()).is_lawful)
-
-    def test_resize(self) -> None:
-        """They go on by their names in a new epoch, and the old one is taken away."""
-        servers = self.begun(3)
-        self.created(servers.address('x'))
-        members = [self.member(servers, node) for node in (1, 2, 3)]
-
-        def owned(epoch: int) -> int:
-            """How many partitions they own in this epoch, by one token."""
-            found = [each for each in (member.assignment() for member in members) if each and each.token.epoch == epoch]
-            return sum(len(each.partitions) for each in found) if len({each.token for each in found}) == 1 else 0
-
-        wait_until(lambda: owned(1) == 6)
-        log = self.opened(servers.address('x'))
-        after = resizing.resize(log, settings.Settings(Setup(4, 12), ('3', 'x', '1', '2')), PATIENCE)
-        self.assertEqual((after.epoch, after.expected), (2, (1, 3, 4)))
-        wait_until(lambda: owned(2) == 12)
-        self.assertEqual([member.node for member in members], [3, 4, 1])
-        for epoch in (1, 2):
-            rows, _ = cut_end(log.at(epoch).read(0))
-            self.assertTrue(check('\n'.join([*rows, '']).encode()).is_lawful)
-        log.prune(2)
-        self.assertEqual((log.epochs(), owned(2)), (range(2, 3), 12))
-
-    def member(self, servers: Servers, node: int) -> Member:
-        """A member that takes part until the test is over."""
-        member = Member(self.opened(servers.address('x'), 0.6), node, lambda assignment: None, lambda assignment: None, ttl=3.0)
-        thread = threading.Thread(target=member.run)
-        thread.start()
-        self.addCleanup(thread.join)
-        self.addCleanup(member.leave)
-        return member
+if __name__ == '__main__':
+    unittest.main()

@@ -5,13 +5,16 @@ answer yet. So it may not change what it begins with before its last answer, and
 """
 from __future__ import annotations
 
-from typing import Callable, FrozenSet, List, NamedTuple, Optional, TypeVar, Union
+from typing import AbstractSet, Callable, Dict, List, Mapping, NamedTuple, Optional, TypeVar, Union
 from unittest import mock
 
 from bully import etcd
 from bully.epochs import Opening
-from bully.etcd import EtcdLog
-from bully.gateway import Address, Client, Json, Refusal, Silent
+from bully.etcd import EtcdLog, place_text
+from bully.gateway import Address, Client, Json, Refusal, Silent, behind
+from bully.logs import are_idle
+from bully.member import Life, Promise, Until
+from bully.sqlite import life_text
 from cluster import SERVERS, Cluster, Outcome
 
 ADDRESS = f'etcd://{",".join(map(str, SERVERS))}/group'
@@ -129,33 +132,27 @@ class KeptLog(EtcdLog):
         assert isinstance(self._client, Asking)
         return self._client
 
-    @property
-    def rows(self) -> List[str]:
-        return list(self.read(0))
-
-    def at(self, epoch: int) -> KeptLog:
-        seen = super().at(epoch)
-        assert isinstance(seen, KeptLog)
-        return seen
-
-    def give_back(self, node: int, life: str) -> bool:
-        self.release(node, life)
-        return True
-
-    def seen(self) -> 'tuple[FrozenSet[int], Optional[str]]':
-        return self.present(), self.wish()
-
-    def wait(self, place: int, seconds: float) -> None:
+    def wait(
+        self, epoch: int, place: int, lives: Mapping[str, Life], until: Until, seconds: float, woken: Optional[int] = None,
+    ) -> None:  # fmt: skip
         """Nobody waits by this."""
 
-    def has_news(self, place: int, present: FrozenSet[int], wish: Optional[str]) -> bool:
-        """Of etcd as it is, whatever a server knows."""
-        keys, there = self._keys, self.client.cluster.keys
-        if there.get(keys.header).value is None or there.get(keys.row(place)).value is not None:
+    def has_news(
+        self, epoch: int, place: int, lives: Mapping[str, Life], wish: Optional[Opening], until: Until, before: AbstractSet[str],
+    ) -> bool:  # fmt: skip
+        """Whether a wait is over before its time behind a look that found this wish, and these idle: of etcd as it is, whatever a server
+        knows."""
+        there, here = self.client.cluster.keys, place_text(Promise(epoch, place)).encode()
+        end, wished = there.get(self._keys.place).value, there.get(self._keys.next).value
+        if end != here or (None if wished is None else Opening.parse(wished.decode())) != wish:
             return True
-        wished = there.get(keys.wish).value
-        nodes = frozenset(int(key[len(keys.presences) :]) for key, _ in there.found(keys.presences, keys.presences[:-1] + b'0'))
-        return (nodes, wished) != (present, None if wish is None else wish.encode())
+        told = {name.encode(): life_text(life).encode() for name, life in lives.items()}
+        return self._below(self._keys.lives) != told or are_idle(until, self._below(self._keys.promises), here, {name.encode() for name in before})
+
+    def _below(self, prefix: bytes) -> Dict[bytes, Optional[bytes]]:
+        """The values of all keys that begin so, by what is behind that."""
+        found = self.client.cluster.keys.found(prefix, behind(prefix))
+        return {key[len(prefix) :]: version.value for key, version in found}
 
 
 def opened(cluster: Cluster, kind: 'type[KeptLog]', patience: float, first: int) -> KeptLog:

@@ -1,170 +1,309 @@
-"""Members that break one rule, each as a core of its own, and logs in etcd that break one, each as a log of its own."""
+"""Logs in memory and in etcd that break one rule, and members that do, each with the first seed that shows it."""
 from __future__ import annotations
 
-from typing import Dict, NamedTuple, Optional, Sequence, Type
+import random
+from typing import AbstractSet, Dict, List, Mapping, NamedTuple, Optional, Sequence, Type
 
+import planted
 from asking import KeptLog
-from bully.epochs import FIRST, Token, cut_end
-from bully.etcd import Held
-from bully.logs import Unanswered
-from bully.appending import Append, Assignment, Core, Step
+from bully.epochs import Opening
+from bully.etcd import Held, place_text, same
+from bully.gateway import Json, Pair, number_is, one, pairs_of, put, value_is
+from bully.logs import Holder, MemoryLog, rows_text
+from bully.member import BeIdle, Core, Life, Promise, Take, Until
+from bully.sqlite import life_text
+from over_etcd import OverEtcd
+from over_memory import MemoryStore, OverMemory
+from settling import Maker, Simulation, Trouble, Wrong
 
 
-class NoAbsent(Core):
-    """The crash of another node is appended whether it is back or not."""
-
-    def _crash_of(self, other: int) -> Append:
-        return self._of_rows(self.replica.crash(other))
+# ---- Logs in memory.
 
 
-class Remembers(Core):
-    """It looks who is present once in a ttl alone, and goes by what it saw then, whatever it has read since. This is no bug."""
+class BrokenLog(MemoryLog):
+    """A log in memory that one thread uses."""
 
-    def woke(self) -> None:
-        looked = self._looked
-        super().woke()
-        self._looked = looked
-
-    def appended(self, now: float, answer: Optional[bool]) -> None:
-        looked = self._looked
-        super().appended(now, answer)
-        self._looked = looked
-
-    def _next_of_life(self, now: float) -> Step:
-        looked = self._looked
-        if now < looked + self.pace.ttl:
-            self._looked = now
-        step = super()._next_of_life(now)
-        self._looked = looked
-        return step
+    def _hold(self, name: str, holder: Holder, until: int) -> None:
+        with self._changed:
+            super()._hold(name, holder, until)
 
 
-class NoAbsentRemembers(Remembers, NoAbsent):
-    """The same, and the crash of another node is appended whether it is back or not."""
+class TakesAnyPlace(BrokenLog):
+    """A new life has promised the place up to which it has read, whatever the log has by then."""
+
+    def take(self, name: str, life: Life, promise: Promise, ttl: int) -> bool:
+        done = name not in self.presences and promise.epoch == self.epoch
+        if done:
+            self._hold(name, Holder(life, promise), self.clock() + ttl)
+        return done
 
 
-class SureFromEnd(Core):
-    """It takes its presence as sure from when the renewal ended."""
+class TakesWithoutPromise(BrokenLog):
+    """A new life has promised nothing."""
 
-    def held(self, begun: float, now: float, answer: Optional[bool]) -> None:
-        super().held(now, now, answer)
-
-
-class RunsHaltFirst(Core):
-    """It appends the run of a Halt, and stops its work then."""
-
-    def _ends_work(self, rows: Sequence[str]) -> bool:
-        return not rows[0].startswith('run') and super()._ends_work(rows)
+    def take(self, name: str, life: Life, promise: Promise, ttl: int) -> bool:
+        done = super().take(name, life, promise, ttl)
+        if done:
+            self._hold(name, Holder(life, Promise()), self.leases[name].until)
+        return done
 
 
-class MovesFirst(Core):
-    """It appends its move out of Normal, and stops its work then."""
+class TakesFromOthers(BrokenLog):
+    """A life takes a presence that another one holds."""
 
-    def _ends_work(self, rows: Sequence[str]) -> bool:
-        return not rows[0].startswith('move') and super()._ends_work(rows)
-
-
-class StandsFirst(Core):
-    """It appends its crash and its recovery, and stops its work then."""
-
-    def _ends_work(self, rows: Sequence[str]) -> bool:
-        return not rows[0].startswith('crash') and super()._ends_work(rows)
+    def take(self, name: str, life: Life, promise: Promise, ttl: int) -> bool:
+        if promise == self._end():
+            self.leases.pop(name, None)
+        return super().take(name, life, promise, ttl)
 
 
-class LeavesFirst(StandsFirst):
-    """It appends the crash by which it leaves, and stops its work then."""
+class RenewsAcrossGap(BrokenLog):
+    """A presence that is over is renewed."""
 
-    def next(self, now: float) -> Step:
-        if self._is_leaving and self._work is not None and not self._is_stopping and now < self.sure_until and not self._ending:
-            return self._next_to_leave(now)
-        return super().next(now)
-
-
-class OverlooksCrash(Core):
-    """It goes on behind its own crash in the log, as if it hadn't been declared crashed."""
-
-    def _learn(self, rows: Sequence[str]) -> None:
-        self._place += self.replica.learn(rows)
-
-    def _owns(self, work: Assignment) -> bool:
-        return self._is_down(self.node) or super()._owns(work)
-
-    def _due(self, now: float) -> Append:
-        if self._has_begun and self._is_down(self.node):
-            return self._of_rows(self._recovery())
-        return super()._due(now)
+    def renew(self, name: str, life: Life, ttl: int) -> bool:
+        lease = self.leases.get(name)
+        done = lease is not None and lease.holder.life == life
+        if lease is not None and done:
+            self._hold(name, lease.holder, self.clock() + ttl)
+        return done
 
 
-class OverlooksOtherLife(Core):
-    """It goes on behind a crash and a recovery of its node, which another life appended."""
+class LosesPromise(BrokenLog):
+    """Some renewals lose what the life has promised: nobody waits for it."""
 
-    def _learn(self, rows: Sequence[str]) -> None:
-        self._place += self.replica.learn(rows)
-        self._is_over |= self._has_begun and self._is_down(self.node)
-
-
-class SkipsReading(Core):
-    """An append that was refused is tried again one place further, without reading."""
-
-    _further = 0
-
-    def appended(self, now: float, answer: Optional[bool]) -> None:
-        super().appended(now, answer)
-        self._further = self._further + 1 if answer is False else 0
-        if answer is False:
-            self._must_read = False
-
-    def _of_rows(self, *rows: str, absent: Optional[int] = None) -> Append:
-        append = super()._of_rows(*rows, absent=absent)
-        return Append(append.place + self._further, append.rows, append.absent)
+    def renew(self, name: str, life: Life, ttl: int) -> bool:
+        done = super().renew(name, life, ttl)
+        if done and self.clock() % 5 == 0:
+            self._hold(name, Holder(life, self._end()), self.leases[name].until)
+        return done
 
 
-class KeepsDeadOwner(Core):
-    """It doesn't stand for election again where an owner is Down."""
+class ReleasesAnyLife(BrokenLog):
+    """What is given back is gone, whoever holds it by then."""
 
-    def _is_owner_down(self) -> bool:
-        return False
-
-
-class BeginsEarly(Core):
-    """It works again while an append that wasn't answered may still end what it owns."""
-
-    def _may_begin(self) -> bool:
-        return True
+    def release(self, name: str, life: Life) -> None:
+        self.leases.pop(name, None)
 
 
-class ForgetsEpoch(Core):
-    """Its tokens count the events of the epoch alone."""
+class PromisesForAnybody(BrokenLog):
+    """A promise counts for whoever holds the presence by then."""
 
-    def _token(self) -> Optional[Token]:
-        token = super()._token()
-        return None if token is None else Token.of(FIRST, token.events)
-
-
-class OverlooksEnd(Core):
-    """It goes on behind the end of its epoch."""
-
-    _is_behind = False
-
-    def read(self, now: float, rows: Optional[Sequence[str]]) -> None:
-        if rows is not None:
-            rows, is_past = cut_end(rows)
-            self._place += is_past
-            self._is_behind |= is_past
-        super().read(now, rows)
-
-    def finished(self, now: float, answer: Optional[bool]) -> None:
-        super().finished(now, answer and None)
-
-    def _is_closing(self) -> bool:
-        return not self._is_behind and super()._is_closing()
+    def promise(self, name: str, life: Life, promise: Promise) -> bool:
+        holder = self.presences.get(name)
+        return super().promise(name, holder.life if holder else life, promise) and holder is not None and holder.life == life
 
 
-class EndsEarly(Core):
-    """It ends the epoch once its own node is Down."""
+class PromisesFall(BrokenLog):
+    """The promise that comes last counts, also if it is a lower one."""
 
-    def _may_finish(self) -> bool:
-        return self._is_closing() and self._is_down(self.node)
+    def promise(self, name: str, life: Life, promise: Promise) -> bool:
+        done = super().promise(name, life, promise)
+        if done:
+            self._hold(name, Holder(life, promise), self.leases[name].until)
+        return done
+
+
+class AppendsAnyPlace(BrokenLog):
+    """Rows are appended where all have promised the place, whatever the log has by then."""
+
+    def append(self, epoch: int, place: int, rows: Sequence[str]) -> bool:
+        done = epoch == self.epoch and self.are_all_idle(Promise(epoch, place))
+        if done:
+            self.rows.extend(rows)
+        return done
+
+    def are_all_idle(self, here: Promise) -> bool:
+        return set(self._promises().values()) == {here}
+
+
+class AppendsAnyway(BrokenLog):
+    """Rows are appended whether all are idle or not."""
+
+    def append(self, epoch: int, place: int, rows: Sequence[str]) -> bool:
+        done = Promise(epoch, place) == self._end() and bool(self.presences)
+        if done:
+            self.rows.extend(rows)
+        return done
+
+
+class FinishesAnyway(BrokenLog):
+    """An epoch is ended whether all are idle or not."""
+
+    def _may_append(self, here: Promise) -> bool:
+        return here == self._end() and bool(self.presences)
+
+    def append(self, epoch: int, place: int, rows: Sequence[str]) -> bool:
+        return super()._may_append(Promise(epoch, place)) and super().append(epoch, place, rows)
+
+
+class FinishesByAnyWish(BrokenLog):
+    """An epoch is ended by what was wished for when that was asked."""
+
+    def finish(self, epoch: int, place: int, opening: Opening) -> bool:
+        wish, self.wish = self.wish, opening.bare
+        done = super().finish(epoch, place, opening)
+        if not done:
+            self.wish = wish
+        return done
+
+
+class WakesForTheIdle(BrokenLog):
+    """A wait is over if one is idle, also who was so before."""
+
+    def has_news(
+        self, epoch: int, place: int, lives: Mapping[str, Life], wish: Optional[Opening], until: Until, before: AbstractSet[str],
+    ) -> bool:  # fmt: skip
+        return super().has_news(epoch, place, lives, wish, until, frozenset())
+
+
+# ---- Logs in etcd.
+
+
+class PromisesUnderLease(KeptLog):
+    """A promise names the lease that its life has when it is asked for: one that comes late puts it under an old one, and it is lost with that."""
+
+    def promise(self, name: str, life: Life, promise: Promise) -> bool:
+        self._client.begin()
+        keys, told = self._keys, place_text(promise)
+        is_held = value_is(keys.life(name), life_text(life).encode())
+        is_later = {**value_is(keys.promise(name), told.encode()), 'result': 'LESS'}
+        under = {'lease': str(self._held.lease)} if self._held is not None else {}
+        answer = self._change([is_held, is_later], [put(keys.promise(name), told, **under)], one(keys.life(name)), one(keys.promise(name)))
+        if answer.is_done:
+            return True
+        holder, promised = map(self._value, answer.ranges)
+        return holder == life_text(life).encode() and (promised or b'') >= told.encode()
+
+
+class MovesLifeAlone(KeptLog):
+    """A presence comes under a new lease without its promise, which ends with the old one."""
+
+    def _move(self, name: str, found: Pair, held: Held) -> bool:
+        key = self._keys.life(name)
+        moved = [put(key, life_text(held.life), lease=str(held.lease))]
+        answer = self._change([number_is(key, 'mod_revision', found.modified)], moved, one(key))
+        if answer.is_done:
+            self._held = held
+        return answer.is_done
+
+
+class MovesPromiseOn(KeptLog):
+    """Under a new lease a presence has promised the end of the log."""
+
+    def _move(self, name: str, found: Pair, held: Held) -> bool:
+        end = self._value(self._look(one(self._keys.place)).ranges[0]) or b''
+        key, under = self._keys.life(name), str(held.lease)
+        moved = [put(key, life_text(held.life), lease=under), put(self._keys.promise(name), end.decode(), lease=under)]
+        answer = self._change([number_is(key, 'mod_revision', found.modified)], moved, one(key))
+        if answer.is_done:
+            self._held = held
+        return answer.is_done
+
+
+class TakesAnyPlaceThere(KeptLog):
+    """A new life has promised the place up to which it has read, whatever the log has by then."""
+
+    def take(self, name: str, life: Life, promise: Promise, ttl: int) -> bool:
+        self._client.begin()
+        keys = self._keys
+        answer = self._look(one(keys.life(name), keys_only=True), one(keys.place))
+        if answer.ranges[0].get('kvs') or (self._value(answer.ranges[1]) or b'')[:10] != place_text(promise).encode()[:10]:
+            return False
+        held = self._granted(life, ttl, answer.term)
+        under = str(held.lease)
+        done = [put(keys.life(name), life_text(life), lease=under), put(keys.promise(name), place_text(promise), lease=under)]
+        is_done = self._change([number_is(keys.life(name), 'version', 0)], done).is_done
+        if is_done:
+            self._held = held
+        return is_done
+
+
+class TakesInTwoSteps(KeptLog):
+    """A presence is taken first, and its promise made then."""
+
+    def take(self, name: str, life: Life, promise: Promise, ttl: int) -> bool:
+        self._client.begin()
+        keys = self._keys
+        held = self._granted(life, ttl, self._look(one(keys.place)).term)
+        conditions = [number_is(keys.life(name), 'version', 0), value_is(keys.place, place_text(promise).encode())]
+        under = str(held.lease)
+        is_done = self._change(conditions, [put(keys.life(name), life_text(life), lease=under)]).is_done
+        if is_done:
+            self._held = held
+            self._change([], [put(keys.promise(name), place_text(promise), lease=under)])
+        return is_done
+
+
+class RenewsForAnybody(KeptLog):
+    """A renewal counts if the node is present, by whichever life."""
+
+    def renew(self, name: str, life: Life, ttl: int) -> bool:
+        if super().renew(name, life, ttl):
+            return True
+        return bool(pairs_of(self._look(one(self._keys.life(name))).ranges[0]))
+
+
+class RenewsAcrossGapThere(KeptLog):
+    """A presence that is over is begun anew, if nobody else has it."""
+
+    def renew(self, name: str, life: Life, ttl: int) -> bool:
+        if super().renew(name, life, ttl):
+            return True
+        keys = self._keys
+        answer = self._look(one(keys.place))
+        held = self._granted(life, ttl, answer.term)
+        under, end = str(held.lease), (self._value(answer.ranges[0]) or b'').decode()
+        done = [put(keys.life(name), life_text(life), lease=under), put(keys.promise(name), end, lease=under)]
+        is_done = self._change([number_is(keys.life(name), 'version', 0)], done).is_done
+        if is_done:
+            self._held = held
+        return is_done
+
+
+class ReleasesAnyLifeThere(KeptLog):
+    """What is given back is gone, whoever holds it by then."""
+
+    def release(self, name: str, life: Life) -> None:
+        found = pairs_of(self._look(one(self._keys.life(name))).ranges[0])
+        if found:
+            self._change([], [{'request_delete_range': one(self._keys.life(name))}, {'request_delete_range': one(self._keys.promise(name))}])
+
+
+class PromisesForAnybodyThere(KeptLog):
+    """A promise counts for whoever holds the presence by then."""
+
+    def promise(self, name: str, life: Life, promise: Promise) -> bool:
+        self._client.begin()
+        keys, told = self._keys, place_text(promise).encode()
+        is_later = {**value_is(keys.promise(name), told), 'result': 'LESS'}
+        kept = same(keys.promise(name), value=put(keys.promise(name), told.decode())['request_put']['value'], ignore_lease=True)
+        answer = self._change([is_later], [kept], one(keys.life(name)), one(keys.promise(name)))
+        if answer.is_done:
+            return True
+        holder, promised = map(self._value, answer.ranges)
+        return holder == life_text(life).encode() and (promised or b'') >= told
+
+
+class AppendsAnyPlaceThere(KeptLog):
+    """Rows are appended where all have promised the place, whatever the log has by then."""
+
+    def _are_idle(self, epoch: int, place: int) -> List[Json]:
+        return super()._are_idle(epoch, place)[1:]
+
+
+class AppendsAnywayThere(KeptLog):
+    """Rows are appended, and epochs ended, whether all are idle or not."""
+
+    def _are_idle(self, epoch: int, place: int) -> List[Json]:
+        return super()._are_idle(epoch, place)[:1]
+
+
+class AppendsAgain(KeptLog):
+    """Rows of an append that wasn't answered are appended again, where the log ends by then."""
+
+    def append(self, epoch: int, place: int, rows: Sequence[str]) -> bool:
+        rows_text(rows)
+        return super().append(epoch, place, rows) or super().append(epoch, place + len(rows), rows)
 
 
 class ReadsAlone(KeptLog):
@@ -176,12 +315,12 @@ class ReadsAlone(KeptLog):
 class TrustsRenewals(KeptLog):
     """A renewal counts if the server that was asked tells that the lease is renewed. Nothing is read behind it."""
 
-    def hold(self, node: int, life: str, ttl: float, renews: bool) -> bool:
+    def renew(self, name: str, life: Life, ttl: int) -> bool:
         held = self._held
         self._client.begin()
-        if renews and held is not None and held.life == life and self._keep_alive(held) is not None:
+        if held is not None and held.life == life and self._keep_alive(held) is not None:
             return True
-        return super().hold(node, life, ttl, renews)
+        return super().renew(name, life, ttl)
 
 
 class TakesStaleRenewals(KeptLog):
@@ -198,64 +337,122 @@ class KeepsLease(KeptLog):
         return before == behind
 
 
-class RepeatsAppends(KeptLog):
-    """An append that wasn't answered is repeated at the next place."""
-
-    def append(self, place: int, rows: Sequence[str], absent: Optional[int] = None) -> bool:
-        try:
-            return super().append(place, rows, absent)
-        except Unanswered:
-            return super().append(place + len(rows), rows, absent)
-
-
 class RoundsDown(KeptLog):
-    """Its leases have the whole seconds below the ttl."""
+    """Its leases have the whole seconds below the ttl, and one at least."""
 
-    def hold(self, node: int, life: str, ttl: float, renews: bool) -> bool:
-        return super().hold(node, life, int(ttl), renews)
+    def _granted(self, life: Life, ttl: int, term: int) -> Held:
+        return super()._granted(life, max(1, ttl // 10**9) * 10**9, term)
+
+
+class SlowTakes(Trouble):
+    """All is well but that processes of one node come and go, and half the takes are slow."""
+
+    def __init__(self, choice: random.Random) -> None:
+        super().__init__(choice)
+        self.lost = self.unanswered = self.slow = self.cuts = self.pauses = self.ends = self.wishes = self.renewal_pauses = 0.0
+        self.deaths, self.leaves, self.joins, self.short = 0.7, 0.0, 0.7, 0.0
+        self.nodes, self.slowest, self.trip, self.patience, self.room = 1, Take, 0.002, 3.0, 10_000
+
+
+class ShortLives(SlowTakes):
+    """The same, and requests are a little slow, and processes end soon."""
+
+    def __init__(self, choice: random.Random) -> None:
+        super().__init__(choice)
+        self.deaths, self.leaves, self.joins, self.short, self.trip, self.slowest = 0.3, 0.3, 4.0, 0.9, 0.02, None
+
+
+class SlowPromises(SlowTakes):
+    """All is well but that processes of a few nodes come and go, and half the promises are slow."""
+
+    def __init__(self, choice: random.Random) -> None:
+        super().__init__(choice)
+        self.nodes, self.slowest, self.deaths, self.leaves, self.joins, self.short = 3, BeIdle, 0.3, 0.3, 2.0, 0.3
 
 
 class Bug(NamedTuple):
-    """Rules, whether the guard's clock stops in a pause, whether the store renews a presence behind a gap, and whether it opens an epoch
-    that is open; a log in etcd, if it takes one; whether it takes changes of the epoch, and then the first seed that shows it, if one
-    does."""
+    """What is broken, and the first seed that shows it, with a part of what it shows; 0, if none did. With what trouble, if not with any."""
 
-    rules: Type[Core] = Core
-    clock_sleeps: bool = False
-    closes_gaps: bool = False
-    opens_twice: bool = False
-    log: Optional[Type[KeptLog]] = None
-    has_epochs: bool = False
-    waits_tell: bool = False  # no bug: whether a wait may tell what it found
-    seed: Optional[int] = None
+    log: 'Type[MemoryLog] | Type[KeptLog]'  # noqa: UP007
+    seed: int
+    shows: str
+    make: Maker = Core
+    trouble: Type[Trouble] = Trouble
 
 
 BUGS: Dict[str, Bug] = {
-    'sure-from-end': Bug(SureFromEnd, seed=67),
-    'skips-reading': Bug(SkipsReading, seed=1),
-    'keeps-dead-owner': Bug(KeepsDeadOwner, seed=30),
-    'clock-sleeps': Bug(clock_sleeps=True, seed=6),
-    'closes-gaps': Bug(closes_gaps=True, seed=25),
-    'leaves-first': Bug(LeavesFirst, seed=104),
-    'no-absent-remembers': Bug(NoAbsentRemembers, seed=219),
-    'forgets-epoch': Bug(ForgetsEpoch, has_epochs=True, seed=1),
-    'overlooks-end': Bug(OverlooksEnd, has_epochs=True, seed=1),
-    'ends-early': Bug(EndsEarly, has_epochs=True, seed=44),
-    'opens-twice': Bug(opens_twice=True, has_epochs=True, seed=8),
-    'reads-alone': Bug(log=ReadsAlone, seed=73),
-    'trusts-renewals': Bug(log=TrustsRenewals, seed=7),
-    'keeps-lease': Bug(log=KeepsLease, seed=7),
-    'repeats-appends': Bug(log=RepeatsAppends, seed=3),
-    'rounds-down': Bug(log=RoundsDown, seed=6),
-    # Harmless, as README.md says, or nearly so:
-    'takes-stale-renewals': Bug(log=TakesStaleRenewals),
-    'no-absent': Bug(NoAbsent),
-    'overlooks-crash': Bug(OverlooksCrash),
-    'overlooks-other-life': Bug(OverlooksOtherLife),
-    'runs-halt-first': Bug(RunsHaltFirst),
-    'moves-first': Bug(MovesFirst),
-    'stands-first': Bug(StandsFirst),
-    'begins-early': Bug(BeginsEarly),
-    # No bug:
-    'remembers': Bug(Remembers),
+    # In memory: logs by the proved rules, members by broken plain ones.
+    'a presence is taken at any place': Bug(TakesAnyPlace, 158, 'by the token', trouble=SlowTakes),
+    'a new life works by the old plan': Bug(TakesWithoutPromise, 1, 'by the token', planted.WorksAtOnce),
+    'a presence is renewed across a gap': Bug(RenewsAcrossGap, 42, 'works on what'),
+    'a promise is lost by a renewal': Bug(LosesPromise, 2, 'is present and works at'),
+    'any life is released': Bug(ReleasesAnyLife, 25, 'works on what'),
+    'rows are appended at any place': Bug(AppendsAnyPlace, 2, 'works at an append'),
+    'rows are appended while not all are idle': Bug(AppendsAnyway, 2, 'is present and works at', planted.AppendsAnyway),
+    'an epoch ends while not all are idle': Bug(FinishesAnyway, 2, 'works at the end of an epoch', planted.FinishesAnyway),
+    'an epoch ends by an old wish': Bug(FinishesByAnyWish, 53, 'no rest: another wish'),
+    'a wait is over for who was idle before': Bug(WakesForTheIdle, 1, 'does not let time go on'),
+    'a promise comes before work stops': Bug(MemoryLog, 2, 'is present and works at', planted.PromisesFirst),
+    'a presence is released before work stops': Bug(MemoryLog, 150, 'works on what', planted.LeavesFirst),
+    'sure from the end of a renewal': Bug(MemoryLog, 2, 'works on what', planted.SureFromEnd),
+    'a promise that was not answered is forgotten': Bug(MemoryLog, 366, 'is present and works at', planted.ForgetsPromise),
+    'at rest whoever is present': Bug(MemoryLog, 3, 'no rest', planted.RestsWithAnybody),
+    'always room': Bug(MemoryLog, 1, 'rows of', planted.HasAlwaysRoom),
+    # In etcd.
+    'etcd: a promise names a lease': Bug(PromisesUnderLease, 198, 'a presence is none', trouble=SlowPromises),
+    'etcd: a life moves to a new lease alone': Bug(MovesLifeAlone, 1, 'a presence is none'),
+    'etcd: a promise is lost by a new lease': Bug(MovesPromiseOn, 1, 'is present and works at'),
+    'etcd: a presence is taken in two steps': Bug(TakesInTwoSteps, 2, 'a presence is none'),
+    'etcd: a renewal counts by whichever life': Bug(RenewsForAnybody, 10, 'by the old token'),
+    'etcd: a presence is renewed across a gap': Bug(RenewsAcrossGapThere, 9, 'and it is sure for'),
+    'etcd: any life is released': Bug(ReleasesAnyLifeThere, 15, 'works on what'),
+    'etcd: rows are appended at any place': Bug(AppendsAnyPlaceThere, 1, 'rows stand at'),
+    'etcd: rows are appended while not all are idle': Bug(AppendsAnywayThere, 1, 'is present and works at', planted.AppendsAnyway),
+    'etcd: reads are serializable': Bug(ReadsAlone, 6, 'does not let time go on'),
+    'etcd: a renewal counts whoever tells it': Bug(TrustsRenewals, 9, 'and it is sure for'),
+    'etcd: a lease is kept under another leader': Bug(KeepsLease, 1, 'and it is sure for'),
+    'etcd: a lease is shorter than the ttl': Bug(RoundsDown, 3, 'and it is sure for'),
+    'etcd: sure from the end of a renewal': Bug(KeptLog, 2, 'and it is sure for', planted.SureFromEnd),
+    'etcd: a promise comes before work stops': Bug(KeptLog, 1, 'is present and works at', planted.PromisesFirst),
 }
+
+# No seed shows these. README.md says why they are harmless.
+HARMLESS: Dict[str, Bug] = {
+    'etcd: a presence is taken at any place': Bug(TakesAnyPlaceThere, 0, '', trouble=ShortLives),
+    'a presence is taken from who holds it': Bug(TakesFromOthers, 0, ''),
+    'a promise counts for whoever is present': Bug(PromisesForAnybody, 0, ''),
+    'a promise falls': Bug(PromisesFall, 0, ''),
+    'the log alone appends while not all are idle': Bug(AppendsAnyway, 0, ''),
+    'etcd: a promise counts for whoever is present': Bug(PromisesForAnybodyThere, 0, ''),
+    'etcd: a renewal counts by its first term': Bug(TakesStaleRenewals, 0, ''),
+    'etcd: rows that were refused are appended again': Bug(AppendsAgain, 0, ''),
+}
+
+
+def group_of(bug: Bug, seed: int) -> Simulation:
+    """The group of the seed with the bug."""
+    if issubclass(bug.log, KeptLog):
+        return OverEtcd(seed, bug.make, bug.log, bug.trouble)
+    log = bug.log
+
+    class Broken(MemoryStore):
+        log_type = log
+
+    return OverMemory(seed, bug.make, Broken, bug.trouble)
+
+
+def shown(bug: Bug, seed: int) -> Optional[str]:
+    """What the seed shows of the bug, if it shows it."""
+    simulation = group_of(bug, seed)
+    try:
+        simulation.run()
+    except Wrong as wrong:
+        return str(wrong)
+    finally:
+        simulation.close()
+    return None
+
+
+def first_seed(bug: Bug, last: int) -> int:
+    """The first seed that shows it, if one up to the last does; else 0."""
+    return next((seed for seed in range(1, last + 1) if shown(bug, seed) is not None), 0)

@@ -17,7 +17,7 @@ from typing import Callable, Dict, List, NamedTuple, Optional, Set, Tuple, Union
 from bully.gateway import KV_RANGE, KV_TXN, LEASE_GRANT, LEASE_KEEPALIVE, Endpoint, Json, Refusal, Silent
 
 SERVERS = tuple(Endpoint(f's{number}', 2379) for number in range(3))
-NO_LEADER, NOT_FOUND = 14, 5  # codes of gRPC
+NO_LEADER, NOT_FOUND, INVALID = 14, 5, 3  # codes of gRPC
 
 Outcome = Union[Json, Refusal, Silent]
 Reply = Callable[[Outcome], None]
@@ -222,9 +222,9 @@ class Cluster:
     def transact(self, told: Json, revision: int, term: Optional[int] = None) -> Outcome:
         is_so = all(self.holds(condition, revision) for condition in told['compare'])
         steps = told['success' if is_so else 'failure']
-        puts = [step['request_put'] for step in steps if 'request_put' in step]
-        if any('lease' in put and int(put['lease']) not in self.leases for put in puts):
-            return Refusal(NOT_FOUND, 'etcdserver: requested lease not found')
+        refusal = next(filter(None, (self.refusal(step['request_put']) for step in steps if 'request_put' in step)), None)
+        if refusal is not None:
+            return refusal
         responses, changed = [], self.change(steps)
         for step in steps:
             ranged = 'request_range' in step
@@ -234,6 +234,14 @@ class Cluster:
             self.changed(changed)
         return answer
 
+    def refusal(self, put: Json) -> Optional[Refusal]:
+        """Why a key isn't put, if it isn't."""
+        if (put.get('ignore_value') or put.get('ignore_lease')) and self.keys.get(b64decode(put['key'])).value is None:
+            return Refusal(INVALID, 'etcdserver: key not found')
+        if 'lease' in put and int(put['lease']) not in self.leases:
+            return Refusal(NOT_FOUND, 'etcdserver: requested lease not found')
+        return None
+
     def change(self, steps: List[Json]) -> List[bytes]:
         """Does what isn't a range, in one revision. The keys that changed."""
         revision, changed = self.keys.revision + 1, []
@@ -241,7 +249,9 @@ class Cluster:
             if 'request_put' in step:
                 put = step['request_put']
                 changed.append(b64decode(put['key']))
-                self.put(changed[-1], b64decode(put['value']), int(put.get('lease', 0)), revision)
+                before = self.keys.get(changed[-1])
+                value = before.value if put.get('ignore_value') else b64decode(put['value'])
+                self.put(changed[-1], value or b'', before.lease if put.get('ignore_lease') else int(put.get('lease', 0)), revision)
             elif 'request_delete_range' in step:
                 for key, _ in self.keys.found(*interval(step['request_delete_range'])):
                     changed.append(key)
@@ -271,7 +281,8 @@ class Cluster:
         versions = [version for _, version in self.keys.found(key, end, revision)] or [Version()]
         target = condition['target']
         if target == 'VALUE':
-            return all(version.value == b64decode(condition['value']) for version in versions)
+            value, is_less = b64decode(condition['value']), condition['result'] == 'LESS'
+            return all(each.value is not None and (each.value < value if is_less else each.value == value) for each in versions)
         wanted = int(condition[{'VERSION': 'version', 'CREATE': 'create_revision', 'MOD': 'mod_revision'}[target]])
         numbers = [{'VERSION': each.version, 'CREATE': each.created, 'MOD': each.modified}[target] for each in versions]
         return all(number > wanted if condition['result'] == 'GREATER' else number == wanted for number in numbers)
@@ -281,8 +292,9 @@ class Cluster:
         pairs = self.keys.found(*interval(asked), revision)
         if asked.get('sort_order') == 'DESCEND':
             pairs.reverse()
-        limit = int(asked.get('limit', 0)) or len(pairs)
-        told = {} if asked.get('count_only') else {'kvs': [pair_told(*pair, asked) for pair in pairs[:limit]]}
+        limit, least = int(asked.get('limit', 0)) or len(pairs), int(asked.get('min_mod_revision', 0))
+        newer = [(key, version) for key, version in pairs if version.modified >= least]
+        told = {} if asked.get('count_only') else {'kvs': [pair_told(*pair, asked) for pair in newer[:limit]]}
         return {'count': str(len(pairs)), **told}
 
     # Leases.

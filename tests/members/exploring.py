@@ -29,6 +29,11 @@ class Bounds(NamedTuple):
     under_way: int = 2
 
 
+# So small that all states are seen, in seconds: of two nodes with two lives each, of two over two epochs, and of three.
+WHOLE = (Bounds(2, 2, 1, 2, 1), Bounds(2, 1, 2, 1, 1), Bounds(3, 1, 1, 1, 1))
+ALL = 1_000_000  # states, which none of them has
+
+
 class Node(NamedTuple):
     """What the store has of a node: a life (0: none), and its promise. And what its process knows: its life; the one that it asks for; how
     many it asked for; up to where it has read; what its life has promised; the plan by which it works (0: none); and what it used last, in

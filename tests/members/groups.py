@@ -13,9 +13,8 @@ from typing import Callable, Dict, List, Optional, Sequence
 
 from bully import Status, check
 from bully.command import parser
-from bully.epochs import cut_end
 from bully.logs import Log, Unanswered
-from bully.stores import Store, store_of
+from bully.stores import store_of
 from bully.view import GroupView, LogView
 from processes import children, processor_seconds, send_all, worker_descriptors
 from tables import kept, most_kept, owners_by_name
@@ -91,11 +90,11 @@ class Group:
 
     def __init__(
         self, folder: Path, stores: Dict[str, str], ttl: float, within: Callable[[str], Sequence[str]] = lambda _: (),
-        names: Sequence[str] = NAMES, partitions: int = PARTITIONS,
+        names: Sequence[str] = NAMES, partitions: int = PARTITIONS, words: Sequence[str] = (),
     ) -> None:  # fmt: skip
         """A new group. The store is told for each member, and for who looks at them (''). `within` has the words by which a process is
-        begun where a member is."""
-        self.folder, self.ttl = folder, ttl
+        begun where a member is; `words` are more ones for each member."""
+        self.folder, self.ttl, self.words = folder, ttl, list(words)
         self.stores, self.within = stores, within
         self.config = self.configured(names, partitions)
         self.work = Work(folder / 'work', partitions)
@@ -112,7 +111,7 @@ class Group:
         file.write_text(CONFIG % (len(names), partitions, list(names)))
         return file
 
-    def opened(self) -> Store:
+    def opened(self) -> Log:
         """The log."""
         return store_of(parser().parse_args(['status', '--log', self.stores['']])).open()
 
@@ -130,8 +129,8 @@ class Group:
 
     def begin(self, name: str) -> None:
         """A process for the node."""
-        worker = [sys.executable, str(HERE / 'worker.py'), str(self.work.folder)]
-        more = ['--config', str(self.config), '--node', name, '--ttl', str(self.ttl), '--', *worker]
+        worker = [sys.executable, '-I', '-S', str(HERE / 'worker.py'), str(self.work.folder)]
+        more = ['--config', str(self.config), '--node', name, '--ttl', str(self.ttl), *self.words, '--', *worker]
         self.members[name] = self.command('run', *more, member=name)
 
     def begin_all(self, names: Sequence[str] = NAMES) -> None:
@@ -283,11 +282,14 @@ class Group:
         print(f'idle for {length:.0f} s: no row, and {shares[0]:.2f} to {shares[-1]:.2f} % of a processor for a member')
 
     def end(self, program: Optional[Path] = None) -> None:
-        """All leave in order, and what they left is judged; also with everything said, if there is the program `bully`."""
-        for member in self.members.values():
-            member.terminate()
-        for name, member in self.members.items():
-            self.count(member.wait(PATIENCE) == 0, f'{name} ended with status {member.returncode}')
+        """All leave in order, one of them behind the others, and what they left is judged; also with everything said, if there is the program
+        `bully`."""
+        *others, last = self.members
+        for names in (others, [last]):
+            for name in names:
+                self.members[name].terminate()
+            for name in names:
+                self.count(self.members[name].wait(PATIENCE) == 0, f'{name} ended with status {self.members[name].returncode}')
         shown = self.show()
         self.count(not any(node.is_present for node in shown.nodes), 'a member is still present')
         self.count(all(node.status is Status.DOWN for node in shown.nodes), 'a node is still up')
@@ -298,8 +300,7 @@ class Group:
         log = self.opened()
         self.judge_moves(log)
         for epoch in log.epochs():
-            rows, _ = cut_end(log.at(epoch).read(0))
-            trace = '\n'.join([*rows, '']).encode()
+            trace = '\n'.join([log.opening(epoch).header, *log.read(epoch, 0), '']).encode()
             self.judge_trace(trace, f'the log of epoch {epoch}')
             if program is not None:
                 annotated = subprocess.run([program, 'annotate'], input=trace, stdout=subprocess.PIPE, check=False)
@@ -311,7 +312,7 @@ class Group:
         """No partition moved at a change of the epoch that needn't."""
         before: List[str] = []
         for epoch in log.epochs():
-            first, last = owners_by_name(log.at(epoch))
+            first, last = owners_by_name(log, epoch)
             stayed, could = kept(before, first), most_kept(before, first)
             self.count(stayed == could, f'epoch {epoch}: {stayed} partitions stayed, and {could} could')
             if before:

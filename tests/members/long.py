@@ -1,19 +1,19 @@
 """One group of members that goes on for long: its epochs follow one another, and the memory of all may not grow."""
 from __future__ import annotations
 
-import dataclasses
 import gc
 import os
 import random
 from pathlib import Path
 from typing import List
 
-from bully import Replica
-from simulation import Simulation
-from trouble import NAMES, TTL, Changes, trouble_of
+from bully.learned import Learned
+from bully.member import Core
+from over_memory import OverMemory
+from settling import Trouble
 
 NODES = 5
-ROWS = 3000  # of an epoch
+ROWS = 600  # of an epoch, for each node
 GROWTH = 2.0  # megabytes that may come to be from the first fifth on
 PARTS = 10  # how often the memory is looked at
 
@@ -24,53 +24,71 @@ def megabytes() -> float:
     return pages * os.sysconf('SC_PAGE_SIZE') / 1e6
 
 
+class Little(Trouble):
+    """Nothing goes wrong but that members come and go."""
+
+    def __init__(self, choice: random.Random) -> None:
+        super().__init__(choice)
+        self.lost = self.unanswered = self.slow = self.late = self.pauses = self.ends = self.renewal_pauses = 0.0
+        self.trip, self.patience, self.room, self.nodes_least, self.nodes = 0.002, 0.5, ROWS, NODES, NODES
+
+
 class Long:
     """A group in which one member stays for good, and the others die, leave and come back."""
 
     def __init__(self) -> None:
         self.choice = random.Random(1)
-        trouble = dataclasses.replace(trouble_of(self.choice), nodes=NODES, trip=0.002, late=0.0, patience=0.5, stop=0.05, last_deaths=0.0)
-        self.simulation = Simulation(1, trouble=trouble, changes=Changes(ROWS))
+        self.simulation = OverMemory(1, Core, trouble=Little)
         self.memory: List[float] = []
-        self.replicas = 0
+        self.open = self.rows = self.processes = 0
 
     def run(self, changes: int) -> None:
         """So many times somebody goes or comes. Raises Wrong, and an AssertionError, if the memory grows."""
         simulation = self.simulation
-        for name in NAMES[:NODES]:
-            simulation.beginning(name)()
+        names = simulation.store.epoch.settings.names
+        for name in names:
+            simulation.begin(name)
         for number in range(changes):
-            simulation.live(simulation.now + self.choice.uniform(0.5, 3) * TTL)
-            self.change(self.choice.choice(NAMES[1:NODES]))
-            if number % (changes // PARTS) == changes // PARTS - 1:
+            simulation.live(simulation.now + simulation.between(0.5, 3))
+            self.change(self.choice.choice(names[1:]))
+            if number % max(1, changes // PARTS) == changes // PARTS - 1:
                 self.tidy()
-        simulation.calm()
+        simulation.is_calm = True
         simulation.rest()
         self.tidy()
+        simulation.close()
         grown = max(self.memory[2:]) - self.memory[1]
         assert grown < GROWTH, f'the memory has grown by {grown:.1f} MB'
-        assert self.replicas <= 2 * NODES, f'{self.replicas} replicas are open'
+        assert self.open <= 2 * NODES, f'{self.open} members are open'
 
     def change(self, name: str) -> None:
         """The member of this name goes, or another one comes for it."""
         simulation = self.simulation
-        simulation.members = [member for member in simulation.members if not member.is_gone]
-        alive = [member for member in simulation.members if member.name == name and not member.is_dead]
+        alive = [member for member in simulation.alive() if member.name == name]
         if not alive:
-            simulation.beginning(name)()
+            simulation.begin(name)
         for member in alive:
             self.choice.choice([member.die, member.leave])()
+        self.processes += len(simulation.members)
+        simulation.members = simulation.alive()
+        self.processes -= len(simulation.members)
 
     def tidy(self) -> None:
         """Old epochs are judged and taken away, and the memory is looked at."""
-        there = self.simulation.store.epochs()
-        self.simulation.judge(there[:-1])
-        self.simulation.store.prune(there[-1])
+        store = self.simulation.store
+        ended = [epoch for epoch in store.epochs if epoch.rows and epoch is not store.epoch]
+        for epoch in ended:
+            self.simulation.judge_epoch(epoch)
+            self.rows += len(epoch.rows)
+        store.prune()
+        for epoch in ended:
+            epoch.rows = []
         gc.collect()
         self.memory.append(megabytes())
-        self.replicas = sum(isinstance(each, Replica) and not each.is_closed for each in gc.get_objects())
+        self.open = sum(isinstance(each, Learned) and not each.is_closed for each in gc.get_objects())
 
     def __str__(self) -> str:
         simulation = self.simulation
-        return (f'{simulation.number} processes, {simulation.store.epochs()[-1]} epochs, {simulation.rows} rows, {simulation.now:.0f} s; '
-                f'{" ".join(f"{each:.1f}" for each in self.memory)} MB, {self.replicas} replicas open')
+        return (f'{self.processes + len(simulation.members)} processes, {simulation.store.epoch.number} epochs, '
+                f'{self.rows + len(simulation.store.epoch.rows)} rows, {simulation.now // simulation.ttl} ttl; '
+                f'{" ".join(f"{each:.1f}" for each in self.memory)} MB, {self.open} members open')

@@ -1,35 +1,119 @@
-"""The same groups of members over `bully.etcd`, and an etcd whose leaders are lost (`cluster.py`).
+"""The same groups over `bully.etcd`, and an etcd whose leaders are lost (`cluster.py`).
 
 Each request of a call has its own way, and may be lost, or its answer; the member waits for it as long as `bully.gateway` does, and then
-asks the next server. A watch tells what is new late, or not at all.
+asks the next server. A watch tells what is new late, or not at all. What is judged is read from etcd's keys as they are.
 """
 from __future__ import annotations
 
-import dataclasses
 import random
-from typing import Callable, Generic, List, Optional, TypeVar
+from functools import partial
+from typing import Callable, Dict, List, Optional, Tuple, Type
 
 from asking import KeptLog, Pending, Request, made, opened
-from bugs import Bug
-from bully.epochs import Opening
-from bully.gateway import Silent
-from bully.logs import LogError, NoEpoch, Unanswered
-from cluster import SERVERS, Cluster, Outcome, weather_of
-from simulation import Member, Simulation, Store, Wrong
-from trouble import trouble_of
+from bully import logs
+from bully.epochs import FIRST, Opening
+from bully.etcd import AGAIN, FEW, place_of
+from bully.gateway import Json, Silent, behind
+from bully.logs import SECOND, LogError, NoEpoch, Unanswered
+from bully.member import Life, Promise, Renew, Until, Wait
+from bully.member import Request as Asked
+from bully.settings import Settings
+from bully.sqlite import life_of
+from cluster import SERVERS, Cluster, Outcome, Version, interval, pair_told, weather_of
+from over_memory import FoundInLog, LogMember, OverMemory, epoch_of
+from settling import GONE, Maker, Member, Trouble, Wrong
+from store import Epoch, Found, Lease
 
-LONGEST_TRIP = 0.005  # on the average: a server is waited for a fifteenth of the ttl, if there are three
+SHORTEST = 10_000_000  # nanoseconds until somebody asks again
+TROUBLES_OF_ETCD = ('a leader is lost', 'a presence ends with its lease', 'a watch tells nothing')
 
-Told = TypeVar('Told')
+
+class EtcdStore:
+    """What is judged of a log in etcd, and what whoever resizes a group asks of it, which is answered at once."""
+
+    kept_from = 0
+
+    def __init__(self, cluster: Cluster, settings: Settings, limit: int) -> None:
+        self.cluster = cluster
+        self.epochs: List[Epoch] = []
+        self.leases: Dict[str, Lease] = {}
+        self.log = made(cluster, Opening.first(settings.setup.header(), settings.names, limit))
+        self.see([self.log._keys.opening(FIRST)])
+
+    @property
+    def epoch(self) -> Epoch:
+        """The current one."""
+        return self.epochs[-1]
+
+    def below(self, prefix: bytes) -> Dict[str, bytes]:
+        """The values of all keys that begin so, by what is behind that."""
+        found = self.cluster.keys.found(prefix, behind(prefix))
+        return {key[len(prefix) :].decode(): version.value or b'' for key, version in found}
+
+    def see(self, changed: List[bytes]) -> Optional[str]:
+        """Keys have changed, in one transaction. Whether that is an append, or the end of an epoch."""
+        keys, what = self.log._keys, None
+        for key in changed:
+            value = self.cluster.keys.get(key).value
+            if value is None:
+                continue
+            if key.startswith(keys.root + b'opening/'):
+                opening = Opening.parse(value.decode())
+                if opening.epoch != len(self.epochs) + FIRST:
+                    raise Wrong(f'epoch {opening.epoch} begins behind {len(self.epochs)}')
+                self.epochs.append(epoch_of(opening, []))
+                what = 'the end of an epoch'
+            elif key.startswith(keys.logs):
+                here, what = place_of(key[len(keys.logs) :].decode()), 'an append'
+                if here != Promise(self.epoch.number, len(self.epoch.rows)):
+                    raise Wrong(f'rows stand at {here}, and the log ends at place {len(self.epoch.rows)} of epoch {self.epoch.number}')
+                self.epoch.rows.extend(value.decode().splitlines())
+        if any(key.startswith(keys.presences) for key in changed):
+            lives, promises = self.below(keys.lives), self.below(keys.promises)
+            none = b'%010d/%010d' % (0, 0)
+            self.leases = {
+                name: Lease(life_of(life.decode()), place_of(promises.get(name, none).decode()), 0) for name, life in lives.items()
+            }
+        return what
+
+    def held(self) -> Dict[str, Lease]:
+        """Who is present, by name."""
+        return self.leases
+
+    def holds(self, name: str, life: Life) -> bool:
+        lease = self.leases.get(name)
+        return lease is not None and lease.life == life
+
+    def has_news(self, epoch: int, found: Found, until: Until) -> bool:
+        assert isinstance(found, FoundInLog)
+        return self.log.has_news(epoch, found.standing.place, found.told.lives, found.told.wish, until, found.idle)
+
+    @property
+    def wish(self) -> Optional[Settings]:
+        wished = self.cluster.keys.get(self.log._keys.next).value
+        return None if wished is None else Opening.parse(wished.decode()).settings
+
+    @wish.setter
+    def wish(self, settings: Optional[Settings]) -> None:
+        opening = self.log.opening()
+        if settings is None or opening.is_of(settings):
+            self.log.cancel(opening.epoch)
+        else:
+            self.log.ask(opening.wish(settings), opening.epoch)
+
+    def wished(self) -> Optional[Settings]:
+        return self.wish
+
+    def prune(self) -> None:
+        self.log.prune(self.epoch.number)
 
 
-class Call(Generic[Told]):
+class Call:
     """A call of a log by a member, request by request."""
 
-    def __init__(self, member: EtcdMember, call: Callable[[], Told], tell: Callable[[float, Optional[Told]], None], slow: float) -> None:
-        self.member, self.call, self.tell, self.slow = member, call, tell, slow
+    def __init__(self, member: EtcdMember, call: Callable[[], object], tell: Callable[[object], None]) -> None:
+        self.member, self.call, self.tell = member, call, tell
         self.simulation = member.simulation
-        self.begun = self.simulation.now
         self.client = member.kept.client
         self.journal = self.client.begun()
         self.awaited: Optional[Request] = None
@@ -37,49 +121,48 @@ class Call(Generic[Told]):
     def go_on(self) -> None:
         """It goes on up to its next request, or to its end."""
         try:
-            told: Optional[Told] = self.client.attempt(self.journal, self.call)
+            told = self.client.attempt(self.journal, self.call)
         except Pending as pending:
             self.send(pending.request)
             return
         except NoEpoch:
-            self.member.core.passed()
-            self.member.go()
-            return
+            told = GONE
         except Unanswered:
             told = None
         except LogError as error:
             raise Wrong(f'{self.member} ends: {error}') from error
-        self.tell(self.begun, told)
-        self.member.go()
+        self.tell(told)
 
     def send(self, request: Request) -> None:
         """It asks a server. What comes too late isn't heard."""
         self.awaited = request
         late = Silent(SERVERS[request.server], 'it did not answer in time', may_be_done=True)
-        self.member.soon(0.0, lambda: self.depart(request))
-        self.member.soon(max(0.01, request.end - self.simulation.now), lambda: self.hear(request, late))
+        self.depart(request)
+        self.member.soon(self.until(request.end), lambda: self.hear(request, late))
+
+    def until(self, moment: float) -> int:
+        return max(SHORTEST, int(moment * SECOND) - self.simulation.now)
 
     def depart(self, request: Request) -> None:
-        simulation = self.simulation
-        if not self.member.is_cut() and not simulation.happens(simulation.trouble.lost):
-            simulation.after(simulation.trip_time(), lambda: self.arrive(request))
+        simulation, member = self.simulation, self.member
+        if simulation.now >= member.cut_until and not simulation.happens('a request is lost', simulation.trouble.lost):
+            simulation.after(simulation.trip(member.asked), lambda: self.arrive(request))
         elif simulation.choice.random() < 0.5:  # there is no connection
             silent = Silent(SERVERS[request.server], 'it is not reached', may_be_done=False)
-            self.member.soon(max(0.01, request.reached - simulation.now), lambda: self.hear(request, silent))
+            member.soon(self.until(request.reached), lambda: self.hear(request, silent))
 
     def arrive(self, request: Request) -> None:
+        self.simulation.happened['a request comes behind its time'] += self.awaited is not request
         self.simulation.cluster.receive(request.server, request.path, request.told, lambda outcome: self.answer(request, outcome))
 
     def answer(self, request: Request, outcome: Outcome) -> None:
         """The server answers."""
-        simulation, trouble = self.simulation, self.simulation.trouble
-        if self.member.is_cut() or simulation.happens(trouble.unanswered):
+        simulation = self.simulation
+        if simulation.now < self.member.cut_until or simulation.happens('an answer is lost', simulation.trouble.unanswered):
             if simulation.choice.random() < 0.5:
                 return
             outcome = Silent(SERVERS[request.server], 'the connection was ended', may_be_done=True)
-        is_slow = simulation.happens(self.slow)
-        back = simulation.choice.uniform(0, trouble.patience) if is_slow else simulation.trip_time()
-        self.member.soon(back, lambda: self.hear(request, outcome))
+        self.member.soon(simulation.trip(), lambda: self.hear(request, outcome))
 
     def hear(self, request: Request, outcome: Outcome) -> None:
         if self.awaited is request:
@@ -88,72 +171,211 @@ class Call(Generic[Told]):
             self.go_on()
 
 
-class EtcdMember(Member):
+class EtcdMember(LogMember):
     """A member whose log is in etcd."""
 
-    simulation: EtcdSimulation
+    simulation: OverEtcd
+    asked: Optional[Asked] = None
+
+    def opened(self) -> logs.Log:
+        simulation = self.simulation
+        return opened(simulation.cluster, simulation.log_type, simulation.patience / SECOND, self.number % len(SERVERS))
 
     @property
     def kept(self) -> KeptLog:
         assert isinstance(self.log, KeptLog)
         return self.log
 
-    def holds(self, key: bytes, life: str) -> bool:
-        """Whether it takes itself for the life whose presence has this key."""
-        return self.core._life == life and self.kept._keys.presence(self.core.node) == key
+    def noted(self, what: str, done: bool) -> bool:
+        return done  # it was, when it was done
 
-    def ask(self, call: Callable[[], Told], tell: Callable[[float, Optional[Told]], None], slow: float = 0.0) -> None:
+    def ask(self, request: Asked) -> None:
+        call = self.called(request)
         self.turn += 1
-        Call(self, call, tell, slow).go_on()
+        turn, self.is_asking, self.asked = self.turn, True, request
+
+        def answer(told: object) -> None:
+            if turn != self.turn:
+                raise Wrong(f'{self} asks twice')
+            self.is_asking = False
+            self.tell(request, told)
+            self.go()
+
+        Call(self, call, answer).go_on()
+        if isinstance(request, Renew) and self.simulation.happens('a pause with a renewal', self.simulation.trouble.renewal_pauses):
+            self.simulation.pause(self)
 
 
-class EtcdSimulation(Simulation):
+class OverEtcd(OverMemory):
     """A group over an etcd."""
 
-    def __init__(self, seed: int, bug: Bug = Bug()) -> None:
+    member: Type[Member] = EtcdMember
+
+    def __init__(self, seed: int, make: Maker, log_type: Type[KeptLog] = KeptLog, trouble: Type[Trouble] = Trouble) -> None:
         self.of_etcd = random.Random(f'{seed} etcd')
         self.weather = weather_of(self.of_etcd)
-        self.cluster = Cluster(self.of_etcd, self.weather, lambda: self.now, self.after)
-        trouble = trouble_of(random.Random(seed))
-        super().__init__(seed, bug, trouble=dataclasses.replace(trouble, trip=min(trouble.trip, LONGEST_TRIP)))
-        self.ttl = self.weather.ttl
+        self.log_type = log_type
+        self.cluster = Cluster(self.of_etcd, self.weather, lambda: self.now / SECOND, self.after_seconds)
+        super().__init__(seed, make, self.new_store, trouble)
+        self.ttl = int(self.weather.ttl * SECOND)
+        self.patience = min(self.ttl // 5, int(self.trouble.patience * self.ttl))
         self.cluster.changed, self.cluster.ends = self.see_change, self.see_end
 
-    def new_store(self, opening: Opening) -> Store:
-        return made(self.cluster, opening)
+    def new_store(self, settings: Settings, limit: Callable[[int], int], clock: Callable[[], int]) -> EtcdStore:
+        return EtcdStore(self.cluster, settings, limit(settings.setup.nodes))
 
-    def opened(self, number: int) -> Store:
-        patience = min(self.trouble.patience, self.ttl / 5)
-        return opened(self.cluster, self.bug.log or KeptLog, patience, number % len(SERVERS))
+    @property
+    def there(self) -> EtcdStore:
+        assert isinstance(self.store, EtcdStore)
+        return self.store
 
-    def new_member(self, name: str) -> Member:
-        return EtcdMember(self, name, self.number)
+    def after_seconds(self, span: float, action: Callable[[], None]) -> None:
+        self.after(int(span * SECOND), action)
 
-    def begin(self) -> None:
-        super().begin()
-        self.after(self.of_etcd.expovariate(self.weather.losses), self.lose_leader)
+    def lease(self) -> int:
+        return self.ttl
+
+    def run(self) -> None:
+        self.after_seconds(self.of_etcd.expovariate(self.weather.losses), self.lose_leader)
+        super().run()
 
     def lose_leader(self) -> None:
         """A leader is lost, again and again."""
         if not self.is_calm:
-            self.after(self.of_etcd.expovariate(self.weather.losses), self.lose_leader)
+            self.after_seconds(self.of_etcd.expovariate(self.weather.losses), self.lose_leader)
+            self.happened['a leader is lost'] += 1
             self.cluster.lose_leader()
 
-    def tell_news(self, member: Member) -> None:
-        """By a watch, which may be late, or broken: then the member hears of the next change, or goes on when its time is over."""
-        if not self.happens(self.weather.watch_broken):
-            turn = member.turn
-            self.after(self.of_etcd.uniform(0, self.weather.watch_late), lambda: member.wake() if member.turn == turn else None)
-
     def see_end(self, key: bytes, life: bytes) -> None:
-        """A presence has ended with its lease. Its member may not be sure of it any more."""
+        """A presence ends with its lease. Its member may not be sure of it any more."""
+        keys = self.there.log._keys
+        if not key.startswith(keys.lives):
+            return
+        self.happened['a presence ends with its lease'] += 1
         for member in self.members:
-            if isinstance(member, EtcdMember) and not member.is_dead and member.holds(key, life.decode()):
-                if self.now < member.core.sure_until:
-                    raise Wrong(f'the presence of {member} ended, and it is sure for {member.core.sure_until - self.now:.3f} s')
+            if not member.is_dead and member.life == life_of(life.decode()) and self.now < member.worker.until:
+                raise Wrong(f'the presence of {member} ended, and it is sure for {member.worker.until - self.now} ns')
 
-    def see_change(self, keys: List[bytes]) -> None:
+    def see_change(self, changed: List[bytes]) -> None:
         """Something has changed in etcd."""
-        if any(b'/log/' in key for key in keys):
-            self.last_append = self.now
-        self.tell()
+        what = self.there.see(changed)
+        if what is not None:
+            self.changed(what, True)
+        self.tell_all()
+
+    def tell(self, member: Member) -> None:
+        """By a watch, which may be late, or broken: then the member hears of the next change, or goes on when its time is over."""
+        wait, found = member.awaited, member.found
+        if wait is None or found is None or not self.store.has_news(member.epoch, found, wait.until):
+            return
+        if not self.happens('a watch tells nothing', self.weather.watch_broken):
+            turn, late = member.turn, self.of_etcd.uniform(0, self.weather.watch_late)
+            member.soon(int(late * SECOND), lambda: self.wake(member, turn))
+
+    def wake(self, member: Member, turn: int) -> None:
+        if member.turn == turn and member.awaited is not None:
+            member.turn += 1
+            member.wake()
+
+
+class Watch:
+    """A watch of a member: what it has yet to tell, and when."""
+
+    def __init__(self, is_wide: bool, begin: bytes, end: bytes) -> None:
+        self.is_wide, self.begin, self.end = is_wide, begin, end
+        self.events: List[Tuple[int, Json]] = []
+
+    def add(self, due: int, event: Json) -> None:
+        """It tells all in order."""
+        self.events.append((max([due, *(due for due, _ in self.events[-1:])]), event))
+
+
+class Watched(EtcdMember):
+    """A member that waits by what a watch tells to the package's own log, and looks by what that knows then."""
+
+    simulation: Watching
+    watch: Optional[Watch] = None
+    broken = 0  # when its watch broke
+
+    def is_news(self, wait: Wait) -> bool:
+        """Whether there is what it waits for, as far as its log knows."""
+        log, found = self.kept, self.found
+        assert isinstance(found, FoundInLog)
+        here = Promise(self.epoch, self.place)
+        known, idle = log._told_idle
+        before = idle if known == here else frozenset()
+        return log._news.awaited(here, found.told.lives, wait.until, log._told_wish, before)()
+
+    def hear(self, wait: Wait) -> bool:
+        """Whether there is what it waits for, once what is due has been told."""
+        now, log = self.simulation.now, self.kept
+        is_wide = wait.until is not Until.NEWS or len(log._news.lives) <= FEW
+        if self.watch is None or self.watch.is_wide != is_wide:
+            if now < self.broken + int(AGAIN * SECOND):
+                return False
+            self.begin_watch(log, is_wide)
+        assert self.watch is not None
+        while not self.is_news(wait) and self.watch.events and self.watch.events[0][0] <= now:
+            log._news.see(self.watch.events.pop(0)[1])
+        return self.is_news(wait)
+
+    def begin_watch(self, log: KeptLog, is_wide: bool) -> None:
+        """Behind what is known, which is read anew if it isn't fresh."""
+        self.simulation.happened['a watch begins anew'] += 1
+        if not log._news.is_fresh:
+            log._see_all(log._look(*log._keys.standing(0)), 0)
+        begin, end = interval(log._keys.watched(is_wide))
+        assert end is not None
+        self.watch = Watch(is_wide, begin, end)
+        for event in self.simulation.events_since(log._news.revision, begin, end):
+            self.watch.add(self.simulation.now, event)
+
+    def break_watch(self) -> None:
+        if self.watch is not None:
+            self.watch, self.kept._news.is_fresh, self.broken = None, False, self.simulation.now
+
+
+class Watching(OverEtcd):
+    """A group whose members wait so. A watch is late, or breaks."""
+
+    member: Type[Member] = Watched
+
+    def events_since(self, revision: int, begin: bytes, end: bytes) -> List[Json]:
+        """What has happened to these keys behind a revision, in order."""
+        there = self.cluster.keys
+        names = [name for name in there._names if begin <= name < end]
+        found = [(version.modified, name, version) for name in names for version in there._versions[name] if version.modified > revision]
+        return [event_of(name, version) for _, name, version in sorted(found)]
+
+    def see_change(self, changed: List[bytes]) -> None:
+        for member in self.members:
+            if not isinstance(member, Watched) or member.is_dead or member.watch is None:
+                continue
+            if self.happens('a watch tells nothing', self.weather.watch_broken / 5):
+                member.break_watch()
+                continue
+            due = self.now + int(self.of_etcd.uniform(0, self.weather.watch_late) * SECOND)
+            for key in sorted(set(changed)):
+                if member.watch.begin <= key < member.watch.end:
+                    member.watch.add(due, event_of(key, self.cluster.keys.get(key)))
+            self.after(due - self.now, partial(self.tell, member))
+        super().see_change(changed)
+
+    def tell(self, member: Member) -> None:
+        """It waits, or what was late is told now."""
+        assert isinstance(member, Watched)
+        wait = member.awaited
+        if wait is None or member.is_dead:
+            return
+        if member.hear(wait):
+            member.soon(0, partial(self.wake, member, member.turn))
+        elif member.watch is None:
+            self.after(member.broken + int(AGAIN * SECOND) - self.now, partial(self.tell, member))
+        elif member.watch.events:
+            self.after(member.watch.events[0][0] - self.now, partial(self.tell, member))
+
+
+def event_of(key: bytes, version: Version) -> Json:
+    """What a watch tells of a key."""
+    told: Json = {'kv': pair_told(key, version, {})}
+    return told if version.value is not None else {**told, 'type': 'DELETE'}

@@ -1,4 +1,5 @@
-"""A group of members by their rules, over a store in memory and in simulated time: everything that happens follows from a seed.
+"""A group of members by their rules, over a store and in simulated time: everything that happens follows from a seed. The store is the one of
+`store.py`, if none is told: `over_memory.py` and `over_etcd.py` have those of the package.
 
 Requests are slow, come long after they were given up, or are lost; answers are lost; members are paused, with their worker or without it,
 or the worker alone; they die, leave, join, are cut off, and two processes act for one node at once; workers end by themselves; logs are
@@ -29,12 +30,10 @@ from bully.member import (
 from bully.settings import Settings
 from plain import is_at_rest, world_of
 from settled import fewest, moves
-from store import Epoch, Found, Store, table_of
+from store import Epoch, Found, Judged, Store, table_of
 
 TTL = 1_000_000_000
-MARGIN = TTL // 5
-TROUBLE_FOR = 16 * TTL
-REST_WITHIN = 25 * TTL
+TROUBLE_FOR, REST_WITHIN = 16, 25  # ttl
 NAMES = tuple('abcdefg')
 STEPS = 100  # more than a member takes at one moment
 
@@ -74,6 +73,7 @@ class Rules(Protocol):
 
 
 Maker = Callable[[Opening, int, int], Rules]
+StoreMaker = Callable[[Settings, Callable[[int], int], Callable[[], int]], Judged]
 
 
 class Trouble:
@@ -103,6 +103,16 @@ class Trouble:
             self.deaths, self.joins, self.leaves, self.cuts, self.short = 0.3, 1.0, 0.0, 0.0, choice.choice([0.0, 0.7])
             self.lost, self.unanswered, self.slow, self.wishes, self.withdrawn = 0.0, 0.0, 0.1, choice.choice([0.0, 1.5]), 0.9
             self.nodes, self.slowest, self.patience = choice.choice([1, 2, 3]), choice.choice([Take, BeIdle]), choice.choice([0.2, 3.0])
+
+
+class Epochs(Trouble):
+    """Logs are soon full, groups are resized, and old epochs are taken away."""
+
+    def __init__(self, choice: random.Random) -> None:
+        super().__init__(choice)
+        self.room = choice.choice([22, 22, 26])
+        self.wishes, self.withdrawn = choice.choice([0.5, 1.5]), choice.choice([0.0, 0.3])
+        self.prunes = choice.choice([0.3, 1.0])
 
 
 @dataclass
@@ -142,7 +152,7 @@ class Worker:
             self.member.soon(0, lambda: self.member.lose(token))
         else:
             _, token_over_all, partitions, life = self.work
-            self.unit = Unit(token_over_all, partitions, life, self.until + MARGIN)
+            self.unit = Unit(token_over_all, partitions, life, self.until + simulation.ttl // 5)
             simulation.begin_unit(self)
             simulation.after(simulation.between(0.004, 0.19), self.end_unit)
 
@@ -191,7 +201,7 @@ class Member:
 
     def __init__(self, simulation: Simulation, name: str, number: int, opening: Opening) -> None:
         self.simulation, self.name, self.number = simulation, name, number
-        self.rules = simulation.make(opening, number, TTL)
+        self.rules = simulation.make(opening, number, simulation.ttl)
         self.epoch, self.node, self.place = opening.epoch, opening.node, 0
         self.life: Optional[Life] = None
         self.found: Optional[Found] = None  # as it looked last
@@ -308,7 +318,9 @@ class Member:
 
     def called(self, request: Request) -> Callable[[], object]:
         """What the request is at the store, whenever it comes there."""
-        store, simulation, name, epoch = self.simulation.store, self.simulation, self.name, self.epoch
+        simulation, name, epoch = self.simulation, self.name, self.epoch
+        assert isinstance(simulation.store, Store)
+        store: Store = simulation.store
         if isinstance(request, Take):
             life, place = request.life, request.place
             return lambda: store.take(name, life, epoch, place, simulation.lease())
@@ -347,7 +359,7 @@ class Member:
                 self.go()
 
         def done() -> None:
-            is_gone = 0 < epoch < simulation.kept_from
+            is_gone = 0 < epoch < simulation.store.kept_from
             told = simulation.gone() if is_gone else call()
             simulation.happened['a request comes behind its time'] += turn != self.turn
             simulation.tell_all()
@@ -358,7 +370,7 @@ class Member:
             simulation.after(simulation.trip(request), done)
         if isinstance(request, Renew) and simulation.happens('a pause with a renewal', trouble.renewal_pauses):
             simulation.pause(self)
-        self.soon(int(trouble.patience * TTL), lambda: answer(None))
+        self.soon(int(trouble.patience * simulation.ttl), lambda: answer(None))
 
     def tell(self, request: Request, told: object) -> None:
         """What became of a request: None, if it wasn't answered in time."""
@@ -392,13 +404,15 @@ GONE = 'gone'
 class Simulation:
     """One group. The rules of its members and its store are told, so that broken ones can be tried."""
 
-    def __init__(self, seed: int, make: Maker, store: Type[Store] = Store, trouble: Type[Trouble] = Trouble) -> None:
+    member: Type[Member] = Member
+
+    def __init__(self, seed: int, make: Maker, store: StoreMaker = Store, trouble: Type[Trouble] = Trouble) -> None:
         self.choice = random.Random(seed)
         self.trouble = trouble(self.choice)
-        self.make, self.now, self.count, self.is_calm = make, 0, 0, False
+        self.make, self.now, self.count, self.is_calm, self.ttl = make, 0, 0, False, TTL
         self.events: List[Tuple[int, int, Action]] = []
-        self.store = store(self.settings(), lambda nodes: min(self.trouble.room * nodes, 1_000_000), lambda: self.now)
-        self.kept_from = 1  # the first epoch that wasn't taken away
+        self.store: Judged = store(self.settings(), lambda nodes: min(self.trouble.room * nodes, 1_000_000), lambda: self.now)
+        self.wanted: Optional[Settings] = None  # what was wished for last, unless that was taken back
         self.members: List[Member] = []
         self.happened: Counts[str] = Counter()
         self.highest: Dict[int, Tuple[Token, Life]] = {}  # of each partition: the token used last, and whose
@@ -407,10 +421,10 @@ class Simulation:
 
     def some(self, most: float) -> int:
         """A span of so much of a ttl at most."""
-        return int(self.choice.random() * most * TTL)
+        return int(self.choice.random() * most * self.ttl)
 
     def between(self, least: float, most: float) -> int:
-        return int(self.choice.uniform(least, most) * TTL)
+        return int(self.choice.uniform(least, most) * self.ttl)
 
     def happens(self, what: str, share: float) -> bool:
         does = not self.is_calm and share > 0 and self.choice.random() < share
@@ -425,7 +439,7 @@ class Simulation:
 
     def lease(self) -> int:
         """How long a presence lasts from now on."""
-        ttl = TTL + self.some(self.trouble.late)
+        ttl = self.ttl + self.some(self.trouble.late)
         self.after(ttl, self.tell_all)
         return ttl
 
@@ -468,7 +482,7 @@ class Simulation:
         wait, found = member.awaited, member.found
         if wait is None or found is None:
             return
-        if member.epoch < self.kept_from or self.store.has_news(member.epoch, found, wait.until):
+        if member.epoch < self.store.kept_from or self.store.has_news(member.epoch, found, wait.until):
             member.awaited = None
             member.later(self.some(self.trouble.trip), member.wake)
 
@@ -514,7 +528,7 @@ class Simulation:
         if opening is None:
             return None
         self.happened['a process begins'] += 1
-        member = Member(self, name, len(self.members) + 1, opening)
+        member = self.member(self, name, len(self.members) + 1, opening)
         self.members.append(member)
         self.after(0, member.go)
         return member
@@ -531,9 +545,9 @@ class Simulation:
             if not self.is_calm:
                 self.happened[what] += 1
                 action()
-                self.after(int(self.choice.expovariate(rate) * TTL), do)
+                self.after(int(self.choice.expovariate(rate) * self.ttl), do)
 
-        self.after(int(self.choice.expovariate(rate) * TTL), do)
+        self.after(int(self.choice.expovariate(rate) * self.ttl), do)
 
     def to_some(self, action: Callable[[Member], None]) -> Action:
         """The same to some member, if there is one."""
@@ -591,11 +605,11 @@ class Simulation:
             self.after(self.some(0.3), lambda: self.wish(None))
 
     def wish(self, settings: Optional[Settings]) -> None:
-        self.store.wish = settings
+        self.store.wish = self.wanted = settings
         self.tell_all()
 
     def prune(self) -> None:
-        self.kept_from = self.store.epoch.number
+        self.store.prune()
         self.tell_all()
 
     def run(self) -> None:
@@ -610,7 +624,7 @@ class Simulation:
         self.often('a loop', trouble.loops, self.loop)
         self.often('a wish', trouble.wishes, self.resize)
         self.often('old epochs are taken away', trouble.prunes, self.prune)
-        self.live(TROUBLE_FOR)
+        self.live(TROUBLE_FOR * self.ttl)
         self.is_calm = True
         for member in self.members:
             member.paused_until = member.worker.paused_until = member.cut_until = 0
@@ -626,20 +640,20 @@ class Simulation:
     def rest(self) -> None:
         """The group comes to rest, and stays so."""
         begun = self.now
-        while self.now < begun + REST_WITHIN:
-            self.live(self.now + TTL // 20)
+        while self.now < begun + REST_WITHIN * self.ttl:
+            self.live(self.now + self.ttl // 20)
             if all(member.is_leaving for member in self.alive()):
                 self.begin(self.choice.choice(self.store.epoch.settings.names))
             if self.unrest() is None:
                 before = self.store.epoch.number, len(self.store.epoch.rows)
-                self.live(self.now + 3 * TTL)
+                self.live(self.now + 3 * self.ttl)
                 if self.unrest() is None and before == (self.store.epoch.number, len(self.store.epoch.rows)):
                     return
         raise Wrong(f'no rest: {self.unrest()}')
 
     def unrest(self) -> Optional[str]:
         epoch, held = self.store.epoch, self.store.held()
-        if self.store.wished() is not None or not set(held) <= set(epoch.settings.names):
+        if self.store.wished() is not None or not self.is_as_wanted(epoch) or not set(held) <= set(epoch.settings.names):
             return f'another wish, or strangers: {held}'
         with Replica(epoch.header) as replica:
             replica.learn(epoch.rows)
@@ -653,16 +667,23 @@ class Simulation:
         worked = sorted(partition for _, by, partitions, _ in works if by == token for partition in partitions)
         return None if worked == list(range(epoch.settings.setup.partitions)) else f'worked on are {worked}'
 
+    def is_as_wanted(self, epoch: Epoch) -> bool:
+        wanted = self.wanted
+        return wanted is None or (wanted.setup.header(), wanted.names) == (epoch.header, epoch.settings.names)
+
     def judge(self) -> None:
         """The log of each epoch is lawful, and each of its plans moves no more than it has to, from the table of the epoch before, too."""
         for epoch in self.store.epochs:
-            self.happened['epochs'] += 1
-            self.happened['rows'] += len(epoch.rows)
-            verdict = check('\n'.join([epoch.header, *epoch.rows, '']))
-            if not verdict.is_lawful:
-                raise Wrong(f'the log of epoch {epoch.number} is {verdict}')
-            with Replica(epoch.header) as replica:
-                self.judge_plans(epoch, replica)
+            self.judge_epoch(epoch)
+
+    def judge_epoch(self, epoch: Epoch) -> None:
+        self.happened['epochs'] += 1
+        self.happened['rows'] += len(epoch.rows)
+        verdict = check('\n'.join([epoch.header, *epoch.rows, '']))
+        if not verdict.is_lawful:
+            raise Wrong(f'the log of epoch {epoch.number} is {verdict}')
+        with Replica(epoch.header) as replica:
+            self.judge_plans(epoch, replica)
 
     def judge_plans(self, epoch: Epoch, replica: Replica) -> None:
         before = epoch.old

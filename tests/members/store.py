@@ -13,7 +13,7 @@ call is one moment. All times are whole nanoseconds. A promise is an epoch and a
 from __future__ import annotations
 
 from dataclasses import dataclass, field, replace
-from typing import Callable, Dict, FrozenSet, List, Optional, Sequence, Tuple
+from typing import Callable, Dict, FrozenSet, List, Optional, Protocol, Sequence, Tuple
 
 from bully.settings import Settings
 from bully.member import Life, Opening, Presence, Promise, Seen, Until
@@ -88,14 +88,35 @@ class Found:
     idle: FrozenSet[str] = frozenset()  # who had promised the end of the log
 
 
+class Judged(Protocol):
+    """What a simulation asks of the store of a group, beside what members ask."""
+
+    kept_from: int  # the first epoch that wasn't taken away, if members are told of that
+
+    @property
+    def epochs(self) -> List[Epoch]: ...
+    @property
+    def epoch(self) -> Epoch: ...
+    @property
+    def wish(self) -> Optional[Settings]: ...
+    @wish.setter
+    def wish(self, settings: Optional[Settings]) -> None: ...
+    def wished(self) -> Optional[Settings]: ...
+    def held(self) -> Dict[str, Lease]: ...
+    def holds(self, name: str, life: Life) -> bool: ...
+    def has_news(self, epoch: int, found: Found, until: Until) -> bool: ...
+    def prune(self) -> None: ...
+
+
 class Store:
     """The store. `limit` says how many rows an epoch of so many nodes may have."""
 
     def __init__(self, settings: Settings, limit: Callable[[int], int], clock: Callable[[], int]) -> None:
         self.limit, self.clock = limit, clock
-        self.epochs = [Epoch(1, settings, limit(settings.setup.nodes))]
+        self.epochs: List[Epoch] = [Epoch(1, settings, limit(settings.setup.nodes))]
         self.leases: Dict[str, Lease] = {}
         self.wish: Optional[Settings] = None
+        self.kept_from = 1  # the first epoch that wasn't taken away
 
     @property
     def epoch(self) -> Epoch:
@@ -167,6 +188,10 @@ class Store:
         ended = self.epoch
         old = carried(ended.table(), ended.settings, settings)
         self.epochs.append(Epoch(ended.number + 1, settings, self.limit(settings.setup.nodes), old))
+
+    def prune(self) -> None:
+        """The epochs before the current one are taken away."""
+        self.kept_from = self.epoch.number
 
     # What it shows.
 

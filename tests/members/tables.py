@@ -4,15 +4,14 @@ from __future__ import annotations
 from typing import List, Sequence, Tuple
 
 from bully import Replica
-from bully.epochs import cut_end
 from bully.logs import Log
 
 
-def owners_by_name(log: Log) -> Tuple[List[str], List[str]]:
+def owners_by_name(log: Log, epoch: int) -> Tuple[List[str], List[str]]:
     """The names of the owners by the first and by the last table of an epoch; none, if it has no table."""
-    opening, tables = log.opening(), []
+    opening, tables = log.opening(epoch), []
     with Replica(opening.header) as replica:
-        for row in cut_end(log.read(1))[0]:
+        for row in log.read(epoch, 0):
             replica.learn([row])
             if row.startswith('plan'):
                 tables.append([opening.names[owner - 1] for owner in replica.last_table or ()])

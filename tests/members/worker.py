@@ -3,14 +3,18 @@
     worker.py FOLDER
 
 A unit that finds the lock taken writes `overlap` into FOLDER/faults, and one whose token is below the file's last one is refused there
-and writes `old`. A unit that is done adds `TOKEN NODE` to the file of its partition.
+and writes `old`. A unit that is done adds `TOKEN NODE` to the file of its partition. With BULLY_ANSWERS in its environment it stays over changes.
 """
 import fcntl
+import json
 import os
+import select
 import sys
 import time
 
-folder, node, token = sys.argv[1], os.environ['BULLY_NODE'], int(os.environ['BULLY_TOKEN'])
+folder, node, answers = sys.argv[1], os.environ['BULLY_NODE'], os.environ.get('BULLY_ANSWERS')
+lines = open(0, 'rb', buffering=0, closefd=False)  # so that nothing is read ahead
+token, partitions = int(os.environ.get('BULLY_TOKEN', 0)), os.environ.get('BULLY_PARTITIONS', '').split()
 
 
 def tell(fault: str, partition: str) -> None:
@@ -35,7 +39,21 @@ def work(partition: str) -> None:
         file.write(f'{token} {node}\n')
 
 
+def hear() -> None:
+    """Takes what it is told, if anything is to be read, or nothing is to be done."""
+    global token, partitions
+    while answers and (not partitions or select.select([lines], [], [], 0)[0]):
+        line = lines.readline()
+        if not line:
+            sys.exit()
+        told = json.loads(line)
+        token, partitions = told.get('begin', 0), list(map(str, told.get('partitions', ())))
+        if 'stop' in told:
+            os.write(int(answers), b'stopped\n')
+
+
 while True:
-    for each in os.environ['BULLY_PARTITIONS'].split():
+    hear()
+    for each in list(partitions):
         work(each)
     time.sleep(0.01)

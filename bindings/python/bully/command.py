@@ -23,19 +23,18 @@ import sys
 import time
 from typing import Callable, List, Optional, Tuple, Type, TypeVar
 
-from .appending import Assignment
-from .epochs import Opening, cut_end
+from .epochs import Opening
 from .faults import BullyError
-from .logs import LogError, SqliteLog, Unanswered
-from .page import Page
+from .logs import LogError, Unanswered, seconds_of_boot
 from .resizing import NotEnded, resize
 from .running import Member, NotInGroup, OtherGroup
 from .settings import ConfigFault, Settings, read_settings, shown_name
-from .stores import BadStore, Store, add_words, store_of
+from .stores import BadStore, FileStore, add_words, store_of
 from .view import GroupView, LogView
 from .worker import GuardLost, WorkerEnded, Workers
 
 OK, FAILED, BAD_WORDS, BAD_INPUT, NO_STORE = range(5)
+LOOK = 1.0  # seconds for which it is looked who isn't idle, if somebody isn't
 AGAIN = 0.1  # seconds before a log that didn't answer is asked again
 
 _Answer = TypeVar('_Answer')
@@ -63,6 +62,7 @@ def parser() -> argparse.ArgumentParser:
     run.add_argument('--node', required=True, metavar='NAME')
     run.add_argument('--ttl', type=seconds, default=5.0, metavar='SECONDS', help='how long the node stays present without a renewal')
     run.add_argument('--stop-seconds', type=seconds, default=10.0, metavar='SECONDS', help='from SIGTERM to SIGKILL of the worker')
+    run.add_argument('--talk', action='store_true', help='the worker stays over changes, and is told of them by lines')
     run.add_argument('--listen', metavar='HOST:PORT', help='tell the group over HTTP')
     run.add_argument('--quiet', action='store_true', help='say nothing of what happens')
     run.add_argument('worker', nargs='+', metavar='WORKER ARGS', help='the command of the worker, behind --')
@@ -113,9 +113,7 @@ def init(options: argparse.Namespace) -> int:
 
 def history(options: argparse.Namespace) -> int:
     """Writes the log of an epoch as a trace."""
-    with contextlib.closing(store_of(options).open(reads=True)) as log:
-        rows, _ = cut_end(log.at(options.epoch or log.epoch).read(0))
-        sys.stdout.writelines(f'{row}\n' for row in rows)
+    sys.stdout.writelines(f'{row}\n' for row in store_of(options).history(options.epoch))
     return OK
 
 
@@ -139,15 +137,19 @@ def prune(options: argparse.Namespace) -> int:
 
 def status(options: argparse.Namespace) -> int:
     """Tells how the group stands."""
-    with contextlib.closing(store_of(options).open(reads=True)) as log:
-        shown = LogView(log).show()
+    with contextlib.closing(LogView(store_of(options).open(reads=True))) as view:
+        end, shown = seconds_of_boot() + LOOK, view.show()
+        while shown.behind and seconds_of_boot() < end:
+            time.sleep(LOOK / 10)
+            shown = view.show()
     print(json.dumps(shown.told(), ensure_ascii=False) if options.json else text_of(shown))
     return OK
 
 
 def text_of(group: GroupView) -> str:
     """The group, for people."""
-    lines = [f'epoch {group.epoch}, events {group.events}, token {group.token or "-"}, coordinator {shown_name(group.coordinator)}']
+    about = f'epoch {group.epoch}, events {group.events}, token {group.token or "-"}, coordinator {shown_name(group.coordinator)}'
+    lines = [about + group.told_behind]
     rows = [('node', 'status', 'present', 'coordinator', 'partitions')]
     for node in group.nodes:
         present, partitions = 'yes' if node.is_present else 'no', ' '.join(map(str, node.partitions)) or '-'
@@ -156,32 +158,6 @@ def text_of(group: GroupView) -> str:
     for row in rows:
         lines.append('  '.join(word.ljust(width) for word, width in zip(row, widths)).rstrip())
     return '\n'.join(lines)
-
-
-class Run:
-    """A member with its worker."""
-
-    def __init__(self, options: argparse.Namespace, settings: Optional[Settings], log: Store) -> None:
-        self.member = Member(log, options.node, self.start, self.stop, options.ttl, settings, sure=self.hear_until)
-        self.pace = self.member.core.pace
-        environment = {'BULLY_NODE': options.node}
-        self.workers = Workers(options.worker, environment, options.stop_seconds, self.member.end_with, self.member.lose)
-
-    def run(self) -> None:
-        """Takes part, until a signal tells it to leave."""
-        for number in (signal.SIGTERM, signal.SIGINT):
-            signal.signal(number, lambda *_: self.member.leave())
-        with self.member:
-            self.member.run()
-
-    def start(self, assignment: Assignment) -> None:
-        self.workers.start(assignment, assignment.settings.text(self.pace.ttl, self.pace.margin))
-
-    def stop(self, assignment: Assignment) -> None:
-        self.workers.stop()
-
-    def hear_until(self, until: float) -> None:
-        self.workers.hear_until(until)
 
 
 def check_name(settings: Settings, name: str) -> None:
@@ -219,16 +195,23 @@ def run(options: argparse.Namespace) -> int:
     with contextlib.ExitStack() as closing:
         log = answered(lambda: store.open(patience=min(1.0, options.ttl / 5)))
         closing.callback(log.close)
-        member = answered(lambda: Run(options, settings, log))
+        workers = Workers(options.worker, options.node, options.stop_seconds, options.talk)
+        callbacks = workers.start, workers.stop
+        member = answered(lambda: Member(log, options.node, *callbacks, options.ttl, settings, sure=workers.hear_until))
+        workers.begin(member, store.path if isinstance(store, FileStore) else '')
+        closing.callback(workers.close)
         if address is not None:
-            view = answered(lambda: LogView(store.open(reads=True)))
+            from .page import Page  # which takes much memory
+
+            view = answered(lambda: LogView(store.open(reads=True), member.behind))
             closing.callback(view.close)
-            page = Page(address, view, member.member)
+            page = Page(address, view, member)
             closing.callback(page.close)
             page.start()
-        if isinstance(log, SqliteLog):
-            log.watch(options.ttl)
-        member.run()
+        for number in (signal.SIGTERM, signal.SIGINT):
+            signal.signal(number, lambda *_: member.leave())
+        with member:
+            member.run()
     return OK
 
 

@@ -1,21 +1,22 @@
 """Epochs: a log has room for 1,000,000 rows, so a group's history is one log after the other.
 
-Each epoch has a log of its own, from its header on. Behind the last row of its trace stands the *end*, which is no row of a trace and
-names the header of the next epoch. `docs/MEMBERS.md` says when an epoch ends. Tokens rise over all of them.
+Each epoch has a log of its own, behind the header that it began with. `docs/MEMBERS.md` says when an epoch ends. Tokens rise over all of
+them.
 """
 from __future__ import annotations
 
 import dataclasses
 import json
 from dataclasses import dataclass
-from typing import AbstractSet, Dict, Optional, Sequence, Tuple
+from typing import Dict, Optional, Sequence, Tuple
 
-from .group import Setup, plan_table
+from .group import Setup
 from .settings import Settings
-from .values import EVENTS_MAX, NODES_MAX, Rows
+from .values import EVENTS_MAX
 
 FIRST = 1
-END = 'end,'  # with which the end of an epoch begins
+LEAST = 22  # rows for each node: fewer than so many an epoch never may have
+SETTLEMENT = 11  # rows for each node: what settles a group has no more
 
 
 class Token(int):
@@ -44,43 +45,34 @@ def setup_of(header: str) -> Setup:
     return Setup(int(nodes), int(partitions), weights=weights, keeps=more[1:] == ['keep'])
 
 
-def most_rows(nodes: int) -> int:
-    """From how many rows on an epoch of so many nodes has to end, so that there is room for what ends it."""
-    return EVENTS_MAX - 4 * nodes - 1000
-
-
-def cut_end(rows: Sequence[str]) -> Tuple[Sequence[str], bool]:
-    """The rows of a trace, and whether the end of their epoch stands behind them."""
-    if isinstance(rows, Rows):
-        begin = rows.text.rfind('\n', 0, -1) + 1  # of the last one
-        return (Rows(rows.text[:begin]), True) if rows.text.startswith(END, begin) else (rows, False)
-    return (rows[:-1], True) if rows and rows[-1].startswith(END) else (rows, False)
+def room_of(nodes: int, limit: int) -> int:
+    """How many rows an epoch of so many nodes may have, if the limit is to be this one."""
+    return min(max(limit, LEAST * nodes), EVENTS_MAX)
 
 
 @dataclass(frozen=True)
 class Opening:
-    """What an epoch begins with: its header, and the names of its nodes; from how many rows on it ends; the last table of the epoch
-    before, by this one's numbers of nodes, with 0 where the owner is none of them; and who was present when that one ended."""
+    """What an epoch begins with: its header, and the names of its nodes; how many rows it may have; and the last table of the epoch before,
+    by this one's numbers of nodes, with 0 where the owner is none of them."""
 
     epoch: int
     header: str
     names: Tuple[str, ...]
     limit: int
     table: Tuple[int, ...] = ()
-    expected: Tuple[int, ...] = ()
 
     @staticmethod
     def first(header: str, names: Sequence[str] = (), limit: int = EVENTS_MAX) -> Opening:
         """That of the first epoch. Nodes without names are called by their numbers."""
         nodes = setup_of(header).nodes
         told = tuple(names) or tuple(map(str, range(1, nodes + 1)))
-        return Opening(FIRST, header, told, min(limit, most_rows(nodes)))
+        return Opening(FIRST, header, told, room_of(nodes, limit))
 
     @staticmethod
     def parse(text: str) -> Opening:
         """The one that `text` told. A ValueError, a KeyError or a TypeError tells that it is none."""
         told = json.loads(text)
-        lists = {name: tuple(told[name]) for name in ('names', 'table', 'expected')}
+        lists = {name: tuple(told[name]) for name in ('names', 'table')}
         return Opening(int(told['epoch']), str(told['header']), limit=int(told['limit']), **lists)
 
     def text(self) -> str:
@@ -93,39 +85,30 @@ class Opening:
         return Settings(setup_of(self.header), self.names)
 
     @property
-    def end(self) -> str:
-        """The end of the epoch before this one."""
-        return f'{END}{self.header}'
+    def bare(self) -> Opening:
+        """The same without a table."""
+        return dataclasses.replace(self, table=())
 
     def is_of(self, settings: Settings) -> bool:
         """Whether the group has these settings in the epoch."""
         return (self.header, self.names) == (settings.setup.header(), settings.names)
 
     def wish(self, settings: Settings) -> Opening:
-        """The opening of the next epoch with other settings. Who ends this one adds what is known then."""
-        return Opening(self.epoch + 1, settings.setup.header(), settings.names, min(self.limit, most_rows(settings.setup.nodes)))
+        """The opening of the next epoch with other settings, but for its table, which is known once this one ends."""
+        return Opening(self.epoch + 1, settings.setup.header(), settings.names, room_of(settings.setup.nodes, self.limit))
 
-    def next(self, wish: Optional[str], table: Sequence[int], present: AbstractSet[int]) -> Opening:
-        """The opening of the next epoch: with what is wished for, or else as this one; with this epoch's last table, and who is
-        present, both told by name."""
-        after = Opening.parse(wish) if wish is not None else dataclasses.replace(self, epoch=self.epoch + 1)
+    def after(self, wish: Optional[Opening]) -> Opening:
+        """The opening of the next epoch but for its table: what is wished for, or else as this one."""
+        return (wish or dataclasses.replace(self, epoch=self.epoch + 1)).bare
+
+    def next(self, wish: Optional[Opening], table: Sequence[int]) -> Opening:
+        """The opening of the next epoch: with what is wished for, or else as this one; and with this epoch's last table, if it has one."""
+        after = self.after(wish)
         numbers = self._numbers(after)
         count = setup_of(after.header).partitions
         owners = [numbers.get(owner, 0) for owner in table[:count]]
         carried = tuple(owners + [0] * (count - len(owners))) if any(owners) else ()
-        return dataclasses.replace(after, table=carried, expected=tuple(sorted(numbers[node] for node in present if node in numbers)))
-
-    def plan(self, members: Sequence[int]) -> Tuple[int, ...]:
-        """The table over these members with the fewest moves from the last one of the epoch before."""
-        setup = setup_of(self.header)
-        if 0 not in self.table:
-            return plan_table(setup, members, self.table).owners
-        if setup.nodes == NODES_MAX:  # there is no number for nobody, and a few partitions may move that need not
-            return plan_table(setup, members, [owner or 1 for owner in self.table]).owners
-        nobody = setup.nodes + 1
-        weights = (*(setup.weights or (1,) * setup.nodes), 1)
-        more = dataclasses.replace(setup, nodes=nobody, weights=weights)
-        return plan_table(more, members, [owner or nobody for owner in self.table]).owners
+        return dataclasses.replace(after, table=carried)
 
     def _numbers(self, after: Opening) -> Dict[int, int]:
         """The numbers in another epoch of the nodes that are in both."""

@@ -1,75 +1,110 @@
 """The store of a shared log in etcd, 3.4 or later: `EtcdLog`, which the processes of many machines share.
 
-Below a log's prefix stand `log/EPOCH/PLACE`, a row each; `presence/EPOCH/NODE`, whose value is the life, under a lease of etcd's;
-`opening/EPOCH`; and `wish/EPOCH`, what is wished for in that epoch. EPOCH and PLACE have ten digits. What a call finds is of one revision,
-and no read is `serializable`.
+Below a log's prefix stand
+
+- `opening/EPOCH`, with the form of the log in it, and `first`, the first epoch whose rows are there;
+- `place`, the end of the log, which is EPOCH/PLACE of the current epoch; and `log/EPOCH/PLACE`, the rows of one append, each with its line
+  end, by where they begin;
+- `next`, what the next epoch is to begin with, if something is wished for;
+- `presence/life/NAME` and `presence/promise/NAME`, EPOCH/PLACE, under one lease of etcd's.
+
+EPOCH and PLACE have ten digits, so what is later is greater. What a call finds is of one revision, and no read is `serializable`.
 
 A presence is renewed by its lease, without a write, while etcd has the leader under which the lease was granted. A leader of an earlier
 term that was paused may tell of renewals that no other knows, and may end a lease that was renewed under a later one. So a
-renewal counts only if etcd's term is the same before and behind it, and that of the grant. Else the presence moves to a new lease.
+renewal counts only if etcd's term is the same before and behind it, and that of the grant. Else life and promise move to a new lease, in one
+transaction that keeps what was promised. No other write names a lease: one that came late would put a key under an old one, and lose it.
 """
 from __future__ import annotations
 
-import copy
-import math
 import ssl
-import time
-from base64 import b64decode
-from contextlib import suppress
-from typing import Dict, FrozenSet, Iterator, List, NamedTuple, Optional, Sequence, Set, Tuple
+from typing import AbstractSet, Callable, Dict, FrozenSet, Iterator, List, Mapping, NamedTuple, Optional, Sequence, Tuple, TypeVar
 
 from .epochs import FIRST, Opening
 from .gateway import (
-    KV_RANGE, LEASE_GRANT, LEASE_KEEPALIVE, Answer, Client, Compacted, Json, Pair, Silent, Watch, below, coded, exists, number_behind,
-    number_is, one, pair_of, pairs_of, put, ranges, read_address, value_is,
+    KV_RANGE, LEASE_GRANT, LEASE_KEEPALIVE, Answer, Client, Compacted, Json, Pair, Silent, Watch, behind, below, coded, exists,
+    number_behind, number_is, one, pair_of, pairs_of, put, ranges, read_address, value_is,
 )  # fmt: skip
-from .logs import DamagedLog, ForeignLog, LogError, LogExists, NoEpoch, NoLog, Seen, Unanswered, seconds_of_boot, told_epochs
+from .logs import (
+    SECOND, DamagedLog, ForeignLog, Found, Holder, LogError, LogExists, NoEpoch, NoLog, Unanswered, are_idle, idle_of, rows_text, seconds_of_boot,
+    slept, told_epochs,
+)  # fmt: skip
+from .member import Life, Promise, Until
+from .sqlite import life_of, life_text
 from .values import Rows
 
-APPEND_MAX = 128  # rows: etcd takes no more in one transaction
-PAGE = 1000  # rows that are read in one request
+FORM = 3
+BEGIN = f'{{"form": {FORM}, '  # of an opening; what an older version doesn't take for one
+OLDER = '{"epoch": '  # of an opening of an older form
+PAGE = 500  # appends that are read in one request
 READS = 3  # how often a read is begun, if etcd compacts its revision meanwhile
 AGAIN = 0.2  # seconds from the end of a watch that broke to the next
+FEW = 64  # presences: while there are no more, a watch tells of promises also who doesn't wait for them
+
+
+def place_text(promise: Promise) -> str:
+    """A place of an epoch, so that what is later is greater."""
+    return f'{promise.epoch:010}/{promise.place:010}'
+
+
+def place_of(text: str) -> Promise:
+    """The same place. Raises ValueError."""
+    epoch, place = text.split('/')
+    return Promise(int(epoch), int(place))
+
+
+def opening_text(opening: Opening) -> str:
+    """An opening, as it stands in etcd."""
+    return BEGIN + opening.text()[1:]
 
 
 class Keys:
-    """The keys of a log, as seen in an epoch."""
+    """The keys of a log."""
 
-    def __init__(self, prefix: str, epoch: int = FIRST) -> None:
-        self.prefix, self.epoch = prefix, epoch
+    def __init__(self, prefix: str) -> None:
         self.root = f'{prefix}/'.encode()
-        self.openings, self.logs, self.all_presences = self.root + b'opening/', self.root + b'log/', self.root + b'presence/'
-        self.rows = self.logs + b'%010d/' % epoch
-        self.presences = self.all_presences + b'%010d/' % epoch
-        self.wish = self.root + b'wish/%010d' % epoch
-        self.header = self.row(0)
-        self.first = self.opening(FIRST)
-
-    def at(self, epoch: int) -> 'Keys':
-        return Keys(self.prefix, epoch)
+        self.begun = self.opening(FIRST)  # with which the log was made
+        self.first, self.next, self.place = self.root + b'first', self.root + b'next', self.root + b'place'
+        self.logs, self.presences = self.root + b'log/', self.root + b'presence/'
+        self.lives, self.promises = self.presences + b'life/', self.presences + b'promise/'
 
     def opening(self, epoch: int) -> bytes:
-        return self.openings + b'%010d' % epoch
+        return self.root + b'opening/%010d' % epoch
 
-    def row(self, place: int) -> bytes:
-        return self.rows + b'%010d' % place
+    def rows(self, epoch: int) -> bytes:
+        return self.logs + b'%010d/' % epoch
 
-    def presence(self, node: int) -> bytes:
-        return self.presences + b'%d' % node
+    def row(self, epoch: int, place: int) -> bytes:
+        return self.rows(epoch) + b'%010d' % place
 
-    def page(self, place: int) -> Json:
-        """The range of the rows from there on that are read together."""
-        return one(self.row(place), range_end=coded(self.row(place + PAGE)))
+    def life(self, name: str) -> bytes:
+        return self.lives + name.encode()
 
-    def beyond(self, place: int) -> Json:
-        """The range of a row behind those."""
-        return {**below(self.rows, limit=1, keys_only=True), **one(self.row(place + PAGE))}
+    def promise(self, name: str) -> bytes:
+        return self.promises + name.encode()
+
+    def name(self, key: bytes, prefix: bytes) -> str:
+        """The name of a key that begins so. Raises ValueError."""
+        return key[len(prefix) :].decode()
+
+    def page(self, begin: bytes, end: bytes) -> Json:
+        """The range of appends from one key on that are read together."""
+        return one(begin, range_end=coded(end), limit=PAGE)
+
+    def standing(self, since: int) -> 'tuple[Json, Json, Json, Json]':
+        """The ranges of all that isn't a row: the end of the log, the wish, and the lives and promises that were put behind a revision."""
+        newer = {'min_mod_revision': str(since + 1)}
+        return one(self.place), one(self.next), below(self.lives, **newer), below(self.promises, **newer)
+
+    def watched(self, is_wide: bool) -> Json:
+        """The range of what changes, with promises or without them; rows aren't told, since they are looked for."""
+        return one(self.next, range_end=coded(behind(self.presences) if is_wide else self.promises))
 
 
 class Held(NamedTuple):
     """The lease under which a life holds its presence, for how many seconds, and a term of etcd's that had begun when it was granted."""
 
-    life: str
+    life: Life
     lease: int
     seconds: int
     term: int
@@ -90,15 +125,15 @@ class EtcdLog:
         self._keys = Keys(read.prefix)
         self._client = Client(read, patience, tls, user, password)
         self._held: Optional[Held] = None
-        self._told: FrozenSet[int] = frozenset()
-        self._told_wish: Optional[str] = None
+        self._told_wish: Optional[bytes] = None
+        self._told_idle: Tuple[Promise, FrozenSet[str]] = (Promise(), frozenset())
         self._news = News(self._keys)
         self._watch: Optional[Watch] = None
-        self._watches: List[Watch] = []  # of all that this one is seen as
+        self._is_wide = False  # whether it tells of promises
         self._broken = float('-inf')  # when a watch broke
+        self._woken: Optional[int] = None  # that ends a wait
         try:
             self._created = self._open()
-            self._see(self.epochs()[-1])
         except BaseException:
             self._client.close()
             raise
@@ -122,183 +157,345 @@ class EtcdLog:
     def _open(self) -> int:
         """Sees that there is a log. The revision in which it was made."""
         self._client.begin()
-        keys, opening = self._keys, self._found(one(self._keys.first))
-        if opening and opening[0].value.startswith(b'{"epoch": '):
+        keys = self._keys
+        opening = pairs_of(self._client.ask(KV_RANGE, one(keys.begun), repeats=True))
+        if opening and opening[0].value.startswith(BEGIN.encode()):
             return opening[0].created
-        first = self._found(below(keys.root, limit=1, keys_only=True))
+        first = pairs_of(self._client.ask(KV_RANGE, below(keys.root, limit=1, keys_only=True), repeats=True))
         if not first:
             raise NoLog(f'{self.address}: there is none; bully-member init makes a log')
-        if opening or not first[0].key.startswith((keys.logs, keys.all_presences)):
-            raise ForeignLog(f'{self.address}: something else than a log is below its prefix')
+        if opening and opening[0].value.startswith(OLDER.encode()):
+            more = 'history writes it as a trace, and init makes another log'
+            raise ForeignLog(f'{self.address}: a log by an older version, and not of form {FORM}; {more}')
+        if opening or not first[0].key.startswith((keys.first, keys.logs, keys.presences)):
+            raise ForeignLog(f'{self.address}: something else than a log of form {FORM} is below its prefix')
         raise DamagedLog(f'{self.address}: the log has no opening')
-
-    def _found(self, asked: Json) -> List[Pair]:
-        """What one range finds."""
-        return pairs_of(self._client.ask(KV_RANGE, asked, repeats=True))
 
     # Epochs.
 
-    @property
-    def epoch(self) -> int:
-        return self._keys.epoch
-
-    def _see(self, epoch: int) -> None:
-        self._keys = self._keys.at(epoch)
-        self._held, self._told, self._told_wish = None, frozenset(), None
-        self._news = News(self._keys)
-        self._watch = None
-
-    def at(self, epoch: int) -> 'EtcdLog':
-        self._end_watch()
-        seen = copy.copy(self)
-        seen._see(epoch)
-        return seen
-
     def epochs(self) -> range:
         self._client.begin()
-        keys = self._keys
-        last = below(keys.openings, keys_only=True, limit=1, sort_order='DESCEND', sort_target='KEY')
-        first, newest = map(pairs_of, self._look(below(keys.logs, keys_only=True, limit=1), last).ranges)
-        if not first or not newest:
-            raise DamagedLog(f'{self.address}: the log was removed')
-        return range(epoch_of(keys.logs, first[0].key), epoch_of(keys.openings, newest[0].key) + 1)
+        first, place = self._look(one(self._keys.first), one(self._keys.place)).ranges
+        return range(int(self._value(first) or FIRST), self._end_of(place).epoch + 1)
 
-    def opening(self) -> Opening:
+    def opening(self, epoch: Optional[int] = None) -> Opening:
+        number = self.epochs()[-1] if epoch is None else epoch
         self._client.begin()
-        found = pairs_of(self._look(one(self._keys.opening(self.epoch))).ranges[0])
+        found = pairs_of(self._look(one(self._keys.opening(number))).ranges[0])
         if not found:
-            raise self._no_epoch()
+            raise self._no_epoch(number)
+        return self._parsed(found[0].value)
+
+    def _parsed(self, told: bytes) -> Opening:
+        """The opening that was told."""
         try:
-            return Opening.parse(found[0].value.decode())
+            return Opening.parse(told.decode())
         except (ValueError, KeyError, TypeError) as fault:
-            raise DamagedLog(f'{self.address}: epoch {self.epoch} has no opening: {fault}') from fault
+            raise DamagedLog(f'{self.address}: an opening is none: {fault}') from fault
 
-    def wish(self) -> Optional[str]:
+    def finish(self, epoch: int, place: int, opening: Opening) -> bool:
+        """What is wished for is looked at first, and has to be the same then."""
         self._client.begin()
-        answer = self._look(one(self._keys.wish))
-        self._news.see_wish(answer.ranges[0], answer.revision)
-        self._told_wish = self._news.wish
-        return self._told_wish
+        keys = self._keys
+        found, wished = map(pairs_of, self._look(one(keys.opening(epoch)), one(keys.next)).ranges)
+        wish = self._parsed(wished[0].value) if wished else None
+        if not found or opening.bare != self._parsed(found[0].value).after(wish):
+            return False
+        is_same = number_is(keys.next, 'mod_revision', wished[0].modified if wished else 0)
+        begun = put(keys.place, place_text(Promise(opening.epoch, 0)))
+        done = [begun, put(keys.opening(opening.epoch), opening_text(opening)), removed(one(keys.next))]
+        return self._change([is_same, *self._are_idle(epoch, place)], done).is_done
 
-    def ask(self, wish: str) -> bool:
+    def ask(self, wish: Opening, epoch: int) -> bool:
         self._client.begin()
-        return self._change([self._is_current()], [put(self._keys.wish, wish)]).is_done
+        is_of_next = wish.epoch == epoch + 1
+        return is_of_next and self._change(self._is_current(epoch), [put(self._keys.next, wish.bare.text())]).is_done
 
-    def end(self, place: int, wish: Optional[str], opening: Opening) -> bool:
+    def cancel(self, epoch: int) -> None:
         self._client.begin()
-        keys, after = self._keys, self._keys.at(opening.epoch)
-        is_wished = number_is(keys.wish, 'version', 0) if wish is None else value_is(keys.wish, wish.encode())
-        conditions = [self._is_current(), is_wished, number_is(keys.row(place), 'version', 0), exists(keys.row(place - 1))]
-        done = [put(keys.row(place), opening.end), put(after.header, opening.header), put(keys.opening(opening.epoch), opening.text())]
-        return self._change(conditions, done).is_done
+        self._change(self._is_current(epoch), [removed(one(self._keys.next))])
 
     def prune(self, first: int) -> None:
-        """With its header an epoch is gone. Its rows follow, a part at a time, so that nobody waits for long."""
-        there = self.epochs()
-        for epoch in range(there[0], min(first, there[-1])):
-            keys = self._keys.at(epoch)
+        """The epochs are gone at once. Their rows follow, a part at a time, so that nobody waits for long."""
+        keys, there = self._keys, self.epochs()
+        first = min(first, there[-1])
+        if first > there[0]:
             self._client.begin()
-            self._change([], [removed(one(keys.header)), removed(below(keys.presences))])
-            self._remove_rows(keys)
-
-    def _remove_rows(self, keys: Keys) -> None:
-        """Removes the rows of an epoch whose header is gone."""
+            self._change([], [put(keys.first, f'{first:010}')])
         while True:
             self._client.begin()
-            found = pairs_of(self._look(below(keys.rows, keys_only=True, limit=PAGE)).ranges[0])
+            asked = one(keys.logs, range_end=coded(keys.rows(first)), keys_only=True, limit=PAGE)
+            found = pairs_of(self._look(asked).ranges[0])
             if not found:
                 return
             self._change([], [removed(one(found[0].key, range_end=coded(found[-1].key + b'\0')))])
 
-    def _is_current(self) -> Json:
-        """That no epoch has begun behind this one."""
-        return number_is(self._keys.opening(self.epoch + 1), 'version', 0)
-
-    def _no_epoch(self) -> NoEpoch:
-        return NoEpoch(told_epochs(self.address, self.epoch, self.epochs()))
-
-    # Rows and presences.
-
-    def read(self, place: int) -> Rows:
-        return self._read_with(place)[0]
-
-    def append(self, place: int, rows: Sequence[str], absent: Optional[int] = None) -> bool:
-        if len(rows) > APPEND_MAX:
-            raise ValueError(f'{len(rows)} rows in one append, and etcd takes {APPEND_MAX} at most')
-        self._client.begin()
+    def _is_current(self, epoch: int) -> List[Json]:
+        """That the epoch has begun, and none behind it."""
         keys = self._keys
-        conditions = [number_is(keys.row(place), 'version', 0), exists(keys.row(place - 1))]
-        if absent is not None:
-            conditions.append(number_is(keys.presence(absent), 'version', 0))
-        done = [put(keys.row(place + number), row) for number, row in enumerate(rows)]
-        answer = self._change(conditions, done, one(keys.header, keys_only=True))
-        if not answer.is_done and not answer.ranges[0].get('kvs'):
-            raise self._no_epoch()
-        return answer.is_done
+        return [exists(keys.opening(epoch)), number_is(keys.opening(epoch + 1), 'version', 0)]
 
-    def hold(self, node: int, life: str, ttl: float, renews: bool) -> bool:
+    def _no_epoch(self, epoch: int) -> NoEpoch:
+        return NoEpoch(told_epochs(self.address, epoch, self.epochs()))
+
+    # Presences.
+
+    def take(self, name: str, life: Life, promise: Promise, ttl: int) -> bool:
+        """First it is looked whether it may be, so that no lease is granted for nothing."""
         self._client.begin()
-        seconds = max(1, math.ceil(ttl))
-        held = self._held if renews and self._held is not None and self._held[::2] == (life, seconds) else None
+        keys, here = self._keys, place_text(promise)
+        answer = self._look(one(keys.life(name), keys_only=True), one(keys.place))
+        if answer.ranges[0].get('kvs') or self._value(answer.ranges[1]) != here.encode():
+            return False
+        held = self._granted(life, ttl, answer.term)
+        conditions = [number_is(keys.life(name), 'version', 0), value_is(keys.place, here.encode())]
+        under = str(held.lease)
+        done = [put(keys.life(name), life_text(life), lease=under), put(keys.promise(name), here, lease=under)]
+        is_done = self._change(conditions, done).is_done
+        if is_done:
+            self._held = held
+        return is_done
+
+    def renew(self, name: str, life: Life, ttl: int) -> bool:
+        self._client.begin()
+        held = self._held if self._held is not None and self._held[::2] == (life, seconds_of(ttl)) else None
         term = self._keep_alive(held) if held is not None else None
-        answer = self._look(one(self._keys.presence(node)))
+        answer = self._look(one(self._keys.life(name)))
         found = pairs_of(answer.ranges[0])
-        if [pair.value for pair in found] != ([life.encode()] if renews else []):
+        if [pair.value for pair in found] != [life_text(life).encode()]:
             return False
         if held is not None and held.lease == found[0].lease and self._counts(held, term, answer.term):
             return True
-        return self._hold_anew(node, found, Held(life, 0, seconds, answer.term))
+        return self._move(name, found[0], self._granted(life, ttl, answer.term))
 
-    def release(self, node: int, life: str) -> None:
+    def release(self, name: str, life: Life) -> None:
         self._client.begin()
-        key = self._keys.presence(node)
-        self._change([value_is(key, life.encode())], [{'request_delete_range': one(key)}])
+        keys = self._keys
+        is_held = value_is(keys.life(name), life_text(life).encode())
+        self._change([is_held], [removed(one(keys.life(name))), removed(one(keys.promise(name)))])
 
-    def present(self) -> FrozenSet[int]:
+    def promise(self, name: str, life: Life, promise: Promise) -> bool:
+        """Under whatever lease the presence has by then."""
         self._client.begin()
-        answer = self._look(below(self._keys.presences, keys_only=True))
-        self._news.see_presences(answer.ranges[0], answer.revision)
-        self._told = frozenset(self._news.present)
-        return self._told
+        keys, told = self._keys, place_text(promise).encode()
+        is_held = value_is(keys.life(name), life_text(life).encode())
+        is_later = {**value_is(keys.promise(name), told), 'result': 'LESS'}
+        kept = same(keys.promise(name), value=coded(told), ignore_lease=True)
+        answer = self._change([is_held, is_later], [kept], one(keys.life(name)), one(keys.promise(name)))
+        if answer.is_done:
+            return True
+        holder, promised = map(self._value, answer.ranges)
+        return holder == life_text(life).encode() and (promised or b'') >= told
 
-    def look(self, place: int) -> Seen:
-        keys, news = self._keys, self._news
-        rows, answer = self._read_with(place, below(keys.presences, keys_only=True), one(keys.wish))
-        news.see_presences(answer.ranges[1], answer.revision)
-        news.see_wish(answer.ranges[2], answer.revision)
-        self._told, self._told_wish = frozenset(news.present), news.wish
-        return Seen(rows, self._told, self._told_wish)
+    def _keep_alive(self, held: Held) -> Optional[int]:
+        """Renews a lease. The term of etcd before that; nothing, if there is no such lease."""
+        answer = self._client.ask(LEASE_KEEPALIVE, {'ID': str(held.lease)}, repeats=True)
+        return int(answer['header']['raft_term']) if int(answer.get('TTL', 0)) > 0 else None
 
-    def wait(self, place: int, seconds: float) -> Optional[Seen]:
-        """It tells what the watch has told."""
+    def _counts(self, held: Held, before: Optional[int], behind: int) -> bool:
+        """Whether a renewal counts, with etcd's terms before and behind it: no other leader than that of the grant has done it."""
+        return held.term == before == behind
+
+    def _granted(self, life: Life, ttl: int, term: int) -> Held:
+        """A new lease, for this life."""
+        seconds = seconds_of(ttl)
+        granted = self._client.ask(LEASE_GRANT, {'TTL': str(seconds)})
+        if int(granted['TTL']) < seconds:
+            raise LogError(f'{self.address}: etcd grants leases of {granted["TTL"]} s, and not of {seconds} s')
+        return Held(life, int(granted['ID']), seconds, term)
+
+    def _move(self, name: str, found: Pair, held: Held) -> bool:
+        """Puts a presence under a new lease, if nothing has been done to it since it was found. What was promised, also meanwhile, stays."""
+        key, under = self._keys.life(name), str(held.lease)
+        is_same = number_is(key, 'mod_revision', found.modified)
+        moved = [put(key, life_text(held.life), lease=under), same(self._keys.promise(name), lease=under, ignore_value=True)]
+        answer = self._change([is_same], moved, one(key))
+        if answer.is_done:
+            self._held = held
+        elif self._value(answer.ranges[0]) == found.value:
+            raise Unanswered(f'{self.address}: an earlier renewal was done just now')
+        return answer.is_done
+
+    # The log.
+
+    def append(self, epoch: int, place: int, rows: Sequence[str]) -> bool:
+        """All that are present are in one comparison, which isn't so if nobody is."""
+        text = rows_text(rows)
+        self._client.begin()
+        keys, behind_them = self._keys, Promise(epoch, place + len(rows))
+        done = [put(keys.row(epoch, place), text), put(keys.place, place_text(behind_them))]
+        return self._change(self._are_idle(epoch, place), done).is_done
+
+    def _are_idle(self, epoch: int, place: int) -> List[Json]:
+        """That the log ends there, and all promises, of which there is one at least, are of that place."""
+        keys, here = self._keys, place_text(Promise(epoch, place)).encode()
+        return [value_is(keys.place, here), {**value_is(keys.promises, here), **below(keys.promises)}]
+
+    def read(self, epoch: int, place: int) -> Rows:
+        keys = self._keys
+        answer, rows = self._read_with(epoch, place, one(keys.place), one(keys.first))
+        if not int(self._value(answer.ranges[1]) or FIRST) <= epoch <= self._end_of(answer.ranges[0]).epoch:
+            raise self._no_epoch(epoch)
+        return rows
+
+    def _read_with(self, epoch: int, place: int, *more: Json) -> 'tuple[Answer, Rows]':
+        """The rows behind that place, and an answer with what more was asked for at the same revision: the end of the log first."""
+        keys = self._keys
+        begin, end = keys.row(epoch, place), behind(keys.rows(epoch))
+        for _ in range(READS):
+            try:
+                self._client.begin()
+                answer = self._look(*more, keys.page(begin, end))
+                return answer, self._rows(epoch, place, answer)
+            except Compacted as compacted:
+                cause = compacted
+        raise Unanswered(f'{self.address}: each revision was compacted while it was read: {cause}') from cause
+
+    def _rows(self, epoch: int, place: int, answer: Answer) -> Rows:
+        """The rows of an epoch behind that place: the first appends were found, as the last range, and the others are read."""
+        keys, end = self._keys, self._end_of(answer.ranges[0])
+        last = end.place if end.epoch == epoch else None  # of an epoch that is over it isn't known
+        if last is not None and place >= last:
+            return Rows('')
+        pairs = list(self._pages(epoch, answer.ranges[-1], answer.revision))
+        is_begin = bool(pairs) and pairs[0].key == keys.row(epoch, place)
+        texts = [] if is_begin else [self._within(epoch, place, answer.revision)]
+        at = place + sum(text.count(b'\n') for text in texts)
+        for pair in pairs:
+            if pair.key != keys.row(epoch, at) or not pair.value.endswith(b'\n'):
+                raise self._damaged(epoch, at)
+            texts.append(pair.value)
+            at += pair.value.count(b'\n')
+        if last not in (None, at):
+            raise self._damaged(epoch, at)
+        try:
+            return Rows(b''.join(texts).decode())
+        except ValueError as error:
+            raise DamagedLog(f'{self.address}: a row of epoch {epoch} behind place {place} is no text') from error
+
+    def _pages(self, epoch: int, found: Json, revision: int) -> Iterator[Pair]:
+        """The appends of an epoch, part by part, as they stand at one revision; the first part was found. Raises Compacted."""
+        while True:
+            pairs = pairs_of(found)
+            yield from pairs
+            if int(found.get('count', 0)) <= len(pairs):
+                return
+            found = self._more(self._keys.page(pairs[-1].key + b'\0', behind(self._keys.rows(epoch))), revision)
+
+    def _within(self, epoch: int, place: int, revision: int) -> bytes:
+        """The rows behind a place at which no append begins, up to the end of its append."""
+        keys = self._keys
+        asked = one(keys.rows(epoch), range_end=coded(keys.row(epoch, place)), limit=1, sort_order='DESCEND', sort_target='KEY')
+        found = pairs_of(self._more(asked, revision))
+        begin = number_behind(keys.rows(epoch), found[0].key) if found else None
+        return b'' if begin is None else b'\n'.join(found[0].value.split(b'\n')[place - begin :])
+
+    def _more(self, asked: Json, revision: int) -> Json:
+        """What this range found at that revision. Raises Compacted."""
+        self._client.begin()
+        return self._client.ask(KV_RANGE, {**asked, 'revision': str(revision)}, repeats=True)
+
+    def _damaged(self, epoch: int, place: int) -> DamagedLog:
+        return DamagedLog(f'{self.address}: rows of epoch {epoch} are missing behind place {place}, or something else is between them')
+
+    # Looks and waits.
+
+    def look(self, epoch: int, place: int) -> Found:
+        """Of lives and promises only those are read that are newer than the last look. If others are gone of which nothing was told, all
+        are."""
+        for since in (self._news.known, 0):
+            answer, rows = self._read_with(epoch, place, *self._keys.standing(since))
+            end = self._end_of(answer.ranges[0])
+            if self._see_all(answer, since):
+                break
+        wish = self._told_wish = self._news.wish
+        self._told_idle = end, idle_of(self._news.promises, end)
+        parsed = None if wish is None else self._parsed(wish)
+        return Found(end.epoch, rows if end.epoch == epoch else Rows(''), self._news.presences(), parsed)
+
+    def _see_all(self, answer: Answer, since: int) -> bool:
+        """Whether it is known now how the log stands."""
+        try:
+            return self._news.see_all(answer, since)
+        except (ValueError, KeyError) as fault:
+            raise DamagedLog(f'{self.address}: a presence is none: {fault}') from fault
+
+    def wait(
+        self, epoch: int, place: int, lives: Mapping[str, Life], until: Until, seconds: float, woken: Optional[int] = None,
+    ) -> None:  # fmt: skip
+        """By a watch. While many are present it tells of promises only where they are waited for: else each of them would be told to all."""
         end = seconds_of_boot() + seconds
-        while not self._hear(place, max(0.0, end - seconds_of_boot())):
-            if seconds_of_boot() >= end:
-                return None
-        rows = self._news.rows_from(place)
-        if rows is None:
-            return None
-        self._told, self._told_wish = frozenset(self._news.present), self._news.wish
-        return Seen(rows, self._told, self._told_wish)
+        known, idle = self._told_idle
+        here = Promise(epoch, place)
+        is_news = self._news.awaited(here, lives, until, self._told_wish, idle if known == here else frozenset())
+        is_wide = until is not Until.NEWS or len(lives) <= FEW
+        self._woken = woken
+        while not self._hear(is_news, is_wide, max(0.0, end - seconds_of_boot())):
+            if seconds_of_boot() >= end or slept(0.0, woken):
+                return
+
+    def _hear(self, is_news: Callable[[], bool], is_wide: bool, seconds: float) -> bool:
+        """Whether there is what `wait` waits for, so long at most."""
+        watch = self._watch
+        if watch is None or watch.endpoint != self._client.endpoint or self._is_wide != is_wide:
+            return self._begin_watch(is_news, is_wide, seconds)
+        if not is_news():
+            self._see_events(watch, seconds)
+        return self._watch is not None and is_news()
+
+    def _see_events(self, watch: Watch, seconds: float) -> None:
+        try:
+            for event in watch.events(seconds, self._woken):
+                self._news.see(event)
+        except Silent:
+            self._break_watch()
+
+    def _begin_watch(self, is_news: Callable[[], bool], is_wide: bool, seconds: float) -> bool:
+        """Begins a watch behind what was found, if that isn't what `wait` waits for. Whether it is."""
+        pause = self._broken + AGAIN - seconds_of_boot()
+        if pause > 0:
+            slept(min(pause, seconds), self._woken)
+            return False
+        self._end_watch()
+        if not self._news.is_fresh:
+            self._client.begin()
+            self._see_all(self._look(*self._keys.standing(0)), 0)
+        if is_news():
+            return True
+        try:
+            self._watch = self._client.watch({**self._keys.watched(is_wide), 'start_revision': str(self._news.revision + 1)})
+            self._is_wide = is_wide
+        except Silent:
+            self._break_watch()
+        return False
+
+    def _break_watch(self) -> None:
+        """The watch ended by itself, and what it didn't tell isn't known."""
+        self._end_watch()
+        self._news.is_fresh = False
+        self._broken = seconds_of_boot()
+
+    def _end_watch(self) -> None:
+        if self._watch is not None:
+            self._watch.close()
+            self._watch = None
 
     def close(self) -> None:
         self._client.close()
-        for watch in self._watches:
-            watch.close()
-        self._watches.clear()
+        self._end_watch()
 
     # What is asked of etcd.
 
-    def _look(self, *asked: Json, condition: Optional[Json] = None, otherwise: Sequence[Json] = ()) -> Answer:
-        """What these ranges find, at one revision, in the log that was opened, or the others, unless the condition is so."""
-        first = one(self._keys.first, keys_only=True)
-        answer = self._client.transact([condition] if condition else [], ranges(first, *asked), [first, *otherwise])
+    def _look(self, *asked: Json) -> Answer:
+        """What these ranges find, at one revision, in the log that was opened."""
+        first = one(self._keys.begun, keys_only=True)
+        answer = self._client.transact([], ranges(first, *asked))
         self._see_first(answer.ranges[0])
         return answer._replace(ranges=answer.ranges[1:])
 
     def _change(self, conditions: Sequence[Json], done: Sequence[Json], *refused: Json) -> Answer:
         """What is done if the conditions are so, and else what is found, in the log that was opened."""
-        first = self._keys.first
+        first = self._keys.begun
         is_same = number_is(first, 'create_revision', self._created)
         answer = self._client.transact([is_same, *conditions], done, [one(first, keys_only=True), *refused])
         if answer.is_done:
@@ -314,196 +511,112 @@ class EtcdLog:
         if first[0].created != self._created:
             raise ForeignLog(f'{self.address}: another log is in its place')
 
-    def _read_with(self, place: int, *more: Json) -> Tuple[Rows, Answer]:
-        """The rows from that place on, and an answer whose ranges are that of the header, and what more was asked for at the same
-        revision."""
-        for _ in range(READS):
-            try:
-                answer = self._first_page(place, *more)
-                page, *beyond = answer.ranges[1 + len(more) :]
-                return Rows(''.join(self._pages(place, page, beyond, answer.revision))), answer
-            except Compacted as compacted:
-                cause = compacted
-        raise Unanswered(f'{self.address}: each revision was compacted while it was read: {cause}') from cause
-
-    def _first_page(self, place: int, *more: Json) -> Answer:
-        """The header, more that is asked for, the first part of the rows, and, unless there may be another part, what is behind it."""
-        keys = self._keys
-        self._client.begin()
-        asked = [one(keys.header, keys_only=True), *more, keys.page(place)]
-        answer = self._look(*asked, condition=exists(keys.row(place + PAGE - 1)), otherwise=[*asked, keys.beyond(place)])
-        if not answer.ranges[0].get('kvs'):
-            raise self._no_epoch()
-        return answer
-
-    def _pages(self, place: int, found: Json, beyond: Sequence[Json], revision: int) -> Iterator[str]:
-        """The rows from that place on, part by part, as they stand at one revision; the first part was found, and what is behind it, if
-        it is the last one. Raises Compacted."""
-        keys, first = self._keys, place
-        while True:
-            yield self._text(found, first)
-            if len(found.get('kvs', ())) < PAGE:
-                break
-            first += PAGE
-            found = self._more(keys.page(first), revision)
-        if (beyond[0] if beyond else self._more(keys.beyond(first), revision)).get('kvs'):
-            raise DamagedLog(f'{self.address}: rows are missing from place {first} on')
-
-    def _more(self, asked: Json, revision: int) -> Json:
-        """What this range found at that revision. Raises Compacted."""
-        self._client.begin()
-        return self._client.ask(KV_RANGE, {**asked, 'revision': str(revision)}, repeats=True)
-
-    def _text(self, found: Json, first: int) -> str:
-        """The rows of a part that begins there, each with its line end."""
-        pairs = found.get('kvs', ())
-        text = b''.join([b64decode(pair.get('value', '')) + b'\n' for pair in pairs])
-        is_whole = [pair['key'] for pair in pairs] == [coded(self._keys.row(first + number)) for number in range(len(pairs))]
-        if not is_whole or text.count(b'\n') != len(pairs):
-            raise DamagedLog(f'{self.address}: rows are missing from place {first} on, or something else is between them')
+    def _end_of(self, found: Json) -> Promise:
+        """The end of the log, as it was found."""
         try:
-            return text.decode()
-        except ValueError as error:
-            raise DamagedLog(f'{self.address}: a row from place {first} on is no text') from error
+            return place_of((self._value(found) or b'').decode())
+        except ValueError as fault:
+            raise DamagedLog(f'{self.address}: the log has no end') from fault
 
-    # Presence.
-
-    def _keep_alive(self, held: Held) -> Optional[int]:
-        """Renews a lease. The term of etcd before that; nothing, if there is no such lease."""
-        answer = self._client.ask(LEASE_KEEPALIVE, {'ID': str(held.lease)}, repeats=True)
-        return int(answer['header']['raft_term']) if int(answer.get('TTL', 0)) > 0 else None
-
-    def _counts(self, held: Held, before: Optional[int], behind: int) -> bool:
-        """Whether a renewal counts, with etcd's terms before and behind it: no other leader than that of the grant has done it."""
-        return held.term == before == behind
-
-    def _hold_anew(self, node: int, found: Sequence[Pair], held: Held) -> bool:
-        """Puts a presence under a new lease, if nothing has changed since it was found."""
-        granted = self._client.ask(LEASE_GRANT, {'TTL': str(held.seconds)})
-        if int(granted['TTL']) < held.seconds:
-            raise LogError(f'{self.address}: etcd grants leases of {granted["TTL"]} s, and not of {held.seconds} s')
-        held = held._replace(lease=int(granted['ID']))
-        key = self._keys.presence(node)
-        is_same = number_is(key, 'mod_revision', found[0].modified if found else 0)
-        answer = self._change([is_same], [put(key, held.life, lease=str(held.lease))], one(key))
-        if answer.is_done:
-            self._held = held
-        elif found and [pair.value for pair in pairs_of(answer.ranges[0])] == [found[0].value]:
-            raise Unanswered(f'{self.address}: an earlier renewal was done just now')
-        return answer.is_done
-
-    # The watch.
-
-    def _hear(self, place: int, seconds: float) -> bool:
-        """Whether there is what `wait` waits for, so long at most."""
-        watch, news = self._watch, self._news
-        if watch is None or watch.endpoint != self._client.endpoint or place < news.place:
-            return self._begin_watch(place, seconds)
-        if not self._is_news(place):
-            self._see_events(watch, seconds)
-        return self._watch is not None and self._is_news(place)
-
-    def _is_news(self, place: int) -> bool:
-        """Whether what was told is what `wait` waits for."""
-        news = self._news
-        return news.is_gone or news.count > place or news.present != self._told or news.wish != self._told_wish
-
-    def _see_events(self, watch: Watch, seconds: float) -> None:
-        try:
-            for event in watch.events(seconds):
-                self._news.see(event)
-        except Silent:
-            self._end_watch()
-            self._broken = seconds_of_boot()
-
-    def _begin_watch(self, place: int, seconds: float) -> bool:
-        """Begins a watch behind what is found now, if that isn't what `wait` waits for. Whether it is."""
-        pause = self._broken + AGAIN - seconds_of_boot()
-        if pause > 0:
-            time.sleep(min(pause, seconds))
-            return False
-        self._end_watch()
-        self._client.begin()
-        keys, news = self._keys, self._news
-        row, header = one(keys.row(place), count_only=True), one(keys.header, count_only=True)
-        answer = self._look(row, header, below(keys.presences, keys_only=True), one(keys.wish))
-        news.see_presences(answer.ranges[2], answer.revision)
-        news.see_wish(answer.ranges[3], answer.revision)
-        news.is_gone = not int(answer.ranges[1].get('count', 0))
-        news.begin(place, place + int(answer.ranges[0].get('count', 0)))
-        if self._is_news(place):
-            return True
-        try:
-            self._watch = self._client.watch(below(self._keys.root, start_revision=str(answer.revision + 1)))
-            self._watches.append(self._watch)
-        except Silent:
-            self._broken = seconds_of_boot()
-        return False
-
-    def _end_watch(self) -> None:
-        if self._watch is not None:
-            self._watch.close()
-            if self._watch in self._watches:  # else the log was closed
-                self._watches.remove(self._watch)
-            self._watch = None
+    @staticmethod
+    def _value(found: Json) -> Optional[bytes]:
+        """The value of a key that was asked for, if it is there."""
+        return next((pair.value for pair in pairs_of(found)), None)
 
 
 class News:
-    """What a watch has told: of rows from a place on, which is when it began, and of presences."""
+    """What is known of a log but for its rows: what was found at once, and what a watch told since."""
 
     def __init__(self, keys: Keys) -> None:
-        self.place = 0
-        self.count = 0  # behind the last row that was told
-        self._rows: Dict[int, str] = {}  # that were told, and may be asked for
-        self.wish: Optional[str] = None
-        self.is_gone = False  # whether the epoch, or the log, was taken away
-        self._wished = 0  # the revision of the wish
-        self.present: Set[int] = set()
+        self.revision = 0  # of what was found
+        self.is_fresh = False  # whether a watch told nothing since, and none broke
+        self.end: Optional[bytes] = None
+        self.wish: Optional[bytes] = None
+        self.lives: Dict[str, Life] = {}
+        self.promises: Dict[str, Promise] = {}
         self._keys = keys
-        self._revision = 0  # of the presences
+        self._is_odd = False  # whether something is for a look to find
 
-    def begin(self, place: int, count: int) -> None:
-        """Rows from that place on are told now, behind so many."""
-        self.place, self.count = place, count
-        self._rows.clear()
+    @property
+    def known(self) -> int:
+        """The revision up to which lives and promises are known."""
+        return 0 if self._is_odd else self.revision
 
-    def rows_from(self, place: int) -> Optional[List[str]]:
-        """The rows from that place on, if all of them were told, and the epoch is there. The others aren't asked for any more."""
-        self._rows = {number: row for number, row in self._rows.items() if number >= place}
-        is_known = not self.is_gone and len(self._rows) == max(0, self.count - place)
-        return [self._rows[number] for number in sorted(self._rows)] if is_known else None
+    def see_all(self, answer: Answer, since: int) -> bool:
+        """What the ranges of `standing` found, behind a revision up to which all is known. Whether that tells all: what is gone can't be
+        found. Else nothing changes. Raises ValueError, KeyError of what is no presence."""
+        keys, (place, wish, *found) = self._keys, answer.ranges[:4]
+        lives, promises = (dict(self.lives), dict(self.promises)) if since else ({}, {})
+        lives.update((keys.name(pair.key, keys.lives), life_of(pair.value.decode())) for pair in pairs_of(found[0]))
+        promises.update((keys.name(pair.key, keys.promises), place_of(pair.value.decode())) for pair in pairs_of(found[1]))
+        if [len(lives), len(promises)] != [int(each.get('count', 0)) for each in found]:
+            return False
+        for name in lives:
+            promises[name]
+        self.lives, self.promises, self._is_odd = lives, promises, False
+        self.end, self.wish = (next((pair.value for pair in pairs_of(each)), None) for each in (place, wish))
+        self.revision, self.is_fresh = answer.revision, True
+        return True
 
-    def see_presences(self, found: Json, revision: int) -> None:
-        """All presences, as they were found at this revision."""
-        if revision >= self._revision:
-            nodes = (number_behind(self._keys.presences, pair.key) for pair in pairs_of(found))
-            self.present = {node for node in nodes if node is not None}
-            self._revision = revision
-
-    def see_wish(self, found: Json, revision: int) -> None:
-        """The wish, as it was found at this revision."""
-        if revision >= self._wished:
-            self.wish = next((pair.value.decode() for pair in pairs_of(found)), None)
-            self._wished = revision
+    def presences(self) -> Dict[str, Holder]:
+        """Who is present."""
+        return {name: Holder(life, self.promises[name]) for name, life in self.lives.items()}
 
     def see(self, event: Json) -> None:
-        """An event of a key below the prefix."""
+        """An event. With a life its promise is gone, of which a watch may tell nothing."""
         pair, is_put = pair_of(event['kv']), event.get('type', 'PUT') == 'PUT'
-        row, node = number_behind(self._keys.rows, pair.key), number_behind(self._keys.presences, pair.key)
-        if row is not None and is_put:
-            self.count = max(self.count, row + 1)
-            self._see_row(row, pair.value)
-        self.is_gone |= row is not None and not is_put or pair.key == self._keys.first
-        if pair.key == self._keys.wish and pair.modified > self._wished:
-            self.wish, self._wished = pair.value.decode() if is_put else None, pair.modified
-        if node is not None and pair.modified > self._revision:
-            (self.present.add if is_put else self.present.discard)(node)
+        if pair.modified <= self.revision:
+            return
+        keys, key, self.is_fresh = self._keys, pair.key, False
+        try:
+            if key == keys.place:
+                self.end = pair.value if is_put else None
+            elif key == keys.next:
+                self.wish = pair.value if is_put else None
+            elif key.startswith(keys.lives):
+                name = keys.name(key, keys.lives)
+                set_or_remove(self.lives, name, life_of(pair.value.decode()) if is_put else None)
+                if not is_put:
+                    set_or_remove(self.promises, name, None)
+            elif key.startswith(keys.promises):
+                set_or_remove(self.promises, keys.name(key, keys.promises), place_of(pair.value.decode()) if is_put else None)
+            self._is_odd |= key == keys.begun
+        except ValueError:
+            self._is_odd = True
 
-    def _see_row(self, place: int, value: bytes) -> None:
-        """A row. What is none is left for a look to find."""
-        with suppress(ValueError):
-            if b'\n' not in value:
-                self._rows[place] = value.decode()
+    def awaited(
+        self, here: Promise, lives: Mapping[str, Life], until: Until, wish: Optional[bytes], before: AbstractSet[str],
+    ) -> Callable[[], bool]:  # fmt: skip
+        """What tells whether there is what is waited for, by who was idle before."""
+        end = place_text(here).encode()
+
+        def is_news() -> bool:
+            if self._is_odd or self.end != end or self.wish != wish or self.lives != lives:
+                return True
+            return are_idle(until, self.promises, here, before)
+
+        return is_news
+
+
+_Value = TypeVar('_Value')
+
+
+def set_or_remove(found: Dict[str, _Value], name: str, value: Optional[_Value]) -> None:
+    """The value of that name is this one from now on; or there is none."""
+    if value is not None:
+        found[name] = value
+    elif name in found:
+        del found[name]
+
+
+def seconds_of(ttl: int) -> int:
+    """The whole seconds of a lease for this ttl, in nanoseconds."""
+    return max(1, -(-ttl // SECOND))
+
+
+def same(key: bytes, **more: object) -> Json:
+    """A key is put that is there already: by `ignore_value` with its value, by `ignore_lease` under its lease."""
+    return {'request_put': {'key': coded(key), **more}}
 
 
 def removed(asked: Json) -> Json:
@@ -511,21 +624,14 @@ def removed(asked: Json) -> Json:
     return {'request_delete_range': asked}
 
 
-def epoch_of(prefix: bytes, key: bytes) -> int:
-    """The epoch of a key that begins so. Raises DamagedLog."""
-    number = number_behind(prefix, key[: len(prefix) + 10])
-    if number is None:
-        raise DamagedLog(f'the key {key!r} is none of a log')
-    return number
-
-
 def make(client: Client, address: str, keys: Keys, opening: Opening) -> None:
     """Makes a log. Raises LogExists, ForeignLog."""
-    there = [one(keys.first, keys_only=True), below(keys.root, limit=1, keys_only=True)]
-    answer = client.transact([exists(keys.first)], [], there)  # so that the rows of a long log aren't compared
+    there = [one(keys.begun, keys_only=True), below(keys.root, limit=1, keys_only=True)]
+    answer = client.transact([exists(keys.begun)], [], there)  # so that the keys of a long log aren't compared
     if not answer.is_done and not answer.ranges[1].get('kvs'):
         is_empty = {**below(keys.root), **number_is(keys.root, 'version', 0)}
-        answer = client.transact([is_empty], [put(keys.first, opening.text()), put(keys.header, opening.header)], there)
+        begun = [put(keys.opening(opening.epoch), opening_text(opening)), put(keys.first, f'{opening.epoch:010}')]
+        answer = client.transact([is_empty], [*begun, put(keys.place, place_text(Promise(opening.epoch, 0)))], there)
         if answer.is_done:
             return
     if answer.is_done or answer.ranges[0].get('kvs'):

@@ -414,10 +414,12 @@ class Watch:
         self._text = b''
         self._has_begun = False
 
-    def events(self, seconds: float) -> List[Json]:
-        """The next events, for which it waits so long at most. Raises Silent, Denied."""
+    def events(self, seconds: float, woken: Optional[int] = None) -> List[Json]:
+        """The next events, for which it waits so long at most, and until the descriptor has something to read. Raises Silent, Denied."""
         try:
-            self._connection.sock.settimeout(max(LEAST_LIMIT, seconds))
+            if not self._is_ready(seconds, woken):
+                return []
+            self._connection.sock.settimeout(LEAST_LIMIT)
             received = self._connection.sock.recv(RECEIVED)
         except socket.timeout:
             return []
@@ -427,6 +429,16 @@ class Watch:
             raise Silent(self.endpoint, 'the watch was ended', may_be_done=False)
         self._text += received
         return [event for line in self._lines() for event in self._events_of(line)]
+
+    def _is_ready(self, seconds: float, woken: Optional[int]) -> bool:
+        """Whether there is something to receive, so long at most."""
+        there = self._connection.sock
+        if isinstance(there, ssl.SSLSocket) and there.pending():
+            return True
+        poll = select.poll()
+        for descriptor in (there.fileno(), *([] if woken is None else [woken])):
+            poll.register(descriptor, select.POLLIN)
+        return there.fileno() in dict(poll.poll(1000 * seconds))
 
     def close(self) -> None:
         self._connection.close()

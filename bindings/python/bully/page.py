@@ -73,7 +73,7 @@ def page_of(name: str, group: GroupView) -> str:
         f'<body data-events="{group.events}" data-epoch="{group.epoch}"><h1>Group, as {html.escape(name)} sees it</h1>'
         f'<p class="small">coordinator <b>{html.escape(group.coordinator or "none")}</b>, token <b>{group.token or "none"}</b>, '
         f'{group.events} events in epoch {group.epoch}, '
-        f'{sum(node.is_present for node in group.nodes)} of {len(group.nodes)} nodes present</p>'
+        f'{sum(node.is_present for node in group.nodes)} of {len(group.nodes)} nodes present{html.escape(group.told_behind)}</p>'
         f'<h2>Nodes</h2>{nodes_of(group)}<h2>Partitions</h2>{partitions_of(group)}<h2>Last events</h2>{last_of(group)}</body>'
         f'<script>{SCRIPT}</script></html>'
     )
@@ -133,6 +133,8 @@ def metrics_of(group: GroupView, name: str, sure_seconds: float) -> str:
     tell('bully_node_normal', 'gauge', 'Whether the node is Normal.', [(labels, node.status is Status.NORMAL) for labels, node in nodes])
     tell('bully_node_leads', 'gauge', 'Whether the node is the coordinator.', [(labels, group.coordinator == node.name) for labels, node in nodes])
     tell('bully_node_partitions', 'gauge', 'Partitions that the node owns.', [(labels, len(node.partitions)) for labels, node in nodes])
+    late = [(f'{{node={label(each)}}}', group.behind.get(each, 0.0)) for each in {**dict.fromkeys(node.name for node in group.nodes), **group.behind}]
+    tell('bully_idle_behind_seconds', 'gauge', 'For how long the others wait until the node is idle.', late)
     tell('bully_partitions_free', 'gauge', 'Partitions that nobody may work on now.', [('', group.owners.count(None))])
     return '\n'.join(lines) + '\n'
 

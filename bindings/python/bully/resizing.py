@@ -1,17 +1,22 @@
 """How an epoch is ended from outside, so that the next one begins with other settings.
 
-What is wished for stands in the store. Members that see it stop their work, bring their nodes Down, and end the epoch. Whoever wishes
-does what is left to be done: also where no member is there.
+What is wished for stands in the store. Members that see it stop their work, and once all of them are idle one ends the epoch. Where no
+member is there, whoever wishes does that.
 """
 from __future__ import annotations
 
-from .epochs import Opening, cut_end
-from .logs import Log, NoEpoch, current, seconds_of_boot
+import secrets
+from typing import List
+
+from .epochs import Opening
+from .logs import SECOND, Found, Log, seconds_of_boot
+from .member import Life, Promise, Until
 from .replica import Replica
 from .settings import Settings
-from .values import Status
+from .values import EVENTS_MAX
 
 PART = 0.5  # seconds for which it waits at once
+TTL = 5 * SECOND  # of its own presence, where no member is there
 
 
 class NotEnded(Exception):
@@ -25,44 +30,48 @@ def resize(log: Log, settings: Settings, seconds: float) -> Opening:
     Raises NotEnded, what the log raises, and what a replica raises."""
     end = seconds_of_boot() + seconds
     while True:
-        log = current(log)
         opening = log.opening()
-        if opening.is_of(settings) and log.wish() is None:
-            return opening
-        if log.ask(opening.wish(settings).text()):
+        if opening.is_of(settings):
+            if log.look(opening.epoch, EVENTS_MAX).wish is None:
+                return opening
+            log.cancel(opening.epoch)
+        elif log.ask(opening.wish(settings), opening.epoch):
             end_epoch(log, opening, end)
-            after = log.at(opening.epoch + 1).opening()
+            after = log.opening(opening.epoch + 1)
             if after.is_of(settings):
                 return after
             raise NotEnded(f'epoch {after.epoch} has begun with other settings: {after.header} of {", ".join(after.names)}')
 
 
 def end_epoch(log: Log, opening: Opening, end: float) -> None:
-    """Returns once the epoch has ended. It crashes nodes whose processes are gone, and ends the epoch if all nodes are Down. Raises
-    NotEnded if that time comes first."""
+    """Returns once the epoch has ended. Raises NotEnded if that time comes first."""
+    process, tries = secrets.randbits(63), 0
     with Replica(opening.header) as replica:
+        while True:
+            found = log.look(opening.epoch, replica.rows)
+            if found.epoch != opening.epoch:
+                return
+            replica.learn(found.rows)
+            here = Promise(opening.epoch, replica.rows)
+            if found.wish is not None and not found.presences:
+                tries += 1
+                end_alone(log, Life(process, tries), here, opening.next(found.wish, replica.last_table or opening.table))
+            elif seconds_of_boot() >= end:
+                raise NotEnded(f'epoch {opening.epoch} has not ended yet, but waits for {", ".join(late(found, here) or found.presences)}')
+            else:
+                log.wait(here.epoch, here.place, found.lives, Until.NEWS, max(0.0, min(PART, end - seconds_of_boot())))
+
+
+def late(found: Found, here: Promise) -> List[str]:
+    """Who isn't idle up to this place."""
+    return [name for name, holder in found.presences.items() if holder.promise != here]
+
+
+def end_alone(log: Log, life: Life, here: Promise, opening: Opening) -> None:
+    """Ends the epoch, if nobody comes meanwhile."""
+    name = f'resize {life.process}'  # a stranger to the group
+    if log.take(name, life, here, TTL):
         try:
-            while not has_ended(log, replica, opening):
-                if seconds_of_boot() >= end:
-                    up = [name for node, name in enumerate(opening.names, 1) if replica.status(node) is not Status.DOWN]
-                    raise NotEnded(f'epoch {opening.epoch} has not ended yet: {", ".join(up)} still up')
-        except NoEpoch:
-            return  # it was taken away
-
-
-def has_ended(log: Log, replica: Replica, opening: Opening) -> bool:
-    """Reads on, and does what is to be done. Whether the epoch has ended."""
-    rows, is_past = cut_end(log.read(replica.rows + 1))
-    replica.learn(rows)
-    if is_past:
-        return True
-    place, present, wish = replica.rows + 1, log.present(), log.wish()
-    up = [node for node in range(1, replica.nodes + 1) if replica.status(node) is not Status.DOWN]
-    if not up:
-        return log.end(place, wish, opening.next(wish, replica.last_table or opening.table, present))
-    gone = next((node for node in up if node not in present), None)
-    if gone is None:
-        log.wait(place, PART)
-    else:
-        log.append(place, [replica.crash(gone)], absent=gone)
-    return False
+            log.finish(here.epoch, here.place, opening)
+        finally:
+            log.release(name, life)

@@ -1,28 +1,48 @@
-"""A member that runs: its core over a log, a clock and callbacks."""
+"""A member that runs: its rules, which the library has proved, over a log, a clock and callbacks."""
 from __future__ import annotations
 
 import dataclasses
 import logging
-import os
 import queue
 import secrets
 import socket
 import threading
-from functools import partial
+from contextlib import suppress
+from dataclasses import dataclass, field
 from types import TracebackType
 from typing import Callable, List, Optional, Tuple, Type, TypeVar, Union
 
-from .appending import (
-    Append, Assignment, Begin, Core, End, Ending, Finish, Follow, Look, Pace, Read, Release, Renew, Rest, Step, Stop, Take, Wait,
+from .epochs import FIRST, Opening, Token
+from .logs import SECOND, DamagedLog, Found, Log, Unanswered, nanoseconds_of_boot, seconds_of_boot, slept
+from .member import (
+    Append, Ask, BeIdle, Begin, Core, End, Ending, Finish, Follow, Look, Presence, Promise, Release, Renew, Request, Rest, Seen, Step, Stop,
+    StoreAnswer, Take, Until, Wait,
 )  # fmt: skip
-from .epochs import FIRST, Opening
-from .logs import Log, NoEpoch, Unanswered, current, seconds_of_boot
+from .member import Opening as Terms
 from .settings import Settings, shown_name
+from .values import EVENTS_MAX
+from .view import Behind
 
-SLICE = 0.2  # seconds after which a wait looks whether it has to end
+ENDINGS = {
+    Ending.LEFT: 'it was told to leave', Ending.NOT_THERE: 'its node is not in the group any more',
+    Ending.BROKEN: 'a row of the log is refused',
+}  # fmt: skip
+
+
+@dataclass(frozen=True)
+class Assignment:
+    """What the node owns: its partitions, counted from 0, by the table of this coordinator with this token; the settings of the epoch,
+    by which nodes are numbered; and until when that is sure, as far as is told."""
+
+    token: Token
+    coordinator: int
+    partitions: Tuple[int, ...]
+    settings: Settings
+    until: float = field(default=float('-inf'), compare=False)
+
 
 Callback = Callable[[Assignment], None]
-Call = Union[Begin, Stop]
+Call = Tuple[bool, Assignment]  # whether to stop
 _Told = TypeVar('_Told')
 _told = logging.getLogger('bully')
 
@@ -37,15 +57,10 @@ class NotInGroup(Exception):
 
 def is_known(log: Log, settings: Settings) -> bool:
     """Whether the group has these settings, had them in an earlier epoch, or is wished to have them."""
-    wish = log.wish()
-    if wish is not None and Opening.parse(wish).is_of(settings):
-        return True
-    return any(log.at(epoch).opening().is_of(settings) for epoch in range(log.epoch, FIRST - 1, -1))
-
-
-def name_of_process() -> str:
-    """A name that no other process ever has."""
-    return f'{socket.gethostname()}-{os.getpid()}-{secrets.token_hex(6)}'
+    epoch = log.epochs()[-1]
+    wish = log.look(epoch, EVENTS_MAX).wish
+    openings = [log.opening(each) for each in range(epoch, FIRST - 1, -1)]
+    return any(opening.is_of(settings) for opening in [*([wish] if wish else []), *openings])
 
 
 def number_of(opening: Opening, node: Union[int, str]) -> int:
@@ -55,6 +70,11 @@ def number_of(opening: Opening, node: Union[int, str]) -> int:
     if node not in opening.names:
         raise NotInGroup(f'the group has no node {node} in epoch {opening.epoch}, but {", ".join(opening.names)}')
     return opening.names.index(node) + 1
+
+
+def terms_of(opening: Opening, node: int) -> Terms:
+    """What the epoch begins with for this node."""
+    return Terms(opening.header, opening.epoch, node, opening.limit, opening.table or None)
 
 
 class Member:
@@ -78,26 +98,35 @@ class Member:
         earlier epoch, the log has to be of that group. `sure` is told, behind each renewal, until when what is owned is sure, by
         `logs.seconds_of_boot`.
 
-        Raises OtherGroup, NotInGroup, BadHeader, BadNode, OutOfMemory, and what the log raises."""
-        self.log = current(log)
-        opening = self.log.opening()
-        if settings is not None and not is_known(self.log, settings):
+        Raises OtherGroup, NotInGroup, BadHeader, BadNode, BadTtl, OutOfMemory, and what the log raises."""
+        self.log = log
+        opening = log.opening()
+        if settings is not None and not is_known(log, settings):
             raise OtherGroup(f'the log is of another group: {opening.header} of {", ".join(opening.names)}')
-        self.core = Core(opening, number_of(opening, node), name_of_process(), Pace(ttl))
-        self.core.read(seconds_of_boot(), self.log.read(1))
-        self.name = opening.names[self.core.node - 1]
+        self.ttl, self.margin = ttl, ttl / 5
+        number = number_of(opening, node)
+        self.core = Core(terms_of(opening, number), secrets.randbits(63), int(ttl * SECOND))
+        self.name = opening.names[number - 1]
         self.failure: Optional[BaseException] = None
-        self._start_work, self._stop_work = start, stop
-        self._sure = sure
+        self.behind = Behind()
+        self._enter(opening)
+        self._start_work, self._stop_work, self._sure = start, stop, sure
         self._is_leaving = False
         self._is_stuck = False  # whether work may go on for good
+        self._work: Optional[Assignment] = None
+        self._is_stopping = False
         self._to_call: 'queue.SimpleQueue[Optional[Call]]' = queue.SimpleQueue()
         self._stopped: List[Assignment] = []
         self._lost: List[Assignment] = []
-        self._wake = threading.Event()
+        self._wakes: Optional[socket.socket] = None  # while it runs
         self._ended = threading.Event()
         self._ended.set()
         self._shown: Tuple[Optional[Assignment], float] = (None, 0.0)
+
+    def _enter(self, opening: Opening) -> None:
+        self.opening = opening
+        self._numbers = {name: number for number, name in enumerate(opening.names, 1)}
+        self._found = Found(opening.epoch, (), {}, None)  # by the last look
 
     # What others may call, from any thread.
 
@@ -109,7 +138,7 @@ class Member:
     @property
     def node(self) -> int:
         """The number of its node in this epoch."""
-        return self.core.node
+        return self._numbers[self.name]
 
     @property
     def sure_until(self) -> float:
@@ -117,13 +146,14 @@ class Member:
         return self._shown[1]
 
     def leave(self) -> None:
-        """The member ends in order: its work stops, its crash is appended, and its presence is released. A signal may call it, too."""
+        """The member ends in order: its work stops, and its presence is released. A signal may call it, too."""
         self._is_leaving = True
+        self._wake()
 
     def fail(self, failure: BaseException) -> None:
         """The same, and `run` raises this."""
         self.failure = self.failure or failure
-        self._is_leaving = True
+        self.leave()
 
     def end_with(self, failure: BaseException) -> None:
         """The same, if it isn't leaving already."""
@@ -134,22 +164,32 @@ class Member:
         """The work that was begun for this assignment has ended, though nobody told it to: it is stopped, and begun again if the node
         still owns it."""
         self._lost.append(assignment)
-        self._wake.set()
+        self._wake()
+
+    def _wake(self) -> None:
+        if self._wakes is not None:
+            with suppress(OSError):  # much is unread, or it has ended
+                self._wakes.send(b'.', socket.MSG_DONTWAIT)
 
     # Its life.
 
     def run(self) -> None:
-        """Takes part until it has left. Raises what a callback raised; NotLearned, if a row of the log is refused; Full, once the log
-        is; and what the log raises, but Unanswered: then it tries again."""
+        """Takes part until it has left. Raises what a callback raised; NotLearned, if a row of the log is refused; and what the log
+        raises, but Unanswered: then it tries again."""
         self._ended.clear()
         caller = threading.Thread(target=self._call_all, name='bully work', daemon=True)
-        caller.start()
-        try:
-            self._go_on()
-        finally:
-            self._shown = (None, 0.0)
-            self._end_calls(caller)
-            self._ended.set()
+        self._woken, self._wakes = socket.socketpair()
+        with self._woken, self._wakes:
+            caller.start()
+            try:
+                self._go_on()
+            finally:
+                self._shown = (None, 0.0)
+                if self._work is not None and not self._is_stopping:  # whatever it ended by
+                    self._to_call.put((True, self._work))
+                self._to_call.put(None)
+                caller.join()
+                self._ended.set()
         if self.failure is not None:
             raise self.failure
 
@@ -162,96 +202,124 @@ class Member:
         """It leaves, if it runs in another thread, and its log is closed."""
         self.leave()
         self._ended.wait()
-        if not self.core.replica.is_closed:
-            self.core.replica.close()
+        if not self.core.is_closed:
+            self.core.close()
         self.log.close()
 
     def _go_on(self) -> None:
         """Takes step after step until the end, or until its work can't be stopped."""
         while not self._is_stuck:
-            if self._is_leaving:
-                self.core.leave()
-            while self._stopped:
-                self._stopped.pop()
-                self.core.stopped(seconds_of_boot())
-            while self._lost:
-                self.core.lost(self._lost.pop())
-            step = self.core.next(seconds_of_boot())
+            self._hear()
+            step = self.core.next(nanoseconds_of_boot())
             if isinstance(step, End):
-                level = logging.WARNING if step.cause is Ending.NOT_THERE else logging.INFO
-                _told.log(level, 'node %s: %s', shown_name(self.name), step.cause.value)
-                self.failure = self.failure or self.core.fault
+                level = logging.WARNING if step.ending is Ending.NOT_THERE else logging.INFO
+                _told.log(level, 'node %s: %s', shown_name(self.name), ENDINGS[step.ending])
+                if step.ending is Ending.BROKEN:
+                    self.failure = self.failure or self.core.fault or DamagedLog('the log has a row that is no event')
                 return
-            try:
-                self._do(step)
-            except NoEpoch:
-                self.core.passed()
+            self._do(step)
             self._show()
 
+    def _hear(self) -> None:
+        """Tells the core what came meanwhile."""
+        with suppress(BlockingIOError):
+            self._woken.recv(4096, socket.MSG_DONTWAIT)
+        if self._is_leaving:
+            self.core.leave()
+        while self._stopped:
+            self._stopped.pop()
+            self._work, self._is_stopping = None, False
+            self.core.stopped()
+        while self._lost:
+            lost = self._lost.pop()
+            if lost is self._work:
+                self.core.lost(lost.token.events)
+
     def _show(self) -> None:
-        core = self.core
-        self._shown = (None if core.is_stopping else core.work, core.sure_until)
+        self._shown = None if self._is_stopping else self._work, self.core.sure_until / SECOND
 
     # Its steps.
 
     def _do(self, step: Step) -> None:
-        if isinstance(step, (Begin, Stop)):
-            self._show()
-            self._to_call.put(step)
+        if isinstance(step, Ask):
+            self._ask(step.request)
+        elif isinstance(step, Begin):
+            owned, planner = self.core.owned(), self.core.planner
+            assert owned is not None and planner is not None
+            token = Token.of(self.opening.epoch, owned.token)
+            self._call(False, Assignment(token, planner, owned.partitions, self.opening.settings))
+        elif isinstance(step, Stop):
+            assert self._work is not None
+            self._call(True, self._work)
         elif isinstance(step, Rest):
-            self._rest(step.seconds)
+            slept(step.at_most / SECOND, self._woken.fileno())
         elif isinstance(step, Wait):
             self._wait(step)
-        else:
-            self._ask(step)
 
-    def _ask(self, step: Step) -> None:
+    def _call(self, is_stop: bool, work: Assignment) -> None:
+        """Has the work begin or stop. What has to stop isn't shown any more."""
+        self._work, self._is_stopping = work, is_stop
+        self._show()
+        self._to_call.put((is_stop, work))
+
+    def _wait(self, step: Wait) -> None:
+        """Waits for what is new in the log, or until it hears something."""
+        found, epoch, place = self._found, self.opening.epoch, self.core.place
+        self.behind.see(Promise(epoch, place), found.presences, step.until is Until.ANY_IDLE)
+        self._answer(lambda: self.log.wait(epoch, place, found.lives, step.until, step.at_most / SECOND, self._woken.fileno()))
+        self.core.woke()
+
+    def _ask(self, request: Request) -> None:
         """Asks the log, and tells the core what came of it."""
-        core, log = self.core, self.log
-        begun = seconds_of_boot()
-        if isinstance(step, (Take, Renew)):
-            self._hold(step, begun)
-        elif isinstance(step, Release):
-            is_answered = self._answer(partial(self._release, step.life))
-            core.released(seconds_of_boot(), is_answered is not None)
-        elif isinstance(step, Read):
-            seen = self._answer(partial(log.look, step.place))
-            core.read(seconds_of_boot(), None if seen is None else seen.rows)
-            if seen is not None:  # so it need not look behind that
-                core.looked(begun, seconds_of_boot(), seen.present, seen.wish)
-        elif isinstance(step, Look):
-            present, wish = self._answer(lambda: (log.present(), log.wish())) or (None, None)
-            core.looked(begun, seconds_of_boot(), present, wish)
-        elif isinstance(step, Append):
-            is_done = self._answer(partial(log.append, step.place, step.rows, step.absent))
-            core.appended(seconds_of_boot(), is_done)
+        core = self.core
+        if isinstance(request, Look):
+            found = self._answer(lambda: self.log.look(self.opening.epoch, core.place))
+            self._looked(found) if found is not None else core.answered(nanoseconds_of_boot(), StoreAnswer.UNANSWERED)
+        elif isinstance(request, Follow):
+            opening = self._answer(self.log.opening)
+            self._followed(opening) if opening is not None else core.answered(nanoseconds_of_boot(), StoreAnswer.UNANSWERED)
         else:
-            self._change_epoch(step)
+            is_done = self._answer(lambda: self._asked(request))
+            answer = StoreAnswer.UNANSWERED if is_done is None else StoreAnswer.DONE if is_done else StoreAnswer.REFUSED
+            core.answered(nanoseconds_of_boot(), answer)
+            if is_done and isinstance(request, Take):
+                _told.info('node %s: present as %d.%d', shown_name(self.name), request.life.process, request.life.number)
+            if is_done and isinstance(request, (Take, Renew)) and self._sure is not None:
+                self._sure(core.sure_until / SECOND)
 
-    def _change_epoch(self, step: Step) -> None:
-        """Ends the epoch, or goes on in the current one."""
-        if isinstance(step, Finish):
-            is_ended = self._answer(partial(self.log.end, step.place, step.wish, step.opening))
-            self.core.finished(seconds_of_boot(), is_ended)
-        elif isinstance(step, Follow):
-            log = self._answer(lambda: current(self.log))
-            opening = None if log is None else self._answer(log.opening)
-            self.core.followed(seconds_of_boot(), opening)
-            if log is not None and opening is self.core.opening:
-                self.log = log
-                _told.info('node %s: goes on in epoch %d as number %d', shown_name(self.name), opening.epoch, self.node)
-
-    def _release(self, life: str) -> bool:
-        self.log.release(self.node, life)
+    def _asked(self, request: Request) -> bool:
+        """Whether the log does that."""
+        log, epoch = self.log, self.opening.epoch
+        if isinstance(request, Take):
+            return log.take(self.name, request.life, Promise(epoch, request.place), int(self.ttl * SECOND))
+        if isinstance(request, Renew):
+            return log.renew(self.name, request.life, int(self.ttl * SECOND))
+        if isinstance(request, BeIdle):
+            return log.promise(self.name, request.life, Promise(epoch, request.place))
+        if isinstance(request, Append):
+            return log.append(epoch, request.place, self.core.settlement())
+        if isinstance(request, Finish):
+            return log.finish(epoch, request.place, self.opening.next(self._found.wish, self.core.last_table or self.opening.table))
+        assert isinstance(request, Release)
+        log.release(self.name, request.life)
         return True
 
-    def _hold(self, step: 'Take | Renew', begun: float) -> None:
-        is_held = self._answer(lambda: self.log.hold(self.node, step.life, self.core.pace.ttl, isinstance(step, Renew)))
-        self.core.held(begun, seconds_of_boot(), is_held)
-        if isinstance(step, Take) and is_held:
-            _told.info('node %s: present as %s', shown_name(self.name), step.life)
-        if is_held and self._sure is not None:
-            self._sure(self.core.sure_until)
+    def _looked(self, found: Found) -> None:
+        """What a look found."""
+        self._found = found
+        there = sorted((self._numbers[name], holder) for name, holder in found.presences.items() if name in self._numbers)
+        presences = tuple(Presence(number, holder.life, holder.promise) for number, holder in there)
+        self.core.learn(found.rows)
+        seen = Seen(found.epoch, presences, len(there) < len(found.presences), found.wish is not None)
+        self.core.looked(nanoseconds_of_boot(), seen)
+
+    def _followed(self, opening: Opening) -> None:
+        """With what the current epoch begins."""
+        is_in = self.name in opening.names
+        self.core.followed(nanoseconds_of_boot(), terms_of(opening, number_of(opening, self.name)) if is_in else None)
+        if is_in and opening.epoch != self.opening.epoch:
+            self._enter(opening)
+            _told.info('node %s: goes on in epoch %d as number %d', shown_name(self.name), opening.epoch, self.node)
 
     def _answer(self, call: Callable[[], _Told]) -> Optional[_Told]:
         """What the log answers; None, if it doesn't."""
@@ -261,56 +329,23 @@ class Member:
             _told.warning('node %s: %s', shown_name(self.name), unanswered)
             return None
 
-    def _wait(self, step: Wait) -> None:
-        """Waits for what is new in the log, part by part, so that it sees soon that it has to leave, or that its work has ended."""
-        end, seen = seconds_of_boot() + step.seconds, None
-        while not (self._is_leaving or self._lost):
-            part_end = min(end, seconds_of_boot() + SLICE)
-            seen = self._answer(lambda: self.log.wait(step.place, max(0.0, part_end - seconds_of_boot())))
-            if seen is not None or seconds_of_boot() < part_end or part_end == end:
-                break
-        self.core.woke()
-        if seen is not None:  # so it need not look behind that
-            self.core.read(seconds_of_boot(), seen.rows)
-            self.core.looked(seconds_of_boot(), seconds_of_boot(), seen.present, seen.wish)
-
-    def _rest(self, seconds: float) -> None:
-        """Waits for the end of the work, part by part in the same way."""
-        end = seconds_of_boot() + seconds
-        is_leaving = self._is_leaving
-        while not self._wake.is_set() and self._is_leaving == is_leaving and seconds_of_boot() < end:
-            self._wake.wait(max(0.0, min(SLICE, end - seconds_of_boot())))
-        self._wake.clear()
-
     # The callbacks, in a thread of their own.
 
     def _call_all(self) -> None:
         """Calls what it is told to, one after the other."""
         while True:
-            step = self._to_call.get()
-            if step is None:
+            told = self._to_call.get()
+            if told is None:
                 return
-            is_stop = isinstance(step, Stop)
+            is_stop, work = told
+            words = 'stops' if is_stop else 'begins'
+            _told.info('node %s: %s partitions %s by token %d', shown_name(self.name), words, list(work.partitions), work.token)
             try:
-                self._call(step)
+                (self._stop_work if is_stop else self._start_work)(work)
             except BaseException as failure:
                 self.fail(failure)
                 self._is_stuck |= is_stop
             else:
                 if is_stop:
-                    self._stopped.append(step.assignment)
-            self._wake.set()
-
-    def _call(self, step: Call) -> None:
-        is_stop = isinstance(step, Stop)
-        words = 'stops' if is_stop else 'begins'
-        owned = step.assignment
-        _told.info('node %s: %s partitions %s by token %d', shown_name(self.name), words, list(owned.partitions), owned.token)
-        (self._stop_work if is_stop else self._start_work)(owned)
-
-    def _end_calls(self, caller: threading.Thread) -> None:
-        """Whatever it ended by: the work stops, if that isn't under way already."""
-        if self.core.work is not None and not self.core.is_stopping:
-            self._to_call.put(Stop(self.core.work))
-        self._to_call.put(None)
-        caller.join()
+                    self._stopped.append(work)
+            self._wake()

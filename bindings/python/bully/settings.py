@@ -3,7 +3,7 @@ from __future__ import annotations
 
 import json
 from dataclasses import dataclass
-from typing import Any, Dict, List, Optional, Tuple
+from typing import Any, Dict, Iterator, List, Optional, Tuple
 
 from .group import Setup
 
@@ -67,10 +67,10 @@ MEMBERS = {'names': str, 'weights': int, 'fault': dict}  # the kinds of what is 
 def read_settings(text: bytes) -> Settings:
     """The settings that this document has. Raises ConfigFault, with the first fault as docs/FORMATS.md has them."""
     told = parsed(text)
-    for look in (look_for_missing, look_for_kinds, look_for_ranges, look_for_doubles, look_for_unknown):
-        look(told)
-    weights = tuple(told.get('weights', ()))
-    setup = Setup(told['nodes'], told['partitions'], weights=weights, keeps=told.get('keep', False))
+    fault = next(faults_in(told), None)
+    if fault is not None:
+        raise ConfigFault(fault)
+    setup = Setup(told['nodes'], told['partitions'], weights=tuple(told.get('weights', ())), keeps=told.get('keep', False))
     return Settings(setup, tuple(told['names']))
 
 
@@ -98,72 +98,34 @@ def integers(value: object) -> List[int]:
     return [value] if isinstance(value, int) else []
 
 
-def is_kind(value: object, kind: type) -> bool:
-    return type(value) is kind
+def is_kind(value: object, key: Key) -> bool:
+    """Whether the value is of the key's kind, and each member of an array of its own."""
+    kind = MEMBERS.get(key.name)
+    are_kind = kind is None or not isinstance(value, list) or all(type(each) is kind for each in value)
+    return are_kind and type(value) is key.kind
 
 
-def faults_of(told: Dict[str, Any]) -> List[Dict[str, Any]]:
-    """The tables of the faults. What isn't one is a fault of its kind."""
+def faults_in(told: Dict[str, Any]) -> Iterator[str]:
+    """The faults, in the order of docs/FORMATS.md. None is looked for before the ones before it were handed out."""
     faults = told.get('fault', [])
-    return faults if isinstance(faults, list) and all(is_kind(fault, dict) for fault in faults) else []
-
-
-def look_for_missing(told: Dict[str, Any]) -> None:
-    tables = [(told, TOP)] + [(fault, FAULT) for fault in faults_of(told)]
-    for table, keys in tables:
-        for key in keys:
-            if key.is_required and key.name not in table:
-                raise ConfigFault(f'Missing {key.name}')
-
-
-def look_for_kinds(told: Dict[str, Any]) -> None:
-    for key in TOP:
-        value = told.get(key.name)
-        if key.name in told and not (is_kind(value, key.kind) and has_kinds(value, key.name)):
-            raise ConfigFault(f'Kind {key.name}')
-    for fault in faults_of(told):
-        for key in FAULT:
-            if not is_kind(fault[key.name], key.kind):
-                raise ConfigFault(f'Kind {key.name}')
-
-
-def has_kinds(value: Any, name: str) -> bool:
-    """Whether each member of an array is of its kind."""
-    return name not in MEMBERS or all(is_kind(each, MEMBERS[name]) for each in value)
-
-
-def look_for_ranges(told: Dict[str, Any]) -> None:
-    for key in TOP:
-        if key.name in told and not is_in_range(told, key):
-            raise ConfigFault(f'Range {key.name}')
-    for fault in faults_of(told):
-        ranges = {
-            'at': 1 <= fault['at'] <= told['turns'], 'node': fault['node'] in told['names'], 'kind': fault['kind'] in ('crash', 'recover'),
-        }  # fmt: skip
-        for name, is_in in ranges.items():
-            if not is_in:
-                raise ConfigFault(f'Range {name}')
+    tables = [(told, TOP), *((fault, FAULT) for fault in faults)] if is_kind(faults, TOP[-1]) else [(told, TOP)]
+    yield from (f'Missing {key.name}' for table, keys in tables for key in keys if key.is_required and key.name not in table)
+    yield from (f'Kind {key.name}' for table, keys in tables for key in keys if key.name in table and not is_kind(table[key.name], key))
+    yield from (f'Range {key.name}' for key in TOP if key.name in told and not is_in_range(told, key))
+    for fault in faults:
+        ranges = (1 <= fault['at'] <= told['turns'], fault['node'] in told['names'], fault['kind'] in ('crash', 'recover'))
+        yield from (f'Range {key.name}' for key, is_in in zip(FAULT, ranges) if not is_in)
+    if len(set(told['names'])) < len(told['names']):
+        yield 'DoubleName'
+    if any(not set(table) <= {key.name for key in keys} for table, keys in tables):
+        yield 'UnknownKey'
 
 
 def is_in_range(told: Dict[str, Any], key: Key) -> bool:
     """Whether the value of the key at the top is in its range."""
     value = told[key.name]
-    if key.name == 'names':
-        return len(value) == told['nodes'] and all(value)
-    if key.name == 'weights':
-        return len(value) == told['nodes'] and all(1 <= weight <= 1000 for weight in value)
+    if key.name in ('names', 'weights'):
+        return len(value) == told['nodes'] and all(each if key.name == 'names' else 1 <= each <= 1000 for each in value)
     if key.name == 'fault':
         return len(value) <= key.most
     return key.kind is bool or key.least <= value <= key.most
-
-
-def look_for_doubles(told: Dict[str, Any]) -> None:
-    if len(set(told['names'])) < len(told['names']):
-        raise ConfigFault('DoubleName')
-
-
-def look_for_unknown(told: Dict[str, Any]) -> None:
-    tables = [(told, TOP)] + [(fault, FAULT) for fault in faults_of(told)]
-    for table, keys in tables:
-        if not set(table) <= {key.name for key in keys}:
-            raise ConfigFault('UnknownKey')

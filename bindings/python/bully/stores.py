@@ -1,16 +1,18 @@
-"""Which store a command is told to use: a file of SQLite, or etcd."""
+"""Which store a command is told to use: a file of SQLite, or etcd. What only one of them takes is loaded with it."""
 from __future__ import annotations
 
 import argparse
+import contextlib
 import os
-import ssl
 from dataclasses import dataclass, field
-from typing import Optional, Union
+from typing import TYPE_CHECKING, Optional, Sequence
 
 from .epochs import Opening
-from .etcd import EtcdLog
-from .gateway import read_address
-from .logs import LogError, SqliteLog
+from .logs import Log, LogError
+from .sqlite import SqliteLog
+
+if TYPE_CHECKING:
+    import ssl
 
 PASSWORD = 'BULLY_ETCD_PASSWORD'  # of the environment
 KINDS = 'sqlite:FILE or etcd://HOST:PORT,HOST:PORT/PREFIX'
@@ -22,8 +24,6 @@ OF_ETCD = (
     ('--user', 'NAME', f'the user of etcd, whose password is in {PASSWORD} of the environment, or in a file'),
     ('--password-file', 'FILE', 'the file, whose first line it is'),
 )  # fmt: skip
-
-Store = Union[SqliteLog, EtcdLog]
 
 
 class BadStore(Exception):
@@ -43,13 +43,20 @@ class FileStore:
 
     path: str
 
-    def create(self, opening: Opening) -> Store:
+    def create(self, opening: Opening) -> Log:
         """A new log."""
         return SqliteLog.create(self.path, opening)
 
-    def open(self, patience: float = 1.0, reads: bool = False) -> Store:
+    def open(self, patience: float = 1.0, reads: bool = False) -> Log:
         """The log that is there."""
         return SqliteLog(self.path, patience, reads)
+
+    def history(self, epoch: Optional[int] = None) -> Sequence[str]:
+        """The trace of an epoch, or of the current one: also in a log of the form before."""
+        from .older import file_trace
+
+        older = file_trace(self.path, epoch)
+        return trace(self.open(reads=True), epoch) if older is None else older
 
 
 @dataclass(frozen=True)
@@ -61,13 +68,31 @@ class EtcdStore:
     user: str
     password: str = field(repr=False)
 
-    def create(self, opening: Opening) -> Store:
+    def create(self, opening: Opening) -> Log:
         """A new log."""
+        from .etcd import EtcdLog
+
         return EtcdLog.create(self.address, opening, 1.0, self.tls, self.user, self.password)
 
-    def open(self, patience: float = 1.0, reads: bool = False) -> Store:
+    def open(self, patience: float = 1.0, reads: bool = False) -> Log:
         """The log that is there."""
+        from .etcd import EtcdLog
+
         return EtcdLog(self.address, patience, self.tls, self.user, self.password)
+
+    def history(self, epoch: Optional[int] = None) -> Sequence[str]:
+        """The trace of an epoch, or of the current one: also in a log of the form before."""
+        from .older import etcd_trace
+
+        older = etcd_trace(self.address, epoch, self.tls, self.user, self.password)
+        return trace(self.open(), epoch) if older is None else older
+
+
+def trace(log: Log, epoch: Optional[int]) -> Sequence[str]:
+    """The trace of an epoch, or of the current one, from its header on. Closes the log."""
+    with contextlib.closing(log):
+        number = log.epochs()[-1] if epoch is None else epoch
+        return [log.opening(number).header, *log.read(number, 0)]
 
 
 def store_of(options: argparse.Namespace) -> 'FileStore | EtcdStore':
@@ -85,6 +110,8 @@ def store_of(options: argparse.Namespace) -> 'FileStore | EtcdStore':
 
 def etcd_of(options: argparse.Namespace) -> EtcdStore:
     """The same, of words that name a store in etcd."""
+    from .gateway import read_address
+
     try:
         is_secure = read_address(options.log).is_secure
     except ValueError as fault:
@@ -101,6 +128,8 @@ def etcd_of(options: argparse.Namespace) -> EtcdStore:
 
 def tls_of(options: argparse.Namespace) -> ssl.SSLContext:
     """Whose certificates are taken, and which one is shown."""
+    import ssl
+
     try:
         tls = ssl.create_default_context(cafile=options.cacert)
         if options.cert:

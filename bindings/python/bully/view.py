@@ -4,14 +4,32 @@ from __future__ import annotations
 import collections
 import threading
 from dataclasses import dataclass
-from typing import Any, Deque, Dict, FrozenSet, List, Optional, Tuple
+from typing import Any, Deque, Dict, List, Mapping, Optional, Tuple
 
-from .epochs import Token, cut_end
-from .logs import Log, NoEpoch, current
+from .epochs import SETTLEMENT, Token
+from .logs import Found, Holder, Log, seconds_of_boot
+from .member import Life, Promise
 from .replica import Replica
+from .settings import shown_name
 from .values import Status
 
 LAST_ROWS = 20
+
+
+class Behind:
+    """Who isn't idle up to the end of a log, though its group isn't at rest, and since when, as far as was looked. Threads may share it."""
+
+    def __init__(self) -> None:
+        self._end = Promise()
+        self._since: Dict[Tuple[str, Life], float] = {}
+
+    def see(self, end: Promise, presences: Mapping[str, Holder], rests: bool) -> Dict[str, float]:
+        """What a look found, and whether the group is at rest. For how many seconds each of these has kept the others waiting."""
+        before, now = self._since if end == self._end else {}, seconds_of_boot()
+        late = [(name, holder.life) for name, holder in presences.items() if holder.promise != end and not rests]
+        since = {each: before.get(each, now) for each in late}
+        self._end, self._since = end, since
+        return {name: now - moment for (name, _), moment in since.items()}
 
 
 @dataclass(frozen=True)
@@ -44,13 +62,21 @@ class GroupView:
     coordinator: Optional[str]  # of the nodes that are Normal
     owners: Tuple[Optional[str], ...]  # of the partitions; none, while nobody may work on one
     nodes: Tuple[NodeView, ...]
+    behind: Dict[str, float]  # who isn't idle up to the end of the log, though the group isn't at rest, and for how many seconds
     last: Tuple[Tuple[int, str], ...]  # the last rows, with their numbers in the trace
+
+    @property
+    def told_behind(self) -> str:
+        """Who is behind, for people."""
+        told = ', '.join(f'{shown_name(name)} for {seconds:.1f} s' for name, seconds in self.behind.items())
+        return f'; not idle yet: {told}' if told else ''
 
     def told(self) -> Dict[str, Any]:
         """The same for JSON."""
         return {
             'epoch': self.epoch, 'rows': self.rows, 'events': self.events, 'token': self.token, 'coordinator': self.coordinator,
             'owners': list(self.owners), 'nodes': [node.told() for node in self.nodes],
+            'behind': {name: round(seconds, 3) for name, seconds in self.behind.items()},
             'last': [{'row': number, 'text': row} for number, row in self.last],
         }  # fmt: skip
 
@@ -58,11 +84,13 @@ class GroupView:
 class LogView:
     """Reads a log, and shows what it comes to, in the current epoch. Threads may share it."""
 
-    def __init__(self, log: Log) -> None:
-        """Raises NotLearned, BadHeader, and what the log raises."""
-        self._root = log
+    def __init__(self, log: Log, behind: Optional[Behind] = None) -> None:
+        """A member in this process may tell who is behind, since it looks whenever something changes.
+
+        Raises NotLearned, BadHeader, and what the log raises."""
+        self._log = log
+        self._behind = behind or Behind()
         self._last: Deque[Tuple[int, str]] = collections.deque(maxlen=LAST_ROWS)
-        self._present: FrozenSet[int] = frozenset()
         self._lock = threading.Lock()
         self._enter()
         self._read()
@@ -76,50 +104,53 @@ class LogView:
     def show(self) -> GroupView:
         """Reads on, and shows the group."""
         with self._lock:
-            self._read()
-            return self._shown(self._present)
+            return self._shown(self._read())
 
     def close(self) -> None:
         with self._lock:
             self._replica.close()
-            self._root.close()
+            self._log.close()
 
     def _enter(self) -> None:
         """It shows the current epoch from now on."""
-        self._log = current(self._root)
         self._opening = self._log.opening()
         self._replica = Replica(self._opening.header)
         self._last.clear()
 
-    def _read(self) -> None:
-        """Reads up to the end of the last epoch."""
-        while self._has_ended():
+    def _read(self) -> Found:
+        """Reads up to the end of the current epoch."""
+        while True:
+            found = self._log.look(self._opening.epoch, self._replica.rows)
+            if found.epoch == self._opening.epoch:
+                break
             self._replica.close()
             self._enter()
-
-    def _has_ended(self) -> bool:
-        """Reads on in this epoch. Whether it has ended."""
-        try:
-            seen = self._log.look(self._replica.rows + 1)
-        except NoEpoch:  # it was taken away
-            return True
-        rows, has_ended = cut_end(seen.rows)
-        self._present = seen.present
-        self._replica.learn(rows)
-        last = rows[-LAST_ROWS:]
+        self._replica.learn(found.rows)
+        last = found.rows[-LAST_ROWS:]
         self._last.extend(enumerate(last, self._replica.rows + 2 - len(last)))
-        return has_ended
+        return found
 
-    def _shown(self, present: FrozenSet[int]) -> GroupView:
+    def _shown(self, found: Found) -> GroupView:
         replica, opening = self._replica, self._opening
-        nodes = tuple(self._node(node, node in present) for node in range(1, replica.nodes + 1))
+        nodes = tuple(self._node(node, self._name(node) in found.presences) for node in range(1, replica.nodes + 1))
         owners: List[Optional[str]] = [None] * replica.partitions
         for node in nodes:
             for partition in node.partitions:
                 owners[partition] = node.name
         coordinator = next((node.coordinator for node in nodes if node.status is Status.NORMAL), None)
         token = None if replica.token is None else Token.of(opening.epoch, replica.token)
-        return GroupView(opening.epoch, replica.rows, replica.events, token, coordinator, tuple(owners), nodes, tuple(self._last))
+        behind = self._behind.see(Promise(opening.epoch, replica.rows), found.presences, self._is_at_rest(found, nodes))
+        return GroupView(
+            opening.epoch, replica.rows, replica.events, token, coordinator, tuple(owners), nodes, behind, tuple(self._last)
+        )
+
+    def _is_at_rest(self, found: Found, nodes: Tuple[NodeView, ...]) -> bool:
+        """Whether nothing is to be done in the group but to work."""
+        promises = [holder.promise for holder in found.presences.values()]
+        idle = max((promise.place for promise in promises if promise.epoch == found.epoch), default=0)
+        has_room = self._replica.rows + SETTLEMENT * len(nodes) <= self._opening.limit
+        rests = self._replica.is_at_rest([node.node for node in nodes if node.is_present], idle)
+        return rests and has_room and found.wish is None
 
     def _node(self, node: int, is_present: bool) -> NodeView:
         state = self._replica.state(node)

@@ -1,23 +1,25 @@
-"""The worker of `bully-member`: a process that is started and ended as its node owns partitions, below a guard."""
+"""The worker of `bully-member`: a process that works while its node owns partitions, below the guard of its member."""
 from __future__ import annotations
 
+import json
 import os
+import queue
 import socket
 import subprocess
 import sys
 import threading
 from contextlib import suppress
 from pathlib import Path
-from typing import Callable, Dict, Optional, Sequence
+from typing import Optional, Sequence
 
-from .appending import Assignment
+from .running import Assignment, Member
 
 GUARD = str(Path(__file__).with_name('guard.py'))
 NANOSECONDS = 1_000_000_000
 
 
 class GuardLost(Exception):
-    """The guard of a worker died, and the worker may go on in part. Nothing is given back before the presence has ended."""
+    """The guard died, and a worker may go on in part. Nothing is given back before the presence has ended."""
 
 
 class WorkerEnded(Exception):
@@ -28,110 +30,94 @@ class WorkerEnded(Exception):
         self.status = status
 
 
-class Guarded:
-    """One worker, with its guard."""
+class Workers:
+    """The callbacks of a member whose worker is a process: they have it begin and stop, by a guard that is there as long as the member."""
 
-    def __init__(self, words: Sequence[str], environment: Dict[str, str], patience: float, until: float) -> None:
-        """Starts it. It is killed at the moment `until`, in seconds of CLOCK_BOOTTIME, if `hear_until` tells no later one."""
+    def __init__(self, words: Sequence[str], node: str, patience: float, talks: bool = False) -> None:
+        """The words of its command, the name of its node, how long it may take to stop, and whether it stays over changes and is told of
+        them by lines."""
+        self._words, self._node, self._patience, self._talks = words, node, patience, talks
+        self._assignment: Optional[Assignment] = None
+        self._stopped: 'queue.SimpleQueue[bool]' = queue.SimpleQueue()  # or that the guard is lost
+        self._until = 0.0
+        self._is_closed = False
+
+    def begin(self, member: Member, file: str = '') -> None:
+        """The guard begins, before the member does. If its log is a file, the guard kills this process, too, if that stays stopped for half a ttl
+        in the middle of a write."""
+        self._member = member
         self._channel, given = socket.socketpair(socket.AF_UNIX, socket.SOCK_SEQPACKET)
-        command = [sys.executable, '-I', '-S', GUARD, str(given.fileno()), moment(until), str(patience), *words]
+        more = ['talks' if self._talks else 'ends', f'{file}-shm' if file else '', str(member.ttl / 2)]
+        command = [sys.executable, '-I', '-S', GUARD, str(given.fileno()), str(self._patience), *more, *self._words]
+        environment = {**os.environ, 'BULLY_NODE': self._node}
         with given:
             self._guard = subprocess.Popen(
                 command, env=environment, stdin=subprocess.DEVNULL, pass_fds=[given.fileno()], start_new_session=True
             )
-        self.is_stopping = False
+        self._listener = threading.Thread(target=self._hear_all, name='bully guard', daemon=True)
+        self._listener.start()
+
+    def start(self, assignment: Assignment) -> None:
+        """The worker begins, or goes on, for this assignment."""
+        self._assignment = assignment
+        settings = assignment.settings.text(self._member.ttl, self._member.margin)
+        coordinator = assignment.settings.name(assignment.coordinator)
+        if self._talks:
+            told = {'begin': assignment.token, 'partitions': assignment.partitions, 'coordinator': coordinator}
+            words = json.dumps({**told, 'settings': json.loads(settings)})
+        else:
+            partitions = ' '.join(map(str, assignment.partitions))
+            named = {'TOKEN': str(assignment.token), 'SETTINGS': settings, 'COORDINATOR': coordinator, 'PARTITIONS': partitions}
+            words = '\0'.join(f'BULLY_{name}={value}' for name, value in named.items())
+        self._tell(f'until {moment(self._until)}')
+        self._tell(f'begin {words}')
+
+    def stop(self, assignment: Assignment) -> None:
+        """Returns once nothing is worked on any more. Raises GuardLost."""
+        if self._assignment is not None:
+            self._tell('stop')
+            if not self._stopped.get():
+                raise GuardLost('the guard of the worker died')
+        self._assignment = None
 
     def hear_until(self, until: float) -> None:
-        """The worker may go on until then."""
-        self._tell(f'until {moment(until)}')
+        """The worker may go on until then, in seconds of CLOCK_BOOTTIME."""
+        self._until = until
+        with suppress(OSError):  # the guard is stopped, and has much to read: then an earlier moment counts
+            self._channel.send(f'until {moment(until)}'.encode(), socket.MSG_DONTWAIT)
 
-    def stop(self) -> None:
-        """The worker has to end."""
-        self.is_stopping = True
-        self._tell('stop')
-
-    def wait(self) -> Optional[int]:
-        """Waits until nothing is left of the worker. Its status, if it ended by itself. Raises GuardLost."""
-        with self._channel:
-            said = self._hear().split()
+    def close(self) -> None:
+        """Returns once nothing is left of the worker and the guard."""
+        self._is_closed = True
+        with suppress(OSError):
+            self._channel.shutdown(socket.SHUT_RDWR)
         self._guard.wait()
-        if not said:
-            raise GuardLost('the guard of the worker died')
-        return int(said[1]) if said[0] == b'ended' else None
+        self._listener.join()
+        self._channel.close()
+
+    def _tell(self, message: str) -> None:
+        with suppress(BrokenPipeError, ConnectionResetError):  # that the guard is gone is heard
+            self._channel.send(message.encode('utf-8', 'surrogateescape'))
+
+    def _hear_all(self) -> None:
+        """Hears what the guard says, up to its end."""
+        while said := self._hear().split():
+            assignment = self._assignment
+            if said[0] == b'stopped':
+                self._stopped.put(True)
+            elif said[0] == b'ended':
+                self._member.end_with(WorkerEnded(int(said[1])))
+            elif assignment is not None:
+                self._member.lose(assignment)
+        if not self._is_closed:
+            self._member.end_with(GuardLost('the guard of the worker died'))
+            self._stopped.put(False)
 
     def _hear(self) -> bytes:
-        """What the guard says at its end; nothing, if it died."""
+        """What the guard says; nothing, if it died."""
         while True:
             with suppress(ConnectionResetError):  # comes once, and before what it said, if it didn't read all that it was told
                 return self._channel.recv(100)
-
-    def _tell(self, message: str) -> None:
-        try:
-            self._channel.send(message.encode(), socket.MSG_DONTWAIT)
-        except OSError:
-            pass  # the guard ends, or it is stopped: then an earlier moment counts
-
-
-class Workers:
-    """Starts and stops the worker of a member."""
-
-    def __init__(
-        self, words: Sequence[str], environment: Dict[str, str], patience: float, fail: Callable[[BaseException], None],
-        lose: Callable[[Assignment], None],
-    ) -> None:  # fmt: skip
-        """The words of its command, and what its environment has beside what `start` adds. `fail` is told that a worker ended by
-        itself, or that its guard died; and `lose` whose worker its guard has killed, since its time was over."""
-        self._words = words
-        self._environment = environment
-        self._patience = patience
-        self._fail = fail
-        self._lose = lose
-        self._guarded: Optional[Guarded] = None
-        self._watcher: Optional[threading.Thread] = None
-        self._lost: Optional[GuardLost] = None
-        self._until = 0.0
-
-    def start(self, assignment: Assignment, settings: str) -> None:
-        """Starts the worker for this assignment, with the settings as JSON."""
-        environment = {
-            **os.environ, **self._environment, 'BULLY_TOKEN': str(assignment.token), 'BULLY_SETTINGS': settings,
-            'BULLY_COORDINATOR': assignment.settings.name(assignment.coordinator),
-            'BULLY_PARTITIONS': ' '.join(map(str, assignment.partitions)),
-        }  # fmt: skip
-        guarded = Guarded(self._words, environment, self._patience, self._until)
-        self._guarded = guarded
-        guarded.hear_until(self._until)
-        self._watcher = threading.Thread(target=self._watch, args=[guarded, assignment], daemon=True)
-        self._watcher.start()
-
-    def stop(self) -> None:
-        """Returns once nothing is left of the worker. Raises GuardLost."""
-        if self._guarded is not None and self._watcher is not None:
-            self._guarded.stop()
-            self._watcher.join()
-        self._guarded = None
-        if self._lost is not None:
-            raise self._lost
-
-    def hear_until(self, until: float) -> None:
-        """The worker may go on until then."""
-        self._until = until
-        guarded = self._guarded
-        if guarded is not None:
-            guarded.hear_until(until)
-
-    def _watch(self, guarded: Guarded, assignment: Assignment) -> None:
-        """Waits for the end of the worker."""
-        try:
-            status = guarded.wait()
-        except GuardLost as lost:
-            self._lost = lost
-            self._fail(lost)
-        else:
-            if status is not None:
-                self._fail(WorkerEnded(status))
-            elif not guarded.is_stopping:
-                self._lose(assignment)
 
 
 def moment(seconds: float) -> str:

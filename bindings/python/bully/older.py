@@ -1,0 +1,78 @@
+"""Reads logs of the form before this one, in which each row stood by itself, the header among them, and an epoch had an end behind its rows.
+
+Members of that form appended row by row; no member of today may share a log with them. `bully-member history` writes the trace.
+"""
+from __future__ import annotations
+
+import contextlib
+import sqlite3
+import ssl
+from typing import List, Optional, Sequence
+
+from .gateway import KV_RANGE, Client, below, coded, one, pairs_of, read_address
+from .logs import DamagedLog, NoEpoch
+from .sqlite import connection, fail, form_of, identity
+
+FORM = 2  # of a file
+OPENING = b'{"epoch": '  # with which an opening begins in etcd
+END = 'end,'  # with which the end of an epoch begins
+PAGE = 1000  # rows that are read in one request
+
+
+def file_trace(path: str, epoch: Optional[int]) -> Optional[Sequence[str]]:
+    """The trace of an epoch, or of the current one, in a file of the older form; none, if it has another one.
+
+    Raises NoLog, ForeignLog, DamagedLog, NoEpoch, Unanswered."""
+    identity(path)
+    try:
+        with contextlib.closing(connection(path, 1.0)) as file:
+            return read_file(path, file, epoch) if form_of(path, file) == FORM else None
+    except sqlite3.Error as error:
+        fail(path, error)
+
+
+def read_file(path: str, file: sqlite3.Connection, epoch: Optional[int]) -> Sequence[str]:
+    """The same, of a file of the older form."""
+    file.execute('begin deferred')
+    number = file.execute('select coalesce(max(epoch), 0) from log').fetchone()[0] if epoch is None else epoch
+    packs = file.execute('select rows from packs where epoch = ? order by number', (number,)).fetchall()
+    rows = file.execute('select place, row from log where epoch = ? order by place', (number,)).fetchall()
+    found = [*''.join([text for text, in packs]).split('\n')[:-1], *(row for _, row in rows)]
+    return checked(path, number, found, rows[-1][0] + 1 if rows else 0)
+
+
+def etcd_trace(address: str, epoch: Optional[int], tls: Optional[ssl.SSLContext], user: str, password: str) -> Optional[Sequence[str]]:
+    """The trace of an epoch, or of the current one, in an etcd, if the log there is of the older form; else none.
+
+    Raises LogError; ValueError of an address that is none."""
+    read = read_address(address)
+    client, root = Client(read, 1.0, tls, user, password), f'{read.prefix}/'.encode()
+    with contextlib.closing(client):
+        client.begin()
+        last = below(root + b'opening/', limit=1, sort_order='DESCEND', sort_target='KEY')
+        opening = pairs_of(client.ask(KV_RANGE, last, repeats=True))
+        if not opening or not opening[0].value.startswith(OPENING):
+            return None
+        number = int(opening[0].key[-10:]) if epoch is None else epoch
+        return read_etcd(address, client, root + b'log/%010d/' % number, number)
+
+
+def read_etcd(address: str, client: Client, prefix: bytes, epoch: int) -> Sequence[str]:
+    """The same, of a log of the older form."""
+    rows: List[str] = []
+    while True:
+        client.begin()
+        begin, end = prefix + b'%010d' % len(rows), prefix + b'%010d' % (len(rows) + PAGE)
+        found = pairs_of(client.ask(KV_RANGE, one(begin, range_end=coded(end)), repeats=True))
+        rows += [pair.value.decode() for pair in found]
+        if len(found) < PAGE:
+            return checked(address, epoch, rows, int(found[-1].key[-10:]) + 1 if found else len(rows))
+
+
+def checked(where: str, epoch: int, rows: List[str], count: int) -> Sequence[str]:
+    """The rows of a trace, if they are there, and so many."""
+    if not rows:
+        raise NoEpoch(f'{where}: epoch {epoch} is not there')
+    if len(rows) != count:
+        raise DamagedLog(f'{where}: rows are missing')
+    return rows[:-1] if rows[-1].startswith(END) else rows

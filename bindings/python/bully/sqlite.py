@@ -1,0 +1,452 @@
+"""The store of a shared log in a file of SQLite, which the processes of one machine share: `SqliteLog`.
+
+Presences are over once the machine boots again, so what is written of them need not reach the disk; what is appended does. `changes` counts
+what happens to presences, so that who waits need not look at all of them each time that one is renewed.
+"""
+from __future__ import annotations
+
+import os
+import sqlite3
+import stat
+import time
+from contextlib import contextmanager, suppress
+from pathlib import Path
+from typing import ContextManager, Dict, FrozenSet, Iterator, Mapping, NamedTuple, NoReturn, Optional, Sequence, Tuple, Union
+from urllib.parse import quote
+
+from .epochs import Opening
+from .guard import is_stopped, writer_of
+from .logs import (
+    SECOND, DamagedLog, DiskFull, ForeignLog, Found, Holder, LogBusy, LogExists, NoEpoch, NoLog, ReadOnlyLog, Unanswered, are_idle, idle_of,
+    nanoseconds_of_boot, rows_text, slept, told_epochs,
+)  # fmt: skip
+from .member import Life, Promise, Until
+from .values import Rows
+
+APPLICATION = 0x62756C79  # of a file with a log: `buly`
+FORM = 3  # of its tables
+SHORTEST_SLEEP, LONGEST_SLEEP = 0.001, 0.05  # seconds between two looks at a file
+PRUNED_AT_ONCE = 100  # appends
+NEVER = 2**63 - 1
+
+# A record of the log has the rows of one append, each with its line end, and the place that these stand behind. Of an epoch that was taken
+# away the opening is left, without a count.
+TABLES = """
+create table epochs (epoch integer primary key, opening text not null, wish text, count integer);
+create table log (epoch integer, place integer, rows text not null, primary key (epoch, place));
+create table presence (
+    name text primary key, life text not null, epoch integer not null, place integer not null, boot text not null, until integer not null
+);
+create table changes (lives integer not null, promises integer not null);
+insert into changes values (0, 0);
+"""
+
+# What SQLite says, and what that means. The first that is a part of its message counts.
+MEANINGS = (
+    ('not a database', ForeignLog),
+    ('malformed', DamagedLog),
+    ('no such', DamagedLog),
+    ('readonly', ReadOnlyLog),
+    ('read-only', ReadOnlyLog),
+    ('locked', LogBusy),
+    ('busy', LogBusy),
+    ('is full', DiskFull),
+    ('unable to open', ReadOnlyLog),
+)
+
+
+def boot_name() -> str:
+    """Which boot of the machine this is. The presences of an earlier one are over."""
+    return Path('/proc/sys/kernel/random/boot_id').read_text(encoding='ascii').strip()
+
+
+def connection(path: str, patience: float, mode: str = 'rw') -> sqlite3.Connection:
+    """A connection to this file, in which each statement is by itself if no transaction is begun."""
+    name = f'file:{quote(os.path.abspath(path))}?mode={mode}'
+    return sqlite3.connect(name, timeout=patience, isolation_level=None, check_same_thread=False, uri=True)
+
+
+def write_new(path: str, opening: Opening) -> None:
+    """Writes a new file with a log that begins so."""
+    file = None
+    try:
+        file = connection(path, 1.0, 'rwc')
+        file.executescript(f'pragma journal_mode = wal; pragma application_id = {APPLICATION}; pragma user_version = {FORM}; {TABLES}')
+        open_epoch(file, opening)
+    except sqlite3.Error as error:
+        fail(path, error)
+    finally:
+        if file is not None:
+            file.close()
+
+
+def open_epoch(file: sqlite3.Connection, opening: Opening) -> None:
+    """The epoch begins with this opening."""
+    file.execute('insert into epochs values (?, ?, null, 0)', (opening.epoch, opening.text()))
+
+
+def remove_new(path: str) -> None:
+    """Removes what `write_new` made."""
+    for end in ('', '-wal', '-shm', '-journal'):
+        with suppress(OSError):
+            os.remove(path + end)
+
+
+def identity(path: str) -> Tuple[int, int]:
+    """Which file this is, whatever its name. Raises NoLog, ForeignLog."""
+    try:
+        found = os.stat(path)
+    except OSError as error:
+        raise NoLog(f'{path}: {error.strerror}; bully-member init makes a log') from error
+    if not stat.S_ISREG(found.st_mode):
+        raise ForeignLog(f'{path}: it is no file')
+    return found.st_dev, found.st_ino
+
+
+def fail(path: str, error: sqlite3.Error) -> NoReturn:
+    """Raises what the error of SQLite means."""
+    said = str(error)
+    meaning = next((meaning for part, meaning in MEANINGS if part in said), Unanswered)
+    more = told_holder(f'{path}-shm') if meaning is LogBusy else ''
+    raise meaning(f'{path}: {said}{more}') from error
+
+
+def told_holder(file: str) -> str:
+    """Which process has the lock of this file of SQLite's, if that can be told."""
+    process = writer_of(file)
+    if process is None:
+        return ''
+    return f' by process {process}' + (', which is stopped' if is_stopped(process) else '')
+
+
+def form_of(path: str, file: sqlite3.Connection) -> int:
+    """The form of the log in this file. Raises ForeignLog, sqlite3.Error."""
+    if not file.execute('select count(*) from sqlite_master').fetchone()[0]:
+        raise ForeignLog(f'{path}: an empty file')
+    if file.execute('pragma application_id').fetchone()[0] != APPLICATION:
+        raise ForeignLog(f'{path}: another kind of file')
+    return int(file.execute('pragma user_version').fetchone()[0])
+
+
+def life_text(life: Life) -> str:
+    """A life, for a store."""
+    return f'{life.process}.{life.number}'
+
+
+def life_of(text: str) -> Life:
+    """The same life. Raises ValueError."""
+    process, number = text.split('.')
+    return Life(int(process), int(number))
+
+
+class Standing(NamedTuple):
+    """How a log stands: its current epoch, where its log ends, and what is wished for in it; and the counts of changes."""
+
+    epoch: int
+    place: int
+    wish: Optional[str]
+    lives: int
+    promises: int
+
+
+STANDING = 'select epoch, count, wish, lives, promises from epochs, changes order by epoch desc limit 1'
+
+
+class SqliteLog:
+    """A log in a file of SQLite: no file of a network. One thread at a time uses it, and no process that this one forks."""
+
+    def __init__(self, path: 'os.PathLike[str] | str', patience: float = 1.0, reads: bool = False) -> None:
+        """The log of this file, which `create` made. Each call waits this many seconds for others at most. Who only reads waits for nobody.
+
+        Raises NoLog, ForeignLog, DamagedLog, ReadOnlyLog, Unanswered."""
+        self.path = os.fspath(path)
+        self._identity = identity(self.path)
+        self._boot = boot_name()
+        self._told: Dict[str, Life] = {}  # who was present when that was looked at last
+        self._told_wish: Optional[str] = None
+        self._told_idle: Tuple[Promise, FrozenSet[str]] = (Promise(), frozenset())
+        self._lives = -1  # the count of changes then
+        self._earliest = 0  # before then none of these presences ends
+        self._version = self._promises = -1  # of what a wait saw last
+        try:
+            self._file = connection(self.path, patience)
+        except sqlite3.Error as error:
+            fail(self.path, error)
+        try:
+            self._open('deferred' if reads else 'immediate')  # so that a file that can't be written is found at once
+        except BaseException:
+            self._file.close()
+            raise
+
+    @staticmethod
+    def create(path: 'os.PathLike[str] | str', opening: Opening) -> 'SqliteLog':
+        """Makes the file, with a log that begins so. The log. Raises LogExists, ReadOnlyLog, DiskFull, Unanswered."""
+        name = os.fspath(path)
+        room = f'{name}.{os.getpid()}.new'
+        try:
+            write_new(room, opening)
+            os.link(room, name)
+        except FileExistsError:
+            raise LogExists(f'{name}: something is there already') from None
+        except OSError as error:
+            raise ReadOnlyLog(f'{name}: {error.strerror}') from error
+        finally:
+            remove_new(room)
+        return SqliteLog(name)
+
+    def _open(self, kind: str) -> None:
+        with self._calls():
+            form = form_of(self.path, self._file)
+            if form < FORM:
+                more = 'history writes it as a trace, and init makes another log'
+                raise ForeignLog(f'{self.path}: a log of form {form}, by an older version, and not of form {FORM}; {more}')
+            if form > FORM:
+                raise ForeignLog(f'{self.path}: a log of form {form}, by another version, and not of form {FORM}')
+            self._file.execute('pragma journal_mode = wal')
+            self._file.execute('pragma synchronous = normal')
+            with self._transaction(kind):
+                self._standing()
+
+    # Epochs.
+
+    def epochs(self) -> range:
+        with self._calls():
+            return self._there()
+
+    def opening(self, epoch: Optional[int] = None) -> Opening:
+        with self._calls():
+            number = self._standing().epoch if epoch is None else epoch
+            found = self._file.execute('select opening from epochs where epoch = ?', (number,)).fetchone()
+            if found is None:
+                raise self._no_epoch(number)
+        return self._opening_of(number, found[0])
+
+    def _opening_of(self, epoch: int, text: str) -> Opening:
+        try:
+            return Opening.parse(text)
+        except (ValueError, KeyError, TypeError) as fault:
+            raise DamagedLog(f'{self.path}: epoch {epoch} has no opening: {fault}') from fault
+
+    def finish(self, epoch: int, place: int, opening: Opening) -> bool:
+        with self._calls(), self._syncing():
+            standing = self._standing()
+            if not self._may_append(standing, Promise(epoch, place)):
+                return False
+            found = self._file.execute('select opening from epochs where epoch = ?', (epoch,)).fetchone()
+            wish = self._opening_of(epoch + 1, standing.wish) if standing.wish else None
+            if opening.bare != self._opening_of(epoch, found[0]).after(wish):
+                return False
+            open_epoch(self._file, opening)
+            self._file.execute('update epochs set wish = null where epoch = ?', (epoch,))
+        return True
+
+    def ask(self, wish: Opening, epoch: int) -> bool:
+        with self._calls(), self._syncing():
+            if epoch != self._standing().epoch or wish.epoch != epoch + 1:
+                return False
+            self._file.execute('update epochs set wish = ? where epoch = ?', (wish.bare.text(), epoch))
+        return True
+
+    def cancel(self, epoch: int) -> None:
+        with self._calls(), self._syncing():
+            self._file.execute('update epochs set wish = null where epoch = ?', (epoch,))
+
+    def prune(self, first: int) -> None:
+        """The epochs are gone at once. Their rows are so a part at a time, so that nobody waits for long."""
+        with self._calls():
+            with self._writing():
+                first = min(first, self._standing().epoch)
+                self._file.execute('update epochs set count = null where epoch < ?', (first,))
+            asked = 'delete from log where rowid in (select rowid from log where epoch < ? limit ?)'
+            while self._file.execute(asked, (first, PRUNED_AT_ONCE)).rowcount:
+                time.sleep(SHORTEST_SLEEP)  # others have their turn
+
+    def _there(self) -> range:
+        first = self._one('select coalesce(min(epoch), 0) from epochs where count is not null')
+        return range(first, self._standing().epoch + 1)
+
+    def _no_epoch(self, epoch: int) -> NoEpoch:
+        return NoEpoch(told_epochs(self.path, epoch, self._there()))
+
+    # Presences.
+
+    def take(self, name: str, life: Life, promise: Promise, ttl: int) -> bool:
+        self._see_file()
+        with self._calls(), self._writing():
+            now, standing = nanoseconds_of_boot(), self._standing()
+            asked = 'select count(*) from presence where name = ? and boot = ? and until > ?'
+            if promise != Promise(standing.epoch, standing.place) or self._one(asked, name, self._boot, now):
+                return False
+            held = name, life_text(life), promise.epoch, promise.place, self._boot, now + ttl
+            self._file.execute('insert or replace into presence values (?, ?, ?, ?, ?, ?)', held)
+            self._file.execute('update changes set lives = lives + 1')
+        return True
+
+    def renew(self, name: str, life: Life, ttl: int) -> bool:
+        self._see_file()
+        with self._calls(), self._writing():
+            now = nanoseconds_of_boot()
+            if self._promised(name, life, now) is None:
+                return False
+            self._file.execute('update presence set until = ? where name = ?', (now + ttl, name))
+        return True
+
+    def release(self, name: str, life: Life) -> None:
+        with self._calls(), self._writing():
+            if self._file.execute('delete from presence where name = ? and life = ?', (name, life_text(life))).rowcount:
+                self._file.execute('update changes set lives = lives + 1')
+
+    def promise(self, name: str, life: Life, promise: Promise) -> bool:
+        with self._calls(), self._writing():
+            promised = self._promised(name, life, nanoseconds_of_boot())
+            if promised is None:
+                return False
+            later = max(promise, promised)
+            self._file.execute('update presence set epoch = ?, place = ? where name = ?', (later.epoch, later.place, name))
+            self._file.execute('update changes set promises = promises + 1')
+        return True
+
+    def _promised(self, name: str, life: Life, now: int) -> Optional[Promise]:
+        """What the life has promised that holds the presence of this name, if that is this one."""
+        asked = 'select epoch, place from presence where name = ? and life = ? and boot = ? and until > ?'
+        found = self._file.execute(asked, (name, life_text(life), self._boot, now)).fetchone()
+        return Promise(*found) if found else None
+
+    def _see_file(self) -> None:
+        """Raises ForeignLog, if another file is in its place: then there may be two histories."""
+        if identity(self.path) != self._identity:
+            raise ForeignLog(f'{self.path}: another file is in its place')
+
+    # The log.
+
+    def append(self, epoch: int, place: int, rows: Sequence[str]) -> bool:
+        text = rows_text(rows)
+        with self._calls(), self._syncing():
+            if not self._may_append(self._standing(), Promise(epoch, place)):
+                return False
+            self._file.execute('insert into log values (?, ?, ?)', (epoch, place, text))
+            self._file.execute('update epochs set count = ? where epoch = ?', (place + len(rows), epoch))
+        return True
+
+    def _may_append(self, standing: Standing, here: Promise) -> bool:
+        return here == Promise(standing.epoch, standing.place) and self._are_idle(Until.ALL_IDLE, here)
+
+    def _are_idle(self, until: Until, here: Promise) -> bool:
+        asked = 'select name, epoch, place from presence where boot = ? and until > ?'
+        promises = {name: place for name, *place in self._file.execute(asked, (self._boot, nanoseconds_of_boot()))}
+        known, idle = self._told_idle
+        return are_idle(until, promises, [here.epoch, here.place], idle if known == here else frozenset())
+
+    def read(self, epoch: int, place: int) -> Rows:
+        with self._calls(), self._transaction('deferred'):
+            found = self._file.execute('select count from epochs where epoch = ?', (epoch,)).fetchone()
+            if found is None or found[0] is None:
+                raise self._no_epoch(epoch)
+            return self._rows(epoch, place, found[0])
+
+    def _rows(self, epoch: int, place: int, count: int) -> Rows:
+        """The rows of an epoch that has so many, behind that place."""
+        if place >= count:
+            return Rows('')
+        first = self._one('select coalesce(max(place), 0) from log where epoch = ? and place <= ?', epoch, place)
+        asked = 'select rows from log where epoch = ? and place >= ? order by place'
+        rows = Rows(''.join([text for text, in self._file.execute(asked, (epoch, first))]))
+        if len(rows) != count - first:
+            raise DamagedLog(f'{self.path}: rows are missing behind place {place}')
+        return rows.behind(place - first)
+
+    # Looks and waits.
+
+    def look(self, epoch: int, place: int) -> Found:
+        with self._calls(), self._transaction('deferred'):
+            standing = self._standing()
+            rows = self._rows(epoch, place, standing.place) if epoch == standing.epoch else Rows('')
+            presences = self._look_around(standing)
+        self._told_wish = standing.wish
+        here, promises = Promise(standing.epoch, standing.place), {name: holder.promise for name, holder in presences.items()}
+        self._told_idle = here, idle_of(promises, here)
+        wish = self._opening_of(standing.epoch + 1, standing.wish) if standing.wish else None
+        return Found(standing.epoch, rows, presences, wish)
+
+    def _look_around(self, standing: Standing) -> Dict[str, Holder]:
+        """Who is present. It is noted."""
+        asked = 'select name, life, epoch, place, until from presence where boot = ? and until > ?'
+        found = self._file.execute(asked, (self._boot, nanoseconds_of_boot())).fetchall()
+        presences = {name: Holder(life_of(life), Promise(epoch, place)) for name, life, epoch, place, _ in found}
+        self._told = {name: holder.life for name, holder in presences.items()}
+        self._lives, self._earliest = standing.lives, min((until for *_, until in found), default=NEVER)
+        return presences
+
+    def wait(
+        self, epoch: int, place: int, lives: Mapping[str, Life], until: Until, seconds: float, woken: Optional[int] = None,
+    ) -> None:  # fmt: skip
+        end, sleep = nanoseconds_of_boot() + int(seconds * SECOND), SHORTEST_SLEEP
+        self._version = self._promises = -1
+        while not self._is_news(Promise(epoch, place), lives, until):
+            now = nanoseconds_of_boot()
+            left = min(sleep, (end - now) / SECOND, max(SHORTEST_SLEEP, (self._earliest - now) / SECOND))
+            if now >= end or slept(left, woken):
+                return
+            sleep = min(2 * sleep, LONGEST_SLEEP)
+
+    def _is_news(self, here: Promise, lives: Mapping[str, Life], until: Until) -> bool:
+        """Whether what `wait` waits for has come. Nothing but a commit and a presence's end can bring it."""
+        with self._calls():
+            version = self._one('pragma data_version')
+            is_end = nanoseconds_of_boot() >= self._earliest  # of a presence, unless it was renewed
+            if version == self._version and not is_end:
+                return False
+            self._version, standing = version, self._standing()
+            if standing.lives != self._lives or is_end:
+                self._look_around(standing)
+            if standing.epoch != here.epoch or standing.place > here.place or standing.wish != self._told_wish or self._told != lives:
+                return True
+            is_same, self._promises = standing.promises == self._promises, standing.promises
+            return until is not Until.NEWS and not is_same and self._are_idle(until, here)
+
+    def close(self) -> None:
+        self._file.close()
+
+    # What is asked of SQLite.
+
+    def _standing(self) -> Standing:
+        found = self._file.execute(STANDING).fetchone()
+        if found is None:
+            raise DamagedLog(f'{self.path}: the log has no opening')
+        return Standing(*found)
+
+    def _one(self, asked: str, *arguments: Union[int, str]) -> int:
+        return int(self._file.execute(asked, arguments).fetchone()[0])
+
+    @contextmanager
+    def _calls(self) -> Iterator[None]:
+        """Tells errors of SQLite as what they mean."""
+        try:
+            yield
+        except sqlite3.Error as error:
+            fail(self.path, error)
+
+    def _writing(self) -> ContextManager[None]:
+        return self._transaction('immediate')
+
+    @contextmanager
+    def _syncing(self) -> Iterator[None]:
+        """A transaction that is on the disk behind it."""
+        self._file.execute('pragma synchronous = full')
+        try:
+            with self._writing():
+                yield
+        finally:
+            self._file.execute('pragma synchronous = normal')
+
+    @contextmanager
+    def _transaction(self, kind: str) -> Iterator[None]:
+        """One transaction. What is returned out of it is kept, and what is raised undoes it."""
+        self._file.execute(f'begin {kind}')
+        try:
+            yield
+            self._file.execute('commit')
+        except BaseException:
+            if self._file.in_transaction:
+                self._file.execute('rollback')
+            raise

@@ -1,0 +1,227 @@
+"""Tests of configurations, and of what a member tells over HTTP. `try` runs them."""
+import contextlib
+import http.client
+import io
+import json
+import socket
+import struct
+import sys
+import threading
+import time
+import unittest
+from pathlib import Path
+from typing import Any, Dict, List, Tuple
+
+from bully import page, settings, view
+from bully.epochs import Opening, Token
+from bully.logs import Holder, MemoryLog
+from bully.member import Life, Promise
+from bully.running import Member
+from laws import HEADER, PATIENCE, wait_until
+from test_running import LONG, put
+
+ROOT = Path(__file__).resolve().parents[3]
+TOP: Dict[str, Any] = {'nodes': 3, 'partitions': 6, 'events': 10, 'turns': 5, 'names': ['a', 'b', 'c']}
+FAULT: Dict[str, Any] = {'at': 1, 'node': 'b', 'kind': 'crash'}
+
+
+def toml(told: Dict[str, Any]) -> bytes:
+    """The document of this table, whose values are spelled as in JSON."""
+    lines = [f'{key} = {json.dumps(value)}' for key, value in told.items() if key != 'fault']
+    for fault in told.get('fault', []):
+        lines += ['[[fault]]', *(f'{key} = {json.dumps(value)}' for key, value in fault.items())]
+    return '\n'.join(lines).encode()
+
+
+def without(table: Dict[str, Any], key: str) -> Dict[str, Any]:
+    return {name: value for name, value in table.items() if name != key}
+
+
+# What docs/FORMATS.md says of these configurations.
+FAULTY = [
+    *[(without(TOP, key), f'Missing {key}') for key in TOP],
+    *[({**TOP, 'fault': [without(FAULT, key)]}, f'Missing {key}') for key in FAULT],
+    *[({**TOP, key: 'x'}, f'Kind {key}') for key in ('nodes', 'partitions', 'events', 'turns', 'period', 'names', 'weights', 'keep')],
+    ({**TOP, 'nodes': True}, 'Kind nodes'), ({**TOP, 'names': ['a', 'b', 3]}, 'Kind names'), ({**TOP, 'weights': [1, 2, '3']}, 'Kind weights'),
+    ({**TOP, 'fault': [{**FAULT, 'at': 'x'}]}, 'Kind at'), ({**TOP, 'fault': [{**FAULT, 'node': 2}]}, 'Kind node'),
+    ({**TOP, 'nodes': 0}, 'Range nodes'), ({**TOP, 'nodes': 1025}, 'Range nodes'), ({**TOP, 'partitions': 4097}, 'Range partitions'),
+    ({**TOP, 'events': 0}, 'Range events'), ({**TOP, 'turns': 1_000_001}, 'Range turns'), ({**TOP, 'period': 1}, 'Range period'),
+    ({**TOP, 'names': ['a', 'b']}, 'Range names'), ({**TOP, 'names': ['a', 'b', '']}, 'Range names'),
+    ({**TOP, 'weights': [1, 1]}, 'Range weights'), ({**TOP, 'weights': [1, 1, 1001]}, 'Range weights'),
+    ({**TOP, 'fault': [{**FAULT, 'at': 6}]}, 'Range at'), ({**TOP, 'fault': [{**FAULT, 'node': 'd'}]}, 'Range node'),
+    ({**TOP, 'fault': [{**FAULT, 'kind': 'halt'}]}, 'Range kind'), ({**TOP, 'names': ['a', 'b', 'a']}, 'DoubleName'),
+    ({**TOP, 'at': 1}, 'UnknownKey'), ({**TOP, 'fault': [{**FAULT, 'keep': True}]}, 'UnknownKey'),
+    ({**without(TOP, 'turns'), 'nodes': 'x', 'more': 1}, 'Missing turns'), ({**TOP, 'nodes': 'x', 'more': 1}, 'Kind nodes'),
+]  # fmt: skip
+
+
+@unittest.skipIf(sys.version_info < (3, 11), 'the standard library reads TOML from Python 3.11 on')
+class Configurations(unittest.TestCase):
+    """What a configuration has, and its faults."""
+
+    def test_examples(self) -> None:
+        places = (ROOT / 'examples').rglob('*.toml')
+        for path in sorted(place for place in places if place.name != 'Cargo.toml'):
+            with self.subTest(path=path.name):
+                read = settings.read_settings(path.read_bytes())
+                self.assertEqual(len(read.names), read.setup.nodes)
+                self.assertEqual([read.number(name) for name in read.names], list(range(1, read.setup.nodes + 1)))
+
+    def test_faults(self) -> None:
+        for told, fault in FAULTY:
+            with self.subTest(fault=fault, told=told), self.assertRaises(settings.ConfigFault) as caught:
+                settings.read_settings(toml(told))
+            self.assertEqual(str(caught.exception), fault)
+
+    def test_other_faults(self) -> None:
+        whole = toml(TOP)
+        for text, fault in (
+            (b'\xff', 'Toml'), (b'nodes = ', 'Toml'), (whole + b'\nfault = 1', 'Kind fault'), (whole + b'\n[fault]\nat = 1', 'Kind fault'),
+            (whole + b'\nfault = [1]', 'Kind fault'), (whole + b'\nmore = 9223372036854775808', 'Toml'),
+        ):  # fmt: skip
+            with self.subTest(text=text), self.assertRaises(settings.ConfigFault) as caught:
+                settings.read_settings(text)
+            self.assertEqual(str(caught.exception), fault)
+
+
+class Pages(unittest.TestCase):
+    """What a member tells over HTTP."""
+
+    NAMES = ('a"\\b', '<script>alert(1)</script>', 'c')
+
+    def setUp(self) -> None:
+        self.log = MemoryLog(Opening.first(HEADER, self.NAMES))
+        self.member = Member(self.log, 2, lambda assignment: None, lambda assignment: None, ttl=2.0)
+        shown = view.LogView(self.log, self.member.behind)
+        self.addCleanup(shown.close)
+        self.page = page.Page(('127.0.0.1', 0), shown, self.member)
+        self.page.start()
+        self.addCleanup(self.page.close)
+
+    def get(self, target: str, method: str = 'GET', **headers: str) -> Tuple[int, str, str]:
+        """The status, the kind and the text of an answer."""
+        connection = http.client.HTTPConnection('127.0.0.1', self.page.port, timeout=PATIENCE)
+        connection.request(method, target, headers=headers)
+        answer = connection.getresponse()
+        text = answer.read().decode()
+        connection.close()
+        return answer.status, answer.getheader('Content-Type') or '', text
+
+    def begin(self) -> None:
+        """The member takes part, until the test is over."""
+        thread = threading.Thread(target=self.member.run)
+        thread.start()
+        self.addCleanup(thread.join)
+        self.addCleanup(self.member.leave)
+        wait_until(self.member.assignment)
+
+    def test_before(self) -> None:
+        self.assertEqual(self.get('/healthz')[0], 503)
+        status, kind, text = self.get('/group')
+        self.assertEqual((status, kind), (200, 'application/json; charset=utf-8'))
+        told = json.loads(text)
+        self.assertEqual((told['epoch'], told['events'], told['token'], told['coordinator']), (1, 0, None, None))
+        self.assertEqual(told['owners'], [None] * 6)
+        self.assertEqual(json.loads(self.get('/assignment')[2])['partitions'], [])
+
+    def test_group(self) -> None:
+        self.begin()
+        told = json.loads(self.get('/group')[2])
+        self.assertEqual((told['coordinator'], set(told['owners'])), (self.NAMES[1], {self.NAMES[1]}))
+        self.assertEqual([node['present'] for node in told['nodes']], [False, True, False])
+        self.assertEqual([row['text'] for row in told['last']], self.log.rows[-20:])
+        assigned = json.loads(self.get('/assignment')[2])
+        self.assertEqual((assigned['node'], assigned['partitions'], assigned['token']), (self.NAMES[1], list(range(6)), told['token']))
+        self.assertTrue(0 < assigned['sure_seconds'] <= 1.6)
+        self.assertEqual(self.get('/healthz')[::2], (200, 'present\n'))
+
+    def test_long_poll(self) -> None:
+        answers: List[int] = []
+        thread = threading.Thread(target=lambda: answers.append(json.loads(self.get('/group?after=0')[2])['events']))
+        thread.start()
+        self.assertEqual(self.get('/group')[0], 200)
+        put(self.log, 'recover,1')
+        thread.join()
+        self.assertEqual(answers, [1])
+
+    def test_long_poll_over_epochs(self) -> None:
+        """Events of another epoch are more, also if they are fewer."""
+        answers: List[Tuple[int, int]] = []
+
+        def poll() -> None:
+            told = json.loads(self.get('/group?after=2')[2])
+            answers.append((told['epoch'], told['events']))
+
+        put(self.log, 'recover,1', 'crash,1')
+        thread = threading.Thread(target=poll)
+        thread.start()
+        time.sleep(0.2)
+        life, here = Life(1, 1), Promise(1, 2)
+        self.assertTrue(self.log.take('stranger', life, here, LONG) and self.log.finish(1, 2, self.log.opening().next(None, ())))
+        self.log.release('stranger', life)
+        thread.join()
+        self.assertEqual(answers, [(2, 0)])
+        self.assertEqual(json.loads(self.get('/group?after=2&epoch=1')[2])['epoch'], 2)
+
+    def test_gone(self) -> None:
+        """Who asked is gone before the answer."""
+        threads = threading.active_count()
+        with contextlib.redirect_stderr(io.StringIO()) as told:
+            with socket.create_connection(('127.0.0.1', self.page.port)) as client:
+                client.sendall(b'GET /group?after=0 HTTP/1.1\r\nHost: localhost:1\r\n\r\n')
+                wait_until(lambda: threading.active_count() > threads)
+                client.setsockopt(socket.SOL_SOCKET, socket.SO_LINGER, struct.pack('ii', 1, 0))  # it is reset
+            put(self.log, 'recover,1')
+            wait_until(lambda: threading.active_count() == threads)
+        self.assertEqual(told.getvalue(), '')
+
+    def test_page(self) -> None:
+        self.begin()
+        status, kind, text = self.get('/')
+        self.assertEqual((status, kind), (200, 'text/html; charset=utf-8'))
+        self.assertNotIn('<script>alert', text)
+        self.assertIn('&lt;script&gt;alert(1)&lt;/script&gt;', text)
+        self.assertNotRegex(text, r'(src|href)=')
+
+    def test_metrics(self) -> None:
+        """Each line is one of Prometheus's text format."""
+        self.begin()
+        status, kind, text = self.get('/metrics')
+        self.assertEqual((status, kind), (200, 'text/plain; version=0.0.4'))
+        sample = r'[a-z_]+(\{node="([^"\\\n]|\\["\\n])*"\})? [-+0-9.e]+'
+        for line in text.splitlines():
+            self.assertRegex(line, rf'^(# (HELP [a-z_]+ .+|TYPE [a-z_]+ (counter|gauge))|{sample})$')
+        self.assertIn('bully_node_partitions{node="<script>alert(1)</script>"} 6', text)
+        self.assertIn('bully_node_present{node="a\\"\\\\b"} 0', text)
+        token = Token.of(1, 1 + self.log.rows.index(next(row for row in self.log.rows if row.startswith('plan'))))
+        self.assertTrue({'bully_epoch 1', f'bully_token {token}'} <= set(text.splitlines()))
+
+    def test_behind(self) -> None:
+        """Who isn't idle is named, with how long the others have waited."""
+        self.begin()
+        self.assertEqual(json.loads(self.get('/group')[2])['behind'], {})
+        name, life = self.NAMES[0], Life(7, 1)
+        self.assertIn(f'bully_idle_behind_seconds{{node={page.label(name)}}} 0.000', self.get('/metrics')[2])
+        self.assertTrue(self.log.take(name, life, Promise(1, len(self.log.rows)), LONG))
+        with self.log._changed:  # it works
+            self.log.leases[name] = self.log.leases[name]._replace(holder=Holder(life, Promise()))
+        wait_until(lambda: json.loads(self.get('/group')[2])['behind'].get(name, 0) > 0.3)
+        behind = json.loads(self.get('/group')[2])['behind']
+        self.assertEqual(list(behind), [name])
+        self.assertRegex(self.get('/')[2], 'nodes present; not idle yet: a&quot;[^<]* for [0-9.]+ s<')
+        told = [line for line in self.get('/metrics')[2].splitlines() if line.startswith('bully_idle_behind_seconds{')]
+        self.assertEqual(len(told), 3)
+        self.assertGreaterEqual(float(told[0].split()[1]), behind[name])
+
+    def test_refused(self) -> None:
+        for method in ('POST', 'PUT', 'DELETE', 'HEAD', 'OPTIONS'):
+            self.assertEqual(self.get('/', method)[0], 405)
+        self.assertEqual(self.get('/nothing')[0], 404)
+        self.assertEqual(self.get('/group', Host=f'elsewhere.example:{self.page.port}')[0], 403)
+        self.assertEqual(self.get('/group', Host=f'localhost:{self.page.port}')[0], 200)
+        for target in ('/group?after=x', '/group?after=-1', '/group?after=99999999999999'):
+            self.assertEqual(self.get(target)[0], 200)
+
+
+if __name__ == '__main__':
+    unittest.main()

@@ -1,0 +1,444 @@
+"""Tests of members in threads, in memory and over a file. `try` runs them."""
+import contextlib
+import tempfile
+import threading
+import time
+import unittest
+from pathlib import Path
+from typing import Any, Dict, List, Tuple
+
+from bully import NotLearned, Setup, check, resizing, settings, view
+from bully.epochs import Opening, Token
+from bully.logs import SECOND, Found, Log, MemoryLog, Unanswered, seconds_of_boot
+from bully.member import Life, Promise
+from bully.running import Assignment, Member, NotInGroup, OtherGroup
+from bully.sqlite import SqliteLog
+from laws import HEADER, OPENING, PATIENCE, wait_until
+
+LONG = 1000 * SECOND
+
+
+def put(log: Log, *rows: str) -> None:
+    """The rows stand at the end of the log, by a stranger to the group."""
+    epoch = log.epochs()[-1]
+    place, life = len(log.read(epoch, 0)), Life(1, time.monotonic_ns())
+    assert log.take('stranger', life, Promise(epoch, place), LONG) and log.append(epoch, place, rows)
+    log.release('stranger', life)
+
+
+class Troubled(MemoryLog):
+    """A log that doesn't answer while it is silent."""
+
+    def __init__(self, opening: Opening) -> None:
+        super().__init__(opening)
+        self.is_silent = False
+
+    def check(self) -> None:
+        if self.is_silent:
+            raise Unanswered('silent')
+
+    def renew(self, name: str, life: Life, ttl: int) -> bool:
+        self.check()
+        return super().renew(name, life, ttl)
+
+    def look(self, epoch: int, place: int) -> Found:
+        self.check()
+        return super().look(epoch, place)
+
+
+class Running(unittest.TestCase):
+    """Members in threads over one log in memory."""
+
+    def begin(self, log: MemoryLog, node: int, ttl: float = 2.0, **more: Any) -> Tuple[Member, List[str], threading.Thread]:
+        told: List[str] = []
+        start = more.pop('start', lambda assignment: told.append(f'start {assignment.token}'))
+        stop = more.pop('stop', lambda assignment: told.append(f'stop {assignment.token}'))
+        member = Member(log, node, start, stop, ttl=ttl, settings=OPENING.settings, **more)
+        thread = threading.Thread(target=self.run_member, args=[member])
+        thread.start()
+        self.addCleanup(thread.join)
+        self.addCleanup(member.leave)
+        return member, told, thread
+
+    def run_member(self, member: Member) -> None:
+        try:
+            member.run()
+        except Exception as failure:
+            self.raised = failure
+
+    def token_of(self, log: MemoryLog) -> Token:
+        """That of the first plan."""
+        return Token.of(1, 1 + next(place for place, row in enumerate(log.rows) if row.startswith('plan')))
+
+    def test_three(self) -> None:
+        log = MemoryLog(OPENING)
+        members = {node: self.begin(log, node) for node in (1, 2, 3)}
+
+        def owners() -> List[int]:
+            owned = {node: member[0].assignment() for node, member in members.items()}
+            tokens = {each.token for each in owned.values() if each}
+            return [node for node, each in owned.items() if each and len(each.partitions) == 2 and len(tokens) == 1]
+
+        wait_until(lambda: owners() == [1, 2, 3])
+        self.assertEqual({getattr(member[0].assignment(), 'coordinator') for member in members.values()}, {3})
+        members[3][0].leave()
+        members[3][2].join()
+        self.assertIsNone(members[3][0].assignment())
+        wait_until(lambda: all(len(getattr(members[node][0].assignment(), 'partitions', ())) == 3 for node in (1, 2)))
+        self.assertIn('crash,3', log.rows)
+        self.assertEqual(set(log.presences), {'1', '2'})
+        self.assertTrue(check('\n'.join([HEADER, *log.rows, '']).encode()).is_lawful)
+
+    def test_until(self) -> None:
+        """It is told until when its work is sure, before that begins."""
+        log, began = MemoryLog(OPENING), seconds_of_boot()
+        told: List[str] = []
+        sure: List[Tuple[float, List[str]]] = []
+        member, _, _ = self.begin(log, 1, start=lambda work: told.append('start'), sure=lambda until: sure.append((until, told[:])))
+        wait_until(lambda: len(sure) > 2)
+        self.assertEqual(sure[0][1], [])
+        self.assertTrue(began + 1.6 <= sure[0][0] <= seconds_of_boot() + 1.6)
+        self.assertEqual([until for until, _ in sure], sorted(until for until, _ in sure))
+        assigned = member.assignment()
+        assert assigned is not None
+        self.assertTrue(seconds_of_boot() < assigned.until <= seconds_of_boot() + 1.6)
+
+    def test_alone_leaves(self) -> None:
+        """The last one appends its own crash."""
+        log = MemoryLog(OPENING)
+        member, told, thread = self.begin(log, 1)
+        wait_until(member.assignment)
+        member.leave()
+        thread.join()
+        self.assertEqual((log.rows[-1], log.presences), ('crash,1', {}))
+        self.assertEqual(told, [f'start {self.token_of(log)}', f'stop {self.token_of(log)}'])
+
+    def test_lost_work(self) -> None:
+        """Work that has ended outside is stopped, and begun again. What ended of an earlier Begin isn't it."""
+        log = MemoryLog(OPENING)
+        begun: List[Assignment] = []
+        member, _, _ = self.begin(log, 1, start=begun.append)
+        for count in range(1, 4):
+            wait_until(lambda: len(begun) == count and member.assignment())
+            member.lose(begun[-1])
+        wait_until(lambda: len(begun) == 4)
+        self.assertEqual({work.token for work in begun}, {self.token_of(log)})
+        waits = log.rows[:]
+        member.lose(begun[0])
+        self.assertEqual((log.rows, len(begun)), (waits, 4))
+
+    def test_silence(self) -> None:
+        """Work stops once it isn't sure any more, and begins again once the log answers."""
+        log = Troubled(OPENING)
+        member, told, _ = self.begin(log, 1, ttl=1.0)
+        wait_until(member.assignment)
+        with self.assertLogs('bully', 'WARNING'):
+            log.is_silent = True
+            wait_until(lambda: told[-1].startswith('stop'))
+            self.assertIsNone(member.assignment())
+            wait_until(lambda: seconds_of_boot() > member.sure_until)
+            log.is_silent = False
+            wait_until(member.assignment)
+        self.assertEqual(len(told) % 2, 1)
+
+    def test_a_slow_stop(self) -> None:
+        """While work stops the presence is renewed, and nothing is appended."""
+        log, is_over = MemoryLog(OPENING), threading.Event()
+        member, _, _ = self.begin(log, 1, ttl=1.0, stop=lambda work: is_over.wait())
+        wait_until(member.assignment)
+        rows, life = log.rows[:], log.presences['1'].life
+        self.begin(log, 3, ttl=1.0)
+        self.addCleanup(is_over.set)
+        begun = seconds_of_boot()
+        wait_until(lambda: seconds_of_boot() > begun + 2.0)
+        self.assertEqual((log.rows, log.presences['1'].life), (rows, life))
+        shown = view.LogView(log)
+        self.addCleanup(shown.close)
+        self.assertEqual(list(shown.show().behind), ['1'])
+        is_over.set()
+        wait_until(lambda: shown.show().coordinator == '3')
+        self.assertEqual(shown.show().behind, {})
+
+    def test_behind(self) -> None:
+        """A member tells a view since when others wait."""
+        log, is_over = MemoryLog(OPENING), threading.Event()
+        slow, _, _ = self.begin(log, 1, stop=lambda work: is_over.wait())
+        wait_until(slow.assignment)
+        other, _, _ = self.begin(log, 3)
+        self.addCleanup(is_over.set)
+        wait_until(lambda: '3' in log.presences and other.behind._since)
+        begun = seconds_of_boot()
+        wait_until(lambda: seconds_of_boot() > begun + 0.5)
+        shown = view.LogView(log, other.behind)
+        self.addCleanup(shown.close)
+        behind = shown.show().behind
+        self.assertEqual(list(behind), ['1'])
+        self.assertGreaterEqual(behind['1'], 0.5)
+
+    def test_a_start_that_raises(self) -> None:
+        def start(assignment: Assignment) -> None:
+            raise KeyError('here')
+
+        log = MemoryLog(OPENING)
+        _, told, thread = self.begin(log, 1, start=start)
+        thread.join()
+        self.assertIsInstance(self.raised, KeyError)
+        self.assertEqual(told, [f'stop {self.token_of(log)}'])
+        self.assertEqual((log.rows[-1], log.presences), ('crash,1', {}))
+
+    def test_a_stop_that_raises(self) -> None:
+        """Nothing is given back before the presence has ended: the work may go on."""
+
+        def stop(assignment: Assignment) -> None:
+            raise KeyError('here')
+
+        log = MemoryLog(OPENING)
+        member, told, thread = self.begin(log, 1, stop=stop)
+        wait_until(lambda: told)
+        rows = len(log.rows)
+        member.leave()
+        thread.join()
+        self.assertIsInstance(self.raised, KeyError)
+        self.assertEqual((len(log.rows), set(log.presences)), (rows, {'1'}))
+
+    def test_a_row_that_is_refused(self) -> None:
+        """It ends, and tells why."""
+        log = MemoryLog(OPENING)
+        member, told, thread = self.begin(log, 1)
+        wait_until(member.assignment)
+        with log._changed:
+            log.rows.append('recover,1')
+            log._changed.notify_all()
+        thread.join()
+        self.assertIsInstance(self.raised, NotLearned)
+        self.assertEqual((len(told), log.presences), (2, {}))
+
+    def test_other_group(self) -> None:
+        with self.assertRaises(OtherGroup):
+            Member(MemoryLog(OPENING), 1, print, print, settings=settings.Settings(Setup(3, 7), ('1', '2', '3')))
+
+    def test_with(self) -> None:
+        log = MemoryLog(OPENING)
+        with Member(log, 1, lambda assignment: member.leave(), lambda assignment: None, ttl=2.0) as member:
+            member.run()
+        self.assertEqual(log.rows[-1], 'crash,1')
+        self.assertTrue(member.core.is_closed)
+
+
+class Places:
+    """What members work on: it tells if two work on one partition, or if a token falls."""
+
+    def __init__(self) -> None:
+        self.workers: Dict[int, str] = {}
+        self.tokens: Dict[int, int] = {}
+        self.faults: List[str] = []
+        self.lock = threading.Lock()
+
+    def start(self, name: str, assignment: Assignment) -> None:
+        with self.lock:
+            for partition in assignment.partitions:
+                if self.workers.setdefault(partition, name) != name or self.tokens.get(partition, 0) >= assignment.token:
+                    self.faults.append(f'{name} begins {partition} by {assignment.token}, beside {self.workers} and {self.tokens}')
+                self.tokens[partition] = assignment.token
+
+    def stop(self, name: str, assignment: Assignment) -> None:
+        with self.lock:
+            for partition in assignment.partitions:
+                del self.workers[partition]
+
+
+class InFolder(unittest.TestCase):
+    """Tests with a folder of their own."""
+
+    def setUp(self) -> None:
+        folder = tempfile.TemporaryDirectory()
+        self.addCleanup(folder.cleanup)
+        self.folder = Path(folder.name)
+        self.path = self.folder / 'group.db'
+
+    def opened(self) -> SqliteLog:
+        return self.closing(SqliteLog(self.path))
+
+    def closing(self, log: SqliteLog) -> SqliteLog:
+        self.addCleanup(log.close)
+        return log
+
+
+class Resizes(InFolder):
+    """Members in threads over a file, through several epochs."""
+
+    def make(self, nodes: int, partitions: int, limit: int = 1_000_000) -> None:
+        names = tuple('abcdefg'[:nodes])
+        self.closing(SqliteLog.create(self.path, Opening.first(Setup(nodes, partitions).header(), names, limit)))
+        self.places = Places()
+        self.members: Dict[str, Tuple[Member, threading.Thread]] = {}
+
+    def begin(self, name: str, ttl: float = 10.0) -> None:
+        log = SqliteLog(self.path)
+        member = Member(log, name, lambda each: self.places.start(name, each), lambda each: self.places.stop(name, each), ttl)
+        thread = threading.Thread(target=self.run_member, args=[member])
+        self.members[name] = member, thread
+        thread.start()
+        self.addCleanup(thread.join)
+        self.addCleanup(member.leave)
+
+    def run_member(self, member: Member) -> None:
+        with member:
+            member.run()
+
+    def end(self, name: str) -> None:
+        member, thread = self.members.pop(name)
+        member.leave()
+        thread.join()
+
+    def owned(self) -> Dict[str, Tuple[int, ...]]:
+        """Who owns what, if all that are there own some by one token, and all that there is."""
+        found = {name: member.assignment() for name, (member, _) in self.members.items()}
+        tokens = {each.token for each in found.values() if each}
+        owned = {name: each.partitions for name, each in found.items() if each}
+        all_of_them = sorted(partition for each in owned.values() for partition in each)
+        return owned if len(tokens) == 1 and len(owned) == len(self.members) and all_of_them == list(range(len(all_of_them))) else {}
+
+    def rest(self, partitions: int) -> Dict[str, Tuple[int, ...]]:
+        """The same, once they do."""
+        wait_until(lambda: sum(map(len, self.owned().values())) == partitions)
+        return self.owned()
+
+    def resize(self, partitions: int, *names: str) -> Opening:
+        with contextlib.closing(SqliteLog(self.path)) as log:
+            return resizing.resize(log, settings.Settings(Setup(len(names), partitions), names), PATIENCE)
+
+    def plans(self, epoch: int) -> List[List[str]]:
+        """The plans of an epoch, each with the names of the owners."""
+        log = self.opened()
+        names = log.opening(epoch).names
+        return [[names[int(owner) - 1] for owner in row.split(',')[2].split()] for row in log.read(epoch, 0) if row.startswith('plan')]
+
+    def judge(self) -> None:
+        """Each epoch is lawful, and nobody worked where somebody else did, or by an old token."""
+        for name in list(self.members):
+            self.end(name)
+        self.assertEqual(self.places.faults, [])
+        log = self.opened()
+        for epoch in log.epochs():
+            self.assertTrue(check('\n'.join([log.opening(epoch).header, *log.read(epoch, 0), '']).encode()).is_lawful)
+
+    def test_more_nodes(self) -> None:
+        """From 3 nodes and 12 partitions to 5 and 24, while members work."""
+        self.make(3, 12)
+        for name in 'abc':
+            self.begin(name)
+        before = self.rest(12)
+        opening = self.resize(24, 'b', 'd', 'a', 'e', 'c')
+        self.assertEqual((opening.epoch, opening.settings.setup.nodes), (2, 5))
+        for name in 'de':
+            self.begin(name)
+        after = self.rest(24)
+        self.assertEqual(sorted(map(len, after.values())), [4, 5, 5, 5, 5])
+        kept = sum(len(set(before[name]) & set(self.places_of(self.plans(2)[0], name))) for name in 'abc')
+        self.assertEqual(kept, 12, 'the three own 4 each, and get more')
+        self.judge()
+
+    def places_of(self, table: List[str], name: str) -> List[int]:
+        return [partition for partition, owner in enumerate(table) if owner == name]
+
+    def test_leaves_at_once(self) -> None:
+        """Who waits is woken. With this ttl it would wait for a quarter of an hour."""
+        self.make(1, 3)
+        self.begin('a', ttl=3600.0)
+        self.rest(3)
+        begun = time.monotonic()
+        self.end('a')
+        self.assertLess(time.monotonic(), begun + PATIENCE)
+        self.assertEqual(dict(self.opened().look(1, 0).presences), {})
+
+    def test_fewer_nodes(self) -> None:
+        """A member whose node is gone ends, and says so."""
+        self.make(3, 6)
+        for name in 'abc':
+            self.begin(name)
+        self.rest(6)
+        with self.assertLogs('bully', 'WARNING') as told:
+            self.resize(6, 'c', 'a')
+            self.members.pop('b')[1].join(PATIENCE)
+        self.assertIn('node b: its node is not in the group any more', told.output[0])
+        self.rest(6)
+        with self.assertRaisesRegex(NotInGroup, 'the group has no node b in epoch 2, but c, a'):
+            self.begin('b')
+        self.judge()
+
+    def test_no_member(self) -> None:
+        """Nobody is there, but a node that died: the epoch ends all the same."""
+        self.make(3, 6)
+        log = self.opened()
+        put(log, 'recover,1', 'recover,2')
+        self.assertEqual(self.resize(4, 'x', 'y').names, ('x', 'y'))
+        self.assertEqual((list(log.read(1, 2)), dict(log.look(2, 0).presences)), ([], {}))
+        self.assertEqual(self.resize(4, 'x', 'y').epoch, 2, 'it has these settings already')
+        self.assertTrue(log.ask(log.opening().wish(settings.Settings(Setup(1, 1), ('z',))), 2))
+        self.assertEqual((self.resize(4, 'x', 'y').epoch, log.look(2, 0).wish), (2, None), 'nothing else is wished for')
+
+    def test_not_in_time(self) -> None:
+        """The wish stays, and the epoch ends later."""
+        self.make(2, 4)
+        log = self.opened()
+        put(log, 'recover,2')
+        life = Life(5, 1)
+        self.assertTrue(log.take('b', life, Promise(1, 1), LONG))
+        with self.assertRaisesRegex(resizing.NotEnded, 'epoch 1 has not ended yet, but waits for b'):
+            resizing.resize(log, settings.Settings(Setup(1, 4), ('a',)), 0.1)
+        log.release('b', life)
+        self.begin('a')
+        self.rest(4)
+        self.assertEqual(self.opened().epochs(), range(1, 3))
+        self.judge()
+
+    def test_no_moves(self) -> None:
+        """In a new epoch with the same members all partitions stay. Old epochs are taken away meanwhile."""
+        self.make(3, 7)
+        for name in 'abc':
+            self.begin(name)
+        before = self.rest(7)
+        log = self.opened()
+        for epoch in range(1, 4):
+            opening = log.opening(epoch)
+            self.assertTrue(log.ask(opening.wish(opening.settings), epoch))
+            wait_until(lambda: log.epochs()[-1] > epoch and self.owned())
+            self.assertEqual((log.epochs()[-1], self.owned()), (epoch + 1, before))
+            self.assertEqual(len(self.plans(epoch + 1)), 1)
+            log.prune(epoch)
+        self.judge()
+
+    def test_an_epoch_that_is_taken_away(self) -> None:
+        """Who was in it for long goes on in the current one, members and views."""
+        self.make(2, 4)
+        member = Member(self.opened(), 'b', lambda each: member.leave(), lambda each: None, ttl=10.0)
+        shown = view.LogView(self.opened())
+        self.addCleanup(shown.close)
+        self.assertEqual((member.opening.epoch, shown.show().epoch), (1, 1))
+        self.resize(4, 'b', 'c')
+        self.opened().prune(2)
+        with member:
+            member.run()
+        self.assertEqual((member.opening.epoch, member.node), (2, 1))
+        told = shown.show()
+        self.assertEqual((told.epoch, [node.name for node in told.nodes]), (2, ['b', 'c']))
+        self.assertEqual(told.last[-1][1], 'crash,1')
+
+    def test_full_logs(self) -> None:
+        """Logs are full after a hundred rows, and somebody goes and comes, again and again."""
+        self.make(3, 6, 100)
+        for name in 'abc':
+            self.begin(name)
+        log = self.opened()
+        while log.epochs()[-1] < 4:
+            self.rest(6)
+            self.end('a')
+            self.rest(6)
+            self.begin('a')
+        self.rest(6)
+        self.judge()
+
+
+if __name__ == '__main__':
+    unittest.main()
