@@ -9,7 +9,7 @@ import sys
 import time
 from dataclasses import dataclass, field
 from pathlib import Path
-from typing import Callable, Dict, List, Optional, Sequence
+from typing import AbstractSet, Callable, Dict, List, Optional, Sequence, Set
 
 from bully import Status, check
 from bully.command import parser
@@ -34,20 +34,25 @@ PATIENCE = 120.0  # seconds that anything may take
 ROW = 64  # bytes that a row of a worker has at most
 
 
+def told_seconds(what: str, seconds: Sequence[float]) -> str:
+    """Some times, for people; nothing, if there are none."""
+    return f', {what} {statistics.median(seconds):.2f} s, at most {max(seconds):.2f} s' if seconds else ''
+
+
 @dataclass
 class Times:
-    """How long a group took to come to rest behind changes of one kind, and how many rows; and until all partitions were worked on, if
-    that was looked for at once."""
+    """How long a group took to come to rest behind changes of one kind, and how many rows; the same behind the end of a presence, if one
+    ended; and until all partitions were worked on, if that was looked for at once."""
 
     to_rest: List[float] = field(default_factory=list)
+    behind_end: List[float] = field(default_factory=list)
     to_work: List[float] = field(default_factory=list)
     rows: List[int] = field(default_factory=list)
 
     def __str__(self) -> str:
-        rest, work, rows = self.to_rest, self.to_work, self.rows
-        told = (f'{len(rest)} times, to rest in {statistics.median(rest):.2f} s, at most {max(rest):.2f} s, and {statistics.median(rows):.0f} '
-                f'rows, at most {max(rows)}')
-        return f'{told}; to work in {statistics.median(work):.2f} s, at most {max(work):.2f} s' if work else told
+        told = told_seconds('to rest in', self.to_rest) + told_seconds("behind a presence's end", self.behind_end)
+        rows = f', {statistics.median(self.rows):.0f} rows, at most {max(self.rows)}'
+        return f'{len(self.to_rest)} times{told}{rows}{told_seconds("to work in", self.to_work)}'
 
 
 class Work:
@@ -96,6 +101,7 @@ class Group:
         begun where a member is; `words` are more ones for each member."""
         self.folder, self.ttl, self.words = folder, ttl, list(words)
         self.stores, self.within = stores, within
+        self.configs = 0
         self.config = self.configured(names, partitions)
         self.work = Work(folder / 'work', partitions)
         self.members: Dict[str, 'subprocess.Popen[bytes]'] = {}
@@ -104,10 +110,12 @@ class Group:
         self.count(self.command('init', '--config', str(self.config)).wait(PATIENCE) == 0, 'no log can be made')
         self.view = LogView(self.opened())
         self.shown = self.view.show()  # as it was seen last
+        self.all_present = 0.0  # when nobody was gone yet that was present before the last change
 
     def configured(self, names: Sequence[str], partitions: int) -> Path:
-        """A file with settings."""
-        file = self.folder / f'{"".join(names)}.toml'
+        """A new file with settings."""
+        self.configs += 1
+        file = self.folder / f'{self.configs}.toml'
         file.write_text(CONFIG % (len(names), partitions, list(names)))
         return file
 
@@ -145,12 +153,15 @@ class Group:
 
     # Rest.
 
-    def look(self) -> Optional[GroupView]:
-        """How the group stands; nothing, if the store doesn't answer."""
+    def look(self, present: AbstractSet[str] = frozenset()) -> Optional[GroupView]:
+        """How the group stands; nothing, if the store doesn't answer. When these were all present is noted."""
+        now = time.monotonic()
         try:
             self.shown = self.view.show()
         except Unanswered:
             return None
+        if present <= present_in(self.shown):
+            self.all_present = now
         return self.shown
 
     def show(self) -> GroupView:
@@ -171,9 +182,9 @@ class Group:
 
     def rest(self, settles: float, end: float) -> Optional[float]:
         """Waits for a rest that lasts for so many seconds at least. When it began; nothing, if it didn't up to the end."""
-        since, rows = 0.0, -1
+        since, rows, present = 0.0, -1, present_in(self.shown)
         while time.monotonic() < end:
-            shown, now = self.look(), time.monotonic()
+            shown, now = self.look(present), time.monotonic()
             if shown is None or not self.is_at_rest(shown):
                 rows = -1
             elif shown.rows != rows:
@@ -197,6 +208,7 @@ class Group:
     def come_to_rest(self, what: str, change: Callable[[], object], settles: float = 0.0) -> None:
         """Makes a change, and waits until the group is at rest behind it, and works: how long that took, and how many rows."""
         before, begun = self.shown, time.monotonic()
+        self.all_present = begun
         change()
         rested = self.rest(settles, begun + PATIENCE)
         worked = self.goes_on(time.monotonic() + PATIENCE) if rested is not None else None
@@ -206,6 +218,7 @@ class Group:
         if rested is not None and worked is not None:
             times, after = self.times.setdefault(what, Times()), self.shown
             times.to_rest.append(rested - begun)
+            times.behind_end += [] if present_in(before) <= present_in(after) else [rested - self.all_present]
             times.to_work += [worked - begun] if settles == 0 else []
             times.rows.append(after.rows - (before.rows if after.epoch == before.epoch else 0))
 
@@ -348,6 +361,11 @@ class Group:
             member.kill()
             member.wait()
         self.view.close()
+
+
+def present_in(shown: GroupView) -> Set[str]:
+    """Who is present."""
+    return {node.name for node in shown.nodes if node.is_present}
 
 
 def cost(processes: Dict[str, List[int]]) -> List[float]:
