@@ -19,7 +19,7 @@ from bully.member import Life, Promise, Renew, Until, Wait
 from bully.member import Request as Asked
 from bully.settings import Settings
 from bully.sqlite import life_of
-from cluster import SERVERS, Cluster, Outcome, Version, interval, pair_told, weather_of
+from cluster import SERVERS, Cluster, Outcome, Version, Weather, interval, pair_told, weather_of
 from over_memory import FoundInLog, LogMember, OverMemory, epoch_of
 from settling import GONE, Maker, Member, Trouble, Wrong
 from store import Epoch, Found, Lease
@@ -175,6 +175,7 @@ class EtcdMember(LogMember):
     """A member whose log is in etcd."""
 
     simulation: OverEtcd
+    call_type: Type[Call] = Call
     asked: Optional[Asked] = None
 
     def opened(self) -> logs.Log:
@@ -201,7 +202,7 @@ class EtcdMember(LogMember):
             self.tell(request, told)
             self.go()
 
-        Call(self, call, answer).go_on()
+        self.call_type(self, call, answer).go_on()
         if isinstance(request, Renew) and self.simulation.happens('a pause with a renewal', self.simulation.trouble.renewal_pauses):
             self.simulation.pause(self)
 
@@ -213,13 +214,16 @@ class OverEtcd(OverMemory):
 
     def __init__(self, seed: int, make: Maker, log_type: Type[KeptLog] = KeptLog, trouble: Type[Trouble] = Trouble) -> None:
         self.of_etcd = random.Random(f'{seed} etcd')
-        self.weather = weather_of(self.of_etcd)
+        self.weather = self.new_weather()
         self.log_type = log_type
         self.cluster = Cluster(self.of_etcd, self.weather, lambda: self.now / SECOND, self.after_seconds)
         super().__init__(seed, make, self.new_store, trouble)
         self.ttl = int(self.weather.ttl * SECOND)
         self.patience = min(self.ttl // 5, int(self.trouble.patience * self.ttl))
         self.cluster.changed, self.cluster.ends = self.see_change, self.see_end
+
+    def new_weather(self) -> Weather:
+        return weather_of(self.of_etcd)
 
     def new_store(self, settings: Settings, limit: Callable[[int], int], clock: Callable[[], int]) -> EtcdStore:
         return EtcdStore(self.cluster, settings, limit(settings.setup.nodes))
