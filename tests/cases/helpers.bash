@@ -190,8 +190,8 @@ narrowed() {
         # (the file may have 1,024 bytes, of which all but K are there)
         head -c $((1024 - room)) /dev/zero >file
         (trap '' XFSZ && ulimit -f 1 && eval "$1" >>file 2>told)
-        [[ $? == 4 && $(<told) == 'bully: Write' ]] &&
-            tail -c "$room" file | cmp -s - <(head -c "$room" whole) && right=$((right + 1))
+        [[ $? == 4 && $(<told) == 'bully: Write' ]] && head -c "$room" whole >front && tail -c "$room" file | cmp -s - front &&
+            right=$((right + 1))
     done
     echo "$right of $size"
 }
