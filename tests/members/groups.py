@@ -16,7 +16,7 @@ from bully.command import parser
 from bully.logs import Log, Unanswered
 from bully.stores import store_of
 from bully.view import GroupView, LogView
-from processes import children, processor_seconds, send_all, worker_descriptors
+from processes import children, own_memory, processor_seconds, send_all, worker_descriptors
 from tables import kept, most_kept, owners_by_name
 
 ROOT = Path(__file__).resolve().parents[2]
@@ -32,6 +32,7 @@ names = %s
 """
 PATIENCE = 120.0  # seconds that anything may take
 ROW = 64  # bytes that a row of a worker has at most
+MEMORY = 24.0  # MiB that an idle member and its guard have of their own
 
 
 def told_seconds(what: str, seconds: Sequence[float]) -> str:
@@ -284,7 +285,7 @@ class Group:
     # At rest, and in the end.
 
     def idle(self, seconds: float, most: float) -> None:
-        """What members cost that have nothing to do: no row, and less than this percentage of a processor."""
+        """What members and their guards cost that have nothing to do: no row, less than this percentage of a processor, and 24 MiB."""
         processes = {name: [member.pid, *children(member.pid)] for name, member in self.members.items()}
         before, rows, begun = cost(processes), self.show().rows, time.monotonic()
         time.sleep(seconds)
@@ -292,7 +293,10 @@ class Group:
         shares = sorted(100 * (after - earlier) / length for earlier, after in zip(before, cost(processes)))
         self.count(self.show().rows == rows, 'an idle group has more rows')
         self.count(shares[-1] < most, f'an idle member took {shares[-1]:.2f} % of a processor')
-        print(f'idle for {length:.0f} s: no row, and {shares[0]:.2f} to {shares[-1]:.2f} % of a processor for a member')
+        memory = sorted(sum(map(own_memory, each)) for each in processes.values())
+        self.count(memory[-1] < MEMORY, f'an idle member has {memory[-1]:.1f} MiB of its own')
+        print(f'idle for {length:.0f} s: no row, and {shares[0]:.2f} to {shares[-1]:.2f} % of a processor for a member; '
+              f'{memory[0]:.1f} to {memory[-1]:.1f} MiB of its own')
 
     def end(self, program: Optional[Path] = None) -> None:
         """All leave in order, one of them behind the others, and what they left is judged; also with everything said, if there is the program

@@ -35,3 +35,9 @@ def processor_seconds(process: int) -> float:
     """How much processor time the process took, without those that it started."""
     fields = Path(f'/proc/{process}/stat').read_text().rsplit(')', 1)[1].split()
     return (int(fields[11]) + int(fields[12])) * TICK
+
+
+def own_memory(process: int) -> float:
+    """How many MiB of memory the process shares with no other one."""
+    rows = [row.split() for row in Path(f'/proc/{process}/smaps_rollup').read_text().splitlines()]
+    return sum(int(row[1]) for row in rows if row[0].startswith('Private_')) / 1024
