@@ -11,7 +11,7 @@ from typing import List, Optional, Sequence
 
 from .gateway import KV_RANGE, Client, below, coded, one, pairs_of, read_address
 from .logs import DamagedLog, NoEpoch
-from .sqlite import connection, fail, form_of, identity
+from .sqlite import calls, connection, form_of, identity
 
 FORM = 2  # of a file
 OPENING = b'{"epoch": '  # with which an opening begins in etcd
@@ -24,11 +24,8 @@ def file_trace(path: str, epoch: Optional[int]) -> Optional[Sequence[str]]:
 
     Raises NoLog, ForeignLog, DamagedLog, NoEpoch, Unanswered."""
     identity(path)
-    try:
-        with contextlib.closing(connection(path, 1.0)) as file:
-            return read_file(path, file, epoch) if form_of(path, file) == FORM else None
-    except sqlite3.Error as error:
-        fail(path, error)
+    with calls(path), contextlib.closing(connection(path, 1.0)) as file:
+        return read_file(path, file, epoch) if form_of(path, file) == FORM else None
 
 
 def read_file(path: str, file: sqlite3.Connection, epoch: Optional[int]) -> Sequence[str]:
