@@ -18,16 +18,17 @@ transaction that keeps what was promised. No other write names a lease: one that
 from __future__ import annotations
 
 import ssl
+from contextlib import closing
 from typing import AbstractSet, Callable, Dict, FrozenSet, Iterator, List, Mapping, NamedTuple, Optional, Sequence, Tuple
 
 from .epochs import FIRST, Opening
 from .gateway import (
     KV_RANGE, LEASE_GRANT, LEASE_KEEPALIVE, Answer, Client, Compacted, Json, Pair, Silent, Watch, behind, below, coded, exists,
-    number_behind, number_is, one, pair_of, pairs_of, put, ranges, read_address, value_is, value_of,
+    number_is, one, pair_of, pairs_of, put, ranges, read_address, value_is, value_of,
 )  # fmt: skip
 from .logs import (
     BY_HISTORY, SECOND, DamagedLog, ForeignLog, Found, Holder, LogError, LogExists, NoLog, Unanswered, are_idle, no_epoch, opening_of, rows_text,
-    seconds_of_boot, slept,
+    seconds_of_boot, slept, wish_of,
 )  # fmt: skip
 from .member import Life, Promise, Until
 from .sqlite import life_of, life_text
@@ -144,12 +145,9 @@ class EtcdLog:
 
         Raises LogExists, ForeignLog, Denied, LogError, Unanswered; ValueError of an address that is none."""
         read = read_address(address)
-        client = Client(read, patience, tls, user, password)
-        try:
+        with closing(Client(read, patience, tls, user, password)) as client:
             client.begin()
             make(client, address, Keys(read.prefix), opening)
-        finally:
-            client.close()
         return EtcdLog(address, patience, tls, user, password)
 
     def _open(self) -> int:
@@ -183,16 +181,12 @@ class EtcdLog:
             raise no_epoch(self.address, number, self.epochs())
         return opening_of(self.address, number, found[0].value)
 
-    def _wish(self, wished: Optional[bytes], epoch: int) -> Optional[Opening]:
-        """What is wished for in this epoch, by the value of its key."""
-        return None if wished is None else opening_of(self.address, epoch + 1, wished)
-
     def finish(self, epoch: int, place: int, opening: Opening) -> bool:
         """What is wished for is looked at first, and has to be the same then."""
         self._client.begin()
         keys = self._keys
         found, wished = map(pairs_of, self._look(one(keys.opening(epoch)), one(keys.next)).ranges)
-        wish = self._wish(wished[0].value if wished else None, epoch)
+        wish = wish_of(self.address, epoch, wished[0].value if wished else None)
         if not found or opening.bare != opening_of(self.address, epoch, found[0].value).after(wish):
             return False
         is_same = number_is(keys.next, 'mod_revision', wished[0].modified if wished else 0)
@@ -375,8 +369,8 @@ class EtcdLog:
         keys = self._keys
         asked = one(keys.rows(epoch), range_end=coded(keys.row(epoch, place)), limit=1, sort_order='DESCEND', sort_target='KEY')
         found = pairs_of(self._more(asked, revision))
-        begin = number_behind(keys.rows(epoch), found[0].key) if found else None
-        return b'' if begin is None else b'\n'.join(found[0].value.split(b'\n')[place - begin :])
+        begin = found[0].key[len(keys.rows(epoch)) :] if found else b''
+        return b'\n'.join(found[0].value.split(b'\n')[place - int(begin) :]) if begin.isdigit() else b''
 
     def _more(self, asked: Json, revision: int) -> Json:
         """What this range found at that revision. Raises Compacted."""
@@ -396,7 +390,7 @@ class EtcdLog:
             end = self._end_of(answer.ranges[0])
             if self._see_all(answer, since):
                 break
-        wish = self._wish(self._news.wish, end.epoch)
+        wish = wish_of(self.address, end.epoch, self._news.wish)
         found = Found(end.epoch, rows if end.epoch == epoch else Rows(''), self._news.presences(), wish)
         self._told_wish, self._told_idle = self._news.wish, (end, found.idle(end))
         return found

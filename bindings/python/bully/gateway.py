@@ -134,12 +134,6 @@ def value_is(key: bytes, value: bytes) -> Json:
     return {'key': coded(key), 'target': 'VALUE', 'result': 'EQUAL', 'value': coded(value)}
 
 
-def number_behind(prefix: bytes, key: bytes) -> Optional[int]:
-    """The number behind the prefix, if the key is one of these."""
-    rest = key[len(prefix) :]
-    return int(rest) if key.startswith(prefix) and rest.isdigit() else None
-
-
 def ranges(*asked: Json) -> List[Json]:
     """Ranges, as a transaction takes them."""
     return [{'request_range': each} for each in asked]
@@ -347,7 +341,10 @@ class Client:
 
     def _exchange(self, path: str, told: Json, reached: float, end: float) -> Json:
         """A request and its answer. Raises Silent, Refusal, ForeignLog, LogError."""
-        connection = self._connected(reached)
+        if self._connection is None or is_over(self._connection):
+            self.close()
+            self._connection = self._connect(reached)
+        connection = self._connection
         headers = {'Content-Type': 'application/json', **({'Authorization': self._token} if self._token else {})}
         try:
             limit(connection, end)
@@ -360,13 +357,6 @@ class Client:
             self.close()
             raise silent_of(self.endpoint, cause, may_be_done=True) from error
         return self._checked(response.status, text)
-
-    def _connected(self, end: float) -> http.client.HTTPConnection:
-        """A connection to this server, on which nothing is under way. Raises Silent."""
-        if self._connection is None or is_over(self._connection):
-            self.close()
-            self._connection = self._connect(end)
-        return self._connection
 
     def _connect(self, end: float) -> http.client.HTTPConnection:
         """A new connection to this server. Raises Silent."""

@@ -6,9 +6,7 @@ from dataclasses import dataclass
 from typing import Any, Iterable, Optional, Sequence, Tuple, Union
 
 from .faults import FAULTS, expect_ok
-from .library import (
-    UINT16_MAX, UINT32_MAX, RawSetup, RawVerdict, Room, line_bytes, loaded, loaded_for_long, number_of, numbers_of, owners_of,
-)  # fmt: skip
+from .library import UINT16_MAX, UINT32_MAX, RawSetup, RawVerdict, Room, line_bytes, loaded, number_of, numbers_of, owners_of
 from .values import EVENTS_MAX, PARTITIONS_MAX, TablePlan, Verdict, VerdictKind
 
 
@@ -34,12 +32,8 @@ class Setup:
 def setup_parts(setup: Setup) -> Tuple[Any, ...]:
     """A setup, as the three arguments that it is to the library."""
     weights = numbers_of('a weight', setup.weights)
-    told = RawSetup(
-        number_of('nodes', setup.nodes, UINT16_MAX),
-        number_of('partitions', setup.partitions, UINT16_MAX),
-        number_of('events_max', setup.events_max, UINT32_MAX),
-        1 if setup.keeps else 0,
-    )
+    nodes, partitions = number_of('nodes', setup.nodes, UINT16_MAX), number_of('partitions', setup.partitions, UINT16_MAX)
+    told = RawSetup(nodes, partitions, number_of('events_max', setup.events_max, UINT32_MAX), 1 if setup.keeps else 0)
     return (ctypes.byref(told), *weights)
 
 
@@ -63,7 +57,7 @@ def check(trace: Union[str, bytes, bytearray, memoryview]) -> Verdict:
         raise TypeError(f'a trace is str or bytes, and not {type(trace).__name__}')
     text = line_bytes(trace) if isinstance(trace, str) else bytes(trace)
     told = RawVerdict()
-    status = loaded_for_long().bully_check(text, len(text), ctypes.byref(told))
+    status = loaded(for_long=True).bully_check(text, len(text), ctypes.byref(told))
     expect_ok(status, told.number)
     return Verdict(VerdictKind(told.kind), told.number, FAULTS[told.cause] if told.cause else None)
 

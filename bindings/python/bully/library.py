@@ -52,9 +52,7 @@ class RawPresence(ctypes.Structure):
 
 
 class RawMember(ctypes.Structure):
-    _fields_ = fields(
-        uint64='process number since sure_left', uint32='life promised work token ending epoch place', uint16='node is_wished'
-    )
+    _fields_ = fields(uint64='process number since sure_left', uint32='life promised work token ending epoch place', uint16='node is_wished')
 
 
 _SIZE = ctypes.c_size_t
@@ -69,7 +67,6 @@ _LINE = (ctypes.c_char_p, _SIZE)
 _TEXT_OUT = (*_LINE, _SIZE_OUT)
 _OWNED_OUT = (_UINT32_OUT, *_NUMBERS_OUT)
 _STATE_OUT = ctypes.POINTER(RawState)
-_GROUP_OUT = ctypes.POINTER(RawGroup)
 _EPOCH = (*_LINE, _UINT32, _NODE, _UINT32, *_NUMBERS)
 
 # What functions of the library take.
@@ -98,7 +95,7 @@ _BEHIND_HANDLE: Dict[str, Tuple[Any, ...]] = {
     'replica_event': (_NODE, _UINT32, *_TEXT_OUT),
     'replica_show member_node': (_NODE, _STATE_OUT),
     'replica_up replica_task': (_NODE, *_NUMBERS_OUT),
-    'replica_group member_group': (_GROUP_OUT,),
+    'replica_group member_group': (ctypes.POINTER(RawGroup),),
     'replica_settle': (*_NUMBERS, *_NUMBERS, *_TEXT_OUT),
     'replica_is_at_rest': (*_NUMBERS, _UINT32, _UINT32_OUT),
     'replica_owned': (_NODE, _UINT32, *_OWNED_OUT),
@@ -112,8 +109,8 @@ _BEHIND_HANDLE: Dict[str, Tuple[Any, ...]] = {
     'member_show': (_UINT64, ctypes.POINTER(RawMember)),
 }
 
-_loaded: Optional[ctypes.CDLL] = None
-_loaded_for_long: Optional[ctypes.CDLL] = None
+# The library twice. Calls of a handle keep Python's lock, so that no two threads are in one; a check of a long trace gives it away.
+_loaded: List[ctypes.CDLL] = []
 
 
 def _declared(library: ctypes.CDLL) -> ctypes.CDLL:
@@ -153,28 +150,20 @@ def load(path: Union[str, 'os.PathLike[str]', None] = None) -> None:
     """Loads the library from this path: its file, or the folder that has it. Without a path that is BULLY_LIBRARY of the
     environment, or else libbully.so in the folder of this package, in `lib` of an archive or in `out/library` of the repository, or else
     what the system finds by that name. An OSError tells that it isn't there."""
-    global _loaded, _loaded_for_long
     place = _place_of(path)
     try:
-        # Calls of a handle keep Python's lock, so that no two threads are in one; a check of a long trace gives it away.
-        _loaded, _loaded_for_long = _declared(ctypes.PyDLL(place)), _declared(ctypes.CDLL(place))
+        _loaded[:] = [_declared(ctypes.PyDLL(place)), _declared(ctypes.CDLL(place))]
     except AttributeError as missing:
         raise OSError(f'{place} is not the library of bully.h: {missing}') from missing
     except OSError as missing:
         raise OSError(f'{missing}; {HOW_TO_FIND}') from missing
 
 
-def loaded() -> ctypes.CDLL:
-    if _loaded is None:
+def loaded(for_long: bool = False) -> ctypes.CDLL:
+    """The library, for calls that other threads wait for; or for long ones."""
+    if not _loaded:
         load()
-    assert _loaded is not None
-    return _loaded
-
-
-def loaded_for_long() -> ctypes.CDLL:
-    loaded()
-    assert _loaded_for_long is not None
-    return _loaded_for_long
+    return _loaded[for_long]
 
 
 def number_of(what: str, value: int, most: int) -> int:
@@ -239,7 +228,7 @@ def rows_bytes(rows: Sequence[Line]) -> bytes:
 
 
 class Room:
-    """Room for the texts that the library writes, which grows by what it says that it wants."""
+    """Room for the texts that the library writes, a power of two, which grows by what it says that it wants."""
 
     def __init__(self) -> None:
         self._size = ROOM_MIN
@@ -253,16 +242,11 @@ class Room:
             if status != Short.status:
                 expect_ok(status)
                 return ctypes.string_at(text, length.value).decode('ascii')
-            self._grow(length.value)
+            self._size = 1 << (length.value - 1).bit_length()
 
     def row(self, function: Callable[..., int], *arguments: Any) -> str:
         """The same of a row, without its line end."""
         return self.text(function, *arguments).rstrip('\n')
-
-    def _grow(self, length: int) -> None:
-        """Twice the room, as often as it takes to hold this length."""
-        while self._size < length:
-            self._size *= 2
 
 
 def list_of(room: int, function: Callable[..., int], *arguments: Any) -> Tuple[int, ...]:
@@ -274,9 +258,9 @@ def list_of(room: int, function: Callable[..., int], *arguments: Any) -> Tuple[i
 
 def owned_of(room: int, function: Callable[..., int], *arguments: Any) -> Optional[Owned]:
     """What a node owns, as the function writes it, called with these arguments and room for so many partitions."""
-    token, partitions, count = ctypes.c_uint32(), (ctypes.c_uint16 * room)(), ctypes.c_size_t()
-    expect_ok(function(*arguments, ctypes.byref(token), partitions, room, ctypes.byref(count)))
-    return Owned(token.value, tuple(partitions[: count.value])) if count.value else None
+    token = ctypes.c_uint32()
+    partitions = list_of(room, function, *arguments, ctypes.byref(token))
+    return Owned(token.value, partitions) if partitions else None
 
 
 def call_of(told: RawState) -> Optional[Call]:
@@ -349,11 +333,10 @@ class Opened:
         if handle is not None and handle.held:
             self._function('close')()
 
-    def __copy__(self) -> NoReturn:
+    def __copy__(self, *memo: object) -> NoReturn:
         raise TypeError(self._single)
 
-    def __deepcopy__(self, memo: Dict[int, Any]) -> NoReturn:
-        raise TypeError(self._single)
+    __deepcopy__ = __copy__
 
     def __reduce__(self) -> str:
         raise TypeError(f'{type(self).__name__} is not pickled: it is the memory of this process')

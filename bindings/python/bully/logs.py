@@ -184,6 +184,11 @@ def opening_of(where: str, epoch: int, text: Union[str, bytes]) -> Opening:
         raise DamagedLog(f'{where}: epoch {epoch} has no opening: {fault}') from fault
 
 
+def wish_of(where: str, epoch: int, text: Union[None, str, bytes]) -> Optional[Opening]:
+    """What is wished for in an epoch, as a store has it. Raises DamagedLog."""
+    return None if text is None else opening_of(where, epoch + 1, text)
+
+
 def seconds_of_boot() -> float:
     """The clock of leases on one machine: seconds since it booted, with those of its sleep."""
     return time.clock_gettime(time.CLOCK_BOOTTIME)
@@ -344,7 +349,8 @@ class MemoryLog:
         before = known[1] if known[0] == Promise(epoch, place) else frozenset()
         with self._changed:
             while not self.has_news(epoch, place, lives, told, until, before) and self.clock() < end:
-                self._changed.wait(max(0, min([end, *self.ends()]) - self.clock()) / SECOND)
+                ends = [lease.until for lease in self.leases.values() if self.clock() < lease.until]
+                self._changed.wait(max(0, min([end, *ends]) - self.clock()) / SECOND)
 
     def has_news(self, epoch: int, place: int, lives: Mapping[str, Life], wish: Optional[Opening], until: Until, before: AbstractSet[str]) -> bool:
         """Whether a wait is over before its time behind a look that found this wish, and these idle up to that place."""
@@ -353,11 +359,6 @@ class MemoryLog:
                 return True
             there = {name: holder.life for name, holder in self.presences.items()}
             return there != lives or are_idle(until, self._promises(), Promise(epoch, place), before)
-
-    def ends(self) -> List[int]:
-        """When the presences end that there are."""
-        now = self.clock()
-        return [lease.until for lease in self.leases.values() if now < lease.until]
 
     def ask(self, wish: Opening, epoch: int) -> bool:
         with self._changed:

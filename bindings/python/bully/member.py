@@ -206,14 +206,10 @@ def _moment(now: int) -> int:
 
 
 def _raw_presence(presence: Presence) -> RawPresence:
-    life, promise = presence.life, presence.promise
-    return RawPresence(
-        number_of('a process', life.process, UINT64_MAX),
-        number_of('a number of a life', life.number, UINT64_MAX),
-        number_of('an epoch', promise.epoch, UINT32_MAX),
-        number_of('a place', promise.place, UINT32_MAX),
-        number_of('a node', presence.node, UINT16_MAX),
-    )
+    life, promise, node = presence.life, presence.promise, number_of('a node', presence.node, UINT16_MAX)
+    process, number = number_of('a process', life.process, UINT64_MAX), number_of('a number of a life', life.number, UINT64_MAX)
+    epoch, place = number_of('an epoch', promise.epoch, UINT32_MAX), number_of('a place', promise.place, UINT32_MAX)
+    return RawPresence(process, number, epoch, place, node)
 
 
 class Core(Learned):

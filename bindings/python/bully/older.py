@@ -5,7 +5,6 @@ Members of that form appended row by row; no member of today may share a log wit
 from __future__ import annotations
 
 import contextlib
-import sqlite3
 import ssl
 from typing import List, Optional, Sequence
 
@@ -25,15 +24,12 @@ def file_trace(path: str, epoch: Optional[int]) -> Optional[Sequence[str]]:
     Raises NoLog, ForeignLog, DamagedLog, NoEpoch, Unanswered."""
     identity(path)
     with calls(path), contextlib.closing(connection(path, 1.0)) as file:
-        return read_file(path, file, epoch) if form_of(path, file) == FORM else None
-
-
-def read_file(path: str, file: sqlite3.Connection, epoch: Optional[int]) -> Sequence[str]:
-    """The same, of a file of the older form."""
-    file.execute('begin deferred')
-    number = file.execute('select coalesce(max(epoch), 0) from log').fetchone()[0] if epoch is None else epoch
-    packs = file.execute('select rows from packs where epoch = ? order by number', (number,)).fetchall()
-    rows = file.execute('select place, row from log where epoch = ? order by place', (number,)).fetchall()
+        if form_of(path, file) != FORM:
+            return None
+        file.execute('begin deferred')
+        number = file.execute('select coalesce(max(epoch), 0) from log').fetchone()[0] if epoch is None else epoch
+        packs = file.execute('select rows from packs where epoch = ? order by number', (number,)).fetchall()
+        rows = file.execute('select place, row from log where epoch = ? order by place', (number,)).fetchall()
     found = [*''.join([text for text, in packs]).split('\n')[:-1], *(row for _, row in rows)]
     return checked(path, number, found, rows[-1][0] + 1 if rows else 0)
 

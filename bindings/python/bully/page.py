@@ -2,6 +2,7 @@
 from __future__ import annotations
 
 import base64
+import functools
 import hashlib
 import html
 import json
@@ -11,7 +12,7 @@ import sys
 import threading
 import time
 from http.server import BaseHTTPRequestHandler, ThreadingHTTPServer
-from typing import Any, Dict, List, Optional, Tuple, Type
+from typing import Any, Callable, Dict, List, Optional, Tuple
 from urllib.parse import parse_qs, urlsplit
 
 from .faults import BullyError
@@ -151,7 +152,7 @@ class Server(ThreadingHTTPServer):
     daemon_threads = True
     block_on_close = False
 
-    def __init__(self, address: Tuple[str, int], handler: Type[BaseHTTPRequestHandler]) -> None:
+    def __init__(self, address: Tuple[str, int], handler: Callable[..., BaseHTTPRequestHandler]) -> None:
         self.address_family = socket.AF_INET6 if ':' in address[0] else socket.AF_INET
         super().__init__(address, handler)
 
@@ -171,13 +172,7 @@ class Page:
         self._name = member.name
         self._is_closed = False
         self._requests = threading.BoundedSemaphore(REQUESTS_MAX)
-        page = self
-
-        class Handler(PageHandler):
-            pass
-
-        Handler.page = page
-        self._server = Server(address, Handler)
+        self._server = Server(address, functools.partial(PageHandler, self))
         self._hosts = LOOPBACK if address[0] in LOOPBACK else None
 
     @property
@@ -252,14 +247,16 @@ class Page:
 class PageHandler(BaseHTTPRequestHandler):
     """One request."""
 
-    page: Optional[Page] = None
     protocol_version = 'HTTP/1.1'
     server_version = 'bully-member'
     sys_version = ''
     timeout = 60
 
+    def __init__(self, page: Page, *told: Any) -> None:
+        self.page = page
+        super().__init__(*told)
+
     def do_GET(self) -> None:
-        assert self.page is not None
         self.send(*self.page.answer(self.path, self.headers.get('Host', '')))
 
     def refuse(self) -> None:

@@ -19,7 +19,7 @@ from .epochs import Opening
 from .guard import is_stopped, writer_of
 from .logs import (
     BY_HISTORY, SECOND, DamagedLog, DiskFull, ForeignLog, Found, Holder, LogBusy, LogExists, NoLog, ReadOnlyLog, Unanswered, are_idle,
-    nanoseconds_of_boot, no_epoch, opening_of, rows_text, slept,
+    nanoseconds_of_boot, no_epoch, opening_of, rows_text, slept, wish_of,
 )  # fmt: skip
 from .member import Life, Promise, Until
 from .values import Rows
@@ -60,20 +60,13 @@ def connection(path: str, patience: float, mode: str = 'rw') -> sqlite3.Connecti
     return sqlite3.connect(name, timeout=patience, isolation_level=None, check_same_thread=False, uri=True)
 
 
-def write_new(path: str, opening: Opening) -> None:
-    """Writes a new file with a log that begins so."""
-    with calls(path), closing(connection(path, 1.0, 'rwc')) as file:
-        file.executescript(f'pragma journal_mode = wal; pragma application_id = {APPLICATION}; pragma user_version = {FORM}; {TABLES}')
-        open_epoch(file, opening)
-
-
 def open_epoch(file: sqlite3.Connection, opening: Opening) -> None:
     """The epoch begins with this opening."""
     file.execute('insert into epochs values (?, ?, null, 0)', (opening.epoch, opening.text()))
 
 
-def remove_new(path: str) -> None:
-    """Removes what `write_new` made."""
+def remove(path: str) -> None:
+    """Removes a file of SQLite, with those beside it."""
     for end in ('', '-wal', '-shm', '-journal'):
         with suppress(OSError):
             os.remove(path + end)
@@ -169,14 +162,16 @@ class SqliteLog:
         name = os.fspath(path)
         room = f'{name}.{os.getpid()}.new'
         try:
-            write_new(room, opening)
+            with calls(room), closing(connection(room, 1.0, 'rwc')) as file:
+                file.executescript(f'pragma journal_mode = wal; pragma application_id = {APPLICATION}; pragma user_version = {FORM}; {TABLES}')
+                open_epoch(file, opening)
             os.link(room, name)
         except FileExistsError:
             raise LogExists(f'{name}: something is there already') from None
         except OSError as error:
             raise ReadOnlyLog(f'{name}: {error.strerror}') from error
         finally:
-            remove_new(room)
+            remove(room)
         return SqliteLog(name)
 
     def _open(self, kind: str) -> None:
@@ -205,13 +200,12 @@ class SqliteLog:
                 raise no_epoch(self.path, number, self.epochs())
         return opening_of(self.path, number, found[0])
 
-    def _wish(self, standing: Standing) -> Optional[Opening]:
-        return opening_of(self.path, standing.end.epoch + 1, standing.wish) if standing.wish else None
-
     def finish(self, epoch: int, place: int, opening: Opening) -> bool:
         with self._syncing():
             standing = self._standing()
-            if not self._may_append(standing, Promise(epoch, place)) or opening.bare != self.opening(epoch).after(self._wish(standing)):
+            if not self._may_append(standing, Promise(epoch, place)):
+                return False
+            if opening.bare != self.opening(epoch).after(wish_of(self.path, epoch, standing.wish)):
                 return False
             open_epoch(self._file, opening)
             self._file.execute('update epochs set wish = null where epoch = ?', (epoch,))
@@ -332,7 +326,7 @@ class SqliteLog:
             standing = self._standing()
             end = standing.end
             rows = self._rows(epoch, place, end.place) if epoch == end.epoch else Rows('')
-            found = Found(end.epoch, rows, self._look_around(standing), self._wish(standing))
+            found = Found(end.epoch, rows, self._look_around(standing), wish_of(self.path, end.epoch, standing.wish))
         self._told_wish, self._told_idle = standing.wish, (end, found.idle(end))
         return found
 

@@ -142,9 +142,9 @@ def tls_of(options: argparse.Namespace) -> ssl.SSLContext:
 
 def password_of(path: Optional[str]) -> str:
     """The password in this file, or else in the environment, where it doesn't stay: a worker doesn't need it."""
-    if path is None and PASSWORD not in os.environ:
+    if path is not None:
+        with open(path, encoding='utf-8') as file:
+            return file.readline().rstrip('\r\n')
+    if PASSWORD not in os.environ:
         raise BadStore(f'--user goes with {PASSWORD} in the environment, or with --password-file')
-    if path is None:
-        return os.environ.pop(PASSWORD)
-    with open(path, encoding='utf-8') as file:
-        return file.readline().rstrip('\r\n')
+    return os.environ.pop(PASSWORD)
