@@ -29,7 +29,7 @@ from .logs import LogError, Unanswered, seconds_of_boot
 from .resizing import NotEnded, resize
 from .running import Member, NotInGroup, OtherGroup
 from .settings import ConfigFault, Settings, read_settings, shown_name
-from .stores import BadStore, FileStore, add_words, store_of
+from .stores import BadWords, FileStore, add_words, store_of
 from .view import GroupView, LogView
 from .worker import GuardLost, WorkerEnded, Workers
 
@@ -39,10 +39,6 @@ AGAIN = 0.1  # seconds before a log that didn't answer is asked again
 
 _Answer = TypeVar('_Answer')
 _told = logging.getLogger('bully')
-
-
-class BadWords(Exception):
-    """Words that the command doesn't take."""
 
 
 def parser() -> argparse.ArgumentParser:
@@ -211,8 +207,8 @@ COMMANDS = {'init': init, 'run': run, 'status': status, 'history': history, 'res
 
 # What ends a command, and its status.
 STATUSES: Tuple[Tuple[Type[Exception], int], ...] = (
-    (BadWords, BAD_WORDS), (BadStore, BAD_WORDS), (ConfigFault, BAD_INPUT), (OtherGroup, BAD_INPUT), (NotInGroup, BAD_INPUT),
-    (BullyError, BAD_INPUT), (LogError, NO_STORE), (OSError, NO_STORE), (WorkerEnded, FAILED), (GuardLost, FAILED), (NotEnded, FAILED),
+    (BadWords, BAD_WORDS), (ConfigFault, BAD_INPUT), (OtherGroup, BAD_INPUT), (NotInGroup, BAD_INPUT), (BullyError, BAD_INPUT),
+    (LogError, NO_STORE), (OSError, NO_STORE), (WorkerEnded, FAILED), (GuardLost, FAILED), (NotEnded, FAILED),
 )  # fmt: skip
 
 

@@ -39,14 +39,12 @@ def setup_parts(setup: Setup) -> Tuple[Any, ...]:
 
 def version() -> str:
     """The version of the library, as `bully --version` tells it."""
-    told: bytes = loaded().bully_version()
-    return told.decode('ascii')
+    return str(loaded().bully_version(), 'ascii')
 
 
 def status_name(status: int) -> str:
     """The name of a status of the library, as `OK`; `?` of a number that is none."""
-    name: bytes = loaded().bully_status_name(number_of('status', status, UINT32_MAX))
-    return name.decode('ascii')
+    return str(loaded().bully_status_name(number_of('status', status, UINT32_MAX)), 'ascii')
 
 
 def check(trace: Union[str, bytes, bytearray, memoryview]) -> Verdict:

@@ -169,7 +169,6 @@ class Page:
         """It listens at this address from now on. An OSError tells that it can't."""
         self._view = view
         self._member = member
-        self._name = member.name
         self._is_closed = False
         self._requests = threading.BoundedSemaphore(REQUESTS_MAX)
         self._server = Server(address, functools.partial(PageHandler, self))
@@ -209,13 +208,13 @@ class Page:
             self._wait(events, epoch)
         group = self._view.show()
         if parts.path == '/':
-            return 200, 'text/html', page_of(self._name, group)
+            return 200, 'text/html', page_of(self._member.name, group)
         if parts.path == '/group':
             return 200, 'application/json', json.dumps(group.told()) + '\n'
         if parts.path == '/assignment':
             return 200, 'application/json', json.dumps(self._assignment(group)) + '\n'
         if parts.path == '/metrics':
-            return 200, 'text/plain; version=0.0.4', metrics_of(group, self._name, self._sure_seconds())
+            return 200, 'text/plain; version=0.0.4', metrics_of(group, self._member.name, self._sure_seconds())
         if parts.path == '/healthz':
             return (200, 'text/plain', 'present\n') if self._sure_seconds() > 0 else (503, 'text/plain', 'not present\n')
         return 404, 'text/plain', 'there is no such page\n'
@@ -236,7 +235,7 @@ class Page:
         """What the member owns now."""
         owned = self._member.assignment()
         told: Dict[str, Any] = {
-            'node': self._name, 'epoch': group.epoch, 'events': group.events, 'token': None, 'coordinator': None, 'partitions': [],
+            'node': self._member.name, 'epoch': group.epoch, 'events': group.events, 'token': None, 'coordinator': None, 'partitions': [],
         }  # fmt: skip
         if owned is not None:
             coordinator = owned.settings.name(owned.coordinator)

@@ -33,8 +33,7 @@ class Replica(Learned):
         self._nodes = self.nodes
 
     def _words(self) -> str:
-        group = self._group()
-        return f'of {group.nodes} nodes, {group.rows} rows'
+        return f'of {self.nodes} nodes, {self.rows} rows'
 
     # What the log tells.
 
@@ -108,8 +107,7 @@ class Replica(Learned):
         the last plan's token is above this place.
 
         Raises Closed, BadNode, OutOfMemory."""
-        at = number_of('a place', place, UINT32_MAX)
-        return owned_of(self._partitions, self._function('owned'), node_of(node), at)
+        return owned_of(self._partitions, self._function('owned'), node_of(node), number_of('a place', place, UINT32_MAX))
 
     # How a node stands, behind the rows that were learned. `state` has all. Each raises Closed and BadNode.
 
