@@ -14,8 +14,8 @@ from typing import Callable, Dict, List, Optional, Tuple, Type
 import bully
 from bully import NotLearned, Owned, Replica, Status, check
 from bully.member import (
-    TTL_MAX, TTL_MIN, Append, Ask, BeIdle, Begin, Core, End, Ending, Finish, Follow, Life, Look, Opening, Presence, Present, Promise,
-    Release, Renew, Request, Rest, Seen, Step, Stop, StoreAnswer, Take, Unknown, Until, Wait, Way, Work,
+    TTL_MAX, TTL_MIN, Ask, Begin, Core, End, Ending, Life, Opening, Presence, Present, Promise, Request, Rest, Seen, Step, Stop, StoreAnswer,
+    Unknown, Until, Wait, Way, Work,
 )  # fmt: skip
 
 ROOT = Path(__file__).resolve().parents[2]
@@ -148,27 +148,27 @@ class Stories(unittest.TestCase):
         if not self.core.is_closed:
             self.core.close()
 
-    def ask(self, now: int, request: Request) -> None:
-        self.assertEqual(self.core.next(now), Ask(request))
+    def ask(self, now: int, request: Request, life: Life = Life(0, 0), place: int = 0) -> None:
+        self.assertEqual(self.core.next(now), Ask(request, life, place))
 
     def looked(self, now: int, place: Optional[int] = None, is_wished: bool = False) -> None:
         presences = () if place is None else (Presence(1, FIRST, Promise(7, place)),)
         self.core.looked(now, Seen(7, presences, False, is_wished))
 
     def take(self) -> None:
-        self.ask(0, Look())
+        self.ask(0, Request.LOOK)
         self.looked(5)
-        self.ask(10, Take(FIRST, 0))
+        self.ask(10, Request.TAKE, FIRST, 0)
         self.core.answered(20, StoreAnswer.DONE)
-        self.ask(30, Look())
+        self.ask(30, Request.LOOK)
         self.looked(40, 0)
 
     def begin(self) -> None:
         self.take()
-        self.ask(50, Append(0))
+        self.ask(50, Request.APPEND, place=0)
         self.assertEqual(self.core.settlement(), ALONE)
         self.core.answered(60, StoreAnswer.DONE)
-        self.ask(70, Look())
+        self.ask(70, Request.LOOK)
         self.core.learn(ALONE)
         self.looked(80, 0)
         self.assertEqual(self.core.next(90), Begin(5))
@@ -182,20 +182,20 @@ class Stories(unittest.TestCase):
         self.assertEqual((core.state(1).status, core.last_table, core.planner, core.nodes, core.partitions), (Status.NORMAL, (1,), 1, 1, 1))
         self.assertEqual(core.next(100), Wait(249_910, Until.ANY_IDLE))
         core.woke()
-        self.ask(110, Look())
+        self.ask(110, Request.LOOK)
         core.answered(120, StoreAnswer.UNANSWERED)
         self.assertEqual(core.next(130), Rest(49_990))
-        self.ask(260_010, Renew(FIRST))
+        self.ask(260_010, Request.RENEW, FIRST)
         core.answered(260_020, StoreAnswer.REFUSED)
         self.assertEqual((core.next(260_030), core.work, core.life), (Stop(), Work(Way.STOPPING, 5), None))
         self.assertEqual(core.next(260_040), Rest(TTL_MIN))
         core.stopped()
-        self.ask(260_050, Look())
+        self.ask(260_050, Request.LOOK)
         self.looked(260_060)
-        self.ask(260_070, Take(SECOND, 6))
+        self.ask(260_070, Request.TAKE, SECOND, 6)
         core.answered(260_080, StoreAnswer.UNANSWERED)
         self.assertEqual((core.life, core.promised, core.work, core.sure_until), (Unknown(SECOND), 6, None, 0))
-        self.ask(310_080, Release(SECOND))
+        self.ask(310_080, Request.RELEASE, SECOND)
 
     def test_its_work_ends_outside(self) -> None:
         self.begin()
@@ -211,40 +211,40 @@ class Stories(unittest.TestCase):
         self.core.leave()
         self.assertEqual((self.core.ending, self.core.next(100)), (Ending.LEFT, Stop()))
         self.core.stopped()
-        self.ask(110, BeIdle(FIRST, 6))
+        self.ask(110, Request.BE_IDLE, FIRST, 6)
         self.core.answered(120, StoreAnswer.DONE)
-        self.ask(130, Append(6))
+        self.ask(130, Request.APPEND, place=6)
         self.assertEqual(self.core.settlement(), ['crash,1'])
         self.core.answered(140, StoreAnswer.DONE)
-        self.ask(150, Look())
+        self.ask(150, Request.LOOK)
         self.core.learn(['crash,1'])
         self.looked(160, 6)
-        self.ask(170, Release(FIRST))
+        self.ask(170, Request.RELEASE, FIRST)
         self.core.answered(180, StoreAnswer.DONE)
         self.assertEqual(self.core.next(190), End(Ending.LEFT))
 
     def test_it_goes_on_in_another_epoch(self) -> None:
         self.begin()
         self.core.woke()
-        self.ask(100, Look())
+        self.ask(100, Request.LOOK)
         self.looked(110, 0, True)
         self.assertEqual((self.core.is_wished, self.core.next(120)), (True, Stop()))
         self.core.stopped()
-        self.ask(130, BeIdle(FIRST, 6))
+        self.ask(130, Request.BE_IDLE, FIRST, 6)
         self.core.answered(140, StoreAnswer.DONE)
-        self.ask(150, Finish(6))
+        self.ask(150, Request.FINISH, place=6)
         self.core.answered(160, StoreAnswer.DONE)
-        self.ask(170, Follow())
+        self.ask(170, Request.FOLLOW)
         with self.assertRaises(bully.BadNode):
             self.core.followed(180, replace(ONE, epoch=8, node=2))
         self.core.followed(180, Opening('bully,1,1,3', 8, 1, 22, (1, 0, 0)))
         self.assertEqual((self.core.epoch, self.core.place, self.core.partitions, self.core.life), (8, 0, 3, Present(FIRST, 10)))
-        self.ask(190, Look())
+        self.ask(190, Request.LOOK)
         self.core.passed()
-        self.ask(200, Follow())
+        self.ask(200, Request.FOLLOW)
         self.core.followed(210, None)
         self.assertEqual(self.core.ending, Ending.NOT_THERE)
-        self.ask(220, Release(FIRST))
+        self.ask(220, Request.RELEASE, FIRST)
 
     def test_a_log_is_broken(self) -> None:
         for rows, cause in ((['recover,1', 'recover,1'], bully.IsUp), (['nothing,1'], bully.BadRow), (['\ufeffrecover,1'], bully.BadRow)):
@@ -270,7 +270,7 @@ class Stories(unittest.TestCase):
         self.core.followed(45, None)
         self.core.answered(45, StoreAnswer.UNANSWERED)
         self.assertEqual((self.core.epoch, self.core.ending), (7, None))
-        self.ask(50, Append(0))
+        self.ask(50, Request.APPEND, place=0)
 
     def test_refusals(self) -> None:
         for fault, opening, ttl in (
@@ -288,7 +288,7 @@ class Stories(unittest.TestCase):
         with self.assertRaises(ValueError):
             Core(ONE, 1 << 64, TTL_MIN)
         Core(ONE, (1 << 64) - 1, TTL_MAX).close()
-        self.ask(0, Look())
+        self.ask(0, Request.LOOK)
         for node, fault in ((0, bully.BadNode), (2, bully.BadNode), (65536, ValueError)):
             with self.assertRaises(fault):
                 self.core.looked(1, Seen(7, (Presence(node, FIRST, Promise(7, 0)),)))
@@ -319,32 +319,32 @@ class Store:
         self.log: List[str] = []
         self.presences: Dict[int, Presence] = {}
 
-    def ask(self, core: Core, now: int, request: Request) -> None:
+    def ask(self, core: Core, now: int, ask: Ask) -> None:
         """Does what is asked, and tells what became of it."""
-        if isinstance(request, Look):
+        if ask.request is Request.LOOK:
             core.learn(self.log[core.place :])
             core.looked(now, Seen(1, tuple(self.presences[node] for node in sorted(self.presences))))
             return
-        core.answered(now, StoreAnswer.DONE if self._do(core, request) else StoreAnswer.REFUSED)
+        core.answered(now, StoreAnswer.DONE if self._do(core, ask) else StoreAnswer.REFUSED)
 
-    def _do(self, core: Core, request: Request) -> bool:
+    def _do(self, core: Core, ask: Ask) -> bool:
         held = self.presences.get(core.node)
-        if isinstance(request, Take):
-            is_free = held is None and request.place == len(self.log)
+        if ask.request is Request.TAKE:
+            is_free = held is None and ask.place == len(self.log)
             if is_free:
-                self.presences[core.node] = Presence(core.node, request.life, Promise(1, request.place))
+                self.presences[core.node] = Presence(core.node, ask.life, Promise(1, ask.place))
             return is_free
-        if isinstance(request, (BeIdle, Renew, Release)):
-            if held is None or held.life != request.life:
+        if ask.request in (Request.BE_IDLE, Request.RENEW, Request.RELEASE):
+            if held is None or held.life != ask.life:
                 return False
-            if isinstance(request, BeIdle):
-                self.presences[core.node] = replace(held, promise=max(held.promise, Promise(1, request.place)))
-            if isinstance(request, Release):
+            if ask.request is Request.BE_IDLE:
+                self.presences[core.node] = replace(held, promise=max(held.promise, Promise(1, ask.place)))
+            if ask.request is Request.RELEASE:
                 del self.presences[core.node]
             return True
-        assert isinstance(request, Append)
+        assert ask.request is Request.APPEND
         here = Promise(1, len(self.log))
-        may = request.place == here.place and all(presence.promise == here for presence in self.presences.values())
+        may = ask.place == here.place and all(presence.promise == here for presence in self.presences.values())
         if may and self.presences:
             self.log += core.settlement()
         return may and bool(self.presences)
@@ -359,7 +359,7 @@ class Groups(unittest.TestCase):
                 now += 1
                 step: Step = core.next(now)
                 if isinstance(step, Ask):
-                    store.ask(core, now, step.request)
+                    store.ask(core, now, step)
                 elif isinstance(step, Stop):
                     core.stopped()
                 elif isinstance(step, Wait):

@@ -20,7 +20,7 @@ from unittest import mock
 from bully import etcd, gateway
 from bully.epochs import Opening
 from bully.etcd import EtcdLog
-from bully.gateway import Address, Client, Denied, Endpoint, one, read_address
+from bully.gateway import Address, Client, Denied, Endpoint, one, read_address, value_of
 from bully.logs import SECOND, DamagedLog, ForeignLog, Holder, Log, LogError, LogExists, NoEpoch, NoLog, Unanswered
 from bully.member import Life, Promise, Until
 from bully.stores import EtcdStore
@@ -1488,7 +1488,7 @@ class MovesWhatItFound(EtcdLog):
     """A promise that is made meanwhile is lost by a move."""
 
     def renew(self, name: str, life: Life, ttl: int) -> bool:
-        self._promised = self._value(self._look(one(self._keys.promise(name))).ranges[0]) or b''
+        self._promised = value_of(self._look(one(self._keys.promise(name))).ranges[0]) or b''
         return super().renew(name, life, ttl)
 
     def _change(self, conditions: Sequence[Json], done: Sequence[Json], *refused: Json) -> gateway.Answer:

@@ -592,8 +592,8 @@ class SlowSql(SqliteLog):
         if not self._may_append(self._standing(), Promise(epoch, place)):
             return False
         time.sleep(0.01)
-        with self._calls(), self._writing():
-            end = self._standing().place
+        with self._transaction():
+            end = self._standing().end.place
             self._file.execute('insert into log values (?, ?, ?)', (epoch, end, rows_text(rows)))
             self._file.execute('update epochs set count = ? where epoch = ?', (end + len(rows), epoch))
         return True

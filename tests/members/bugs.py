@@ -8,9 +8,9 @@ import planted
 from asking import KeptLog
 from bully.epochs import Opening
 from bully.etcd import Held, place_text, same
-from bully.gateway import Json, Pair, number_is, one, pairs_of, put, value_is
+from bully.gateway import Json, Pair, number_is, one, pairs_of, put, value_is, value_of
 from bully.logs import Holder, MemoryLog, rows_text
-from bully.member import BeIdle, Core, Life, Promise, Take, Until
+from bully.member import Core, Life, Promise, Request, Until
 from bully.sqlite import life_text
 from over_etcd import OverEtcd
 from over_memory import MemoryStore, OverMemory
@@ -171,7 +171,7 @@ class PromisesUnderLease(KeptLog):
         answer = self._change([is_held, is_later], [put(keys.promise(name), told, **under)], one(keys.life(name)), one(keys.promise(name)))
         if answer.is_done:
             return True
-        holder, promised = map(self._value, answer.ranges)
+        holder, promised = map(value_of, answer.ranges)
         return holder == life_text(life).encode() and (promised or b'') >= told.encode()
 
 
@@ -191,7 +191,7 @@ class MovesPromiseOn(KeptLog):
     """Under a new lease a presence has promised the end of the log."""
 
     def _move(self, name: str, found: Pair, held: Held) -> bool:
-        end = self._value(self._look(one(self._keys.place)).ranges[0]) or b''
+        end = value_of(self._look(one(self._keys.place)).ranges[0]) or b''
         key, under = self._keys.life(name), str(held.lease)
         moved = [put(key, life_text(held.life), lease=under), put(self._keys.promise(name), end.decode(), lease=under)]
         answer = self._change([number_is(key, 'mod_revision', found.modified)], moved, one(key))
@@ -207,7 +207,7 @@ class TakesAnyPlaceThere(KeptLog):
         self._client.begin()
         keys = self._keys
         answer = self._look(one(keys.life(name), keys_only=True), one(keys.place))
-        if answer.ranges[0].get('kvs') or (self._value(answer.ranges[1]) or b'')[:10] != place_text(promise).encode()[:10]:
+        if answer.ranges[0].get('kvs') or (value_of(answer.ranges[1]) or b'')[:10] != place_text(promise).encode()[:10]:
             return False
         held = self._granted(life, ttl, answer.term)
         under = str(held.lease)
@@ -252,7 +252,7 @@ class RenewsAcrossGapThere(KeptLog):
         keys = self._keys
         answer = self._look(one(keys.place))
         held = self._granted(life, ttl, answer.term)
-        under, end = str(held.lease), (self._value(answer.ranges[0]) or b'').decode()
+        under, end = str(held.lease), (value_of(answer.ranges[0]) or b'').decode()
         done = [put(keys.life(name), life_text(life), lease=under), put(keys.promise(name), end, lease=under)]
         is_done = self._change([number_is(keys.life(name), 'version', 0)], done).is_done
         if is_done:
@@ -280,7 +280,7 @@ class PromisesForAnybodyThere(KeptLog):
         answer = self._change([is_later], [kept], one(keys.life(name)), one(keys.promise(name)))
         if answer.is_done:
             return True
-        holder, promised = map(self._value, answer.ranges)
+        holder, promised = map(value_of, answer.ranges)
         return holder == life_text(life).encode() and (promised or b'') >= told
 
 
@@ -351,7 +351,7 @@ class SlowTakes(Trouble):
         super().__init__(choice)
         self.lost = self.unanswered = self.slow = self.cuts = self.pauses = self.ends = self.wishes = self.renewal_pauses = 0.0
         self.deaths, self.leaves, self.joins, self.short = 0.7, 0.0, 0.7, 0.0
-        self.nodes, self.slowest, self.trip, self.patience, self.room = 1, Take, 0.002, 3.0, 10_000
+        self.nodes, self.slowest, self.trip, self.patience, self.room = 1, Request.TAKE, 0.002, 3.0, 10_000
 
 
 class ShortLives(SlowTakes):
@@ -367,7 +367,7 @@ class SlowPromises(SlowTakes):
 
     def __init__(self, choice: random.Random) -> None:
         super().__init__(choice)
-        self.nodes, self.slowest, self.deaths, self.leaves, self.joins, self.short = 3, BeIdle, 0.3, 0.3, 2.0, 0.3
+        self.nodes, self.slowest, self.deaths, self.leaves, self.joins, self.short = 3, Request.BE_IDLE, 0.3, 0.3, 2.0, 0.3
 
 
 class Bug(NamedTuple):

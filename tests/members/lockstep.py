@@ -8,8 +8,7 @@ from typing import Callable, Dict, Iterator, List, Optional, Sequence, Tuple, Ty
 import proved
 from bully import BullyError, Owned, Setup
 from bully.member import (
-    Append, Ask, BeIdle, Begin, End, Finish, Follow, Life, Look, Opening, Presence, Present, Promise, Rest, Seen, Step, StoreAnswer,
-    Unknown, Wait,
+    Ask, Begin, End, Life, Opening, Presence, Present, Promise, Request, Rest, Seen, Step, StoreAnswer, Unknown, Wait,
 )  # fmt: skip
 from plain import SETTLEMENT, Plain, is_at_rest, settle
 from settling import TTL, Maker, Rules, Wrong
@@ -140,7 +139,7 @@ class Anything:
         if self.choice.random() < 0.15:
             self.tell_kind(self.choice.choice(['answer', 'look', 'woke', 'stopped', 'lost', 'follow', 'pass', 'leave', 'nothing']))
         elif isinstance(step, Ask):
-            self.tell_kind('look' if isinstance(step.request, Look) else 'follow' if isinstance(step.request, Follow) else 'answer')
+            self.tell_kind({Request.LOOK: 'look', Request.FOLLOW: 'follow'}.get(step.request, 'answer'))
         elif not isinstance(step, Begin):
             self.tell_kind('woke' if isinstance(step, Wait) else self.choice.choice(['stopped', 'nothing']))
 
@@ -200,10 +199,10 @@ class Anything:
         work, may_begin = plain.work, self.may_begin()
         step = self.both.next(self.now)
         waited = step.at_most if isinstance(step, (Wait, Rest)) else 1
-        is_of_group = isinstance(step, Ask) and isinstance(step.request, (Append, Finish, BeIdle))
+        is_of_group = isinstance(step, Ask) and step.request in (Request.APPEND, Request.FINISH, Request.BE_IDLE)
         if isinstance(step, Begin) and not may_begin or waited <= 0 or is_of_group and work:
             raise Wrong(f'{step}, while it does {work}: {plain.state()}')
-        if isinstance(step, Ask) and isinstance(step.request, Append):
+        if isinstance(step, Ask) and step.request is Request.APPEND:
             self.both.settlement()
         self.now += self.choice.choice([0, 0, 1, TTL // 100, TTL // 20, TTL // 5, waited, 2 * TTL])
         return step

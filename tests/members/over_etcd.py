@@ -15,7 +15,7 @@ from bully.epochs import FIRST, Opening
 from bully.etcd import AGAIN, FEW, place_of
 from bully.gateway import Json, Silent, behind
 from bully.logs import SECOND, LogError, NoEpoch, Unanswered
-from bully.member import Life, Promise, Renew, Until, Wait
+from bully.member import Ask, Life, Promise, Until, Wait
 from bully.member import Request as Asked
 from bully.settings import Settings
 from bully.sqlite import life_of
@@ -176,7 +176,7 @@ class EtcdMember(LogMember):
 
     simulation: OverEtcd
     call_type: Type[Call] = Call
-    asked: Optional[Asked] = None
+    asked: Optional[Ask] = None
 
     def opened(self) -> logs.Log:
         simulation = self.simulation
@@ -190,20 +190,20 @@ class EtcdMember(LogMember):
     def noted(self, what: str, done: bool) -> bool:
         return done  # it was, when it was done
 
-    def ask(self, request: Asked) -> None:
-        call = self.called(request)
+    def ask(self, ask: Ask) -> None:
+        call = self.called(ask)
         self.turn += 1
-        turn, self.is_asking, self.asked = self.turn, True, request
+        turn, self.is_asking, self.asked = self.turn, True, ask
 
         def answer(told: object) -> None:
             if turn != self.turn:
                 raise Wrong(f'{self} asks twice')
             self.is_asking = False
-            self.tell(request, told)
+            self.tell(ask, told)
             self.go()
 
         self.call_type(self, call, answer).go_on()
-        if isinstance(request, Renew) and self.simulation.happens('a pause with a renewal', self.simulation.trouble.renewal_pauses):
+        if ask.request is Asked.RENEW and self.simulation.happens('a pause with a renewal', self.simulation.trouble.renewal_pauses):
             self.simulation.pause(self)
 
 

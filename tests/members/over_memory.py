@@ -11,7 +11,7 @@ from typing import Callable, Dict, List, Optional, Tuple, Type
 from bully import logs
 from bully.epochs import FIRST, Opening
 from bully.logs import MemoryLog
-from bully.member import Append, BeIdle, Finish, Follow, Life, Look, Presence, Promise, Release, Renew, Request, Seen, Take, Until
+from bully.member import Ask, Life, Presence, Promise, Request, Seen, Until
 from bully.member import Opening as Terms
 from bully.settings import Settings
 from settling import Maker, Member, Simulation, StoreMaker, Trouble
@@ -111,29 +111,25 @@ class LogMember(Member):
         """What came of an append, or of the end of an epoch, at the moment when it is done."""
         return self.simulation.changed(what, done)
 
-    def called(self, request: Request) -> Callable[[], object]:
-        log, name, epoch, ttl = self.log, self.name, self.epoch, self.simulation.ttl
-        if isinstance(request, Take):
-            life, here = request.life, Promise(epoch, request.place)
-            return lambda: log.take(name, life, here, self.simulation.lease())
-        if isinstance(request, Renew):
-            life = request.life
+    def called(self, ask: Ask) -> Callable[[], object]:
+        log, name, epoch, life, place = self.log, self.name, self.epoch, ask.life, ask.place
+        if ask.request is Request.TAKE:
+            return lambda: log.take(name, life, Promise(epoch, place), self.simulation.lease())
+        if ask.request is Request.RENEW:
             return lambda: log.renew(name, life, self.simulation.lease())
-        if isinstance(request, Release):
-            return partial(self.released, request.life)
-        if isinstance(request, Look):
-            place, opening = self.place, self.opening
-            return lambda: self.found_of(opening, place, log.look(epoch, place))
-        if isinstance(request, Follow):
+        if ask.request is Request.RELEASE:
+            return partial(self.released, life)
+        if ask.request is Request.LOOK:
+            behind, opening = self.place, self.opening
+            return lambda: self.found_of(opening, behind, log.look(epoch, behind))
+        if ask.request is Request.FOLLOW:
             return lambda: (log.opening(),)
-        place = request.place
-        if isinstance(request, BeIdle):
-            life = request.life
+        if ask.request is Request.BE_IDLE:
             return lambda: log.promise(name, life, Promise(epoch, place))
-        if isinstance(request, Append):
+        if ask.request is Request.APPEND:
             rows = tuple(self.rules.settlement())
             return lambda: self.noted('an append', log.append(epoch, place, rows))
-        assert isinstance(request, Finish) and isinstance(self.found, FoundInLog)
+        assert ask.request is Request.FINISH and isinstance(self.found, FoundInLog)
         opening = self.opening.next(self.found.told.wish, self.last_table())
         return lambda: self.noted('the end of an epoch', log.finish(epoch, place, opening))
 

@@ -12,8 +12,8 @@ from typing import Callable, Dict, FrozenSet, List, Optional, Sequence, Tuple, U
 from bully import NotLearned, Owned, Replica, Setup, Status
 from bully.epochs import setup_of
 from bully.member import (
-    Append, Ask, BeIdle, Begin, End, Ending, Finish, Follow, Life, Look, Opening, Presence, Present, Promise, Release, Renew, Request, Rest, Seen,
-    Step, Stop, StoreAnswer, Take, Unknown, Until, Wait, Way, Work,
+    Ask, Begin, End, Ending, Life, Opening, Presence, Present, Promise, Request, Rest, Seen, Step, Stop, StoreAnswer, Unknown, Until, Wait, Way,
+    Work,
 )  # fmt: skip
 
 ROWS_MAX = 1_000_000
@@ -153,7 +153,7 @@ class Plain:
         self.work: Optional[Work] = None
         self.ending: Optional[Ending] = None
         self.paused: Optional[int] = None
-        self.asked: Optional[Tuple[Request, int]] = None
+        self.asked: Optional[Tuple[Ask, int]] = None
         self.unrest_at = 0
         self._open(opening)
 
@@ -258,12 +258,12 @@ class Plain:
         """What is to be done now: by the first rule that applies."""
         step = self._step_of_work(now) or self._step_of_life(now) or self._step_of_leaving(now) or self._step_of_group(now)
         if isinstance(step, Ask):
-            self.asked = (step.request, now)
-            if isinstance(step.request, Take):
+            self.asked = (step, now)
+            if step.request is Request.TAKE:
                 self.tries, self.promised = self.tries + 1, self.place
-            elif isinstance(step.request, BeIdle):
-                self.promised = step.request.place
-            elif isinstance(step.request, Append) and self.ending is Ending.LEFT:
+            elif step.request is Request.BE_IDLE:
+                self.promised = step.place
+            elif step.request is Request.APPEND and self.ending is Ending.LEFT:
                 self.has_closed = True
         elif isinstance(step, Begin):
             self.work = Work(Way.WORKING, step.token)
@@ -277,7 +277,7 @@ class Plain:
             if not isinstance(self.life, Present):
                 return Rest(self.ttl)
             if self._is_due(now) and not self._is_quiet(now):
-                return Ask(Renew(self.life.life))
+                return Ask(Request.RENEW, self.life.life)
             return Rest(max(left(self.renewal, self.life.since, now), self._quiet_left(now)))
         if self.work is not None and (self.work.way is Way.LOST or not self._goes_on(now, self.work.token)):
             return Stop()
@@ -289,17 +289,17 @@ class Plain:
     def _step_of_life(self, now: int) -> Optional[Step]:
         """Rules 5 to 11: a life takes its presence, and keeps it."""
         if isinstance(self.life, Unknown):
-            return Ask(Release(self.life.life))
+            return Ask(Request.RELEASE, self.life.life)
         if self.life is None and self.ending is not None:
             return End(self.ending)
         if isinstance(self.life, Present) and self._is_due(now) and (self.ending is None or self._is_sure(now)):
-            return Ask(Renew(self.life.life))
+            return Ask(Request.RENEW, self.life.life)
         if self.is_past and self.ending is None:
-            return Ask(Follow())
+            return Ask(Request.FOLLOW)
         if self.life is not None:
             return None
         if self.must_look:
-            return Ask(Look())
+            return Ask(Request.LOOK)
         return self._step_of_taking(now)
 
     def _step_of_taking(self, now: int) -> Step:
@@ -308,22 +308,25 @@ class Plain:
         for presence in self.presences:
             if presence.node == self.node:
                 is_own = presence.life.process == self.process
-                return Ask(Release(presence.life)) if is_own else Wait(self.ttl, Until.NEWS)
+                return Ask(Request.RELEASE, presence.life) if is_own else Wait(self.ttl, Until.NEWS)
         to_be_settled = left(self.ttl, self.unrest_at, now) if self.node in self.world.up and self.presences else 0
-        return Wait(to_be_settled, Until.NEWS) if to_be_settled else Ask(Take(Life(self.process, self.tries + 1), self.place))
+        if to_be_settled:
+            return Wait(to_be_settled, Until.NEWS)
+        return Ask(Request.TAKE, Life(self.process, self.tries + 1), self.place)
 
     def _step_of_leaving(self, now: int) -> Optional[Step]:
         """Rules 12 to 14: it looks where something may be new, and ends where it has to."""
         assert isinstance(self.life, Present)
-        release = Ask(Release(self.life.life))
+        release = Ask(Request.RELEASE, self.life.life)
         if self.ending is not None and (self.ending is not Ending.LEFT or self.is_past or not self._is_sure(now)):
             return release
         if self.must_look:
-            return Ask(Look())
+            return Ask(Request.LOOK)
         if self.ending is not Ending.LEFT:
             return None
         if self._is_alone() and self.world.up and self._has_room() and not self.has_closed:
-            return Ask(BeIdle(self.life.life, self.place) if self.own != self.here else Append(self.place))
+            is_idle = self.own == self.here
+            return Ask(Request.APPEND, place=self.place) if is_idle else Ask(Request.BE_IDLE, self.life.life, self.place)
         return release
 
     def _step_of_group(self, now: int) -> Step:
@@ -334,13 +337,13 @@ class Plain:
             token = self._may_work()
             return Begin(token) if self.work is None and token is not None else Wait(self._rest_left(now, renewal), Until.ANY_IDLE)
         if self.own != self.here:
-            return Ask(BeIdle(self.life.life, self.place))
+            return Ask(Request.BE_IDLE, self.life.life, self.place)
         turns = self.turn * sum(node > self.node for node in self._present())
         if now - self.unrest_at < turns:
             return Wait(min(renewal, left(turns, self.unrest_at, now)), Until.NEWS)
         if not self._are_all_idle():
             return Wait(renewal, Until.ALL_IDLE)
-        return Ask(Finish(self.place) if self.is_wished or not self._has_room() else Append(self.place))
+        return Ask(Request.FINISH if self.is_wished or not self._has_room() else Request.APPEND, place=self.place)
 
     def _rest_left(self, now: int, renewal: int) -> int:
         """Up to the renewal, and to when one more counts."""
@@ -353,32 +356,33 @@ class Plain:
         """What became of what was asked for last."""
         if self.asked is None:
             return
-        (request, at), self.asked = self.asked, None
-        if self._is_stale(request):
+        (ask, at), self.asked = self.asked, None
+        request = ask.request
+        if self._is_stale(ask):
             return
         is_done = answer is StoreAnswer.DONE
-        if answer is StoreAnswer.UNANSWERED or isinstance(request, (Look, Follow)):
+        if answer is StoreAnswer.UNANSWERED or request in (Request.LOOK, Request.FOLLOW):
             self.paused = now
-        if isinstance(request, Take):
-            self._taken(request.life, at, answer)
-        elif isinstance(request, Renew):
-            self._renewed(request.life, at, answer)
-        elif isinstance(request, Release):
+        if request is Request.TAKE:
+            self._taken(ask.life, at, answer)
+        elif request is Request.RENEW:
+            self._renewed(ask.life, at, answer)
+        elif request is Request.RELEASE:
             self.life, self.must_look = None, True
-        elif isinstance(request, BeIdle):
-            self.own = Promise(self.opening.epoch, request.place) if is_done else self.own
+        elif request is Request.BE_IDLE:
+            self.own = Promise(self.opening.epoch, ask.place) if is_done else self.own
             self.must_look |= not is_done
-        elif isinstance(request, Append):
+        elif request is Request.APPEND:
             self.must_look = True
-        elif isinstance(request, Finish):
+        elif request is Request.FINISH:
             self.is_past |= is_done
             self.must_look |= not is_done
 
-    def _is_stale(self, request: Request) -> bool:
+    def _is_stale(self, ask: Ask) -> bool:
         """Whether a presence was asked for by another life than it has by now. Then nothing is done about the answer."""
-        if isinstance(request, Take):
+        if ask.request is Request.TAKE:
             return self.life is not None
-        return isinstance(request, Renew) and not (isinstance(self.life, Present) and self.life.life == request.life)
+        return ask.request is Request.RENEW and not (isinstance(self.life, Present) and self.life.life == ask.life)
 
     def _taken(self, life: Life, at: int, answer: StoreAnswer) -> None:
         self.must_look = True
@@ -406,7 +410,7 @@ class Plain:
         self.place, self.world = self.replica.rows, world_of(self.replica)
 
     def looked(self, now: int, seen: Seen) -> None:
-        if self.asked is None or not isinstance(self.asked[0], Look):
+        if self.asked is None or self.asked[0].request is not Request.LOOK:
             return
         self.asked = None
         if seen.epoch != self.opening.epoch:
@@ -444,7 +448,7 @@ class Plain:
         wrong = refusal(opening, self.ttl) if opening is not None else None
         if wrong:
             raise ValueError(wrong)
-        if self.asked is None or not isinstance(self.asked[0], Follow) or self.work is not None:
+        if self.asked is None or self.asked[0].request is not Request.FOLLOW or self.work is not None:
             return
         self.asked = None
         if opening is None:

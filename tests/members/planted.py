@@ -4,7 +4,7 @@ from __future__ import annotations
 from dataclasses import replace
 from typing import Callable, Dict, NamedTuple, Optional, Sequence, Type
 
-from bully.member import Ask, BeIdle, Life, Presence, Present, Promise, Renew, Seen, Step, StoreAnswer, Take, Until, Wait, Way
+from bully.member import Ask, Life, Presence, Present, Promise, Request, Seen, Step, StoreAnswer, Until, Wait, Way
 from bully.settings import Settings
 from plain import Plain, is_at_rest
 from restarting import Restarting
@@ -80,7 +80,7 @@ class PromisesFirst(Plain):
         is_working = self.work is not None and self.work.way is Way.WORKING and self.ending is None
         if is_working and not (self._is_quiet(now) or self._is_due(now) or self.must_look or self.is_past) and isinstance(self.life, Present):
             if not self._rests(now) and self.own != self.here:
-                return Ask(BeIdle(self.life.life, self.place))
+                return Ask(Request.BE_IDLE, self.life.life, self.place)
         return super()._step_of_work(now)
 
 
@@ -98,7 +98,7 @@ class SureFromEnd(Plain):
     """It takes its presence as sure from when the answer came."""
 
     def answered(self, now: int, answer: StoreAnswer) -> None:
-        if self.asked is not None and isinstance(self.asked[0], (Take, Renew)):
+        if self.asked is not None and self.asked[0].request in (Request.TAKE, Request.RENEW):
             self.asked = self.asked[0], now
         super().answered(now, answer)
 
@@ -210,7 +210,7 @@ class WaitsForItself(Plain):
 
     def _step_of_taking(self, now: int) -> Step:
         step = super()._step_of_taking(now)
-        return step if isinstance(step, Ask) and isinstance(step.request, Take) else Wait(self.ttl, Until.NEWS)
+        return step if isinstance(step, Ask) and step.request is Request.TAKE else Wait(self.ttl, Until.NEWS)
 
 
 class OverlooksPromises(Plain):

@@ -25,7 +25,7 @@ from typing import Callable, Counter as Counts, Dict, List, Optional, Protocol, 
 from bully import Owned, Replica, Setup, check
 from bully.epochs import Token
 from bully.member import (
-    Append, Ask, BeIdle, Begin, End, Ending, Follow, Life, Look, Opening, Release, Renew, Request, Rest, Seen, Step, StoreAnswer, Take, Wait,
+    Ask, Begin, End, Ending, Life, Opening, Request, Rest, Seen, Step, StoreAnswer, Wait,
 )  # fmt: skip
 from bully.settings import Settings
 from plain import is_at_rest, world_of
@@ -95,14 +95,16 @@ class Trouble:
         self.patience = choice.choice([0.2, 0.2, 1.0, 3.0])  # how long a member waits for an answer
         self.nodes_least, self.nodes = 1, choice.choice([6, 6, 2])  # at most
         self.withdrawn = choice.choice([0.0, 0.7])  # the share of wishes that are taken back soon
-        self.slowest: Optional[type] = choice.choice([None, None, Take, Renew, BeIdle, Append])  # half the requests of this kind are slow
+        kinds = [None, None, Request.TAKE, Request.RENEW, Request.BE_IDLE, Request.APPEND]
+        self.slowest: Optional[Request] = choice.choice(kinds)  # half the requests of this kind are slow
         self.renewal_pauses = some(0.1)  # how many renewals a pause comes with
         if choice.random() < 0.25:  # many come and go at once
             self.deaths, self.joins, self.leaves, self.slow, self.short = 0.3, 3.0, 0.0, 0.3, 0.7
         elif choice.random() < 0.3:  # all is well but for these, for wishes that are taken back, and for slow requests of one kind
             self.deaths, self.joins, self.leaves, self.cuts, self.short = 0.3, 1.0, 0.0, 0.0, choice.choice([0.0, 0.7])
             self.lost, self.unanswered, self.slow, self.wishes, self.withdrawn = 0.0, 0.0, 0.1, choice.choice([0.0, 1.5]), 0.9
-            self.nodes, self.slowest, self.patience = choice.choice([1, 2, 3]), choice.choice([Take, BeIdle]), choice.choice([0.2, 3.0])
+            self.nodes, self.slowest = choice.choice([1, 2, 3]), choice.choice([Request.TAKE, Request.BE_IDLE])
+            self.patience = choice.choice([0.2, 3.0])
 
 
 class Epochs(Trouble):
@@ -250,7 +252,7 @@ class Member:
         if self.steps > STEPS or isinstance(step, (Wait, Rest)) and step.at_most <= 0:
             raise Wrong(f'{self} does not let time go on: {step}')
         if isinstance(step, Ask):
-            self.ask(step.request)
+            self.ask(step)
         elif isinstance(step, Wait):
             self.awaited = step
             self.later(step.at_most, self.wake)
@@ -316,46 +318,41 @@ class Member:
 
     # What it asks of the store.
 
-    def called(self, request: Request) -> Callable[[], object]:
+    def called(self, ask: Ask) -> Callable[[], object]:
         """What the request is at the store, whenever it comes there."""
         simulation, name, epoch = self.simulation, self.name, self.epoch
         assert isinstance(simulation.store, Store)
         store: Store = simulation.store
-        if isinstance(request, Take):
-            life, place = request.life, request.place
+        life, place, behind = ask.life, ask.place, self.place
+        if ask.request is Request.TAKE:
             return lambda: store.take(name, life, epoch, place, simulation.lease())
-        if isinstance(request, Renew):
-            life = request.life
+        if ask.request is Request.RENEW:
             return lambda: store.renew(name, life, simulation.lease())
-        if isinstance(request, Release):
-            life = request.life
+        if ask.request is Request.RELEASE:
             return lambda: store.release(name, life)
-        if isinstance(request, Look):
-            place = self.place
-            return lambda: store.look(epoch, place)
-        if isinstance(request, Follow):
+        if ask.request is Request.LOOK:
+            return lambda: store.look(epoch, behind)
+        if ask.request is Request.FOLLOW:
             return lambda: (store.epoch.opening(name),)
-        place = request.place
-        if isinstance(request, BeIdle):
-            life = request.life
+        if ask.request is Request.BE_IDLE:
             return lambda: store.promise(name, life, epoch, place)
-        if isinstance(request, Append):
+        if ask.request is Request.APPEND:
             rows = tuple(self.rules.settlement())
             return lambda: simulation.changed('an append', store.append(epoch, place, rows))
         settings = (self.found and self.found.standing.wish) or store.epochs[epoch - 1].settings
         return lambda: simulation.changed('the end of an epoch', store.finish(epoch, place, settings))
 
-    def ask(self, request: Request) -> None:
+    def ask(self, ask: Ask) -> None:
         """Asks the store. The request may come long after it was given up."""
-        simulation, trouble, call = self.simulation, self.simulation.trouble, self.called(request)
-        epoch = 0 if isinstance(request, (Renew, Release, Follow)) else self.epoch
+        simulation, trouble, call = self.simulation, self.simulation.trouble, self.called(ask)
+        epoch = 0 if ask.request in (Request.RENEW, Request.RELEASE, Request.FOLLOW) else self.epoch
         self.turn += 1
         turn, self.is_asking = self.turn, True
 
         def answer(told: object) -> None:
             if turn == self.turn:
                 self.is_asking = False
-                self.tell(request, told)
+                self.tell(ask, told)
                 self.go()
 
         def done() -> None:
@@ -367,12 +364,12 @@ class Member:
                 self.soon(simulation.trip(), lambda: answer(told))
 
         if simulation.now >= self.cut_until and not simulation.happens('a request is lost', trouble.lost):
-            simulation.after(simulation.trip(request), done)
-        if isinstance(request, Renew) and simulation.happens('a pause with a renewal', trouble.renewal_pauses):
+            simulation.after(simulation.trip(ask), done)
+        if ask.request is Request.RENEW and simulation.happens('a pause with a renewal', trouble.renewal_pauses):
             simulation.pause(self)
         self.soon(int(trouble.patience * simulation.ttl), lambda: answer(None))
 
-    def tell(self, request: Request, told: object) -> None:
+    def tell(self, ask: Ask, told: object) -> None:
         """What became of a request: None, if it wasn't answered in time."""
         now = self.simulation.now
         if told is None:
@@ -388,8 +385,8 @@ class Member:
             self.follow(told[0])
         else:
             self.rules.answered(now, StoreAnswer.DONE if told else StoreAnswer.REFUSED)
-            if told and isinstance(request, Take):
-                self.life = request.life
+            if told and ask.request is Request.TAKE:
+                self.life = ask.life
         self.worker.until = self.rules.sure_until
 
     def follow(self, opening: Optional[Opening]) -> None:
@@ -431,8 +428,8 @@ class Simulation:
         self.happened[what] += does
         return does
 
-    def trip(self, request: Optional[Request] = None) -> int:
-        is_slowest = request is not None and type(request) is self.trouble.slowest
+    def trip(self, ask: Optional[Ask] = None) -> int:
+        is_slowest = ask is not None and ask.request is self.trouble.slowest
         if self.happens('a request or an answer is slow', 0.5 if is_slowest else self.trouble.slow):
             return self.some(self.choice.choice([0.3, 1.0, 4.0]))
         return self.some(self.trouble.trip)

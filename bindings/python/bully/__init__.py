@@ -40,17 +40,17 @@ from typing import TYPE_CHECKING, Any
 
 from .agent import Agent
 from .faults import (
-    BullyError, Refused, BadArgument, LineFault, TraceFault, NotLearned, Full, BadNode, IsDown, IsUp, Busy, NoStep, SlotBusy,
-    NoCall, CalleeDown, CalleeUp, BadTable, NotOrphan, Null, Closed, Open, OutOfMemory, Short, BadNodes, BadPartitions, BadLimit,
-    BadWeights, TableLength, TableOwner, NoMember, BadEvent, BadRowsMax, BadTtl, BadAnswer, LineWord, LineCaller, LineNumber,
-    LineCallee, LineKind, LineTable, LineAnswer, BadHeader, BadRow, TooManyRows, RowDiffers, RowEnd,
+    BullyError, Refused, BadArgument, LineFault, TraceFault, NotLearned, Full, BadNode, IsDown, IsUp, Busy, NoStep, SlotBusy, NoCall, CalleeDown,
+    CalleeUp, BadTable, NotOrphan, Null, Closed, Open, OutOfMemory, Short, BadNodes, BadPartitions, BadLimit, BadWeights, TableLength, TableOwner,
+    NoMember, BadEvent, BadRowsMax, BadTtl, BadAnswer, LineWord, LineCaller, LineNumber, LineCallee, LineKind, LineTable, LineAnswer, BadHeader,
+    BadRow, TooManyRows, RowDiffers, RowEnd,
 )  # fmt: skip
 from .group import Setup, check, plan_table, status_name, version
 from .library import load
 from .replica import Replica
 from .values import (
-    EVENTS_MAX, NODES_MAX, PARTITIONS_MAX, WEIGHT_MAX, Answer, Call, CallKind, Line, Owned, Rows, State, Status, TablePlan,
-    Verdict, VerdictKind, Want,
+    EVENTS_MAX, NODES_MAX, PARTITIONS_MAX, WEIGHT_MAX, Answer, Call, CallKind, Line, Owned, Rows, State, Status, TablePlan, Verdict, VerdictKind,
+    Want,
 )  # fmt: skip
 
 if TYPE_CHECKING:
@@ -69,11 +69,11 @@ def __getattr__(name: str) -> Any:
 
 
 __all__ = [
-    'Agent', 'Answer', 'BadAnswer', 'BadArgument', 'BadEvent', 'BadHeader', 'BadLimit', 'BadNode', 'BadNodes', 'BadPartitions',
-    'BadRow', 'BadRowsMax', 'BadTable', 'BadTtl', 'BadWeights', 'BullyError', 'Busy', 'Call', 'CallKind', 'CalleeDown',
-    'CalleeUp', 'Closed', 'EVENTS_MAX', 'Full', 'IsDown', 'IsUp', 'Line', 'LineAnswer', 'LineCallee', 'LineCaller', 'LineFault',
-    'LineKind', 'LineNumber', 'LineTable', 'LineWord', 'Member', 'NODES_MAX', 'NoCall', 'NoMember', 'NoStep', 'NotLearned',
-    'NotOrphan', 'Null', 'Open', 'OutOfMemory', 'Owned', 'PARTITIONS_MAX', 'Refused', 'Replica', 'RowDiffers', 'RowEnd', 'Rows',
-    'Setup', 'Short', 'SlotBusy', 'State', 'Status', 'TableLength', 'TableOwner', 'TablePlan', 'TooManyRows', 'TraceFault',
-    'Verdict', 'VerdictKind', 'WEIGHT_MAX', 'Want', 'check', 'load', 'plan_table', 'status_name', 'version',
+    'Agent', 'Answer', 'BadAnswer', 'BadArgument', 'BadEvent', 'BadHeader', 'BadLimit', 'BadNode', 'BadNodes', 'BadPartitions', 'BadRow',
+    'BadRowsMax', 'BadTable', 'BadTtl', 'BadWeights', 'BullyError', 'Busy', 'Call', 'CallKind', 'CalleeDown', 'CalleeUp', 'Closed', 'EVENTS_MAX',
+    'Full', 'IsDown', 'IsUp', 'Line', 'LineAnswer', 'LineCallee', 'LineCaller', 'LineFault', 'LineKind', 'LineNumber', 'LineTable', 'LineWord',
+    'Member', 'NODES_MAX', 'NoCall', 'NoMember', 'NoStep', 'NotLearned', 'NotOrphan', 'Null', 'Open', 'OutOfMemory', 'Owned', 'PARTITIONS_MAX',
+    'Refused', 'Replica', 'RowDiffers', 'RowEnd', 'Rows', 'Setup', 'Short', 'SlotBusy', 'State', 'Status', 'TableLength', 'TableOwner',
+    'TablePlan', 'TooManyRows', 'TraceFault', 'Verdict', 'VerdictKind', 'WEIGHT_MAX', 'Want', 'check', 'load', 'plan_table', 'status_name',
+    'version',
 ]  # fmt: skip

@@ -2,13 +2,10 @@
 from __future__ import annotations
 
 import ctypes
-from typing import Callable, List, Optional, Sequence, Tuple
+from typing import List, Optional, Sequence, Tuple
 
-from .faults import expect_ok
 from .group import Setup, setup_parts
-from .library import (
-    REPLY_MAX, UINT32_MAX, Opened, RawState, call_of, line_bytes, list_of, node_of, number_of, numbers_of, owners_of, state_of,
-)  # fmt: skip
+from .library import UINT32_MAX, Opened, RawState, call_of, line_of, list_of, node_of, number_of, numbers_of, owners_of, state_of
 from .values import Answer, Call, Line, State, Status, Want
 
 
@@ -30,8 +27,7 @@ class Agent(Opened):
         self._setup = setup
         kept = owners_of(task)
         parts = setup_parts(setup)
-        number, told = node_of(node), number_of('events', events, UINT32_MAX)
-        expect_ok(self._library.bully_agent_open(self._held, *parts, number, told, kept, len(kept)))
+        self._call('open', *parts, node_of(node), number_of('events', events, UINT32_MAX), *kept)
 
     def _words(self) -> str:
         state = self._show()
@@ -39,57 +35,51 @@ class Agent(Opened):
 
     # What the node does by itself. Each is one event.
 
-    def _take(self, call: Callable[..., int], *told: object) -> None:
-        """The event that this call of the library is for, and what the call is told of it."""
-        expect_ok(call(self._held, *told))
-
     def recover(self) -> None:
         """The node recovers, and stands for election. Raises Closed, Full, IsUp."""
-        self._take(self._library.bully_agent_recover)
+        self._call('recover')
 
     def crash(self) -> None:
         """The node crashes, or has to stop. Raises Closed, Full, IsDown."""
-        self._take(self._library.bully_agent_crash)
+        self._call('crash')
 
     def check(self) -> None:
         """The idle node begins to check the others, where it is their coordinator. Raises Closed, Full, IsDown, Busy."""
-        self._take(self._library.bully_agent_check)
+        self._call('check')
 
     def timeout(self) -> None:
         """The idle node heard nothing for too long. Raises Closed, Full, IsDown, Busy."""
-        self._take(self._library.bully_agent_timeout)
+        self._call('timeout')
 
     def start(self) -> None:
         """The node starts the call that it wants to start; `request` then has what is to be sent.
 
         Raises Closed, Full, IsDown, NoStep, SlotBusy."""
-        self._take(self._library.bully_agent_start)
+        self._call('start')
 
     def advance(self) -> None:
         """The node moves on without a call. Raises Closed, Full, IsDown, NoStep, SlotBusy."""
-        self._take(self._library.bully_agent_advance)
+        self._call('advance')
 
     def plan(self, owners: Sequence[int]) -> None:
         """The node has planned this table, as `prepare` makes one.
 
         Raises Closed, TableLength, TableOwner, OutOfMemory, Full, IsDown, NoStep, SlotBusy, BadTable."""
-        told = numbers_of('an owner', owners)
-        self._take(self._library.bully_agent_plan, told, len(told))
+        self._call('plan', *numbers_of('an owner', owners))
 
     def drop_orphan(self) -> None:
         """The node's call, an orphan, is given up. Raises Closed, Full, IsDown, NoCall, NotOrphan.
 
         Premise: its request won't run any more."""
-        self._take(self._library.bully_agent_drop_orphan)
+        self._call('drop_orphan')
 
     def prepare(self, old: Optional[Sequence[int]] = None) -> Tuple[int, ...]:
         """The table that the node should plan, from this old one, mostly its `task`. No event.
 
         Raises Closed, TableLength, TableOwner, OutOfMemory."""
-        before = owners_of(old)
-        count = self._setup.partitions
+        before, count = owners_of(old), self._setup.partitions
         owners = (ctypes.c_uint16 * count)()
-        expect_ok(self._library.bully_agent_prepare(self._held, before, len(before), owners, count))
+        self._call('prepare', *before, owners, count)
         return tuple(owners)
 
     # What comes from other nodes, or goes to them. Lines have no line end.
@@ -98,38 +88,27 @@ class Agent(Opened):
         """The line of the request of the node's call, while that is under way; to be sent to its callee, once. No event.
 
         Raises Closed, OutOfMemory."""
-        return self._room.text(self._library.bully_agent_request, self._held) or None
+        return self._room.text(self._function('request')) or None
 
     def serve(self, line: Line) -> str:
         """The request of this line runs at the node. One event. The line of the reply, for its caller.
 
         Raises Closed, the LineFaults, OutOfMemory, Full, BadNode, NoCall, CalleeDown. Premise: the request is the caller's call,
         and runs once, while that is under way."""
-        request = line_bytes(line)
-        reply, length = ctypes.create_string_buffer(REPLY_MAX), ctypes.c_size_t()
-        status = self._library.bully_agent_serve(
-            self._held, request, len(request), reply, REPLY_MAX, ctypes.byref(length)
-        )
-        expect_ok(status)
-        return ctypes.string_at(reply, length.value).decode('ascii')
+        return self._room.text(self._function('serve'), *line_of(line))
 
     def replied(self, line: Line) -> Answer:
         """The node's call returns with the reply of this line. One event. What the node is told.
 
         Raises Closed, the LineFaults, Full; NoCall, where it is no reply to the call under way. Premise: the call ran at its
         callee, and was answered so."""
-        reply, answer = line_bytes(line), ctypes.c_uint32()
-        expect_ok(self._library.bully_agent_replied(self._held, reply, len(reply), ctypes.byref(answer)))
-        return Answer(answer.value)
+        return Answer(self._filled(ctypes.c_uint32(), 'replied', *line_of(line)).value)
 
     def failed(self, number: int) -> Answer:
         """The node's call of this number failed, and returns. Two events. What the node is told.
 
         Raises Closed, Full, NoCall. Premise: the callee is Down."""
-        answer = ctypes.c_uint32()
-        told = number_of('number', number, UINT32_MAX)
-        expect_ok(self._library.bully_agent_failed(self._held, told, ctypes.byref(answer)))
-        return Answer(answer.value)
+        return Answer(self._filled(ctypes.c_uint32(), 'failed', number_of('number', number, UINT32_MAX)).value)
 
     # What the node shows. No event.
 
@@ -166,12 +145,12 @@ class Agent(Opened):
     @property
     def up(self) -> Tuple[int, ...]:
         """The lower nodes that answered its halts, rising."""
-        return list_of(self._setup.nodes, self._library.bully_agent_up, self._held)
+        return list_of(self._setup.nodes, self._function('up'))
 
     @property
     def task(self) -> Optional[Tuple[int, ...]]:
         """The owner of each partition in the node's task, if it has one."""
-        return list_of(self._setup.partitions, self._library.bully_agent_task, self._held) or None
+        return list_of(self._setup.partitions, self._function('task')) or None
 
     @property
     def wants(self) -> Want:
@@ -202,13 +181,11 @@ class Agent(Opened):
         """The rows of the node's last step, for the log, without their line ends, as `docs/FORMATS.md` has them of version 3.
 
         Raises Closed, OutOfMemory."""
-        return self._room.text(self._library.bully_agent_rows, self._held).splitlines()
+        return self._room.text(self._function('rows')).splitlines()
 
     def claim(self) -> str:
         """The row that says all of the node's vector, without its line end. Raises Closed, OutOfMemory."""
-        return self._room.row(self._library.bully_agent_claim, self._held)
+        return self._room.row(self._function('claim'))
 
     def _show(self) -> RawState:
-        state = RawState()
-        expect_ok(self._library.bully_agent_show(self._held, ctypes.byref(state)))
-        return state
+        return self._filled(RawState(), 'show')

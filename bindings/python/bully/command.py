@@ -29,7 +29,7 @@ from .logs import LogError, Unanswered, seconds_of_boot
 from .resizing import NotEnded, resize
 from .running import Member, NotInGroup, OtherGroup
 from .settings import ConfigFault, Settings, read_settings, shown_name
-from .stores import BadStore, FileStore, add_words, store_of
+from .stores import BadWords, FileStore, add_words, store_of
 from .view import GroupView, LogView
 from .worker import GuardLost, WorkerEnded, Workers
 
@@ -39,10 +39,6 @@ AGAIN = 0.1  # seconds before a log that didn't answer is asked again
 
 _Answer = TypeVar('_Answer')
 _told = logging.getLogger('bully')
-
-
-class BadWords(Exception):
-    """Words that the command doesn't take."""
 
 
 def parser() -> argparse.ArgumentParser:
@@ -149,21 +145,13 @@ def status(options: argparse.Namespace) -> int:
 def text_of(group: GroupView) -> str:
     """The group, for people."""
     about = f'epoch {group.epoch}, events {group.events}, token {group.token or "-"}, coordinator {shown_name(group.coordinator)}'
-    lines = [about + group.told_behind]
     rows = [('node', 'status', 'present', 'coordinator', 'partitions')]
     for node in group.nodes:
         present, partitions = 'yes' if node.is_present else 'no', ' '.join(map(str, node.partitions)) or '-'
         rows.append((shown_name(node.name), str(node.status), present, shown_name(node.coordinator), partitions))
     widths = [max(map(len, column)) for column in zip(*rows)]
-    for row in rows:
-        lines.append('  '.join(word.ljust(width) for word, width in zip(row, widths)).rstrip())
-    return '\n'.join(lines)
-
-
-def check_name(settings: Settings, name: str) -> None:
-    """Raises BadWords, if no node has this name."""
-    if name not in settings.names:
-        raise BadWords(f'--node is {name}, and the configuration has {", ".join(settings.names)}')
+    table = ['  '.join(word.ljust(width) for word, width in zip(row, widths)).rstrip() for row in rows]
+    return '\n'.join([about + group.told_behind, *table])
 
 
 def address_of(words: str) -> Tuple[str, int]:
@@ -189,8 +177,8 @@ def run(options: argparse.Namespace) -> int:
     if not options.quiet:
         logging.basicConfig(level=logging.INFO, format='%(asctime)s bully-member: %(message)s')
     settings, store = settings_of(options.config) if options.config else None, store_of(options)
-    if settings is not None:
-        check_name(settings, options.node)
+    if settings is not None and options.node not in settings.names:
+        raise BadWords(f'--node is {options.node}, and the configuration has {", ".join(settings.names)}')
     address = address_of(options.listen) if options.listen else None
     with contextlib.ExitStack() as closing:
         log = answered(lambda: store.open(patience=min(1.0, options.ttl / 5)))
@@ -219,8 +207,8 @@ COMMANDS = {'init': init, 'run': run, 'status': status, 'history': history, 'res
 
 # What ends a command, and its status.
 STATUSES: Tuple[Tuple[Type[Exception], int], ...] = (
-    (BadWords, BAD_WORDS), (BadStore, BAD_WORDS), (ConfigFault, BAD_INPUT), (OtherGroup, BAD_INPUT), (NotInGroup, BAD_INPUT),
-    (BullyError, BAD_INPUT), (LogError, NO_STORE), (OSError, NO_STORE), (WorkerEnded, FAILED), (GuardLost, FAILED), (NotEnded, FAILED),
+    (BadWords, BAD_WORDS), (ConfigFault, BAD_INPUT), (OtherGroup, BAD_INPUT), (NotInGroup, BAD_INPUT), (BullyError, BAD_INPUT),
+    (LogError, NO_STORE), (OSError, NO_STORE), (WorkerEnded, FAILED), (GuardLost, FAILED), (NotEnded, FAILED),
 )  # fmt: skip
 
 

@@ -8,7 +8,7 @@ from __future__ import annotations
 import dataclasses
 import json
 from dataclasses import dataclass
-from typing import Dict, Optional, Sequence, Tuple
+from typing import Optional, Sequence, Tuple
 
 from .group import Setup
 from .settings import Settings
@@ -104,13 +104,9 @@ class Opening:
     def next(self, wish: Optional[Opening], table: Sequence[int]) -> Opening:
         """The opening of the next epoch: with what is wished for, or else as this one; and with this epoch's last table, if it has one."""
         after = self.after(wish)
-        numbers = self._numbers(after)
+        there = {name: number for number, name in enumerate(after.names, 1)}
+        numbers = {number: there.get(name, 0) for number, name in enumerate(self.names, 1)}
         count = setup_of(after.header).partitions
         owners = [numbers.get(owner, 0) for owner in table[:count]]
         carried = tuple(owners + [0] * (count - len(owners))) if any(owners) else ()
         return dataclasses.replace(after, table=carried)
-
-    def _numbers(self, after: Opening) -> Dict[int, int]:
-        """The numbers in another epoch of the nodes that are in both."""
-        there = {name: number for number, name in enumerate(after.names, 1)}
-        return {number: there[name] for number, name in enumerate(self.names, 1) if name in there}

@@ -18,16 +18,17 @@ transaction that keeps what was promised. No other write names a lease: one that
 from __future__ import annotations
 
 import ssl
-from typing import AbstractSet, Callable, Dict, FrozenSet, Iterator, List, Mapping, NamedTuple, Optional, Sequence, Tuple, TypeVar
+from contextlib import closing
+from typing import AbstractSet, Callable, Dict, FrozenSet, Iterator, List, Mapping, NamedTuple, Optional, Sequence, Tuple
 
 from .epochs import FIRST, Opening
 from .gateway import (
     KV_RANGE, LEASE_GRANT, LEASE_KEEPALIVE, Answer, Client, Compacted, Json, Pair, Silent, Watch, behind, below, coded, exists,
-    number_behind, number_is, one, pair_of, pairs_of, put, ranges, read_address, value_is,
+    number_is, one, pair_of, pairs_of, put, ranges, read_address, value_is, value_of,
 )  # fmt: skip
 from .logs import (
-    SECOND, DamagedLog, ForeignLog, Found, Holder, LogError, LogExists, NoEpoch, NoLog, Unanswered, are_idle, idle_of, rows_text, seconds_of_boot,
-    slept, told_epochs,
+    BY_HISTORY, SECOND, DamagedLog, ForeignLog, Found, Holder, LogError, LogExists, NoLog, Unanswered, are_idle, no_epoch, opening_of, rows_text,
+    seconds_of_boot, slept, wish_of,
 )  # fmt: skip
 from .member import Life, Promise, Until
 from .sqlite import life_of, life_text
@@ -51,11 +52,6 @@ def place_of(text: str) -> Promise:
     """The same place. Raises ValueError."""
     epoch, place = text.split('/')
     return Promise(int(epoch), int(place))
-
-
-def opening_text(opening: Opening) -> str:
-    """An opening, as it stands in etcd."""
-    return BEGIN + opening.text()[1:]
 
 
 class Keys:
@@ -87,9 +83,14 @@ class Keys:
         """The name of a key that begins so. Raises ValueError."""
         return key[len(prefix) :].decode()
 
-    def page(self, begin: bytes, end: bytes) -> Json:
-        """The range of appends from one key on that are read together."""
-        return one(begin, range_end=coded(end), limit=PAGE)
+    def begin(self, opening: Opening) -> List[Json]:
+        """The epoch of this opening begins."""
+        here = put(self.place, place_text(Promise(opening.epoch, 0)))
+        return [here, put(self.opening(opening.epoch), BEGIN + opening.text()[1:])]
+
+    def page(self, begin: bytes, epoch: int) -> Json:
+        """The range of an epoch's appends from one key on that are read together."""
+        return one(begin, range_end=coded(behind(self.rows(epoch))), limit=PAGE)
 
     def standing(self, since: int) -> 'tuple[Json, Json, Json, Json]':
         """The ranges of all that isn't a row: the end of the log, the wish, and the lives and promises that were put behind a revision."""
@@ -113,9 +114,7 @@ class Held(NamedTuple):
 class EtcdLog:
     """A log in etcd. One thread at a time uses it."""
 
-    def __init__(
-        self, address: str, patience: float = 1.0, tls: Optional[ssl.SSLContext] = None, user: str = '', password: str = ''
-    ) -> None:  # fmt: skip
+    def __init__(self, address: str, patience: float = 1.0, tls: Optional[ssl.SSLContext] = None, user: str = '', password: str = '') -> None:
         """The log at this address, `etcd://HOST:PORT,HOST:PORT/PREFIX`, which `create` made; over TLS if it begins with `etcds`. Each call
         takes this many seconds at most, and a read for each of its parts.
 
@@ -146,12 +145,9 @@ class EtcdLog:
 
         Raises LogExists, ForeignLog, Denied, LogError, Unanswered; ValueError of an address that is none."""
         read = read_address(address)
-        client = Client(read, patience, tls, user, password)
-        try:
+        with closing(Client(read, patience, tls, user, password)) as client:
             client.begin()
             make(client, address, Keys(read.prefix), opening)
-        finally:
-            client.close()
         return EtcdLog(address, patience, tls, user, password)
 
     def _open(self) -> int:
@@ -165,8 +161,7 @@ class EtcdLog:
         if not first:
             raise NoLog(f'{self.address}: there is none; bully-member init makes a log')
         if opening and opening[0].value.startswith(OLDER.encode()):
-            more = 'history writes it as a trace, and init makes another log'
-            raise ForeignLog(f'{self.address}: a log by an older version, and not of form {FORM}; {more}')
+            raise ForeignLog(f'{self.address}: a log by an older version, and not of form {FORM}{BY_HISTORY}')
         if opening or not first[0].key.startswith((keys.first, keys.logs, keys.presences)):
             raise ForeignLog(f'{self.address}: something else than a log of form {FORM} is below its prefix')
         raise DamagedLog(f'{self.address}: the log has no opening')
@@ -176,35 +171,26 @@ class EtcdLog:
     def epochs(self) -> range:
         self._client.begin()
         first, place = self._look(one(self._keys.first), one(self._keys.place)).ranges
-        return range(int(self._value(first) or FIRST), self._end_of(place).epoch + 1)
+        return range(int(value_of(first) or FIRST), self._end_of(place).epoch + 1)
 
     def opening(self, epoch: Optional[int] = None) -> Opening:
         number = self.epochs()[-1] if epoch is None else epoch
         self._client.begin()
         found = pairs_of(self._look(one(self._keys.opening(number))).ranges[0])
         if not found:
-            raise self._no_epoch(number)
-        return self._parsed(found[0].value)
-
-    def _parsed(self, told: bytes) -> Opening:
-        """The opening that was told."""
-        try:
-            return Opening.parse(told.decode())
-        except (ValueError, KeyError, TypeError) as fault:
-            raise DamagedLog(f'{self.address}: an opening is none: {fault}') from fault
+            raise no_epoch(self.address, number, self.epochs())
+        return opening_of(self.address, number, found[0].value)
 
     def finish(self, epoch: int, place: int, opening: Opening) -> bool:
         """What is wished for is looked at first, and has to be the same then."""
         self._client.begin()
         keys = self._keys
         found, wished = map(pairs_of, self._look(one(keys.opening(epoch)), one(keys.next)).ranges)
-        wish = self._parsed(wished[0].value) if wished else None
-        if not found or opening.bare != self._parsed(found[0].value).after(wish):
+        wish = wish_of(self.address, epoch, wished[0].value if wished else None)
+        if not found or opening.bare != opening_of(self.address, epoch, found[0].value).after(wish):
             return False
         is_same = number_is(keys.next, 'mod_revision', wished[0].modified if wished else 0)
-        begun = put(keys.place, place_text(Promise(opening.epoch, 0)))
-        done = [begun, put(keys.opening(opening.epoch), opening_text(opening)), removed(one(keys.next))]
-        return self._change([is_same, *self._are_idle(epoch, place)], done).is_done
+        return self._change([is_same, *self._are_idle(epoch, place)], [*keys.begin(opening), removed(one(keys.next))]).is_done
 
     def ask(self, wish: Opening, epoch: int) -> bool:
         self._client.begin()
@@ -235,9 +221,6 @@ class EtcdLog:
         keys = self._keys
         return [exists(keys.opening(epoch)), number_is(keys.opening(epoch + 1), 'version', 0)]
 
-    def _no_epoch(self, epoch: int) -> NoEpoch:
-        return NoEpoch(told_epochs(self.address, epoch, self.epochs()))
-
     # Presences.
 
     def take(self, name: str, life: Life, promise: Promise, ttl: int) -> bool:
@@ -245,7 +228,7 @@ class EtcdLog:
         self._client.begin()
         keys, here = self._keys, place_text(promise)
         answer = self._look(one(keys.life(name), keys_only=True), one(keys.place))
-        if answer.ranges[0].get('kvs') or self._value(answer.ranges[1]) != here.encode():
+        if answer.ranges[0].get('kvs') or value_of(answer.ranges[1]) != here.encode():
             return False
         held = self._granted(life, ttl, answer.term)
         conditions = [number_is(keys.life(name), 'version', 0), value_is(keys.place, here.encode())]
@@ -284,7 +267,7 @@ class EtcdLog:
         answer = self._change([is_held, is_later], [kept], one(keys.life(name)), one(keys.promise(name)))
         if answer.is_done:
             return True
-        holder, promised = map(self._value, answer.ranges)
+        holder, promised = map(value_of, answer.ranges)
         return holder == life_text(life).encode() and (promised or b'') >= told
 
     def _keep_alive(self, held: Held) -> Optional[int]:
@@ -312,7 +295,7 @@ class EtcdLog:
         answer = self._change([is_same], moved, one(key))
         if answer.is_done:
             self._held = held
-        elif self._value(answer.ranges[0]) == found.value:
+        elif value_of(answer.ranges[0]) == found.value:
             raise Unanswered(f'{self.address}: an earlier renewal was done just now')
         return answer.is_done
 
@@ -334,18 +317,17 @@ class EtcdLog:
     def read(self, epoch: int, place: int) -> Rows:
         keys = self._keys
         answer, rows = self._read_with(epoch, place, one(keys.place), one(keys.first))
-        if not int(self._value(answer.ranges[1]) or FIRST) <= epoch <= self._end_of(answer.ranges[0]).epoch:
-            raise self._no_epoch(epoch)
+        if not int(value_of(answer.ranges[1]) or FIRST) <= epoch <= self._end_of(answer.ranges[0]).epoch:
+            raise no_epoch(self.address, epoch, self.epochs())
         return rows
 
     def _read_with(self, epoch: int, place: int, *more: Json) -> 'tuple[Answer, Rows]':
         """The rows behind that place, and an answer with what more was asked for at the same revision: the end of the log first."""
-        keys = self._keys
-        begin, end = keys.row(epoch, place), behind(keys.rows(epoch))
+        page = self._keys.page(self._keys.row(epoch, place), epoch)
         for _ in range(READS):
             try:
                 self._client.begin()
-                answer = self._look(*more, keys.page(begin, end))
+                answer = self._look(*more, page)
                 return answer, self._rows(epoch, place, answer)
             except Compacted as compacted:
                 cause = compacted
@@ -380,15 +362,15 @@ class EtcdLog:
             yield from pairs
             if int(found.get('count', 0)) <= len(pairs):
                 return
-            found = self._more(self._keys.page(pairs[-1].key + b'\0', behind(self._keys.rows(epoch))), revision)
+            found = self._more(self._keys.page(pairs[-1].key + b'\0', epoch), revision)
 
     def _within(self, epoch: int, place: int, revision: int) -> bytes:
         """The rows behind a place at which no append begins, up to the end of its append."""
         keys = self._keys
         asked = one(keys.rows(epoch), range_end=coded(keys.row(epoch, place)), limit=1, sort_order='DESCEND', sort_target='KEY')
         found = pairs_of(self._more(asked, revision))
-        begin = number_behind(keys.rows(epoch), found[0].key) if found else None
-        return b'' if begin is None else b'\n'.join(found[0].value.split(b'\n')[place - begin :])
+        begin = found[0].key[len(keys.rows(epoch)) :] if found else b''
+        return b'\n'.join(found[0].value.split(b'\n')[place - int(begin) :]) if begin.isdigit() else b''
 
     def _more(self, asked: Json, revision: int) -> Json:
         """What this range found at that revision. Raises Compacted."""
@@ -408,10 +390,10 @@ class EtcdLog:
             end = self._end_of(answer.ranges[0])
             if self._see_all(answer, since):
                 break
-        wish = self._told_wish = self._news.wish
-        self._told_idle = end, idle_of(self._news.promises, end)
-        parsed = None if wish is None else self._parsed(wish)
-        return Found(end.epoch, rows if end.epoch == epoch else Rows(''), self._news.presences(), parsed)
+        wish = wish_of(self.address, end.epoch, self._news.wish)
+        found = Found(end.epoch, rows if end.epoch == epoch else Rows(''), self._news.presences(), wish)
+        self._told_wish, self._told_idle = self._news.wish, (end, found.idle(end))
+        return found
 
     def _see_all(self, answer: Answer, since: int) -> bool:
         """Whether it is known now how the log stands."""
@@ -420,9 +402,7 @@ class EtcdLog:
         except (ValueError, KeyError) as fault:
             raise DamagedLog(f'{self.address}: a presence is none: {fault}') from fault
 
-    def wait(
-        self, epoch: int, place: int, lives: Mapping[str, Life], until: Until, seconds: float, woken: Optional[int] = None,
-    ) -> None:  # fmt: skip
+    def wait(self, epoch: int, place: int, lives: Mapping[str, Life], until: Until, seconds: float, woken: Optional[int] = None) -> None:
         """By a watch. While many are present it tells of promises only where they are waited for: else each of them would be told to all."""
         end = seconds_of_boot() + seconds
         known, idle = self._told_idle
@@ -437,21 +417,17 @@ class EtcdLog:
     def _hear(self, is_news: Callable[[], bool], is_wide: bool, seconds: float) -> bool:
         """Whether there is what `wait` waits for, so long at most."""
         watch = self._watch
-        if watch is None or watch.endpoint != self._client.endpoint or self._is_wide != is_wide:
-            return self._begin_watch(is_news, is_wide, seconds)
-        if not is_news():
-            self._see_events(watch, seconds)
-        return self._watch is not None and is_news()
-
-    def _see_events(self, watch: Watch, seconds: float) -> None:
         try:
-            for event in watch.events(seconds, self._woken):
+            if watch is None or watch.endpoint != self._client.endpoint or self._is_wide != is_wide:
+                return self._begin_watch(is_news, is_wide, seconds)
+            for event in [] if is_news() else watch.events(seconds, self._woken):
                 self._news.see(event)
         except Silent:
             self._break_watch()
+        return self._watch is not None and is_news()
 
     def _begin_watch(self, is_news: Callable[[], bool], is_wide: bool, seconds: float) -> bool:
-        """Begins a watch behind what was found, if that isn't what `wait` waits for. Whether it is."""
+        """Begins a watch behind what was found, if that isn't what `wait` waits for. Whether it is. Raises Silent."""
         pause = self._broken + AGAIN - seconds_of_boot()
         if pause > 0:
             slept(min(pause, seconds), self._woken)
@@ -462,11 +438,8 @@ class EtcdLog:
             self._see_all(self._look(*self._keys.standing(0)), 0)
         if is_news():
             return True
-        try:
-            self._watch = self._client.watch({**self._keys.watched(is_wide), 'start_revision': str(self._news.revision + 1)})
-            self._is_wide = is_wide
-        except Silent:
-            self._break_watch()
+        self._watch = self._client.watch({**self._keys.watched(is_wide), 'start_revision': str(self._news.revision + 1)})
+        self._is_wide = is_wide
         return False
 
     def _break_watch(self) -> None:
@@ -488,40 +461,31 @@ class EtcdLog:
 
     def _look(self, *asked: Json) -> Answer:
         """What these ranges find, at one revision, in the log that was opened."""
-        first = one(self._keys.begun, keys_only=True)
-        answer = self._client.transact([], ranges(first, *asked))
-        self._see_first(answer.ranges[0])
-        return answer._replace(ranges=answer.ranges[1:])
+        return self._checked(self._client.transact([], ranges(one(self._keys.begun, keys_only=True), *asked)))
 
     def _change(self, conditions: Sequence[Json], done: Sequence[Json], *refused: Json) -> Answer:
         """What is done if the conditions are so, and else what is found, in the log that was opened."""
         first = self._keys.begun
         is_same = number_is(first, 'create_revision', self._created)
         answer = self._client.transact([is_same, *conditions], done, [one(first, keys_only=True), *refused])
-        if answer.is_done:
-            return answer
-        self._see_first(answer.ranges[0])
-        return answer._replace(ranges=answer.ranges[1:])
+        return answer if answer.is_done else self._checked(answer)
 
-    def _see_first(self, found: Json) -> None:
-        """Raises DamagedLog, ForeignLog, if the log isn't the one that was opened."""
-        first = pairs_of(found)
-        if not first:
+    def _checked(self, answer: Answer) -> Answer:
+        """The answer, without the range of the key that was made first. Raises DamagedLog, ForeignLog, if the log isn't the one that was opened."""
+        first, *others = answer.ranges
+        made = [pair.created for pair in pairs_of(first)]
+        if not made:
             raise DamagedLog(f'{self.address}: the log was removed')
-        if first[0].created != self._created:
+        if made != [self._created]:
             raise ForeignLog(f'{self.address}: another log is in its place')
+        return answer._replace(ranges=others)
 
     def _end_of(self, found: Json) -> Promise:
         """The end of the log, as it was found."""
         try:
-            return place_of((self._value(found) or b'').decode())
+            return place_of((value_of(found) or b'').decode())
         except ValueError as fault:
             raise DamagedLog(f'{self.address}: the log has no end') from fault
-
-    @staticmethod
-    def _value(found: Json) -> Optional[bytes]:
-        """The value of a key that was asked for, if it is there."""
-        return next((pair.value for pair in pairs_of(found)), None)
 
 
 class News:
@@ -554,8 +518,7 @@ class News:
         for name in lives:
             promises[name]
         self.lives, self.promises, self._is_odd = lives, promises, False
-        self.end, self.wish = (next((pair.value for pair in pairs_of(each)), None) for each in (place, wish))
-        self.revision, self.is_fresh = answer.revision, True
+        self.end, self.wish, self.revision, self.is_fresh = value_of(place), value_of(wish), answer.revision, True
         return True
 
     def presences(self) -> Dict[str, Holder]:
@@ -573,20 +536,21 @@ class News:
                 self.end = pair.value if is_put else None
             elif key == keys.next:
                 self.wish = pair.value if is_put else None
+            elif key.startswith(keys.lives) and is_put:
+                self.lives[keys.name(key, keys.lives)] = life_of(pair.value.decode())
             elif key.startswith(keys.lives):
                 name = keys.name(key, keys.lives)
-                set_or_remove(self.lives, name, life_of(pair.value.decode()) if is_put else None)
-                if not is_put:
-                    set_or_remove(self.promises, name, None)
+                self.lives.pop(name, None)
+                self.promises.pop(name, None)
+            elif key.startswith(keys.promises) and is_put:
+                self.promises[keys.name(key, keys.promises)] = place_of(pair.value.decode())
             elif key.startswith(keys.promises):
-                set_or_remove(self.promises, keys.name(key, keys.promises), place_of(pair.value.decode()) if is_put else None)
+                self.promises.pop(keys.name(key, keys.promises), None)
             self._is_odd |= key == keys.begun
         except ValueError:
             self._is_odd = True
 
-    def awaited(
-        self, here: Promise, lives: Mapping[str, Life], until: Until, wish: Optional[bytes], before: AbstractSet[str],
-    ) -> Callable[[], bool]:  # fmt: skip
+    def awaited(self, here: Promise, lives: Mapping[str, Life], until: Until, wish: Optional[bytes], before: AbstractSet[str]) -> Callable[[], bool]:
         """What tells whether there is what is waited for, by who was idle before."""
         end = place_text(here).encode()
 
@@ -596,17 +560,6 @@ class News:
             return are_idle(until, self.promises, here, before)
 
         return is_news
-
-
-_Value = TypeVar('_Value')
-
-
-def set_or_remove(found: Dict[str, _Value], name: str, value: Optional[_Value]) -> None:
-    """The value of that name is this one from now on; or there is none."""
-    if value is not None:
-        found[name] = value
-    elif name in found:
-        del found[name]
 
 
 def seconds_of(ttl: int) -> int:
@@ -630,8 +583,7 @@ def make(client: Client, address: str, keys: Keys, opening: Opening) -> None:
     answer = client.transact([exists(keys.begun)], [], there)  # so that the keys of a long log aren't compared
     if not answer.is_done and not answer.ranges[1].get('kvs'):
         is_empty = {**below(keys.root), **number_is(keys.root, 'version', 0)}
-        begun = [put(keys.opening(opening.epoch), opening_text(opening)), put(keys.first, f'{opening.epoch:010}')]
-        answer = client.transact([is_empty], [*begun, put(keys.place, place_text(Promise(opening.epoch, 0)))], there)
+        answer = client.transact([is_empty], [*keys.begin(opening), put(keys.first, f'{opening.epoch:010}')], there)
         if answer.is_done:
             return
     if answer.is_done or answer.ranges[0].get('kvs'):

@@ -1,13 +1,21 @@
 """What the library refuses: an exception for each of its statuses."""
 from __future__ import annotations
 
-from typing import Dict, Iterator, Type
+from typing import Dict, Type
+
+FAULTS: Dict[int, Type[BullyError]] = {}  # by their statuses
 
 
 class BullyError(Exception):
     """A call that the library refused, for the cause that its status names. Nothing has changed, but as NotLearned says."""
 
     status: int = 0
+
+    def __init_subclass__(cls, status: int = 0) -> None:
+        """A class that is of a status by itself."""
+        super().__init_subclass__()
+        if status:
+            cls.status, FAULTS[status] = status, cls
 
     def __init__(self, message: str = '') -> None:
         super().__init__(message or (type(self).__doc__ or '').rstrip('.'))
@@ -41,273 +49,178 @@ class NotLearned(BullyError):
     cause: Type[BullyError] = BullyError
 
 
-class Full(Refused):
+class Full(Refused, status=1):
     """As many events as the setup bounds were told."""
 
-    status = 1
 
-
-class BadNode(Refused):
+class BadNode(Refused, status=2):
     """A node is none of the setup's."""
 
-    status = 2
 
-
-class IsDown(Refused):
+class IsDown(Refused, status=3):
     """The node is Down."""
 
-    status = 3
 
-
-class IsUp(Refused):
+class IsUp(Refused, status=4):
     """The node recovers and isn't Down."""
 
-    status = 4
 
-
-class Busy(Refused):
+class Busy(Refused, status=5):
     """A check or a timeout of a node that isn't idle."""
 
-    status = 5
 
-
-class NoStep(Refused):
+class NoStep(Refused, status=6):
     """The node doesn't want to do that next."""
 
-    status = 6
 
-
-class SlotBusy(Refused):
+class SlotBusy(Refused, status=7):
     """The node has a call under way."""
 
-    status = 7
 
-
-class NoCall(Refused):
+class NoCall(Refused, status=8):
     """There is no such call."""
 
-    status = 8
 
-
-class CalleeDown(Refused):
+class CalleeDown(Refused, status=9):
     """The request comes to a node that is Down."""
 
-    status = 9
 
-
-class CalleeUp(Refused):
+class CalleeUp(Refused, status=10):
     """A call of a trace is lost whose callee is up."""
 
-    status = 10
 
-
-class BadTable(Refused):
+class BadTable(Refused, status=11):
     """A planned table isn't balanced over the node and its up set."""
 
-    status = 11
 
-
-class NotOrphan(Refused):
+class NotOrphan(Refused, status=12):
     """The call isn't an orphan."""
 
-    status = 12
 
-
-class Null(BadArgument):
+class Null(BadArgument, status=20):
     """A pointer is null that must not be. This module hands none on."""
 
-    status = 20
 
-
-class Closed(BadArgument):
+class Closed(BadArgument, status=21):
     """The agent, the replica or the member is closed."""
 
-    status = 21
 
-
-class Open(BadArgument):
+class Open(BadArgument, status=22):
     """The handle is open already. This module opens none twice."""
 
-    status = 22
 
-
-class OutOfMemory(BullyError):
+class OutOfMemory(BullyError, status=23):
     """An allocation failed."""
 
-    status = 23
 
-
-class Short(BullyError):
+class Short(BullyError, status=24):
     """The room is too small. This module makes more room by itself."""
 
-    status = 24
 
-
-class BadNodes(BadArgument):
+class BadNodes(BadArgument, status=25):
     """A setup has no nodes, or more than NODES_MAX."""
 
-    status = 25
 
-
-class BadPartitions(BadArgument):
+class BadPartitions(BadArgument, status=26):
     """A setup has no partitions, or more than PARTITIONS_MAX."""
 
-    status = 26
 
-
-class BadLimit(BadArgument):
+class BadLimit(BadArgument, status=27):
     """A setup bounds no events, or more than EVENTS_MAX."""
 
-    status = 27
 
-
-class BadWeights(BadArgument):
+class BadWeights(BadArgument, status=28):
     """There are as many weights as nodes, each from 1 to WEIGHT_MAX."""
 
-    status = 28
 
-
-class TableLength(BadArgument):
+class TableLength(BadArgument, status=29):
     """A table has another number of owners than there are partitions."""
 
-    status = 29
 
-
-class TableOwner(BadArgument):
+class TableOwner(BadArgument, status=30):
     """An owner is no node of the setup."""
 
-    status = 30
 
-
-class NoMember(BadArgument):
+class NoMember(BadArgument, status=31):
     """A table over no members."""
 
-    status = 31
 
-
-class BadEvent(BadArgument):
+class BadEvent(BadArgument, status=32):
     """No number of a kind of event. This module hands none on."""
 
-    status = 32
 
-
-class BadRowsMax(BadArgument):
+class BadRowsMax(BadArgument, status=33):
     """A member's log has room for fewer than 22 rows for each node, or for more than EVENTS_MAX."""
 
-    status = 33
 
-
-class BadTtl(BadArgument):
+class BadTtl(BadArgument, status=34):
     """A member's ttl is below a millisecond or above a day."""
 
-    status = 34
 
-
-class BadAnswer(BadArgument):
+class BadAnswer(BadArgument, status=35):
     """No number of an answer of a store. This module hands none on."""
 
-    status = 35
 
-
-class LineWord(LineFault):
+class LineWord(LineFault, status=40):
     """The line doesn't begin with `ask`, or with `tell`, or isn't UTF-8."""
 
-    status = 40
 
-
-class LineCaller(LineFault):
+class LineCaller(LineFault, status=41):
     """The line names no node of the setup as the caller."""
 
-    status = 41
 
-
-class LineNumber(LineFault):
+class LineNumber(LineFault, status=42):
     """The line has no number of a call below the bound on events."""
 
-    status = 42
 
-
-class LineCallee(LineFault):
+class LineCallee(LineFault, status=43):
     """The line names no node of the setup as the callee."""
 
-    status = 43
 
-
-class LineKind(LineFault):
+class LineKind(LineFault, status=44):
     """The line has no word of a call, or a table behind another call than Ready."""
 
-    status = 44
 
-
-class LineTable(LineFault):
+class LineTable(LineFault, status=45):
     """The line of a Ready has no table of the setup."""
 
-    status = 45
 
-
-class LineAnswer(LineFault):
+class LineAnswer(LineFault, status=46):
     """The line has neither `yes` nor `no` as its answer."""
 
-    status = 46
 
-
-class BadHeader(TraceFault):
+class BadHeader(TraceFault, status=50):
     """The first row is no header of a trace, or there is none."""
 
-    status = 50
 
-
-class BadRow(TraceFault):
+class BadRow(TraceFault, status=51):
     """A row has no form of a row."""
 
-    status = 51
 
-
-class TooManyRows(TraceFault):
+class TooManyRows(TraceFault, status=52):
     """More than 1,000,000 rows stand behind the header."""
 
-    status = 52
 
-
-class RowDiffers(BullyError):
+class RowDiffers(BullyError, status=53):
     """What the row says beside its event, or claims, isn't so."""
 
-    status = 53
 
-
-class RowEnd(BadArgument):
+class RowEnd(BadArgument, status=54):
     """The last line has no line end. This module ends each row."""
 
-    status = 54
 
-
-def classes_below(base: Type[BullyError]) -> Iterator[Type[BullyError]]:
-    for each in base.__subclasses__():
-        yield each
-        yield from classes_below(each)
-
-
-FAULTS: Dict[int, Type[BullyError]] = {each.status: each for each in classes_below(BullyError) if each.status}
-
-
-def fault_of(status: int) -> BullyError:
-    """The exception of a status that isn't OK."""
-    if status in FAULTS:
-        return FAULTS[status]()
-    unknown = BullyError(f'the library answered status {status}, which this module does not know')
-    unknown.status = status
-    return unknown
-
-
-def fault_at(row: int, status: int) -> BullyError:
-    """The same; one of a trace's form tells this row."""
-    fault = fault_of(status)
-    if isinstance(fault, TraceFault):
-        fault.row = row
-        fault.args = (f'row {row}: {fault.args[0]}',)
+def fault_of(status: int, row: int = 0) -> BullyError:
+    """The exception of a status that isn't OK. One of a trace's form tells the row, if that is known."""
+    if status not in FAULTS:
+        unknown = BullyError(f'the library answered status {status}, which this module does not know')
+        unknown.status = status
+        return unknown
+    fault = FAULTS[status]()
+    if row and isinstance(fault, TraceFault):
+        fault.row, fault.args = row, (f'row {row}: {fault.args[0]}',)
     return fault
 
 
-def expect_ok(status: int) -> None:
+def expect_ok(status: int, row: int = 0) -> None:
     if status:
-        raise fault_of(status)
+        raise fault_of(status, row)

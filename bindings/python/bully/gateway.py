@@ -4,13 +4,12 @@ from __future__ import annotations
 import http.client
 import json
 import re
-import select
 import socket
 import ssl
 from base64 import b64decode, b64encode
 from typing import Any, Dict, List, NamedTuple, NoReturn, Optional, Sequence, Tuple
 
-from .logs import ForeignLog, LogError, Unanswered, seconds_of_boot
+from .logs import ForeignLog, LogError, Unanswered, seconds_of_boot, slept
 
 PORT = 2379
 LEAST_LIMIT = 0.01  # seconds that a request is given at least
@@ -100,6 +99,11 @@ def pairs_of(found: Json) -> List[Pair]:
     return [pair_of(told) for told in found.get('kvs', ())]
 
 
+def value_of(found: Json) -> Optional[bytes]:
+    """The value of a key that was asked for, if it is there."""
+    return next((pair.value for pair in pairs_of(found)), None)
+
+
 def coded(text: bytes) -> str:
     """A key or a value in JSON."""
     return b64encode(text).decode()
@@ -128,12 +132,6 @@ def number_is(key: bytes, name: str, number: int) -> Json:
 def value_is(key: bytes, value: bytes) -> Json:
     """That there is the key, with this value."""
     return {'key': coded(key), 'target': 'VALUE', 'result': 'EQUAL', 'value': coded(value)}
-
-
-def number_behind(prefix: bytes, key: bytes) -> Optional[int]:
-    """The number behind the prefix, if the key is one of these."""
-    rest = key[len(prefix) :]
-    return int(rest) if key.startswith(prefix) and rest.isdigit() else None
 
 
 def ranges(*asked: Json) -> List[Json]:
@@ -216,26 +214,19 @@ def silent_of(endpoint: Endpoint, error: Exception, may_be_done: bool) -> Silent
 
 def alert_of(connection: http.client.HTTPConnection) -> Optional[ssl.SSLError]:
     """What the other side said by TLS before it ended the connection, if it did."""
-    if isinstance(connection.sock, ssl.SSLSocket):
-        try:
+    try:
+        if isinstance(connection.sock, ssl.SSLSocket):
             connection.sock.settimeout(0)
             connection.sock.recv(1)
-        except (ssl.SSLWantReadError, ssl.SSLWantWriteError):
-            return None
-        except ssl.SSLError as alert:
-            return alert
-        except (OSError, ValueError):
-            return None
+    except (OSError, ValueError) as error:
+        if isinstance(error, ssl.SSLError) and not isinstance(error, (ssl.SSLWantReadError, ssl.SSLWantWriteError)):
+            return error
     return None
 
 
 def is_over(connection: http.client.HTTPConnection) -> bool:
     """Whether the other side has ended a connection on which nothing is awaited."""
-    if connection.sock is None:
-        return True
-    poll = select.poll()
-    poll.register(connection.sock, select.POLLIN)
-    return bool(poll.poll(0))
+    return connection.sock is None or bool(slept(0.0, connection.sock.fileno()))
 
 
 class Answer(NamedTuple):
@@ -350,7 +341,10 @@ class Client:
 
     def _exchange(self, path: str, told: Json, reached: float, end: float) -> Json:
         """A request and its answer. Raises Silent, Refusal, ForeignLog, LogError."""
-        connection = self._connected(reached)
+        if self._connection is None or is_over(self._connection):
+            self.close()
+            self._connection = self._connect(reached)
+        connection = self._connection
         headers = {'Content-Type': 'application/json', **({'Authorization': self._token} if self._token else {})}
         try:
             limit(connection, end)
@@ -363,13 +357,6 @@ class Client:
             self.close()
             raise silent_of(self.endpoint, cause, may_be_done=True) from error
         return self._checked(response.status, text)
-
-    def _connected(self, end: float) -> http.client.HTTPConnection:
-        """A connection to this server, on which nothing is under way. Raises Silent."""
-        if self._connection is None or is_over(self._connection):
-            self.close()
-            self._connection = self._connect(end)
-        return self._connection
 
     def _connect(self, end: float) -> http.client.HTTPConnection:
         """A new connection to this server. Raises Silent."""
@@ -417,10 +404,12 @@ class Watch:
     def events(self, seconds: float, woken: Optional[int] = None) -> List[Json]:
         """The next events, for which it waits so long at most, and until the descriptor has something to read. Raises Silent, Denied."""
         try:
-            if not self._is_ready(seconds, woken):
+            there = self._connection.sock
+            is_left = isinstance(there, ssl.SSLSocket) and there.pending() > 0
+            if not is_left and there.fileno() not in slept(seconds, there.fileno(), woken):
                 return []
-            self._connection.sock.settimeout(LEAST_LIMIT)
-            received = self._connection.sock.recv(RECEIVED)
+            there.settimeout(LEAST_LIMIT)
+            received = there.recv(RECEIVED)
         except socket.timeout:
             return []
         except OSError as error:
@@ -429,16 +418,6 @@ class Watch:
             raise Silent(self.endpoint, 'the watch was ended', may_be_done=False)
         self._text += received
         return [event for line in self._lines() for event in self._events_of(line)]
-
-    def _is_ready(self, seconds: float, woken: Optional[int]) -> bool:
-        """Whether there is something to receive, so long at most."""
-        there = self._connection.sock
-        if isinstance(there, ssl.SSLSocket) and there.pending():
-            return True
-        poll = select.poll()
-        for descriptor in (there.fileno(), *([] if woken is None else [woken])):
-            poll.register(descriptor, select.POLLIN)
-        return there.fileno() in dict(poll.poll(1000 * seconds))
 
     def close(self) -> None:
         self._connection.close()

@@ -5,10 +5,8 @@ import ctypes
 from dataclasses import dataclass
 from typing import Any, Iterable, Optional, Sequence, Tuple, Union
 
-from .faults import FAULTS, expect_ok, fault_at
-from .library import (
-    RawSetup, RawVerdict, Room, UINT16_MAX, UINT32_MAX, line_bytes, loaded, loaded_for_long, number_of, numbers_of, owners_of,
-)  # fmt: skip
+from .faults import FAULTS, expect_ok
+from .library import UINT16_MAX, UINT32_MAX, RawSetup, RawVerdict, Room, line_bytes, loaded, number_of, numbers_of, owners_of
 from .values import EVENTS_MAX, PARTITIONS_MAX, TablePlan, Verdict, VerdictKind
 
 
@@ -31,28 +29,22 @@ class Setup:
         return Room().row(loaded().bully_header, *setup_parts(self))
 
 
-def setup_parts(setup: Setup) -> Tuple[Any, 'ctypes.Array[ctypes.c_uint16]', int]:
+def setup_parts(setup: Setup) -> Tuple[Any, ...]:
     """A setup, as the three arguments that it is to the library."""
     weights = numbers_of('a weight', setup.weights)
-    told = RawSetup(
-        number_of('nodes', setup.nodes, UINT16_MAX),
-        number_of('partitions', setup.partitions, UINT16_MAX),
-        number_of('events_max', setup.events_max, UINT32_MAX),
-        1 if setup.keeps else 0,
-    )
-    return ctypes.byref(told), weights, len(weights)
+    nodes, partitions = number_of('nodes', setup.nodes, UINT16_MAX), number_of('partitions', setup.partitions, UINT16_MAX)
+    told = RawSetup(nodes, partitions, number_of('events_max', setup.events_max, UINT32_MAX), 1 if setup.keeps else 0)
+    return (ctypes.byref(told), *weights)
 
 
 def version() -> str:
     """The version of the library, as `bully --version` tells it."""
-    told: bytes = loaded().bully_version()
-    return told.decode('ascii')
+    return str(loaded().bully_version(), 'ascii')
 
 
 def status_name(status: int) -> str:
     """The name of a status of the library, as `OK`; `?` of a number that is none."""
-    name: bytes = loaded().bully_status_name(number_of('status', status, UINT32_MAX))
-    return name.decode('ascii')
+    return str(loaded().bully_status_name(number_of('status', status, UINT32_MAX)), 'ascii')
 
 
 def check(trace: Union[str, bytes, bytearray, memoryview]) -> Verdict:
@@ -63,9 +55,8 @@ def check(trace: Union[str, bytes, bytearray, memoryview]) -> Verdict:
         raise TypeError(f'a trace is str or bytes, and not {type(trace).__name__}')
     text = line_bytes(trace) if isinstance(trace, str) else bytes(trace)
     told = RawVerdict()
-    status = loaded_for_long().bully_check(text, len(text), ctypes.byref(told))
-    if status:
-        raise fault_at(told.number, status)
+    status = loaded(for_long=True).bully_check(text, len(text), ctypes.byref(told))
+    expect_ok(status, told.number)
     return Verdict(VerdictKind(told.kind), told.number, FAULTS[told.cause] if told.cause else None)
 
 
@@ -78,8 +69,5 @@ def plan_table(setup: Setup, members: Iterable[int], old: Optional[Sequence[int]
     parts = setup_parts(setup)
     count = setup.partitions if setup.partitions <= PARTITIONS_MAX else 0
     owners, moves = (ctypes.c_uint16 * count)(), ctypes.c_uint16()
-    status = loaded().bully_table(
-        *parts, among, len(among), before, len(before), owners, count, ctypes.byref(moves)
-    )
-    expect_ok(status)
+    expect_ok(loaded().bully_table(*parts, *among, *before, owners, count, ctypes.byref(moves)))
     return TablePlan(tuple(owners), moves.value)

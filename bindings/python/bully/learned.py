@@ -2,9 +2,9 @@
 from __future__ import annotations
 
 import ctypes
-from typing import Any, Callable, Iterable, Optional, Tuple
+from typing import Any, Iterable, Optional, Tuple
 
-from .faults import BadArgument, BullyError, NotLearned, expect_ok, fault_at, fault_of
+from .faults import BadArgument, BullyError, NotLearned, expect_ok, fault_of
 from .library import Opened, RawGroup, RawState, list_of, node_of, rows_bytes, state_of
 from .values import Line, Rows, State
 
@@ -14,20 +14,17 @@ class Learned(Opened):
 
     _showing = ''  # the name of the function that shows a node
 
-    def __init__(self) -> None:
-        super().__init__()
-        self._partitions = 0
-
-    def _function(self, name: str) -> Callable[..., Any]:
-        function: Callable[..., Any] = getattr(self._library, f'{self._kind}_{name}')
-        return function
+    def _begin(self, name: str, *told: Any) -> None:
+        """A log begins, as this function is told. A fault of its header is one of row 1."""
+        expect_ok(self._function(name)(*told), row=1)
+        self._partitions = self.partitions
 
     def _learn(self, rows: Iterable[Line]) -> int:
         """Learns the rows, and tells how many these were; or raises why one isn't learned."""
         if isinstance(rows, (str, bytes)):
             raise TypeError('the rows to learn are several lines, and not one')
         text, taken = rows_bytes(rows if isinstance(rows, Rows) else list(rows)), ctypes.c_size_t()
-        status = self._function('learn')(self._held, text, len(text), ctypes.byref(taken))
+        status = self._function('learn')(text, len(text), ctypes.byref(taken))
         if status:
             raise self._not_learned(status, taken.value)
         return taken.value
@@ -40,7 +37,7 @@ class Learned(Opened):
         row = self.rows + 2
         refused = NotLearned(f'row {row}: {why}')
         refused.status, refused.taken, refused.row, refused.cause = status, taken, row, type(why)
-        refused.__cause__ = fault_at(row, status)
+        refused.__cause__ = fault_of(status, row)
         return refused
 
     # How a node stands, behind the rows that were learned.
@@ -50,9 +47,7 @@ class Learned(Opened):
         return state_of(self._show(node))
 
     def _show(self, node: int) -> RawState:
-        state = RawState()
-        expect_ok(self._function(self._showing)(self._held, node_of(node), ctypes.byref(state)))
-        return state
+        return self._filled(RawState(), self._showing, node_of(node))
 
     # How the group stands, behind the rows that were learned. Each raises Closed.
 
@@ -81,7 +76,7 @@ class Learned(Opened):
     @property
     def last_table(self) -> Optional[Tuple[int, ...]]:
         """The owner of each partition in the last plan's table, if there is a plan."""
-        return list_of(self._partitions, self._function('planned'), self._held) or None
+        return list_of(self._partitions, self._function('planned')) or None
 
     @property
     def nodes(self) -> int:
@@ -99,6 +94,4 @@ class Learned(Opened):
         return bool(self._group().keeps)
 
     def _group(self) -> RawGroup:
-        group = RawGroup()
-        expect_ok(self._function('group')(self._held, ctypes.byref(group)))
-        return group
+        return self._filled(RawGroup(), 'group')

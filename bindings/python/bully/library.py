@@ -2,185 +2,115 @@
 from __future__ import annotations
 
 import ctypes
+import functools
 import operator
 import os
-from types import TracebackType
-from typing import Any, Callable, Dict, Iterable, Iterator, List, NoReturn, Optional, Sequence, Tuple, Type, TypeVar, Union
+from typing import Any, Callable, Dict, Iterable, Iterator, List, NoReturn, Optional, Sequence, Tuple, TypeVar, Union
 
-from .faults import BullyError, Short, TableLength, expect_ok
+from .faults import Short, TableLength, expect_ok
 from .values import Call, CallKind, Line, Owned, Rows, State, Status, Want
 
 FILE = 'libbully.so'
 HOW_TO_FIND = f'an archive of Cinnabarloom has {FILE} in lib, or bin/library FOLDER builds it; BULLY_LIBRARY=FOLDER tells where it is'
-REPLY_MAX = 32
 ROOM_MIN = 256
 UINT16_MAX = 0xFFFF
 UINT32_MAX = 0xFFFF_FFFF
 UINT64_MAX = 0xFFFF_FFFF_FFFF_FFFF
 
 
+def fields(**names: str) -> List[Tuple[str, Any]]:
+    """The fields of a structure, in their order: their names, by the types that they have."""
+    return [(name, getattr(ctypes, f'c_{kind}')) for kind, told in names.items() for name in told.split()]
+
+
 class RawSetup(ctypes.Structure):
-    _fields_ = [
-        ('nodes', ctypes.c_uint16),
-        ('partitions', ctypes.c_uint16),
-        ('events_max', ctypes.c_uint32),
-        ('keeps', ctypes.c_uint32),
-    ]
+    _fields_ = fields(uint16='nodes partitions', uint32='events_max keeps')
 
 
 class RawVerdict(ctypes.Structure):
-    _fields_ = [('kind', ctypes.c_uint32), ('number', ctypes.c_uint32), ('cause', ctypes.c_uint32)]
+    _fields_ = fields(uint32='kind number cause')
 
 
 class RawHandle(ctypes.Structure):
-    _fields_ = [('held', ctypes.c_void_p)]
+    _fields_ = fields(void_p='held')
 
 
 class RawState(ctypes.Structure):
-    _fields_ = [
-        ('status', ctypes.c_uint32),
-        ('wants', ctypes.c_uint32),
-        ('events', ctypes.c_uint32),
-        ('generation', ctypes.c_uint32),
-        ('call', ctypes.c_uint32),
-        ('orphan', ctypes.c_uint32),
-        ('number', ctypes.c_uint32),
-        ('node', ctypes.c_uint16),
-        ('coordinator', ctypes.c_uint16),
-        ('halter', ctypes.c_uint16),
-        ('callee', ctypes.c_uint16),
-    ]
+    _fields_ = fields(uint32='status wants events generation call orphan number', uint16='node coordinator halter callee')
 
 
 class RawGroup(ctypes.Structure):
-    _fields_ = [
-        ('rows', ctypes.c_uint32),
-        ('events', ctypes.c_uint32),
-        ('token', ctypes.c_uint32),
-        ('planner', ctypes.c_uint16),
-        ('nodes', ctypes.c_uint16),
-        ('partitions', ctypes.c_uint16),
-        ('keeps', ctypes.c_uint16),
-    ]
+    _fields_ = fields(uint32='rows events token', uint16='planner nodes partitions keeps')
 
 
 class RawStep(ctypes.Structure):
-    _fields_ = [
-        ('at_most', ctypes.c_uint64),
-        ('process', ctypes.c_uint64),
-        ('number', ctypes.c_uint64),
-        ('kind', ctypes.c_uint32),
-        ('request', ctypes.c_uint32),
-        ('until', ctypes.c_uint32),
-        ('place', ctypes.c_uint32),
-        ('token', ctypes.c_uint32),
-        ('ending', ctypes.c_uint32),
-    ]
+    _fields_ = fields(uint64='at_most process number', uint32='kind request until place token ending')
 
 
 class RawPresence(ctypes.Structure):
-    _fields_ = [
-        ('process', ctypes.c_uint64),
-        ('number', ctypes.c_uint64),
-        ('epoch', ctypes.c_uint32),
-        ('place', ctypes.c_uint32),
-        ('node', ctypes.c_uint16),
-    ]
+    _fields_ = fields(uint64='process number', uint32='epoch place', uint16='node')
 
 
 class RawMember(ctypes.Structure):
-    _fields_ = [
-        ('process', ctypes.c_uint64),
-        ('number', ctypes.c_uint64),
-        ('since', ctypes.c_uint64),
-        ('sure_left', ctypes.c_uint64),
-        ('life', ctypes.c_uint32),
-        ('promised', ctypes.c_uint32),
-        ('work', ctypes.c_uint32),
-        ('token', ctypes.c_uint32),
-        ('ending', ctypes.c_uint32),
-        ('epoch', ctypes.c_uint32),
-        ('place', ctypes.c_uint32),
-        ('node', ctypes.c_uint16),
-        ('is_wished', ctypes.c_uint16),
-    ]
+    _fields_ = fields(uint64='process number since sure_left', uint32='life promised work token ending epoch place', uint16='node is_wished')
 
 
 _SIZE = ctypes.c_size_t
 _SIZE_OUT = ctypes.POINTER(ctypes.c_size_t)
+_UINT32, _UINT64 = ctypes.c_uint32, ctypes.c_uint64
 _UINT32_OUT = ctypes.POINTER(ctypes.c_uint32)
-_NUMBERS = ctypes.POINTER(ctypes.c_uint16)
-_AGENT = _REPLICA = _MEMBER = ctypes.POINTER(RawHandle)
 _NODE = ctypes.c_uint16
-_SETUP = (ctypes.POINTER(RawSetup), _NUMBERS, _SIZE)
+_NUMBERS = (ctypes.POINTER(ctypes.c_uint16), _SIZE)
+_NUMBERS_OUT = (*_NUMBERS, _SIZE_OUT)
+_SETUP = (ctypes.POINTER(RawSetup), *_NUMBERS)
 _LINE = (ctypes.c_char_p, _SIZE)
-_TEXT_OUT = (ctypes.c_char_p, _SIZE, _SIZE_OUT)
-_NUMBERS_OUT = (_NUMBERS, _SIZE, _SIZE_OUT)
+_TEXT_OUT = (*_LINE, _SIZE_OUT)
 _OWNED_OUT = (_UINT32_OUT, *_NUMBERS_OUT)
-_EPOCH = (*_LINE, ctypes.c_uint32, _NODE, ctypes.c_uint32, _NUMBERS, _SIZE)
-_NOW = ctypes.c_uint64
-_SEEN = (ctypes.c_uint32, ctypes.POINTER(RawPresence), _SIZE, ctypes.c_uint32, ctypes.c_uint32)
+_STATE_OUT = ctypes.POINTER(RawState)
+_EPOCH = (*_LINE, _UINT32, _NODE, _UINT32, *_NUMBERS)
 
+# What functions of the library take.
 _PARAMETERS: Dict[str, Tuple[Any, ...]] = {
-    'bully_check': (*_LINE, ctypes.POINTER(RawVerdict)),
-    'bully_header': (*_SETUP, *_TEXT_OUT),
-    'bully_table': (*_SETUP, _NUMBERS, _SIZE, _NUMBERS, _SIZE, _NUMBERS, _SIZE, _NUMBERS),
-    'bully_agent_open': (_AGENT, *_SETUP, _NODE, ctypes.c_uint32, _NUMBERS, _SIZE),
-    'bully_agent_close': (_AGENT,),
-    'bully_agent_recover': (_AGENT,),
-    'bully_agent_crash': (_AGENT,),
-    'bully_agent_check': (_AGENT,),
-    'bully_agent_timeout': (_AGENT,),
-    'bully_agent_start': (_AGENT,),
-    'bully_agent_advance': (_AGENT,),
-    'bully_agent_plan': (_AGENT, _NUMBERS, _SIZE),
-    'bully_agent_drop_orphan': (_AGENT,),
-    'bully_agent_prepare': (_AGENT, _NUMBERS, _SIZE, _NUMBERS, _SIZE),
-    'bully_agent_request': (_AGENT, *_TEXT_OUT),
-    'bully_agent_serve': (_AGENT, *_LINE, *_TEXT_OUT),
-    'bully_agent_replied': (_AGENT, *_LINE, _UINT32_OUT),
-    'bully_agent_failed': (_AGENT, ctypes.c_uint32, _UINT32_OUT),
-    'bully_agent_show': (_AGENT, ctypes.POINTER(RawState)),
-    'bully_agent_up': (_AGENT, *_NUMBERS_OUT),
-    'bully_agent_task': (_AGENT, *_NUMBERS_OUT),
-    'bully_agent_rows': (_AGENT, *_TEXT_OUT),
-    'bully_agent_claim': (_AGENT, *_TEXT_OUT),
-    'bully_replica_open': (_REPLICA, *_LINE),
-    'bully_replica_close': (_REPLICA,),
-    'bully_replica_learn': (_REPLICA, *_LINE, _SIZE_OUT),
-    'bully_replica_next': (_REPLICA, _NODE, *_TEXT_OUT),
-    'bully_replica_event': (_REPLICA, _NODE, ctypes.c_uint32, *_TEXT_OUT),
-    'bully_replica_show': (_REPLICA, _NODE, ctypes.POINTER(RawState)),
-    'bully_replica_up': (_REPLICA, _NODE, *_NUMBERS_OUT),
-    'bully_replica_task': (_REPLICA, _NODE, *_NUMBERS_OUT),
-    'bully_replica_group': (_REPLICA, ctypes.POINTER(RawGroup)),
-    'bully_replica_planned': (_REPLICA, *_NUMBERS_OUT),
-    'bully_replica_settle': (_REPLICA, _NUMBERS, _SIZE, _NUMBERS, _SIZE, *_TEXT_OUT),
-    'bully_replica_is_at_rest': (_REPLICA, _NUMBERS, _SIZE, ctypes.c_uint32, _UINT32_OUT),
-    'bully_replica_owned': (_REPLICA, _NODE, ctypes.c_uint32, *_OWNED_OUT),
-    'bully_member_open': (_MEMBER, *_EPOCH, ctypes.c_uint64, ctypes.c_uint64),
-    'bully_member_close': (_MEMBER,),
-    'bully_member_next': (_MEMBER, _NOW, ctypes.POINTER(RawStep)),
-    'bully_member_answered': (_MEMBER, _NOW, ctypes.c_uint32),
-    'bully_member_learn': (_MEMBER, *_LINE, _SIZE_OUT),
-    'bully_member_looked': (_MEMBER, _NOW, *_SEEN),
-    'bully_member_passed': (_MEMBER,),
-    'bully_member_followed': (_MEMBER, _NOW, *_EPOCH),
-    'bully_member_not_there': (_MEMBER,),
-    'bully_member_woke': (_MEMBER,),
-    'bully_member_leave': (_MEMBER,),
-    'bully_member_lost': (_MEMBER, ctypes.c_uint32),
-    'bully_member_stopped': (_MEMBER,),
-    'bully_member_settlement': (_MEMBER, *_TEXT_OUT),
-    'bully_member_owned': (_MEMBER, *_OWNED_OUT),
-    'bully_member_show': (_MEMBER, _NOW, ctypes.POINTER(RawMember)),
-    'bully_member_node': (_MEMBER, _NODE, ctypes.POINTER(RawState)),
-    'bully_member_group': (_MEMBER, ctypes.POINTER(RawGroup)),
-    'bully_member_planned': (_MEMBER, *_NUMBERS_OUT),
+    'check': (*_LINE, ctypes.POINTER(RawVerdict)),
+    'header': (*_SETUP, *_TEXT_OUT),
+    'table': (*_SETUP, *_NUMBERS, *_NUMBERS, *_NUMBERS, ctypes.POINTER(ctypes.c_uint16)),
 }
 
-_loaded: Optional[ctypes.CDLL] = None
-_loaded_for_long: Optional[ctypes.CDLL] = None
+# What functions of a handle take behind that.
+_BEHIND_HANDLE: Dict[str, Tuple[Any, ...]] = {
+    'agent_open': (*_SETUP, _NODE, _UINT32, *_NUMBERS),
+    'agent_recover agent_crash agent_check agent_timeout agent_start agent_advance agent_drop_orphan agent_close': (),
+    'replica_close member_passed member_not_there member_woke member_leave member_stopped member_close': (),
+    'agent_plan': _NUMBERS,
+    'agent_prepare': (*_NUMBERS, *_NUMBERS),
+    'agent_request agent_rows agent_claim member_settlement': _TEXT_OUT,
+    'agent_serve': (*_LINE, *_TEXT_OUT),
+    'agent_replied': (*_LINE, _UINT32_OUT),
+    'agent_failed': (_UINT32, _UINT32_OUT),
+    'agent_show': (_STATE_OUT,),
+    'agent_up agent_task replica_planned member_planned': _NUMBERS_OUT,
+    'replica_open': _LINE,
+    'replica_learn member_learn': (*_LINE, _SIZE_OUT),
+    'replica_next': (_NODE, *_TEXT_OUT),
+    'replica_event': (_NODE, _UINT32, *_TEXT_OUT),
+    'replica_show member_node': (_NODE, _STATE_OUT),
+    'replica_up replica_task': (_NODE, *_NUMBERS_OUT),
+    'replica_group member_group': (ctypes.POINTER(RawGroup),),
+    'replica_settle': (*_NUMBERS, *_NUMBERS, *_TEXT_OUT),
+    'replica_is_at_rest': (*_NUMBERS, _UINT32, _UINT32_OUT),
+    'replica_owned': (_NODE, _UINT32, *_OWNED_OUT),
+    'member_open': (*_EPOCH, _UINT64, _UINT64),
+    'member_next': (_UINT64, ctypes.POINTER(RawStep)),
+    'member_answered': (_UINT64, _UINT32),
+    'member_looked': (_UINT64, _UINT32, ctypes.POINTER(RawPresence), _SIZE, _UINT32, _UINT32),
+    'member_followed': (_UINT64, *_EPOCH),
+    'member_lost': (_UINT32,),
+    'member_owned': _OWNED_OUT,
+    'member_show': (_UINT64, ctypes.POINTER(RawMember)),
+}
+
+# The library twice. Calls of a handle keep Python's lock, so that no two threads are in one; a check of a long trace gives it away.
+_loaded: List[ctypes.CDLL] = []
 
 
 def _declared(library: ctypes.CDLL) -> ctypes.CDLL:
@@ -189,10 +119,11 @@ def _declared(library: ctypes.CDLL) -> ctypes.CDLL:
     library.bully_status_name.restype = ctypes.c_char_p
     library.bully_version.argtypes = ()
     library.bully_version.restype = ctypes.c_char_p
-    for name, parameters in _PARAMETERS.items():
-        function = getattr(library, name)
-        function.argtypes = parameters
-        function.restype = ctypes.c_uint32
+    of_handles = {names: (ctypes.POINTER(RawHandle), *behind) for names, behind in _BEHIND_HANDLE.items()}
+    for names, parameters in {**_PARAMETERS, **of_handles}.items():
+        for name in names.split():
+            function = getattr(library, f'bully_{name}')
+            function.argtypes, function.restype = parameters, ctypes.c_uint32
     return library
 
 
@@ -219,28 +150,20 @@ def load(path: Union[str, 'os.PathLike[str]', None] = None) -> None:
     """Loads the library from this path: its file, or the folder that has it. Without a path that is BULLY_LIBRARY of the
     environment, or else libbully.so in the folder of this package, in `lib` of an archive or in `out/library` of the repository, or else
     what the system finds by that name. An OSError tells that it isn't there."""
-    global _loaded, _loaded_for_long
     place = _place_of(path)
     try:
-        # Calls of a handle keep Python's lock, so that no two threads are in one; a check of a long trace gives it away.
-        _loaded, _loaded_for_long = _declared(ctypes.PyDLL(place)), _declared(ctypes.CDLL(place))
+        _loaded[:] = [_declared(ctypes.PyDLL(place)), _declared(ctypes.CDLL(place))]
     except AttributeError as missing:
         raise OSError(f'{place} is not the library of bully.h: {missing}') from missing
     except OSError as missing:
         raise OSError(f'{missing}; {HOW_TO_FIND}') from missing
 
 
-def loaded() -> ctypes.CDLL:
-    if _loaded is None:
+def loaded(for_long: bool = False) -> ctypes.CDLL:
+    """The library, for calls that other threads wait for; or for long ones."""
+    if not _loaded:
         load()
-    assert _loaded is not None
-    return _loaded
-
-
-def loaded_for_long() -> ctypes.CDLL:
-    loaded()
-    assert _loaded_for_long is not None
-    return _loaded_for_long
+    return _loaded[for_long]
 
 
 def number_of(what: str, value: int, most: int) -> int:
@@ -255,17 +178,18 @@ def node_of(value: int) -> int:
     return number_of('node', value, UINT16_MAX)
 
 
-def numbers_of(what: str, values: Iterable[int]) -> 'ctypes.Array[ctypes.c_uint16]':
+def numbers_of(what: str, values: Iterable[int]) -> 'Tuple[ctypes.Array[ctypes.c_uint16], int]':
+    """Numbers, as the two arguments that they are to the library."""
     numbers = [number_of(what, value, UINT16_MAX) for value in values]
-    return (ctypes.c_uint16 * len(numbers))(*numbers)
+    return (ctypes.c_uint16 * len(numbers))(*numbers), len(numbers)
 
 
-def owners_of(values: Optional[Iterable[int]]) -> 'ctypes.Array[ctypes.c_uint16]':
-    """The owners of a table, or none. To the library no owners are no table, but an empty table is one that is too short."""
-    numbers = numbers_of('an owner', () if values is None else values)
-    if values is not None and not len(numbers):
+def owners_of(values: Optional[Iterable[int]]) -> 'Tuple[ctypes.Array[ctypes.c_uint16], int]':
+    """The same of the owners of a table, or none. To the library no owners are no table, but an empty table is one that is too short."""
+    numbers, count = numbers_of('an owner', () if values is None else values)
+    if values is not None and not count:
         raise TableLength()
-    return numbers
+    return numbers, count
 
 
 def line_bytes(line: Line) -> bytes:
@@ -274,6 +198,12 @@ def line_bytes(line: Line) -> bytes:
     if isinstance(line, bytes):
         return line
     raise TypeError(f'a line is str or bytes, and not {type(line).__name__}')
+
+
+def line_of(line: Line) -> Tuple[bytes, int]:
+    """The line, as the two arguments that it is to the library."""
+    text = line_bytes(line)
+    return text, len(text)
 
 
 def row_bytes(line: Line) -> bytes:
@@ -298,7 +228,7 @@ def rows_bytes(rows: Sequence[Line]) -> bytes:
 
 
 class Room:
-    """Room for the texts that the library writes, which grows by what it says that it wants."""
+    """Room for the texts that the library writes, a power of two, which grows by what it says that it wants."""
 
     def __init__(self) -> None:
         self._size = ROOM_MIN
@@ -312,16 +242,11 @@ class Room:
             if status != Short.status:
                 expect_ok(status)
                 return ctypes.string_at(text, length.value).decode('ascii')
-            self._grow(length.value)
+            self._size = 1 << (length.value - 1).bit_length()
 
     def row(self, function: Callable[..., int], *arguments: Any) -> str:
         """The same of a row, without its line end."""
         return self.text(function, *arguments).rstrip('\n')
-
-    def _grow(self, length: int) -> None:
-        """Twice the room, as often as it takes to hold this length."""
-        while self._size < length:
-            self._size *= 2
 
 
 def list_of(room: int, function: Callable[..., int], *arguments: Any) -> Tuple[int, ...]:
@@ -333,9 +258,9 @@ def list_of(room: int, function: Callable[..., int], *arguments: Any) -> Tuple[i
 
 def owned_of(room: int, function: Callable[..., int], *arguments: Any) -> Optional[Owned]:
     """What a node owns, as the function writes it, called with these arguments and room for so many partitions."""
-    token, partitions, count = ctypes.c_uint32(), (ctypes.c_uint16 * room)(), ctypes.c_size_t()
-    expect_ok(function(*arguments, ctypes.byref(token), partitions, room, ctypes.byref(count)))
-    return Owned(token.value, tuple(partitions[: count.value])) if count.value else None
+    token = ctypes.c_uint32()
+    partitions = list_of(room, function, *arguments, ctypes.byref(token))
+    return Owned(token.value, partitions) if partitions else None
 
 
 def call_of(told: RawState) -> Optional[Call]:
@@ -355,6 +280,7 @@ def texts_of(text: str) -> List[str]:
 
 
 Self = TypeVar('Self', bound='Opened')
+Told = TypeVar('Told', bound=Union[ctypes.Structure, ctypes.c_uint32])
 
 
 class Opened:
@@ -369,17 +295,27 @@ class Opened:
         self._held = ctypes.byref(self._handle)
         self._room = Room()
 
+    def _function(self, name: str) -> Callable[..., int]:
+        """The library's function of this name for this handle."""
+        return functools.partial(getattr(self._library, f'{self._kind}_{name}'), self._held)
+
+    def _call(self, name: str, *told: Any) -> None:
+        """Calls the same, which has to answer OK."""
+        expect_ok(self._function(name)(*told))
+
+    def _filled(self, told: Told, name: str, *arguments: Any) -> Told:
+        """What the same writes, called with these arguments and with room for that."""
+        self._call(name, *arguments, ctypes.byref(told))
+        return told
+
     def close(self) -> None:
         """Gives back what the library keeps. Every later call raises Closed."""
-        expect_ok(self._close())
+        self._call('close')
 
     @property
     def is_closed(self) -> bool:
         """Whether it was closed."""
         return not self._handle.held
-
-    def _close(self) -> int:
-        return int(getattr(self._library, f'{self._kind}_close')(self._held))
 
     def _words(self) -> str:
         """What it is of, while it is open."""
@@ -388,22 +324,19 @@ class Opened:
     def __enter__(self: Self) -> Self:
         return self
 
-    def __exit__(
-        self, kind: Optional[Type[BaseException]], error: Optional[BaseException], trace: Optional[TracebackType]
-    ) -> None:
+    def __exit__(self, *error: object) -> None:
         if not self.is_closed:
             self.close()
 
     def __del__(self) -> None:
         handle = getattr(self, '_handle', None)
         if handle is not None and handle.held:
-            self._close()
+            self._function('close')()
 
-    def __copy__(self) -> NoReturn:
+    def __copy__(self, *memo: object) -> NoReturn:
         raise TypeError(self._single)
 
-    def __deepcopy__(self, memo: Dict[int, Any]) -> NoReturn:
-        raise TypeError(self._single)
+    __deepcopy__ = __copy__
 
     def __reduce__(self) -> str:
         raise TypeError(f'{type(self).__name__} is not pickled: it is the memory of this process')

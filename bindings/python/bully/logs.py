@@ -15,7 +15,7 @@ from __future__ import annotations
 import select
 import threading
 import time
-from typing import AbstractSet, Callable, Dict, FrozenSet, List, Mapping, NamedTuple, Optional, Protocol, Sequence, Tuple, TypeVar
+from typing import AbstractSet, Callable, Dict, FrozenSet, List, Mapping, NamedTuple, Optional, Protocol, Sequence, Tuple, TypeVar, Union
 
 from .epochs import Opening
 from .member import Life, Promise, Until
@@ -23,6 +23,7 @@ from .values import Rows
 
 SECOND = 1_000_000_000  # nanoseconds
 PART = 0.02  # seconds that a wait in memory takes at most, if something else may wake it
+BY_HISTORY = '; history writes it as a trace, and init makes another log'  # is told of a log by an older version
 
 Name = TypeVar('Name', str, bytes)
 
@@ -127,9 +128,7 @@ class Log(Protocol):
     def look(self, epoch: int, place: int) -> Found:
         """The rows of that epoch behind that place, if it is the current one, and what else is found at the same moment."""
 
-    def wait(
-        self, epoch: int, place: int, lives: Mapping[str, Life], until: Until, seconds: float, woken: Optional[int] = None,
-    ) -> None:  # fmt: skip
+    def wait(self, epoch: int, place: int, lives: Mapping[str, Life], until: Until, seconds: float, woken: Optional[int] = None) -> None:
         """Returns once another epoch is the current one, or rows stand behind that place, or others than these lives are present, or another
         wish stands than the last look found; or also, by `until`, once one of those present has promised that place of that epoch that
         hadn't when the last look found the log to end there, or once all have; or once the descriptor `woken` has something to read; or
@@ -172,9 +171,22 @@ def are_idle(until: Until, promises: Mapping[Name, object], here: object, before
     return bool(idle - before) if until is Until.ANY_IDLE else bool(idle) and len(idle) == len(promises)
 
 
-def told_epochs(where: str, epoch: int, there: range) -> str:
+def no_epoch(where: str, epoch: int, there: range) -> NoEpoch:
     """That the epoch isn't there, and which are."""
-    return f'{where}: epoch {epoch} is not there, but ' + (f'{there[0]} to {there[-1]}' if len(there) > 1 else f'{there[0]}')
+    return NoEpoch(f'{where}: epoch {epoch} is not there, but ' + (f'{there[0]} to {there[-1]}' if len(there) > 1 else f'{there[0]}'))
+
+
+def opening_of(where: str, epoch: int, text: Union[str, bytes]) -> Opening:
+    """The opening of an epoch, as a store has it. Raises DamagedLog."""
+    try:
+        return Opening.parse(text if isinstance(text, str) else text.decode())
+    except (ValueError, KeyError, TypeError) as fault:
+        raise DamagedLog(f'{where}: epoch {epoch} has no opening: {fault}') from fault
+
+
+def wish_of(where: str, epoch: int, text: Union[None, str, bytes]) -> Optional[Opening]:
+    """What is wished for in an epoch, as a store has it. Raises DamagedLog."""
+    return None if text is None else opening_of(where, epoch + 1, text)
 
 
 def seconds_of_boot() -> float:
@@ -187,12 +199,13 @@ def nanoseconds_of_boot() -> int:
     return time.clock_gettime_ns(time.CLOCK_BOOTTIME)
 
 
-def slept(seconds: float, woken: Optional[int]) -> bool:
-    """Sleeps so long, or until the descriptor, if there is one, has something to read. Whether it has."""
+def slept(seconds: float, *descriptors: Optional[int]) -> List[int]:
+    """Sleeps so long, or until one of these descriptors, as far as there are any, has something to read. Which have."""
     poll = select.poll()
-    if woken is not None:
-        poll.register(woken, select.POLLIN)
-    return bool(poll.poll(1000 * seconds))
+    for descriptor in descriptors:
+        if descriptor is not None:
+            poll.register(descriptor, select.POLLIN)
+    return [descriptor for descriptor, _ in poll.poll(1000 * seconds)]
 
 
 class Lease(NamedTuple):
@@ -239,7 +252,7 @@ class MemoryLog:
         with self._changed:
             found = self._openings.get(self.epoch if epoch is None else epoch)
             if found is None:
-                raise NoEpoch(told_epochs('the log', epoch or 0, self.epochs()))
+                raise no_epoch('the log', epoch or 0, self.epochs())
             return found
 
     # Presences.
@@ -312,7 +325,7 @@ class MemoryLog:
     def read(self, epoch: int, place: int) -> List[str]:
         with self._changed:
             if epoch not in self._rows:
-                raise NoEpoch(told_epochs('the log', epoch, self.epochs()))
+                raise no_epoch('the log', epoch, self.epochs())
             return self._rows[epoch][place:]
 
     def prune(self, first: int) -> None:
@@ -324,13 +337,11 @@ class MemoryLog:
 
     def look(self, epoch: int, place: int) -> Found:
         with self._changed:
-            self._told.wish, self._told.idle = self.wish, (self._end(), idle_of(self._promises(), self._end()))
-            rows = self.rows[place:] if epoch == self.epoch else []
-            return Found(self.epoch, rows, self.presences, self.wish)
+            found = Found(self.epoch, self.rows[place:] if epoch == self.epoch else [], self.presences, self.wish)
+            self._told.wish, self._told.idle = self.wish, (self._end(), found.idle(self._end()))
+            return found
 
-    def wait(
-        self, epoch: int, place: int, lives: Mapping[str, Life], until: Until, seconds: float, woken: Optional[int] = None,
-    ) -> None:  # fmt: skip
+    def wait(self, epoch: int, place: int, lives: Mapping[str, Life], until: Until, seconds: float, woken: Optional[int] = None) -> None:
         if woken is not None:  # it is looked at now and then
             seconds = 0.0 if slept(0.0, woken) else min(seconds, PART)
         end, told = self.clock() + int(seconds * SECOND), getattr(self._told, 'wish', None)
@@ -338,22 +349,16 @@ class MemoryLog:
         before = known[1] if known[0] == Promise(epoch, place) else frozenset()
         with self._changed:
             while not self.has_news(epoch, place, lives, told, until, before) and self.clock() < end:
-                self._changed.wait(max(0, min([end, *self.ends()]) - self.clock()) / SECOND)
+                ends = [lease.until for lease in self.leases.values() if self.clock() < lease.until]
+                self._changed.wait(max(0, min([end, *ends]) - self.clock()) / SECOND)
 
-    def has_news(
-        self, epoch: int, place: int, lives: Mapping[str, Life], wish: Optional[Opening], until: Until, before: AbstractSet[str],
-    ) -> bool:  # fmt: skip
+    def has_news(self, epoch: int, place: int, lives: Mapping[str, Life], wish: Optional[Opening], until: Until, before: AbstractSet[str]) -> bool:
         """Whether a wait is over before its time behind a look that found this wish, and these idle up to that place."""
         with self._changed:
             if epoch != self.epoch or len(self.rows) > place or wish != self.wish:
                 return True
             there = {name: holder.life for name, holder in self.presences.items()}
             return there != lives or are_idle(until, self._promises(), Promise(epoch, place), before)
-
-    def ends(self) -> List[int]:
-        """When the presences end that there are."""
-        now = self.clock()
-        return [lease.until for lease in self.leases.values() if now < lease.until]
 
     def ask(self, wish: Opening, epoch: int) -> bool:
         with self._changed:

@@ -6,16 +6,13 @@ nanoseconds of one clock that never goes back. A *place* in an epoch's log is ho
 """
 from __future__ import annotations
 
-import ctypes
 import enum
 from dataclasses import dataclass
 from typing import Callable, Dict, List, Optional, Sequence, Tuple, Union
 
-from .faults import BullyError, NotLearned, OutOfMemory, expect_ok, fault_at
+from .faults import BullyError, NotLearned, OutOfMemory
 from .learned import Learned
-from .library import (
-    UINT16_MAX, UINT32_MAX, UINT64_MAX, RawMember, RawPresence, RawStep, line_bytes, number_of, owned_of, owners_of, texts_of,
-)  # fmt: skip
+from .library import UINT16_MAX, UINT32_MAX, UINT64_MAX, RawMember, RawPresence, RawStep, line_of, number_of, owned_of, owners_of, texts_of
 from .values import Line, Owned
 
 TTL_MIN, TTL_MAX = 1_000_000, 86_400_000_000_000
@@ -93,75 +90,32 @@ class Until(enum.Enum):
     NEWS, ANY_IDLE, ALL_IDLE = 'news', 'any idle', 'all idle'
 
 
-# ---- What is asked of a store. Each is done at one moment, or not at all.
-
-
-@dataclass(frozen=True)
-class Take:
-    """The node's presence for this life, which promises the place: if nobody has it, and the log ends there."""
-
-    life: Life
-    place: int
-
-
-@dataclass(frozen=True)
-class Renew:
-    """The presence once more, if this life has it, without a gap."""
-
-    life: Life
-
-
-@dataclass(frozen=True)
-class Release:
-    """The end of the presence, if this life has it."""
-
-    life: Life
-
-
-@dataclass(frozen=True)
-class Look:
-    """The rows behind all that was learned, for `learn`, and what `looked` is told."""
-
-
-@dataclass(frozen=True)
-class BeIdle:
-    """This life's promise of the place, if it has the presence; a higher one stays."""
-
-    life: Life
-    place: int
-
-
-@dataclass(frozen=True)
-class Append:
-    """To append the rows of `settlement`: if the log ends at the place, somebody is present, and all that are, strangers too, have
-    promised this place of this epoch."""
-
-    place: int
-
-
-@dataclass(frozen=True)
-class Finish:
-    """To end the epoch, and to begin the next one: on the same conditions."""
-
-    place: int
-
-
-@dataclass(frozen=True)
-class Follow:
-    """What the current epoch began with, for `followed`."""
-
-
-Request = Union[Take, Renew, Release, Look, BeIdle, Append, Finish, Follow]
-
-
 # ---- Steps.
+
+
+class Request(enum.Enum):
+    """What is asked of a store. Each is done at one moment, or not at all."""
+
+    TAKE = 1  # the node's presence for this life, which promises the place: if nobody has it, and the log ends there
+    RENEW = 2  # the presence once more, if this life has it, without a gap
+    RELEASE = 3  # the end of the presence, if this life has it
+    LOOK = 4  # the rows behind all that was learned, for `learn`, and what `looked` is told
+    BE_IDLE = 5  # this life's promise of the place, if it has the presence; a higher one stays
+    # To append the rows of `settlement`: if the log ends at the place, somebody is present, and all that are, strangers too, have promised this
+    # place of this epoch.
+    APPEND = 6
+    FINISH = 7  # to end the epoch, and to begin the next one: on the same conditions
+    FOLLOW = 8  # what the current epoch began with, for `followed`
 
 
 @dataclass(frozen=True)
 class Ask:
-    """To ask the store, and to tell what became of that: by `answered`, `looked`, `followed` or `passed`."""
+    """To ask the store, for this life or at this place, if the request has any, and to tell what became of that: by `answered`, `looked`,
+    `followed` or `passed`."""
 
     request: Request
+    life: Life = Life(0, 0)
+    place: int = 0
 
 
 @dataclass(frozen=True)
@@ -237,19 +191,8 @@ class Work:
 
 _ENDINGS, _UNTILS, _WAYS, _ANSWERS = list(Ending), list(Until), list(Way), list(StoreAnswer)
 
-_REQUESTS: Dict[int, Callable[[Life, int], Request]] = {
-    1: Take,
-    2: lambda life, place: Renew(life),
-    3: lambda life, place: Release(life),
-    4: lambda life, place: Look(),
-    5: BeIdle,
-    6: lambda life, place: Append(place),
-    7: lambda life, place: Finish(place),
-    8: lambda life, place: Follow(),
-}
-
 _STEPS: Dict[int, Callable[[RawStep], Step]] = {
-    1: lambda raw: Ask(_REQUESTS[raw.request](Life(raw.process, raw.number), raw.place)),
+    1: lambda raw: Ask(Request(raw.request), Life(raw.process, raw.number), raw.place),
     2: lambda raw: Begin(raw.token),
     3: lambda raw: Stop(),
     4: lambda raw: Wait(raw.at_most, _UNTILS[raw.until - 1]),
@@ -263,14 +206,10 @@ def _moment(now: int) -> int:
 
 
 def _raw_presence(presence: Presence) -> RawPresence:
-    life, promise = presence.life, presence.promise
-    return RawPresence(
-        number_of('a process', life.process, UINT64_MAX),
-        number_of('a number of a life', life.number, UINT64_MAX),
-        number_of('an epoch', promise.epoch, UINT32_MAX),
-        number_of('a place', promise.place, UINT32_MAX),
-        number_of('a node', presence.node, UINT16_MAX),
-    )
+    life, promise, node = presence.life, presence.promise, number_of('a node', presence.node, UINT16_MAX)
+    process, number = number_of('a process', life.process, UINT64_MAX), number_of('a number of a life', life.number, UINT64_MAX)
+    epoch, place = number_of('an epoch', promise.epoch, UINT32_MAX), number_of('a place', promise.place, UINT32_MAX)
+    return RawPresence(process, number, epoch, place, node)
 
 
 class Core(Learned):
@@ -290,10 +229,7 @@ class Core(Learned):
         super().__init__()
         self.fault: Optional[BullyError] = None  # why its log is broken, if a row wasn't learned
         number, length = number_of('a process', process, UINT64_MAX), number_of('a ttl', ttl, UINT64_MAX)
-        status = self._library.bully_member_open(self._held, *self._epoch_of(opening), number, length)
-        if status:
-            raise fault_at(1, status)
-        self._partitions = self._group().partitions
+        self._begin('open', *self._epoch_of(opening), number, length)
 
     def _words(self) -> str:
         shown = self._shown()
@@ -302,36 +238,34 @@ class Core(Learned):
     @staticmethod
     def _epoch_of(opening: Opening) -> Tuple[object, ...]:
         """The arguments of the library."""
-        text, owners = line_bytes(opening.header), owners_of(opening.old)
-        node = number_of('a node', opening.node, UINT16_MAX)
+        header, owners, node = line_of(opening.header), owners_of(opening.old), number_of('a node', opening.node, UINT16_MAX)
         epoch, most = number_of('an epoch', opening.epoch, UINT32_MAX), number_of('rows_max', opening.rows_max, UINT32_MAX)
-        return (text, len(text), epoch, node, most, owners, len(owners))
+        return (*header, epoch, node, most, *owners)
 
     # What it does next.
 
     def next(self, now: int) -> Step:
         """What is to be done now: by the first of the rules that applies. It is noted that this is done."""
-        raw = RawStep()
-        expect_ok(self._library.bully_member_next(self._held, _moment(now), ctypes.byref(raw)))
+        raw = self._filled(RawStep(), 'next', _moment(now))
         return _STEPS[raw.kind](raw)
 
     def settlement(self) -> List[str]:
         """The rows of an Append, without line ends: they bring the group to rest among those present, or, if the member ends, among nobody.
 
         Raises Full, if the log has no room for them; OutOfMemory."""
-        return texts_of(self._room.text(self._library.bully_member_settlement, self._held))
+        return texts_of(self._room.text(self._function('settlement')))
 
     def owned(self) -> Optional[Owned]:
         """By which token the node may work, by a plan behind all that the life has promised, and on which partitions, if on any.
 
         Raises OutOfMemory."""
-        return owned_of(self._partitions, self._library.bully_member_owned, self._held)
+        return owned_of(self._partitions, self._function('owned'))
 
     # What is told to it.
 
     def answered(self, now: int, answer: StoreAnswer) -> None:
         """What became of what was asked for last. A Look or a Follow whose result doesn't come wasn't answered."""
-        expect_ok(self._library.bully_member_answered(self._held, _moment(now), _ANSWERS.index(answer) + 1))
+        self._call('answered', _moment(now), _ANSWERS.index(answer) + 1)
 
     def learn(self, rows: Sequence[Line]) -> None:
         """The rows that a look found behind its place, before `looked`. A row that isn't learned, or that tells no event, ends the
@@ -350,43 +284,38 @@ class Core(Learned):
         """What a look found beside the rows. Nothing changes if no look is awaited.
 
         Raises BadNode; OutOfMemory."""
-        presences = list(map(_raw_presence, seen.presences))
-        array, count = (RawPresence * len(presences))(*presences), len(presences)
-        epoch = number_of('an epoch', seen.epoch, UINT32_MAX)
-        flags = (bool(seen.has_strangers), bool(seen.is_wished))
-        expect_ok(self._library.bully_member_looked(self._held, _moment(now), epoch, array, count, *flags))
+        count, epoch = len(seen.presences), number_of('an epoch', seen.epoch, UINT32_MAX)
+        presences = (RawPresence * count)(*map(_raw_presence, seen.presences))
+        self._call('looked', _moment(now), epoch, presences, count, bool(seen.has_strangers), bool(seen.is_wished))
 
     def passed(self) -> None:
         """In place of any other answer: the epoch is over, and its log was taken away."""
-        expect_ok(self._library.bully_member_passed(self._held))
+        self._call('passed')
 
     def followed(self, now: int, opening: Optional[Opening]) -> None:
         """With what the current epoch begins; none, if the member's name isn't in it. Nothing changes if no follow is awaited.
 
         Raises as `Core` does, but for BadTtl; then nothing changes."""
         if opening is None:
-            expect_ok(self._library.bully_member_not_there(self._held))
-            return
-        status = self._library.bully_member_followed(self._held, _moment(now), *self._epoch_of(opening))
-        if status:
-            raise fault_at(1, status)
-        self._partitions = self._group().partitions
+            self._call('not_there')
+        else:
+            self._begin('followed', _moment(now), *self._epoch_of(opening))
 
     def woke(self) -> None:
         """A wait is over."""
-        expect_ok(self._library.bully_member_woke(self._held))
+        self._call('woke')
 
     def leave(self) -> None:
         """It has to end in order."""
-        expect_ok(self._library.bully_member_leave(self._held))
+        self._call('leave')
 
     def lost(self, token: int) -> None:
         """What was begun by this token has ended outside."""
-        expect_ok(self._library.bully_member_lost(self._held, number_of('a token', token, UINT32_MAX)))
+        self._call('lost', number_of('a token', token, UINT32_MAX))
 
     def stopped(self) -> None:
         """Nothing is worked on any more."""
-        expect_ok(self._library.bully_member_stopped(self._held))
+        self._call('stopped')
 
     # How it stands.
 
@@ -442,7 +371,5 @@ class Core(Learned):
         """The end of the log, as far as it was learned."""
         return int(self._shown().place)
 
-    def _shown(self, now: int = 0) -> RawMember:
-        shown = RawMember()
-        expect_ok(self._library.bully_member_show(self._held, now, ctypes.byref(shown)))
-        return shown
+    def _shown(self) -> RawMember:
+        return self._filled(RawMember(), 'show', 0)

@@ -5,13 +5,12 @@ Members of that form appended row by row; no member of today may share a log wit
 from __future__ import annotations
 
 import contextlib
-import sqlite3
 import ssl
 from typing import List, Optional, Sequence
 
 from .gateway import KV_RANGE, Client, below, coded, one, pairs_of, read_address
 from .logs import DamagedLog, NoEpoch
-from .sqlite import connection, fail, form_of, identity
+from .sqlite import calls, connection, form_of, identity
 
 FORM = 2  # of a file
 OPENING = b'{"epoch": '  # with which an opening begins in etcd
@@ -24,19 +23,13 @@ def file_trace(path: str, epoch: Optional[int]) -> Optional[Sequence[str]]:
 
     Raises NoLog, ForeignLog, DamagedLog, NoEpoch, Unanswered."""
     identity(path)
-    try:
-        with contextlib.closing(connection(path, 1.0)) as file:
-            return read_file(path, file, epoch) if form_of(path, file) == FORM else None
-    except sqlite3.Error as error:
-        fail(path, error)
-
-
-def read_file(path: str, file: sqlite3.Connection, epoch: Optional[int]) -> Sequence[str]:
-    """The same, of a file of the older form."""
-    file.execute('begin deferred')
-    number = file.execute('select coalesce(max(epoch), 0) from log').fetchone()[0] if epoch is None else epoch
-    packs = file.execute('select rows from packs where epoch = ? order by number', (number,)).fetchall()
-    rows = file.execute('select place, row from log where epoch = ? order by place', (number,)).fetchall()
+    with calls(path), contextlib.closing(connection(path, 1.0)) as file:
+        if form_of(path, file) != FORM:
+            return None
+        file.execute('begin deferred')
+        number = file.execute('select coalesce(max(epoch), 0) from log').fetchone()[0] if epoch is None else epoch
+        packs = file.execute('select rows from packs where epoch = ? order by number', (number,)).fetchall()
+        rows = file.execute('select place, row from log where epoch = ? order by place', (number,)).fetchall()
     found = [*''.join([text for text, in packs]).split('\n')[:-1], *(row for _, row in rows)]
     return checked(path, number, found, rows[-1][0] + 1 if rows else 0)
 

@@ -2,6 +2,7 @@
 from __future__ import annotations
 
 import base64
+import functools
 import hashlib
 import html
 import json
@@ -11,7 +12,7 @@ import sys
 import threading
 import time
 from http.server import BaseHTTPRequestHandler, ThreadingHTTPServer
-from typing import Any, Dict, List, Optional, Tuple, Type
+from typing import Any, Callable, Dict, List, Optional, Tuple
 from urllib.parse import parse_qs, urlsplit
 
 from .faults import BullyError
@@ -151,7 +152,7 @@ class Server(ThreadingHTTPServer):
     daemon_threads = True
     block_on_close = False
 
-    def __init__(self, address: Tuple[str, int], handler: Type[BaseHTTPRequestHandler]) -> None:
+    def __init__(self, address: Tuple[str, int], handler: Callable[..., BaseHTTPRequestHandler]) -> None:
         self.address_family = socket.AF_INET6 if ':' in address[0] else socket.AF_INET
         super().__init__(address, handler)
 
@@ -168,16 +169,9 @@ class Page:
         """It listens at this address from now on. An OSError tells that it can't."""
         self._view = view
         self._member = member
-        self._name = member.name
         self._is_closed = False
         self._requests = threading.BoundedSemaphore(REQUESTS_MAX)
-        page = self
-
-        class Handler(PageHandler):
-            pass
-
-        Handler.page = page
-        self._server = Server(address, Handler)
+        self._server = Server(address, functools.partial(PageHandler, self))
         self._hosts = LOOPBACK if address[0] in LOOPBACK else None
 
     @property
@@ -214,13 +208,13 @@ class Page:
             self._wait(events, epoch)
         group = self._view.show()
         if parts.path == '/':
-            return 200, 'text/html', page_of(self._name, group)
+            return 200, 'text/html', page_of(self._member.name, group)
         if parts.path == '/group':
             return 200, 'application/json', json.dumps(group.told()) + '\n'
         if parts.path == '/assignment':
             return 200, 'application/json', json.dumps(self._assignment(group)) + '\n'
         if parts.path == '/metrics':
-            return 200, 'text/plain; version=0.0.4', metrics_of(group, self._name, self._sure_seconds())
+            return 200, 'text/plain; version=0.0.4', metrics_of(group, self._member.name, self._sure_seconds())
         if parts.path == '/healthz':
             return (200, 'text/plain', 'present\n') if self._sure_seconds() > 0 else (503, 'text/plain', 'not present\n')
         return 404, 'text/plain', 'there is no such page\n'
@@ -241,7 +235,7 @@ class Page:
         """What the member owns now."""
         owned = self._member.assignment()
         told: Dict[str, Any] = {
-            'node': self._name, 'epoch': group.epoch, 'events': group.events, 'token': None, 'coordinator': None, 'partitions': [],
+            'node': self._member.name, 'epoch': group.epoch, 'events': group.events, 'token': None, 'coordinator': None, 'partitions': [],
         }  # fmt: skip
         if owned is not None:
             coordinator = owned.settings.name(owned.coordinator)
@@ -252,14 +246,16 @@ class Page:
 class PageHandler(BaseHTTPRequestHandler):
     """One request."""
 
-    page: Optional[Page] = None
     protocol_version = 'HTTP/1.1'
     server_version = 'bully-member'
     sys_version = ''
     timeout = 60
 
+    def __init__(self, page: Page, *told: Any) -> None:
+        self.page = page
+        super().__init__(*told)
+
     def do_GET(self) -> None:
-        assert self.page is not None
         self.send(*self.page.answer(self.path, self.headers.get('Host', '')))
 
     def refuse(self) -> None:

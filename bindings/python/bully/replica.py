@@ -4,11 +4,8 @@ from __future__ import annotations
 import ctypes
 from typing import Iterable, List, Optional, Tuple
 
-from .faults import expect_ok, fault_at
 from .learned import Learned
-from .library import (
-    UINT32_MAX, call_of, line_bytes, list_of, node_of, number_of, numbers_of, owned_of, owners_of, texts_of,
-)  # fmt: skip
+from .library import UINT32_MAX, call_of, line_of, list_of, node_of, number_of, numbers_of, owned_of, owners_of, texts_of
 from .values import Call, Event, Line, Owned, Status, Want
 
 
@@ -32,16 +29,11 @@ class Replica(Learned):
 
         Raises BadHeader, also if rows stand behind it; OutOfMemory."""
         super().__init__()
-        text = line_bytes(header)
-        status = self._library.bully_replica_open(self._held, text, len(text))
-        if status:
-            raise fault_at(1, status)
-        group = self._group()
-        self._nodes, self._partitions = group.nodes, group.partitions
+        self._begin('open', *line_of(header))
+        self._nodes = self.nodes
 
     def _words(self) -> str:
-        group = self._group()
-        return f'of {group.nodes} nodes, {group.rows} rows'
+        return f'of {self.nodes} nodes, {self.rows} rows'
 
     # What the log tells.
 
@@ -62,7 +54,7 @@ class Replica(Learned):
         moves from that of the last plan.
 
         Raises Closed, BadNode, OutOfMemory; Full, if the log has no room for the row."""
-        return self._room.row(self._library.bully_replica_next, self._held, node_of(node)) or None
+        return self._room.row(self._function('next'), node_of(node)) or None
 
     def crash(self, node: int) -> str:
         """The row by which the node crashes, or has to stop. Raises Closed, BadNode, Full, IsDown, OutOfMemory."""
@@ -89,7 +81,7 @@ class Replica(Learned):
         return self._event(node, Event.DROP)
 
     def _event(self, node: int, event: Event) -> str:
-        return self._room.row(self._library.bully_replica_event, self._held, node_of(node), event)
+        return self._room.row(self._function('event'), node_of(node), event)
 
     # Who works, and how a group comes to rest. Nothing changes by these.
 
@@ -100,28 +92,22 @@ class Replica(Learned):
         last one of an epoch before: there 0 is an owner that the group hasn't. They are at most 11 for each node of the group.
 
         Raises Closed; BadNode, of one that is present; TableLength, TableOwner; Full, if the log has no room for them; OutOfMemory."""
-        nodes, owners = numbers_of('a node', present), owners_of(old)
-        return texts_of(
-            self._room.text(self._library.bully_replica_settle, self._held, nodes, len(nodes), owners, len(owners))
-        )
+        return texts_of(self._room.text(self._function('settle'), *numbers_of('a node', present), *owners_of(old)))
 
     def is_at_rest(self, present: Iterable[int], place: int = 0) -> bool:
         """Whether the group is at rest among the nodes that are present: all of these are Normal under the highest of them, all others
         are Down, and if any is present, there is a last plan, its token is above this place, and all its owners are present.
 
         Raises Closed, BadNode."""
-        nodes, rests = numbers_of('a node', present), ctypes.c_uint32()
-        at = number_of('a place', place, UINT32_MAX)
-        expect_ok(self._library.bully_replica_is_at_rest(self._held, nodes, len(nodes), at, ctypes.byref(rests)))
-        return bool(rests.value)
+        nodes, at = numbers_of('a node', present), number_of('a place', place, UINT32_MAX)
+        return bool(self._filled(ctypes.c_uint32(), 'is_at_rest', *nodes, at).value)
 
     def owned(self, node: int, place: int = 0) -> Optional[Owned]:
         """By which token the node's process may work behind so many events, and on which partitions, if on any: the node is Normal, and
         the last plan's token is above this place.
 
         Raises Closed, BadNode, OutOfMemory."""
-        at = number_of('a place', place, UINT32_MAX)
-        return owned_of(self._partitions, self._library.bully_replica_owned, self._held, node_of(node), at)
+        return owned_of(self._partitions, self._function('owned'), node_of(node), number_of('a place', place, UINT32_MAX))
 
     # How a node stands, behind the rows that were learned. `state` has all. Each raises Closed and BadNode.
 
@@ -139,11 +125,11 @@ class Replica(Learned):
 
     def up(self, node: int) -> Tuple[int, ...]:
         """The lower nodes that answered the node's halts, rising."""
-        return list_of(self._nodes, self._library.bully_replica_up, self._held, node_of(node))
+        return list_of(self._nodes, self._function('up'), node_of(node))
 
     def task(self, node: int) -> Optional[Tuple[int, ...]]:
         """The owner of each partition in the node's task, if it has one."""
-        return list_of(self._partitions, self._library.bully_replica_task, self._held, node_of(node)) or None
+        return list_of(self._partitions, self._function('task'), node_of(node)) or None
 
     def wants(self, node: int) -> Want:
         """What the node's procedure wants to do next."""

@@ -6,10 +6,9 @@ member is there, whoever wishes does that.
 from __future__ import annotations
 
 import secrets
-from typing import List
 
 from .epochs import Opening
-from .logs import SECOND, Found, Log, seconds_of_boot
+from .logs import SECOND, Log, seconds_of_boot
 from .member import Life, Promise, Until
 from .replica import Replica
 from .settings import Settings
@@ -57,14 +56,10 @@ def end_epoch(log: Log, opening: Opening, end: float) -> None:
                 tries += 1
                 end_alone(log, Life(process, tries), here, opening.next(found.wish, replica.last_table or opening.table))
             elif seconds_of_boot() >= end:
-                raise NotEnded(f'epoch {opening.epoch} has not ended yet, but waits for {", ".join(late(found, here) or found.presences)}')
+                late = [name for name, holder in found.presences.items() if holder.promise != here]
+                raise NotEnded(f'epoch {opening.epoch} has not ended yet, but waits for {", ".join(late or found.presences)}')
             else:
                 log.wait(here.epoch, here.place, found.lives, Until.NEWS, max(0.0, min(PART, end - seconds_of_boot())))
-
-
-def late(found: Found, here: Promise) -> List[str]:
-    """Who isn't idle up to this place."""
-    return [name for name, holder in found.presences.items() if holder.promise != here]
 
 
 def end_alone(log: Log, life: Life, here: Promise, opening: Opening) -> None:

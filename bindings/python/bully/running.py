@@ -9,15 +9,11 @@ import socket
 import threading
 from contextlib import suppress
 from dataclasses import dataclass, field
-from types import TracebackType
-from typing import Callable, List, Optional, Tuple, Type, TypeVar, Union
+from typing import Callable, List, Optional, Tuple, TypeVar, Union
 
 from .epochs import FIRST, Opening, Token
 from .logs import SECOND, DamagedLog, Found, Log, Unanswered, nanoseconds_of_boot, seconds_of_boot, slept
-from .member import (
-    Append, Ask, BeIdle, Begin, Core, End, Ending, Finish, Follow, Look, Presence, Promise, Release, Renew, Request, Rest, Seen, Step, Stop,
-    StoreAnswer, Take, Until, Wait,
-)  # fmt: skip
+from .member import Ask, Begin, Core, End, Ending, Presence, Promise, Request, Rest, Seen, Step, Stop, StoreAnswer, Until, Wait
 from .member import Opening as Terms
 from .settings import Settings, shown_name
 from .values import EVENTS_MAX
@@ -196,9 +192,7 @@ class Member:
     def __enter__(self) -> 'Member':
         return self
 
-    def __exit__(
-        self, kind: Optional[Type[BaseException]], error: Optional[BaseException], trace: Optional[TracebackType]
-    ) -> None:
+    def __exit__(self, *error: object) -> None:
         """It leaves, if it runs in another thread, and its log is closed."""
         self.leave()
         self._ended.wait()
@@ -242,7 +236,7 @@ class Member:
 
     def _do(self, step: Step) -> None:
         if isinstance(step, Ask):
-            self._ask(step.request)
+            self._ask(step)
         elif isinstance(step, Begin):
             owned, planner = self.core.owned(), self.core.planner
             assert owned is not None and planner is not None
@@ -269,39 +263,39 @@ class Member:
         self._answer(lambda: self.log.wait(epoch, place, found.lives, step.until, step.at_most / SECOND, self._woken.fileno()))
         self.core.woke()
 
-    def _ask(self, request: Request) -> None:
+    def _ask(self, ask: Ask) -> None:
         """Asks the log, and tells the core what came of it."""
-        core = self.core
-        if isinstance(request, Look):
-            found = self._answer(lambda: self.log.look(self.opening.epoch, core.place))
-            self._looked(found) if found is not None else core.answered(nanoseconds_of_boot(), StoreAnswer.UNANSWERED)
-        elif isinstance(request, Follow):
-            opening = self._answer(self.log.opening)
-            self._followed(opening) if opening is not None else core.answered(nanoseconds_of_boot(), StoreAnswer.UNANSWERED)
+        told = self._answer(lambda: self._asked(ask))
+        if isinstance(told, Found):
+            self._looked(told)
+        elif isinstance(told, Opening):
+            self._followed(told)
         else:
-            is_done = self._answer(lambda: self._asked(request))
-            answer = StoreAnswer.UNANSWERED if is_done is None else StoreAnswer.DONE if is_done else StoreAnswer.REFUSED
-            core.answered(nanoseconds_of_boot(), answer)
-            if is_done and isinstance(request, Take):
-                _told.info('node %s: present as %d.%d', shown_name(self.name), request.life.process, request.life.number)
-            if is_done and isinstance(request, (Take, Renew)) and self._sure is not None:
-                self._sure(core.sure_until / SECOND)
+            answer = StoreAnswer.UNANSWERED if told is None else StoreAnswer.DONE if told else StoreAnswer.REFUSED
+            self.core.answered(nanoseconds_of_boot(), answer)
+        if told and ask.request is Request.TAKE:
+            _told.info('node %s: present as %d.%d', shown_name(self.name), ask.life.process, ask.life.number)
+        if told and ask.request in (Request.TAKE, Request.RENEW) and self._sure is not None:
+            self._sure(self.core.sure_until / SECOND)
 
-    def _asked(self, request: Request) -> bool:
-        """Whether the log does that."""
-        log, epoch = self.log, self.opening.epoch
-        if isinstance(request, Take):
-            return log.take(self.name, request.life, Promise(epoch, request.place), int(self.ttl * SECOND))
-        if isinstance(request, Renew):
-            return log.renew(self.name, request.life, int(self.ttl * SECOND))
-        if isinstance(request, BeIdle):
-            return log.promise(self.name, request.life, Promise(epoch, request.place))
-        if isinstance(request, Append):
-            return log.append(epoch, request.place, self.core.settlement())
-        if isinstance(request, Finish):
-            return log.finish(epoch, request.place, self.opening.next(self._found.wish, self.core.last_table or self.opening.table))
-        assert isinstance(request, Release)
-        log.release(self.name, request.life)
+    def _asked(self, ask: Ask) -> Union[bool, Found, Opening]:
+        """What the log finds, or whether it does that."""
+        log, here, ttl = self.log, Promise(self.opening.epoch, ask.place), int(self.ttl * SECOND)
+        if ask.request is Request.LOOK:
+            return log.look(here.epoch, self.core.place)
+        if ask.request is Request.FOLLOW:
+            return log.opening()
+        if ask.request is Request.TAKE:
+            return log.take(self.name, ask.life, here, ttl)
+        if ask.request is Request.RENEW:
+            return log.renew(self.name, ask.life, ttl)
+        if ask.request is Request.BE_IDLE:
+            return log.promise(self.name, ask.life, here)
+        if ask.request is Request.APPEND:
+            return log.append(here.epoch, here.place, self.core.settlement())
+        if ask.request is Request.FINISH:
+            return log.finish(here.epoch, here.place, self.opening.next(self._found.wish, self.core.last_table or self.opening.table))
+        log.release(self.name, ask.life)
         return True
 
     def _looked(self, found: Found) -> None:
@@ -333,11 +327,7 @@ class Member:
 
     def _call_all(self) -> None:
         """Calls what it is told to, one after the other."""
-        while True:
-            told = self._to_call.get()
-            if told is None:
-                return
-            is_stop, work = told
+        for is_stop, work in iter(self._to_call.get, None):
             words = 'stops' if is_stop else 'begins'
             _told.info('node %s: %s partitions %s by token %d', shown_name(self.name), words, list(work.partitions), work.token)
             try:

@@ -28,9 +28,7 @@ class Settings:
 
     def number(self, name: str) -> int:
         """The node of this name. Raises a KeyError."""
-        if name not in self.names:
-            raise KeyError(name)
-        return self.names.index(name) + 1
+        return {each: number for number, each in enumerate(self.names, 1)}[name]
 
     def name(self, node: int) -> str:
         return self.names[node - 1]

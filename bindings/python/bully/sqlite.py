@@ -6,19 +6,20 @@ what happens to presences, so that who waits need not look at all of them each t
 from __future__ import annotations
 
 import os
+import re
 import sqlite3
 import stat
 import time
-from contextlib import contextmanager, suppress
+from contextlib import closing, contextmanager, suppress
 from pathlib import Path
-from typing import ContextManager, Dict, FrozenSet, Iterator, Mapping, NamedTuple, NoReturn, Optional, Sequence, Tuple, Union
+from typing import Dict, FrozenSet, Iterator, Mapping, NamedTuple, Optional, Sequence, Tuple, Union
 from urllib.parse import quote
 
 from .epochs import Opening
 from .guard import is_stopped, writer_of
 from .logs import (
-    SECOND, DamagedLog, DiskFull, ForeignLog, Found, Holder, LogBusy, LogExists, NoEpoch, NoLog, ReadOnlyLog, Unanswered, are_idle, idle_of,
-    nanoseconds_of_boot, rows_text, slept, told_epochs,
+    BY_HISTORY, SECOND, DamagedLog, DiskFull, ForeignLog, Found, Holder, LogBusy, LogExists, NoLog, ReadOnlyLog, Unanswered, are_idle,
+    nanoseconds_of_boot, no_epoch, opening_of, rows_text, slept, wish_of,
 )  # fmt: skip
 from .member import Life, Promise, Until
 from .values import Rows
@@ -41,18 +42,11 @@ create table changes (lives integer not null, promises integer not null);
 insert into changes values (0, 0);
 """
 
-# What SQLite says, and what that means. The first that is a part of its message counts.
+# What SQLite says, by a part of its message, and what that means. The first that fits counts.
 MEANINGS = (
-    ('not a database', ForeignLog),
-    ('malformed', DamagedLog),
-    ('no such', DamagedLog),
-    ('readonly', ReadOnlyLog),
-    ('read-only', ReadOnlyLog),
-    ('locked', LogBusy),
-    ('busy', LogBusy),
-    ('is full', DiskFull),
-    ('unable to open', ReadOnlyLog),
-)
+    ('not a database', ForeignLog), ('malformed|no such', DamagedLog), ('read-?only', ReadOnlyLog), ('locked|busy', LogBusy),
+    ('is full', DiskFull), ('unable to open', ReadOnlyLog),
+)  # fmt: skip
 
 
 def boot_name() -> str:
@@ -66,27 +60,13 @@ def connection(path: str, patience: float, mode: str = 'rw') -> sqlite3.Connecti
     return sqlite3.connect(name, timeout=patience, isolation_level=None, check_same_thread=False, uri=True)
 
 
-def write_new(path: str, opening: Opening) -> None:
-    """Writes a new file with a log that begins so."""
-    file = None
-    try:
-        file = connection(path, 1.0, 'rwc')
-        file.executescript(f'pragma journal_mode = wal; pragma application_id = {APPLICATION}; pragma user_version = {FORM}; {TABLES}')
-        open_epoch(file, opening)
-    except sqlite3.Error as error:
-        fail(path, error)
-    finally:
-        if file is not None:
-            file.close()
-
-
 def open_epoch(file: sqlite3.Connection, opening: Opening) -> None:
     """The epoch begins with this opening."""
     file.execute('insert into epochs values (?, ?, null, 0)', (opening.epoch, opening.text()))
 
 
-def remove_new(path: str) -> None:
-    """Removes what `write_new` made."""
+def remove(path: str) -> None:
+    """Removes a file of SQLite, with those beside it."""
     for end in ('', '-wal', '-shm', '-journal'):
         with suppress(OSError):
             os.remove(path + end)
@@ -103,12 +83,16 @@ def identity(path: str) -> Tuple[int, int]:
     return found.st_dev, found.st_ino
 
 
-def fail(path: str, error: sqlite3.Error) -> NoReturn:
-    """Raises what the error of SQLite means."""
-    said = str(error)
-    meaning = next((meaning for part, meaning in MEANINGS if part in said), Unanswered)
-    more = told_holder(f'{path}-shm') if meaning is LogBusy else ''
-    raise meaning(f'{path}: {said}{more}') from error
+@contextmanager
+def calls(path: str) -> Iterator[None]:
+    """Calls of SQLite on this file. Their errors are told as what they mean."""
+    try:
+        yield
+    except sqlite3.Error as error:
+        said = str(error)
+        meaning = next((meaning for part, meaning in MEANINGS if re.search(part, said)), Unanswered)
+        more = told_holder(f'{path}-shm') if meaning is LogBusy else ''
+        raise meaning(f'{path}: {said}{more}') from error
 
 
 def told_holder(file: str) -> str:
@@ -140,16 +124,12 @@ def life_of(text: str) -> Life:
 
 
 class Standing(NamedTuple):
-    """How a log stands: its current epoch, where its log ends, and what is wished for in it; and the counts of changes."""
+    """How a log stands: its end, and what is wished for; and the counts of changes."""
 
-    epoch: int
-    place: int
+    end: Promise
     wish: Optional[str]
     lives: int
     promises: int
-
-
-STANDING = 'select epoch, count, wish, lives, promises from epochs, changes order by epoch desc limit 1'
 
 
 class SqliteLog:
@@ -168,10 +148,8 @@ class SqliteLog:
         self._lives = -1  # the count of changes then
         self._earliest = 0  # before then none of these presences ends
         self._version = self._promises = -1  # of what a wait saw last
-        try:
+        with calls(self.path):
             self._file = connection(self.path, patience)
-        except sqlite3.Error as error:
-            fail(self.path, error)
         try:
             self._open('deferred' if reads else 'immediate')  # so that a file that can't be written is found at once
         except BaseException:
@@ -184,98 +162,84 @@ class SqliteLog:
         name = os.fspath(path)
         room = f'{name}.{os.getpid()}.new'
         try:
-            write_new(room, opening)
+            with calls(room), closing(connection(room, 1.0, 'rwc')) as file:
+                file.executescript(f'pragma journal_mode = wal; pragma application_id = {APPLICATION}; pragma user_version = {FORM}; {TABLES}')
+                open_epoch(file, opening)
             os.link(room, name)
         except FileExistsError:
             raise LogExists(f'{name}: something is there already') from None
         except OSError as error:
             raise ReadOnlyLog(f'{name}: {error.strerror}') from error
         finally:
-            remove_new(room)
+            remove(room)
         return SqliteLog(name)
 
     def _open(self, kind: str) -> None:
-        with self._calls():
+        with calls(self.path):
             form = form_of(self.path, self._file)
-            if form < FORM:
-                more = 'history writes it as a trace, and init makes another log'
-                raise ForeignLog(f'{self.path}: a log of form {form}, by an older version, and not of form {FORM}; {more}')
-            if form > FORM:
-                raise ForeignLog(f'{self.path}: a log of form {form}, by another version, and not of form {FORM}')
+            if form != FORM:
+                version, more = ('an older', BY_HISTORY) if form < FORM else ('another', '')
+                raise ForeignLog(f'{self.path}: a log of form {form}, by {version} version, and not of form {FORM}{more}')
             self._file.execute('pragma journal_mode = wal')
             self._file.execute('pragma synchronous = normal')
-            with self._transaction(kind):
-                self._standing()
+        with self._transaction(kind):
+            self._standing()
 
     # Epochs.
 
     def epochs(self) -> range:
-        with self._calls():
-            return self._there()
+        with calls(self.path):
+            first = self._one('select coalesce(min(epoch), 0) from epochs where count is not null')
+            return range(first, self._standing().end.epoch + 1)
 
     def opening(self, epoch: Optional[int] = None) -> Opening:
-        with self._calls():
-            number = self._standing().epoch if epoch is None else epoch
+        with calls(self.path):
+            number = self._standing().end.epoch if epoch is None else epoch
             found = self._file.execute('select opening from epochs where epoch = ?', (number,)).fetchone()
             if found is None:
-                raise self._no_epoch(number)
-        return self._opening_of(number, found[0])
-
-    def _opening_of(self, epoch: int, text: str) -> Opening:
-        try:
-            return Opening.parse(text)
-        except (ValueError, KeyError, TypeError) as fault:
-            raise DamagedLog(f'{self.path}: epoch {epoch} has no opening: {fault}') from fault
+                raise no_epoch(self.path, number, self.epochs())
+        return opening_of(self.path, number, found[0])
 
     def finish(self, epoch: int, place: int, opening: Opening) -> bool:
-        with self._calls(), self._syncing():
+        with self._syncing():
             standing = self._standing()
             if not self._may_append(standing, Promise(epoch, place)):
                 return False
-            found = self._file.execute('select opening from epochs where epoch = ?', (epoch,)).fetchone()
-            wish = self._opening_of(epoch + 1, standing.wish) if standing.wish else None
-            if opening.bare != self._opening_of(epoch, found[0]).after(wish):
+            if opening.bare != self.opening(epoch).after(wish_of(self.path, epoch, standing.wish)):
                 return False
             open_epoch(self._file, opening)
             self._file.execute('update epochs set wish = null where epoch = ?', (epoch,))
         return True
 
     def ask(self, wish: Opening, epoch: int) -> bool:
-        with self._calls(), self._syncing():
-            if epoch != self._standing().epoch or wish.epoch != epoch + 1:
+        with self._syncing():
+            if epoch != self._standing().end.epoch or wish.epoch != epoch + 1:
                 return False
             self._file.execute('update epochs set wish = ? where epoch = ?', (wish.bare.text(), epoch))
         return True
 
     def cancel(self, epoch: int) -> None:
-        with self._calls(), self._syncing():
+        with self._syncing():
             self._file.execute('update epochs set wish = null where epoch = ?', (epoch,))
 
     def prune(self, first: int) -> None:
         """The epochs are gone at once. Their rows are so a part at a time, so that nobody waits for long."""
-        with self._calls():
-            with self._writing():
-                first = min(first, self._standing().epoch)
-                self._file.execute('update epochs set count = null where epoch < ?', (first,))
+        with self._transaction():
+            first = min(first, self._standing().end.epoch)
+            self._file.execute('update epochs set count = null where epoch < ?', (first,))
+        with calls(self.path):
             asked = 'delete from log where rowid in (select rowid from log where epoch < ? limit ?)'
             while self._file.execute(asked, (first, PRUNED_AT_ONCE)).rowcount:
                 time.sleep(SHORTEST_SLEEP)  # others have their turn
-
-    def _there(self) -> range:
-        first = self._one('select coalesce(min(epoch), 0) from epochs where count is not null')
-        return range(first, self._standing().epoch + 1)
-
-    def _no_epoch(self, epoch: int) -> NoEpoch:
-        return NoEpoch(told_epochs(self.path, epoch, self._there()))
 
     # Presences.
 
     def take(self, name: str, life: Life, promise: Promise, ttl: int) -> bool:
         self._see_file()
-        with self._calls(), self._writing():
-            now, standing = nanoseconds_of_boot(), self._standing()
+        with self._transaction():
+            now = nanoseconds_of_boot()
             asked = 'select count(*) from presence where name = ? and boot = ? and until > ?'
-            if promise != Promise(standing.epoch, standing.place) or self._one(asked, name, self._boot, now):
+            if promise != self._standing().end or self._one(asked, name, self._boot, now):
                 return False
             held = name, life_text(life), promise.epoch, promise.place, self._boot, now + ttl
             self._file.execute('insert or replace into presence values (?, ?, ?, ?, ?, ?)', held)
@@ -284,7 +248,7 @@ class SqliteLog:
 
     def renew(self, name: str, life: Life, ttl: int) -> bool:
         self._see_file()
-        with self._calls(), self._writing():
+        with self._transaction():
             now = nanoseconds_of_boot()
             if self._promised(name, life, now) is None:
                 return False
@@ -292,12 +256,12 @@ class SqliteLog:
         return True
 
     def release(self, name: str, life: Life) -> None:
-        with self._calls(), self._writing():
+        with self._transaction():
             if self._file.execute('delete from presence where name = ? and life = ?', (name, life_text(life))).rowcount:
                 self._file.execute('update changes set lives = lives + 1')
 
     def promise(self, name: str, life: Life, promise: Promise) -> bool:
-        with self._calls(), self._writing():
+        with self._transaction():
             promised = self._promised(name, life, nanoseconds_of_boot())
             if promised is None:
                 return False
@@ -321,7 +285,7 @@ class SqliteLog:
 
     def append(self, epoch: int, place: int, rows: Sequence[str]) -> bool:
         text = rows_text(rows)
-        with self._calls(), self._syncing():
+        with self._syncing():
             if not self._may_append(self._standing(), Promise(epoch, place)):
                 return False
             self._file.execute('insert into log values (?, ?, ?)', (epoch, place, text))
@@ -329,7 +293,7 @@ class SqliteLog:
         return True
 
     def _may_append(self, standing: Standing, here: Promise) -> bool:
-        return here == Promise(standing.epoch, standing.place) and self._are_idle(Until.ALL_IDLE, here)
+        return here == standing.end and self._are_idle(Until.ALL_IDLE, here)
 
     def _are_idle(self, until: Until, here: Promise) -> bool:
         asked = 'select name, epoch, place from presence where boot = ? and until > ?'
@@ -338,10 +302,10 @@ class SqliteLog:
         return are_idle(until, promises, [here.epoch, here.place], idle if known == here else frozenset())
 
     def read(self, epoch: int, place: int) -> Rows:
-        with self._calls(), self._transaction('deferred'):
+        with self._transaction('deferred'):
             found = self._file.execute('select count from epochs where epoch = ?', (epoch,)).fetchone()
             if found is None or found[0] is None:
-                raise self._no_epoch(epoch)
+                raise no_epoch(self.path, epoch, self.epochs())
             return self._rows(epoch, place, found[0])
 
     def _rows(self, epoch: int, place: int, count: int) -> Rows:
@@ -358,15 +322,13 @@ class SqliteLog:
     # Looks and waits.
 
     def look(self, epoch: int, place: int) -> Found:
-        with self._calls(), self._transaction('deferred'):
+        with self._transaction('deferred'):
             standing = self._standing()
-            rows = self._rows(epoch, place, standing.place) if epoch == standing.epoch else Rows('')
-            presences = self._look_around(standing)
-        self._told_wish = standing.wish
-        here, promises = Promise(standing.epoch, standing.place), {name: holder.promise for name, holder in presences.items()}
-        self._told_idle = here, idle_of(promises, here)
-        wish = self._opening_of(standing.epoch + 1, standing.wish) if standing.wish else None
-        return Found(standing.epoch, rows, presences, wish)
+            end = standing.end
+            rows = self._rows(epoch, place, end.place) if epoch == end.epoch else Rows('')
+            found = Found(end.epoch, rows, self._look_around(standing), wish_of(self.path, end.epoch, standing.wish))
+        self._told_wish, self._told_idle = standing.wish, (end, found.idle(end))
+        return found
 
     def _look_around(self, standing: Standing) -> Dict[str, Holder]:
         """Who is present. It is noted."""
@@ -377,9 +339,7 @@ class SqliteLog:
         self._lives, self._earliest = standing.lives, min((until for *_, until in found), default=NEVER)
         return presences
 
-    def wait(
-        self, epoch: int, place: int, lives: Mapping[str, Life], until: Until, seconds: float, woken: Optional[int] = None,
-    ) -> None:  # fmt: skip
+    def wait(self, epoch: int, place: int, lives: Mapping[str, Life], until: Until, seconds: float, woken: Optional[int] = None) -> None:
         end, sleep = nanoseconds_of_boot() + int(seconds * SECOND), SHORTEST_SLEEP
         self._version = self._promises = -1
         while not self._is_news(Promise(epoch, place), lives, until):
@@ -391,7 +351,7 @@ class SqliteLog:
 
     def _is_news(self, here: Promise, lives: Mapping[str, Life], until: Until) -> bool:
         """Whether what `wait` waits for has come. Nothing but a commit and a presence's end can bring it."""
-        with self._calls():
+        with calls(self.path):
             version = self._one('pragma data_version')
             is_end = nanoseconds_of_boot() >= self._earliest  # of a presence, unless it was renewed
             if version == self._version and not is_end:
@@ -399,7 +359,8 @@ class SqliteLog:
             self._version, standing = version, self._standing()
             if standing.lives != self._lives or is_end:
                 self._look_around(standing)
-            if standing.epoch != here.epoch or standing.place > here.place or standing.wish != self._told_wish or self._told != lives:
+            end = standing.end
+            if end.epoch != here.epoch or end.place > here.place or standing.wish != self._told_wish or self._told != lives:
                 return True
             is_same, self._promises = standing.promises == self._promises, standing.promises
             return until is not Until.NEWS and not is_same and self._are_idle(until, here)
@@ -410,43 +371,35 @@ class SqliteLog:
     # What is asked of SQLite.
 
     def _standing(self) -> Standing:
-        found = self._file.execute(STANDING).fetchone()
+        asked = 'select epoch, count, wish, lives, promises from epochs, changes order by epoch desc limit 1'
+        found = self._file.execute(asked).fetchone()
         if found is None:
             raise DamagedLog(f'{self.path}: the log has no opening')
-        return Standing(*found)
+        return Standing(Promise(*found[:2]), *found[2:])
 
     def _one(self, asked: str, *arguments: Union[int, str]) -> int:
         return int(self._file.execute(asked, arguments).fetchone()[0])
 
     @contextmanager
-    def _calls(self) -> Iterator[None]:
-        """Tells errors of SQLite as what they mean."""
-        try:
-            yield
-        except sqlite3.Error as error:
-            fail(self.path, error)
-
-    def _writing(self) -> ContextManager[None]:
-        return self._transaction('immediate')
-
-    @contextmanager
     def _syncing(self) -> Iterator[None]:
         """A transaction that is on the disk behind it."""
-        self._file.execute('pragma synchronous = full')
-        try:
-            with self._writing():
-                yield
-        finally:
-            self._file.execute('pragma synchronous = normal')
+        with calls(self.path):
+            self._file.execute('pragma synchronous = full')
+            try:
+                with self._transaction():
+                    yield
+            finally:
+                self._file.execute('pragma synchronous = normal')
 
     @contextmanager
-    def _transaction(self, kind: str) -> Iterator[None]:
+    def _transaction(self, kind: str = 'immediate') -> Iterator[None]:
         """One transaction. What is returned out of it is kept, and what is raised undoes it."""
-        self._file.execute(f'begin {kind}')
-        try:
-            yield
-            self._file.execute('commit')
-        except BaseException:
-            if self._file.in_transaction:
-                self._file.execute('rollback')
-            raise
+        with calls(self.path):
+            self._file.execute(f'begin {kind}')
+            try:
+                yield
+                self._file.execute('commit')
+            except BaseException:
+                if self._file.in_transaction:
+                    self._file.execute('rollback')
+                raise

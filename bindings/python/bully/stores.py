@@ -26,8 +26,8 @@ OF_ETCD = (
 )  # fmt: skip
 
 
-class BadStore(Exception):
-    """Words that name no store."""
+class BadWords(Exception):
+    """Words that a command doesn't take."""
 
 
 def add_words(command: argparse.ArgumentParser) -> None:
@@ -96,15 +96,15 @@ def trace(log: Log, epoch: Optional[int]) -> Sequence[str]:
 
 
 def store_of(options: argparse.Namespace) -> 'FileStore | EtcdStore':
-    """The store that these words name. Raises BadStore, LogError."""
+    """The store that these words name. Raises BadWords, LogError."""
     kind, _, path = options.log.partition(':')
     words = [word for word, _, _ in OF_ETCD if getattr(options, word[2:].replace('-', '_'))]
     if kind in ('etcd', 'etcds'):
         return etcd_of(options)
     if kind != 'sqlite' or not path:
-        raise BadStore(f'--log is {options.log}, and has to be {KINDS}')
+        raise BadWords(f'--log is {options.log}, and has to be {KINDS}')
     if words:
-        raise BadStore(f'{words[0]} is for a log in etcd')
+        raise BadWords(f'{words[0]} is for a log in etcd')
     return FileStore(path)
 
 
@@ -115,13 +115,13 @@ def etcd_of(options: argparse.Namespace) -> EtcdStore:
     try:
         is_secure = read_address(options.log).is_secure
     except ValueError as fault:
-        raise BadStore(f'--log is {fault}') from fault
+        raise BadWords(f'--log is {fault}') from fault
     if not is_secure and (options.cacert or options.cert or options.key):
-        raise BadStore(f'--log is {options.log}, and has to begin with etcds:// if it goes with certificates')
+        raise BadWords(f'--log is {options.log}, and has to begin with etcds:// if it goes with certificates')
     if bool(options.cert) != bool(options.key):
-        raise BadStore('--cert and --key go together')
+        raise BadWords('--cert and --key go together')
     if options.password_file and not options.user:
-        raise BadStore('--password-file goes with --user')
+        raise BadWords('--password-file goes with --user')
     password = password_of(options.password_file) if options.user else ''
     return EtcdStore(options.log, tls_of(options) if is_secure else None, options.user or '', password)
 
@@ -142,9 +142,9 @@ def tls_of(options: argparse.Namespace) -> ssl.SSLContext:
 
 def password_of(path: Optional[str]) -> str:
     """The password in this file, or else in the environment, where it doesn't stay: a worker doesn't need it."""
-    if path is None and PASSWORD not in os.environ:
-        raise BadStore(f'--user goes with {PASSWORD} in the environment, or with --password-file')
-    if path is None:
-        return os.environ.pop(PASSWORD)
-    with open(path, encoding='utf-8') as file:
-        return file.readline().rstrip('\r\n')
+    if path is not None:
+        with open(path, encoding='utf-8') as file:
+            return file.readline().rstrip('\r\n')
+    if PASSWORD not in os.environ:
+        raise BadWords(f'--user goes with {PASSWORD} in the environment, or with --password-file')
+    return os.environ.pop(PASSWORD)

@@ -63,48 +63,31 @@ class Named(enum.IntEnum):
 class Status(Named):
     """The status of a node."""
 
-    DOWN = 0
-    ELECTION = 1
-    REORGANIZATION = 2
-    NORMAL = 3
+    DOWN, ELECTION, REORGANIZATION, NORMAL = range(4)
 
 
 class Want(Named):
     """What a node wants to do next."""
 
-    NOTHING = 0
-    START = 1
-    MOVE = 2
-    PLAN = 3
-    AWAIT = 4
+    NOTHING, START, MOVE, PLAN, AWAIT = range(5)
 
 
 class CallKind(Named):
     """The five calls."""
 
-    ARE_YOU_UP = 1
-    ARE_YOU_NORMAL = 2
-    HALT = 3
-    NEW_COORDINATOR = 4
-    READY = 5
+    ARE_YOU_UP, ARE_YOU_NORMAL, HALT, NEW_COORDINATOR, READY = range(1, 6)
 
 
 class Answer(Named):
     """What a call that returned brought."""
 
-    DONE = 0
-    YES = 1
-    NO = 2
-    FAILED = 3
-    DISCARDED = 4
+    DONE, YES, NO, FAILED, DISCARDED = range(5)
 
 
 class VerdictKind(Named):
     """What a verdict on a trace says."""
 
-    LAWFUL = 0
-    REFUSED = 1
-    DIFFERS = 2
+    LAWFUL, REFUSED, DIFFERS = range(3)
 
 
 @dataclass(frozen=True)
@@ -158,11 +141,7 @@ class State(NamedTuple):
 class Event(Named):
     """Events that a process appends for reasons of its own."""
 
-    CRASH = 1
-    RECOVER = 2
-    CHECK = 3
-    TIMEOUT = 4
-    DROP = 5
+    CRASH, RECOVER, CHECK, TIMEOUT, DROP = range(1, 6)
 
 
 class Owned(NamedTuple):

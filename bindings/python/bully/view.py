@@ -140,9 +140,7 @@ class LogView:
         coordinator = next((node.coordinator for node in nodes if node.status is Status.NORMAL), None)
         token = None if replica.token is None else Token.of(opening.epoch, replica.token)
         behind = self._behind.see(Promise(opening.epoch, replica.rows), found.presences, self._is_at_rest(found, nodes))
-        return GroupView(
-            opening.epoch, replica.rows, replica.events, token, coordinator, tuple(owners), nodes, behind, tuple(self._last)
-        )
+        return GroupView(opening.epoch, replica.rows, replica.events, token, coordinator, tuple(owners), nodes, behind, tuple(self._last))
 
     def _is_at_rest(self, found: Found, nodes: Tuple[NodeView, ...]) -> bool:
         """Whether nothing is to be done in the group but to work."""

@@ -12,10 +12,10 @@ from contextlib import suppress
 from pathlib import Path
 from typing import Optional, Sequence
 
+from .logs import SECOND
 from .running import Assignment, Member
 
 GUARD = str(Path(__file__).with_name('guard.py'))
-NANOSECONDS = 1_000_000_000
 
 
 class GuardLost(Exception):
@@ -39,7 +39,7 @@ class Workers:
         self._words, self._node, self._patience, self._talks = words, node, patience, talks
         self._assignment: Optional[Assignment] = None
         self._stopped: 'queue.SimpleQueue[bool]' = queue.SimpleQueue()  # or that the guard is lost
-        self._until = 0.0
+        self._until = 0  # in nanoseconds of CLOCK_BOOTTIME
         self._is_closed = False
 
     def begin(self, member: Member, file: str = '') -> None:
@@ -51,9 +51,7 @@ class Workers:
         command = [sys.executable, '-I', '-S', GUARD, str(given.fileno()), str(self._patience), *more, *self._words]
         environment = {**os.environ, 'BULLY_NODE': self._node}
         with given:
-            self._guard = subprocess.Popen(
-                command, env=environment, stdin=subprocess.DEVNULL, pass_fds=[given.fileno()], start_new_session=True
-            )
+            self._guard = subprocess.Popen(command, env=environment, stdin=subprocess.DEVNULL, pass_fds=[given.fileno()], start_new_session=True)
         self._listener = threading.Thread(target=self._hear_all, name='bully guard', daemon=True)
         self._listener.start()
 
@@ -69,7 +67,7 @@ class Workers:
             partitions = ' '.join(map(str, assignment.partitions))
             named = {'TOKEN': str(assignment.token), 'SETTINGS': settings, 'COORDINATOR': coordinator, 'PARTITIONS': partitions}
             words = '\0'.join(f'BULLY_{name}={value}' for name, value in named.items())
-        self._tell(f'until {moment(self._until)}')
+        self._tell(f'until {self._until}')
         self._tell(f'begin {words}')
 
     def stop(self, assignment: Assignment) -> None:
@@ -82,9 +80,9 @@ class Workers:
 
     def hear_until(self, until: float) -> None:
         """The worker may go on until then, in seconds of CLOCK_BOOTTIME."""
-        self._until = until
+        self._until = int(until * SECOND)
         with suppress(OSError):  # the guard is stopped, and has much to read: then an earlier moment counts
-            self._channel.send(f'until {moment(until)}'.encode(), socket.MSG_DONTWAIT)
+            self._channel.send(f'until {self._until}'.encode(), socket.MSG_DONTWAIT)
 
     def close(self) -> None:
         """Returns once nothing is left of the worker and the guard."""
@@ -118,8 +116,3 @@ class Workers:
         while True:
             with suppress(ConnectionResetError):  # comes once, and before what it said, if it didn't read all that it was told
                 return self._channel.recv(100)
-
-
-def moment(seconds: float) -> str:
-    """A moment in nanoseconds."""
-    return str(int(seconds * NANOSECONDS))
