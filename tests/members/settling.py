@@ -86,6 +86,7 @@ class Trouble:
         self.lost, self.unanswered, self.slow = some(0.1), some(0.1), some(0.3)
         self.pauses, self.deaths, self.leaves, self.cuts = some(0.6), some(0.6), some(0.4), some(0.3)
         self.joins, self.short = 1.0, 0.0  # the share of who joins that leaves again soon
+        self.unit = 0.19  # of a ttl, which a unit of work takes at most
         self.loops = some(0.2)  # of one node that comes and goes again and again
         self.ends = some(0.02)  # units behind which a worker ends by itself
         self.wishes, self.prunes = some(0.3), some(0.5)
@@ -156,7 +157,7 @@ class Worker:
             _, token_over_all, partitions, life = self.work
             self.unit = Unit(token_over_all, partitions, life, self.until + simulation.ttl // 5)
             simulation.begin_unit(self)
-            simulation.after(simulation.between(0.004, 0.19), self.end_unit)
+            simulation.after(simulation.between(0.004, simulation.trouble.unit), self.end_unit)
 
     def end_unit(self) -> None:
         now = self.simulation.now

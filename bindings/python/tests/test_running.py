@@ -138,8 +138,8 @@ class Running(unittest.TestCase):
             self.assertIsNone(member.assignment())
             wait_until(lambda: seconds_of_boot() > member.sure_until)
             log.is_silent = False
-            wait_until(member.assignment)
-        self.assertEqual(len(told) % 2, 1)
+            wait_until(lambda: member.assignment() and told[-1].startswith('start'))
+        self.assertEqual([words.split()[0] for words in told], ['start', 'stop'] * (len(told) // 2) + ['start'])
 
     def test_a_slow_stop(self) -> None:
         """While work stops the presence is renewed, and nothing is appended."""
