@@ -357,7 +357,8 @@ class Core(Learned):
         expect_ok(self._library.bully_member_looked(self._held, _moment(now), epoch, array, count, *flags))
 
     def passed(self) -> None:
-        """In place of any other answer: the epoch is over, and its log was taken away."""
+        """In place of any other answer: the epoch is over, and its log was taken away. A store needs it whose look doesn't tell the current
+        epoch then: none of this package does, so `Member` never calls it."""
         expect_ok(self._library.bully_member_passed(self._held))
 
     def followed(self, now: int, opening: Optional[Opening]) -> None:

@@ -56,7 +56,7 @@ class OverEtcd(WithEtcd, WithFolder):
 
     def begin(self, node: str, worker: Sequence[str], *more: str, **environment: str) -> MemberProcess:
         """A member of this node."""
-        folder = self.folder / f'{node} {next(NUMBERS)}'
+        folder = self.folder / f'{node}-{next(NUMBERS)}'
         folder.mkdir()
         member = MemberProcess(folder, ['--log', self.address, '--node', node, '--ttl', str(TTL), *more], worker, **environment)
         self.addCleanup(member.kill)

@@ -131,15 +131,16 @@ class Running(unittest.TestCase):
         """Work stops once it isn't sure any more, and begins again once the log answers."""
         log = Troubled(OPENING)
         member, told, _ = self.begin(log, 1, ttl=1.0)
-        wait_until(member.assignment)
+        wait_until(lambda: told)
         with self.assertLogs('bully', 'WARNING'):
             log.is_silent = True
             wait_until(lambda: told[-1].startswith('stop'))
             self.assertIsNone(member.assignment())
             wait_until(lambda: seconds_of_boot() > member.sure_until)
             log.is_silent = False
-            wait_until(member.assignment)
-        self.assertEqual(len(told) % 2, 1)
+            wait_until(lambda: told[-1].startswith('start'))
+        words = [each.split()[0] for each in told]
+        self.assertEqual(words, ['start', 'stop'] * (len(words) // 2) + ['start'])
 
     def test_a_slow_stop(self) -> None:
         """While work stops the presence is renewed, and nothing is appended."""
