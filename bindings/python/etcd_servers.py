@@ -1,8 +1,9 @@
-"""Servers of etcd in processes of their own, for the tests of logs and of members."""
+"""Servers of etcd in processes of their own, and what the tests of logs and of members over them share."""
 from __future__ import annotations
 
 import contextlib
 import http.client
+import itertools
 import json
 import os
 import shutil
@@ -11,12 +12,17 @@ import socket
 import ssl
 import subprocess
 import tempfile
+import unittest
 from base64 import b64decode, b64encode
 from pathlib import Path
 from typing import Any, Dict, List, NamedTuple, Optional, Sequence, Tuple
+from unittest import mock
 
-from bully.gateway import Endpoint
-from laws import wait_until
+from bully import etcd
+from bully.epochs import Opening
+from bully.etcd import EtcdLog
+from bully.gateway import Answer, Endpoint
+from laws import OPENING, wait_until
 
 PROGRAM = shutil.which('etcd')
 QUICK = ('--heartbeat-interval', '50', '--election-timeout', '500')  # milliseconds; so the shortest lease is of 1 s
@@ -201,3 +207,141 @@ class Servers:
     def close(self) -> None:
         self._kill()
         self._folder.cleanup()
+
+
+# ---- What tests share.
+
+_alone: List[Servers] = []  # the server of the module that runs
+NUMBERS = itertools.count()  # of tests, so that none meets what another one left
+
+
+def begin_alone(module: str) -> None:
+    """Begins the server that the tests of a module share, up to its end. Without the program they are skipped."""
+    if PROGRAM is None:
+        print(f'{module}.py: skipped, since no program `etcd` is on the path')
+        raise unittest.SkipTest('no program `etcd` is on the path')
+    _alone.append(Servers())
+    unittest.addModuleCleanup(lambda: _alone.pop().close())
+
+
+def alone(prefix: str, kind: str = 'etcd') -> str:
+    """An address at that server."""
+    return _alone[-1].address(prefix, kind=kind)
+
+
+class WithEtcd(unittest.TestCase):
+    """Tests with a server that others use, too, and a prefix of their own."""
+
+    def setUp(self) -> None:
+        self.server = _alone[-1].each[0]
+        self.prefix = f'{self.id()}/{next(NUMBERS)}'.replace('.', '/')
+        self.address = alone(self.prefix)
+
+    def created(self, address: str = '', opening: Opening = OPENING, patience: float = 5.0, **more: Any) -> EtcdLog:
+        return self.closing(etcd.EtcdLog.create(address or self.address, opening, patience, **more))
+
+    def opened(self, address: str = '', patience: float = 5.0, **more: Any) -> EtcdLog:
+        return self.closing(etcd.EtcdLog(address or self.address, patience, **more))
+
+    def closing(self, log: EtcdLog) -> EtcdLog:
+        self.addCleanup(log.close)
+        return log
+
+    def servers(self, count: int = 1, words: Sequence[str] = (), tls: Optional[ssl.SSLContext] = None) -> Servers:
+        """Servers of the test's own."""
+        servers = Servers(count, [*QUICK, *words], tls)
+        self.addCleanup(servers.close)
+        return servers
+
+
+@unittest.skipIf(shutil.which('openssl') is None, 'no program `openssl` is on the path')
+class WithCertificates(WithEtcd):
+    """Tests with servers over TLS."""
+
+    certificates: Path
+
+    @classmethod
+    def setUpClass(cls) -> None:
+        folder = tempfile.TemporaryDirectory()
+        cls.addClassCleanup(folder.cleanup)
+        cls.certificates = Path(folder.name)
+        make_certificates(cls.certificates)
+
+    def tls(self, authority: str = 'mine', client: str = '') -> ssl.SSLContext:
+        tls = ssl.create_default_context(cafile=str(self.certificates / f'{authority}.pem'))
+        if client:
+            tls.load_cert_chain(self.certificates / f'{client}.pem', self.certificates / f'{client}.key')
+        return tls
+
+    def secure(self, certificate: str = 'server', *words: str) -> Servers:
+        """Servers with this certificate."""
+        files = ['--cert-file', str(self.certificates / f'{certificate}.pem'), '--key-file', str(self.certificates / f'{certificate}.key')]
+        tls = self.tls(client='client')
+        tls.check_hostname = False
+        return self.servers(1, [*files, *words], tls)
+
+    def secure_both(self) -> Servers:
+        """Servers that take no client without a certificate."""
+        return self.secure('server', '--client-cert-auth', '--trusted-ca-file', str(self.certificates / 'mine.pem'))
+
+
+def make_certificates(folder: Path) -> None:
+    """Makes authorities `mine` and `other`; and certificates `server`, `elsewhere` and `client` by the first."""
+
+    def openssl(*words: str) -> None:
+        subprocess.run(['openssl', *words], cwd=folder, check=True, stdout=subprocess.DEVNULL, stderr=subprocess.DEVNULL)
+
+    key = ['-newkey', 'ec', '-pkeyopt', 'ec_paramgen_curve:prime256v1', '-nodes']
+    for name in ('mine', 'other'):
+        openssl('req', *key, '-new', '-x509', '-days', '2', '-subj', f'/CN={name}', '-keyout', f'{name}.key', '-out', f'{name}.pem')
+    for name, place in (('server', 'IP:127.0.0.1'), ('elsewhere', 'DNS:elsewhere.example'), ('client', 'DNS:client')):
+        openssl('req', *key, '-new', '-subj', f'/CN={name}', '-keyout', f'{name}.key', '-out', f'{name}.csr')
+        (folder / 'more').write_text(f'subjectAltName = {place}\n')
+        openssl(
+            'x509', '-req', '-in', f'{name}.csr', '-CA', 'mine.pem', '-CAkey', 'mine.key', '-CAcreateserial', '-days', '2', '-extfile', 'more',
+            '-out', f'{name}.pem',
+        )  # fmt: skip
+
+
+def add_users(server: Server) -> None:
+    """Users of an etcd that log in from now on, each with its name and ` password`: `member` writes below `x/`, `reader` reads there, and
+    `other` writes elsewhere."""
+    for user, role in (('root', 'root'), ('member', 'group'), ('reader', 'looking'), ('other', 'elsewhere')):
+        server.ask('/v3/auth/user/add', {'name': user, 'password': f'{user} password'})
+        server.ask('/v3/auth/role/add', {'name': role})
+        server.ask('/v3/auth/user/grant', {'user': user, 'role': role})
+    for role, kind, prefix in (('group', 'READWRITE', 'x/'), ('looking', 'READ', 'x/'), ('elsewhere', 'READWRITE', 'y/')):
+        permission = {'permType': kind, 'key': coded(prefix), 'range_end': coded(prefix[:-1] + '0')}
+        server.ask('/v3/auth/role/grant', {'name': role, 'perm': permission})
+    server.ask('/v3/auth/enable', {})
+
+
+# The traces of the epochs of a log of the form before.
+OLDER = {1: ['bully,1,3,6', *['start,1'] * 1200], 2: ['bully,1,3,6', 'recover,1']}
+
+
+def older_row(prefix: str, epoch: int, place: int) -> str:
+    """The key of a row in such a log."""
+    return f'{prefix}/log/{epoch:010}/{place:010}'
+
+
+def put_older(server: Server, prefix: str) -> None:
+    """Such a log stands below the prefix."""
+    for epoch, rows in OLDER.items():
+        server.put(f'{prefix}/opening/{epoch:010}', OPENING.text())
+        for place, row in enumerate([*rows, *(['end,bully,1,3,6'] if epoch + 1 in OLDER else [])]):
+            server.put(older_row(prefix, epoch, place), row)
+
+
+def prune_in_part(log: EtcdLog, first: int) -> None:
+    """The epochs before this one are taken away by a process that ends in the middle of that: behind two appends."""
+    change, left = log._change, ['that they are gone', 'a part of their rows']
+
+    def end(conditions: Sequence[Json], done: Sequence[Json], *refused: Json) -> Answer:
+        if not left:
+            raise KeyboardInterrupt
+        left.pop()
+        return change(conditions, done, *refused)
+
+    with mock.patch.object(etcd, 'PAGE', 2), mock.patch.object(log, '_change', end), contextlib.suppress(KeyboardInterrupt):
+        log.prune(first)

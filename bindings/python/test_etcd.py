@@ -1,19 +1,13 @@
 #!/usr/bin/env python3
 """Tests of logs in etcd, over servers of their own. `try` runs them; without the program `etcd` on the path they are skipped."""
 import contextlib
-import itertools
 import random
-import shutil
 import socket
-import ssl
-import subprocess
 import sys
-import tempfile
 import threading
 import time
 import unittest
 from base64 import b64decode, b64encode
-from pathlib import Path
 from typing import Any, Callable, Dict, List, Optional, Sequence, Tuple, Type
 from unittest import mock
 
@@ -25,7 +19,10 @@ from bully.logs import SECOND, DamagedLog, ForeignLog, Holder, Log, LogError, Lo
 from bully.member import Life, Promise, Until
 from bully.stores import EtcdStore
 from epoch_laws import EpochLaws
-from etcd_servers import PROGRAM, QUICK, Json, Server, Servers, coded, decoded, free_ports
+from etcd_servers import (
+    NUMBERS, OLDER, Json, Server, Servers, WithCertificates, WithEtcd, add_users, alone, begin_alone, coded, decoded, free_ports, older_row,
+    prune_in_part, put_older,
+)  # fmt: skip
 from laws import EMPTY, OPENING, PATIENCE, A, B, C, Laws, Waits, add, be_idle, present, wait_until
 from test_stores import has_failed, race
 
@@ -103,54 +100,22 @@ class Proxy:
         self.lost.set()
 
 
-ALONE: Servers
-NUMBERS = itertools.count()  # of tests, so that none meets what another one left
 TXN, GRANT, KEEPALIVE = b'POST /v3/kv/txn ', b'POST /v3/lease/grant ', b'POST /v3/lease/keepalive '
 PUT = b'request_put'
 
 
 def setUpModule() -> None:
-    global ALONE
-    if PROGRAM is None:
-        print('test_etcd.py: skipped, since no program `etcd` is on the path')
-        raise unittest.SkipTest('no program `etcd` is on the path')
-    ALONE = Servers()
+    begin_alone('test_etcd')
 
 
-def tearDownModule() -> None:
-    if PROGRAM is not None:
-        ALONE.close()
-
-
-class InEtcd(unittest.TestCase):
-    """Tests with a server that others use, too, and a prefix of their own."""
-
-    def setUp(self) -> None:
-        self.server = ALONE.each[0]
-        self.prefix = f'{self.id()}/{next(NUMBERS)}'.replace('.', '/')
-        self.address = ALONE.address(self.prefix)
-
-    def created(self, address: str = '', opening: Opening = OPENING, patience: float = 5.0, **more: Any) -> EtcdLog:
-        return self.closing(EtcdLog.create(address or self.address, opening, patience, **more))
+class InEtcd(WithEtcd):
+    """Tests of logs, with what some of them share."""
 
     def begun(self, address: str = '', **more: Any) -> EtcdLog:
         """A log in which 'a' is present."""
         log = self.created(address, **more)
         self.assertTrue(log.take('a', A, EMPTY, LONG))
         return log
-
-    def opened(self, address: str = '', patience: float = 5.0, **more: Any) -> EtcdLog:
-        return self.closing(EtcdLog(address or self.address, patience, **more))
-
-    def closing(self, log: EtcdLog) -> EtcdLog:
-        self.addCleanup(log.close)
-        return log
-
-    def servers(self, count: int = 1, words: Sequence[str] = (), tls: Optional[ssl.SSLContext] = None) -> Servers:
-        """Servers of the test's own."""
-        servers = Servers(count, [*QUICK, *words], tls)
-        self.addCleanup(servers.close)
-        return servers
 
     def proxy(self, host: str = '127.0.0.1') -> Proxy:
         proxy = Proxy(self.server.port, host)
@@ -173,7 +138,7 @@ class Laid(InEtcd):
     """Logs for the laws."""
 
     def created(self, address: str = '', opening: Opening = OPENING, patience: float = 20.0, **more: Any) -> EtcdLog:
-        self.address = ALONE.address(f'{self.prefix}/{next(NUMBERS)}')
+        self.address = alone(f'{self.prefix}/{next(NUMBERS)}')
         return super().created(address, opening, patience, **more)
 
     def handle(self, log: Log) -> Log:
@@ -591,6 +556,24 @@ class Contents(InEtcd):
                     self.server.delete(self.key(place, '0'))
                     self.server.put(self.key(place), decoded(kept))
                 self.assertEqual(list(log.read(1, 0)), rows)
+
+    def test_a_part_is_taken_away(self) -> None:
+        """Of an epoch that was taken away no row is read, also if rows of it are left: who took it away was ended in the middle of that."""
+        log, other = self.begun(), self.opened()
+        for number in range(5):
+            add(log, [f'start,{number}'] * 2)
+        here = be_idle(log, ('a', A))
+        self.assertTrue(log.finish(1, here.place, OPENING.after(None)))
+        prune_in_part(other, 2)
+        self.assertEqual(list(self.server.keys(f'{self.prefix}/log/')), [self.key(place) for place in (4, 6, 8)])
+        for place in (0, 2, 3, 4, 5, 10):
+            with self.subTest(place=place):
+                found = log.look(1, place)
+                self.assertEqual((found.epoch, list(found.rows), set(found.presences)), (2, [], {'a'}))
+                with self.assertRaisesRegex(NoEpoch, 'epoch 1 is not there, but 2'):
+                    log.read(1, place)
+        other.prune(2)
+        self.assertEqual(self.server.keys(f'{self.prefix}/log/'), {}, 'the next one takes the rest away')
 
     def test_no_rows(self) -> None:
         log = self.begun()
@@ -1276,15 +1259,7 @@ class Users(InEtcd):
     def setUpClass(cls) -> None:
         cls.servers_of_users = Servers()
         cls.addClassCleanup(cls.servers_of_users.close)
-        ask = cls.servers_of_users.each[0].ask
-        for user, role in (('root', 'root'), ('member', 'group'), ('reader', 'looking'), ('other', 'elsewhere')):
-            ask('/v3/auth/user/add', {'name': user, 'password': f'{user} password'})
-            ask('/v3/auth/role/add', {'name': role})
-            ask('/v3/auth/user/grant', {'user': user, 'role': role})
-        for role, kind, prefix in (('group', 'READWRITE', 'x/'), ('looking', 'READ', 'x/'), ('elsewhere', 'READWRITE', 'y/')):
-            permission = {'permType': kind, 'key': coded(prefix), 'range_end': coded(prefix[:-1] + '0')}
-            ask('/v3/auth/role/grant', {'name': role, 'perm': permission})
-        ask('/v3/auth/enable', {})
+        add_users(cls.servers_of_users.each[0])
 
     def setUp(self) -> None:
         self.address = self.servers_of_users.address('x')
@@ -1347,52 +1322,11 @@ class Users(InEtcd):
 
     def test_no_users(self) -> None:
         with self.assertRaisesRegex(Denied, 'authentication is not enabled'):
-            EtcdLog.create(ALONE.address('x'), OPENING, **self.words('member'))
+            EtcdLog.create(alone('x'), OPENING, **self.words('member'))
 
 
-def make_certificates(folder: Path) -> None:
-    """Makes authorities `mine` and `other`; and certificates `server`, `elsewhere` and `client` by the first."""
-
-    def openssl(*words: str) -> None:
-        subprocess.run(['openssl', *words], cwd=folder, check=True, stdout=subprocess.DEVNULL, stderr=subprocess.DEVNULL)
-
-    key = ['-newkey', 'ec', '-pkeyopt', 'ec_paramgen_curve:prime256v1', '-nodes']
-    for name in ('mine', 'other'):
-        openssl('req', *key, '-new', '-x509', '-days', '2', '-subj', f'/CN={name}', '-keyout', f'{name}.key', '-out', f'{name}.pem')
-    for name, place in (('server', 'IP:127.0.0.1'), ('elsewhere', 'DNS:elsewhere.example'), ('client', 'DNS:client')):
-        openssl('req', *key, '-new', '-subj', f'/CN={name}', '-keyout', f'{name}.key', '-out', f'{name}.csr')
-        (folder / 'more').write_text(f'subjectAltName = {place}\n')
-        openssl(
-            'x509', '-req', '-in', f'{name}.csr', '-CA', 'mine.pem', '-CAkey', 'mine.key', '-CAcreateserial', '-days', '2', '-extfile', 'more',
-            '-out', f'{name}.pem',
-        )  # fmt: skip
-
-
-@unittest.skipIf(shutil.which('openssl') is None, 'no program `openssl` is on the path')
-class Certificates(InEtcd):
-    """Servers over TLS."""
-
-    folder: Path
-
-    @classmethod
-    def setUpClass(cls) -> None:
-        folder = tempfile.TemporaryDirectory()
-        cls.addClassCleanup(folder.cleanup)
-        cls.folder = Path(folder.name)
-        make_certificates(cls.folder)
-
-    def tls(self, authority: str = 'mine', client: str = '') -> ssl.SSLContext:
-        tls = ssl.create_default_context(cafile=str(self.folder / f'{authority}.pem'))
-        if client:
-            tls.load_cert_chain(self.folder / f'{client}.pem', self.folder / f'{client}.key')
-        return tls
-
-    def secure(self, certificate: str = 'server', *words: str) -> Servers:
-        """Servers with this certificate."""
-        files = ['--cert-file', str(self.folder / f'{certificate}.pem'), '--key-file', str(self.folder / f'{certificate}.key')]
-        tls = self.tls(client='client')
-        tls.check_hostname = False
-        return self.servers(1, [*files, *words], tls)
+class Certificates(InEtcd, WithCertificates):
+    """Logs over TLS."""
 
     def refused(self, call: Callable[[], object], why: str, fault: Type[LogError] = Denied) -> None:
         with self.assertRaisesRegex(fault, f'^127.0.0.1:[0-9]+: .*{why}'):
@@ -1413,7 +1347,7 @@ class Certificates(InEtcd):
         self.refused(lambda: EtcdLog(address, 5.0), 'TLS: .*certificate')
         self.refused(lambda: EtcdLog(address, 5.0, self.tls('other')), 'TLS: .*certificate')
         self.refused(lambda: EtcdLog(servers.address('x'), 5.0), '', Unanswered)
-        self.refused(lambda: EtcdLog(ALONE.address('x', kind='etcds'), 5.0, tls), 'TLS: ', LogError)
+        self.refused(lambda: EtcdLog(alone('x', 'etcds'), 5.0, tls), 'TLS: ', LogError)
         dead, port = free_ports(1)[0], servers.each[0].port
         self.assertEqual(len(self.opened(f'etcds://127.0.0.1:{dead},127.0.0.1:{port}/x', tls=tls).read(1, 0)), 20)
         mixed = f'etcds://127.0.0.1:{self.server.port},127.0.0.1:{port}/x'
@@ -1426,7 +1360,7 @@ class Certificates(InEtcd):
         self.refused(lambda: EtcdLog.create(address, OPENING, 5.0, self.tls()), "TLS: .*127.0.0.1")
 
     def test_certificate_of_client(self) -> None:
-        servers = self.secure('server', '--client-cert-auth', '--trusted-ca-file', str(self.folder / 'mine.pem'))
+        servers = self.secure_both()
         address = servers.address('x', kind='etcds')
         self.refused(lambda: EtcdLog.create(address, OPENING, 5.0, self.tls()), 'TLS: ')
         log = self.begun(address, tls=self.tls(client='client'))
@@ -1551,14 +1485,8 @@ class OlderForm(InEtcd):
 
     def setUp(self) -> None:
         super().setUp()
-        for epoch, rows in ((1, ['bully,1,3,6', *['start,1'] * 1200, 'end,bully,1,3,6']), (2, ['bully,1,3,6', 'recover,1'])):
-            self.server.put(f'{self.prefix}/opening/{epoch:010}', OPENING.text())
-            for place, row in enumerate(rows):
-                self.server.put(self.row(epoch, place), row)
+        put_older(self.server, self.prefix)
         self.store = EtcdStore(self.address, None, '', '')
-
-    def row(self, epoch: int, place: int) -> str:
-        return f'{self.prefix}/log/{epoch:010}/{place:010}'
 
     def test_refused(self) -> None:
         with self.assertRaisesRegex(ForeignLog, 'older version, and not of form 3; history writes it'):
@@ -1567,12 +1495,12 @@ class OlderForm(InEtcd):
             self.store.create(OPENING)
 
     def test_history(self) -> None:
-        self.assertEqual(list(self.store.history(1)), ['bully,1,3,6', *['start,1'] * 1200])
+        self.assertEqual(list(self.store.history(1)), OLDER[1])
         for epoch in (2, None):
-            self.assertEqual(list(self.store.history(epoch)), ['bully,1,3,6', 'recover,1'])
+            self.assertEqual(list(self.store.history(epoch)), OLDER[2])
         with self.assertRaises(NoEpoch):
             self.store.history(3)
-        self.server.delete(self.row(1, 500))
+        self.server.delete(older_row(self.prefix, 1, 500))
         with self.assertRaises(DamagedLog):
             self.store.history(1)
 

@@ -170,8 +170,11 @@ class EtcdLog:
 
     def epochs(self) -> range:
         self._client.begin()
-        first, place = self._look(one(self._keys.first), one(self._keys.place)).ranges
-        return range(int(value_of(first) or FIRST), self._end_of(place).epoch + 1)
+        return self._there(self._look(one(self._keys.place), one(self._keys.first)))
+
+    def _there(self, answer: Answer) -> range:
+        """The same, by an answer with the end of the log and the first epoch. (Rows of earlier ones may be left, in part.)"""
+        return range(int(value_of(answer.ranges[1]) or FIRST), self._end_of(answer.ranges[0]).epoch + 1)
 
     def opening(self, epoch: Optional[int] = None) -> Opening:
         number = self.epochs()[-1] if epoch is None else epoch
@@ -316,19 +319,20 @@ class EtcdLog:
 
     def read(self, epoch: int, place: int) -> Rows:
         keys = self._keys
-        answer, rows = self._read_with(epoch, place, one(keys.place), one(keys.first))
-        if not int(value_of(answer.ranges[1]) or FIRST) <= epoch <= self._end_of(answer.ranges[0]).epoch:
+        _, rows = self._read_with(epoch, place, lambda answer: epoch in self._there(answer), one(keys.place), one(keys.first))
+        if rows is None:
             raise no_epoch(self.address, epoch, self.epochs())
         return rows
 
-    def _read_with(self, epoch: int, place: int, *more: Json) -> 'tuple[Answer, Rows]':
-        """The rows behind that place, and an answer with what more was asked for at the same revision: the end of the log first."""
+    def _read_with(self, epoch: int, place: int, is_there: Callable[[Answer], bool], *more: Json) -> 'tuple[Answer, Optional[Rows]]':
+        """The rows behind that place, if they are there by the answer, and the answer with what more was asked for at the same revision: the end
+        of the log first."""
         page = self._keys.page(self._keys.row(epoch, place), epoch)
         for _ in range(READS):
             try:
                 self._client.begin()
                 answer = self._look(*more, page)
-                return answer, self._rows(epoch, place, answer)
+                return answer, self._rows(epoch, place, answer) if is_there(answer) else None
             except Compacted as compacted:
                 cause = compacted
         raise Unanswered(f'{self.address}: each revision was compacted while it was read: {cause}') from cause
@@ -386,12 +390,12 @@ class EtcdLog:
         """Of lives and promises only those are read that are newer than the last look. If others are gone of which nothing was told, all
         are."""
         for since in (self._news.known, 0):
-            answer, rows = self._read_with(epoch, place, *self._keys.standing(since))
+            answer, rows = self._read_with(epoch, place, lambda answer: self._end_of(answer.ranges[0]).epoch == epoch, *self._keys.standing(since))
             end = self._end_of(answer.ranges[0])
             if self._see_all(answer, since):
                 break
         wish = wish_of(self.address, end.epoch, self._news.wish)
-        found = Found(end.epoch, rows if end.epoch == epoch else Rows(''), self._news.presences(), wish)
+        found = Found(end.epoch, rows or Rows(''), self._news.presences(), wish)
         self._told_wish, self._told_idle = self._news.wish, (end, found.idle(end))
         return found
 

@@ -289,7 +289,8 @@ class Core(Learned):
         self._call('looked', _moment(now), epoch, presences, count, bool(seen.has_strangers), bool(seen.is_wished))
 
     def passed(self) -> None:
-        """In place of any other answer: the epoch is over, and its log was taken away."""
+        """In place of any other answer: the epoch is over, and its log was taken away. A store needs it whose look doesn't tell the current
+        epoch then: none of this package does, so `Member` never calls it."""
         self._call('passed')
 
     def followed(self, now: int, opening: Optional[Opening]) -> None:

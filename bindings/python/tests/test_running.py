@@ -5,15 +5,15 @@ import threading
 import time
 import unittest
 from pathlib import Path
-from typing import Any, Dict, List, Tuple
+from typing import Any, Callable, Dict, List, Tuple, cast
 
 from bully import NotLearned, Setup, check, resizing, settings, view
 from bully.epochs import Opening, Token
-from bully.logs import SECOND, Found, Log, MemoryLog, Unanswered, seconds_of_boot
+from bully.logs import SECOND, Found, Log, MemoryLog, NoEpoch, Unanswered, seconds_of_boot
 from bully.member import Life, Promise
 from bully.running import Assignment, Member, NotInGroup, OtherGroup
 from bully.sqlite import SqliteLog
-from laws import HEADER, OPENING, PATIENCE, wait_until
+from laws import HEADER, OPENING, PATIENCE, Tests, wait_until
 
 LONG = 1000 * SECOND
 
@@ -131,7 +131,7 @@ class Running(unittest.TestCase):
         """Work stops once it isn't sure any more, and begins again once the log answers."""
         log = Troubled(OPENING)
         member, told, _ = self.begin(log, 1, ttl=1.0)
-        wait_until(member.assignment)
+        wait_until(lambda: told)
         with self.assertLogs('bully', 'WARNING'):
             log.is_silent = True
             wait_until(lambda: told[-1].startswith('stop'))
@@ -247,13 +247,20 @@ class Places:
                 del self.workers[partition]
 
 
-class InFolder(unittest.TestCase):
+class WithFolder(unittest.TestCase):
     """Tests with a folder of their own."""
 
     def setUp(self) -> None:
         folder = tempfile.TemporaryDirectory()
         self.addCleanup(folder.cleanup)
         self.folder = Path(folder.name)
+
+
+class InFolder(WithFolder):
+    """The same, with a log in a file."""
+
+    def setUp(self) -> None:
+        super().setUp()
         self.path = self.folder / 'group.db'
 
     def opened(self) -> SqliteLog:
@@ -438,6 +445,131 @@ class Resizes(InFolder):
             self.begin('a')
         self.rest(6)
         self.judge()
+
+
+class Held:
+    """A log that holds its caller at the next call of one name, as if the process was paused before it asks that."""
+
+    def __init__(self, log: Log) -> None:
+        self.name = ''
+        self.is_held, self.goes_on = threading.Event(), threading.Event()
+        self._log = log
+
+    def __getattr__(self, name: str) -> Any:
+        found = getattr(self._log, name)
+        return self._holding(found) if name == self.name else found
+
+    def _holding(self, call: Callable[..., object]) -> Callable[..., object]:
+        def held(*words: object) -> object:
+            self.is_held.set()
+            self.goes_on.wait()
+            return call(*words)
+
+        return held
+
+
+class Away(Tests):
+    """A member that was away while its epoch ended and was taken away, over one of the stores: tests for each of them."""
+
+    BY_ITSELF = ('look', 'take', 'append', 'wait', 'renew')  # what a member asks alone in its group
+    BY_A_WISH = ('promise', 'finish', 'opening')  # and once something else is wished for
+    AWAY = Opening.first('bully,1,2,4', ('b', 'a'))
+
+    def created(self) -> Log:
+        """A new log, which has begun with AWAY. It is closed at the end of the test."""
+        raise NotImplementedError
+
+    def handle(self, log: Log) -> Log:
+        """Another handle of the log."""
+        raise NotImplementedError
+
+    def take_away(self) -> None:
+        """The rows of the first epoch."""
+        self.log.prune(2)
+
+    def test_goes_on(self) -> None:
+        """Whatever it was about to ask: it goes on in the current epoch by its name."""
+        for call in (*self.BY_ITSELF, *self.BY_A_WISH):
+            with self.subTest(call=call):
+                self.pause(call)
+                self.pass_epoch('c', 'b')
+                self.see_it_work()
+
+    def test_ends(self) -> None:
+        """It ends, if its name isn't there any more."""
+        for call in ('wait', 'finish'):
+            with self.subTest(call=call), self.assertLogs('bully', 'WARNING') as told:
+                self.pause(call)
+                self.pass_epoch('c')
+                self.thread.join()
+                self.assertEqual((self.failures, dict(self.log.look(2, 0).presences)), ([], {}))
+                self.assertIn('node b: its node is not in the group any more', told.output[-1])
+
+    def pause(self, call: str) -> None:
+        """A member of node `b` has begun, and is held at this call now; or is about to ask that once something is wished for."""
+        self.log = self.created()
+        self.holds = Held(self.handle(self.log))
+        self.member = Member(cast(Log, self.holds), 'b', lambda work: None, lambda work: None, ttl=1.0)
+        is_alone = call in self.BY_ITSELF
+        self.holds.name = call if is_alone else ''
+        self.begin()
+        wait_until(self.holds.is_held.is_set if is_alone else self.member.assignment)
+        self.holds.name = call
+
+    def begin(self) -> None:
+        """The member runs, in a thread."""
+        self.failures: List[BaseException] = []
+        self.thread = threading.Thread(target=self.run_member, args=[self.member, self.failures])
+        self.thread.start()
+        self.addCleanup(self.thread.join)
+        self.addCleanup(self.holds.goes_on.set)
+        self.addCleanup(self.member.leave)
+
+    @staticmethod
+    def run_member(member: Member, failures: List[BaseException]) -> None:
+        try:
+            with member:
+                member.run()
+        except BaseException as failure:
+            failures.append(failure)
+
+    def pass_epoch(self, *names: str) -> None:
+        """The group has these nodes in a later epoch, and the rows of the first one are gone. Then the member goes on."""
+        resizing.resize(self.log, settings.Settings(Setup(len(names), 5), names), PATIENCE)
+        wait_until(self.holds.is_held.is_set)
+        self.take_away()
+        self.assertEqual((self.log.epochs(), self.member.opening.epoch), (range(2, 3), 1))
+        with self.assertRaises(NoEpoch):
+            self.log.read(1, 0)
+        self.holds.goes_on.set()
+
+    def see_it_work(self) -> None:
+        """It works in the second epoch, where it has number 2, and leaves in order."""
+        wait_until(lambda: self.member.assignment() or self.failures)
+        self.assertEqual(self.failures, [])
+        assigned = self.member.assignment()
+        assert assigned is not None
+        self.assertEqual((self.member.node, assigned.token.epoch, assigned.partitions), (2, 2, (0, 1, 2, 3, 4)))
+        self.member.leave()
+        self.thread.join()
+        self.assertEqual((self.failures, self.log.read(2, 0)[-1]), ([], 'crash,2'))
+
+
+class AwayInMemory(Away, unittest.TestCase):
+    def created(self) -> Log:
+        return MemoryLog(self.AWAY)
+
+    def handle(self, log: Log) -> Log:
+        return log
+
+
+class AwayInFile(Away, InFolder):
+    def created(self) -> Log:
+        self.path = self.folder / f'group{len(list(self.folder.iterdir()))}.db'
+        return self.closing(SqliteLog.create(self.path, self.AWAY))
+
+    def handle(self, log: Log) -> Log:
+        return self.opened()
 
 
 if __name__ == '__main__':
