@@ -1347,7 +1347,8 @@ class Certificates(InEtcd, WithCertificates):
         self.refused(lambda: EtcdLog(address, 5.0), 'TLS: .*certificate')
         self.refused(lambda: EtcdLog(address, 5.0, self.tls('other')), 'TLS: .*certificate')
         self.refused(lambda: EtcdLog(servers.address('x'), 5.0), '', Unanswered)
-        self.refused(lambda: EtcdLog(alone('x', 'etcds'), 5.0, tls), 'TLS: ', LogError)
+        # (a server without TLS answers in plain words, and may have ended the connection before they are read)
+        self.refused(lambda: EtcdLog(alone('x', 'etcds'), 5.0, tls), 'TLS: |reset by peer', LogError)
         dead, port = free_ports(1)[0], servers.each[0].port
         self.assertEqual(len(self.opened(f'etcds://127.0.0.1:{dead},127.0.0.1:{port}/x', tls=tls).read(1, 0)), 20)
         mixed = f'etcds://127.0.0.1:{self.server.port},127.0.0.1:{port}/x'

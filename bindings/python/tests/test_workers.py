@@ -208,11 +208,9 @@ workers.begin(SimpleNamespace(ttl=0.6), {str(file)!r})
 file.execute('begin immediate')
 os.kill(os.getpid(), signal.SIGSTOP)
 '''
-        writer = subprocess.Popen([sys.executable, '-c', words], stderr=subprocess.PIPE)
-        self.assertEqual(writer.wait(PATIENCE), -signal.SIGKILL)
-        assert writer.stderr is not None
-        self.assertIn(b'is killed', writer.stderr.read())
-        writer.stderr.close()
+        ended = subprocess.run([sys.executable, '-c', words], stderr=subprocess.PIPE, timeout=PATIENCE, check=False)
+        self.assertEqual(ended.returncode, -signal.SIGKILL, ended.stderr)
+        self.assertIn(b'is killed', ended.stderr)
 
 
 class Talks(Below):
