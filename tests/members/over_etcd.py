@@ -86,7 +86,7 @@ class EtcdStore:
 
     def has_news(self, epoch: int, found: Found, until: Until) -> bool:
         assert isinstance(found, FoundInLog)
-        return self.log.has_news(epoch, found.standing.place, found.told.lives, found.told.wish, until, found.idle)
+        return self.log.has_news(epoch, found.standing.place, found.lives, found.told.wish, until, found.idle)
 
     @property
     def wish(self) -> Optional[Settings]:
@@ -308,7 +308,7 @@ class Watched(EtcdMember):
         here = Promise(self.epoch, self.place)
         known, idle = log._told_idle
         before = idle if known == here else frozenset()
-        return log._news.awaited(here, found.told.lives, wait.until, log._told_wish, before)()
+        return log._news.awaited(here, found.lives, wait.until, log._told_wish, before)()
 
     def hear(self, wait: Wait) -> bool:
         """Whether there is what it waits for, once what is due has been told."""

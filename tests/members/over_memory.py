@@ -5,7 +5,7 @@ A member asks the log as `bully.running` does. What is judged is read from the l
 from __future__ import annotations
 
 from dataclasses import dataclass
-from functools import partial
+from functools import cached_property, partial
 from typing import Callable, Dict, List, Optional, Tuple, Type
 
 from bully import logs
@@ -23,6 +23,11 @@ class FoundInLog(Found):
     """What a look found, and what the log told."""
 
     told: logs.Found = logs.Found(0, (), {}, None)
+
+    @cached_property
+    def lives(self) -> Dict[str, Life]:
+        """Whose lives it found, by name."""
+        return self.told.lives
 
 
 def epoch_of(opening: Opening, rows: List[str]) -> Epoch:
@@ -71,7 +76,7 @@ class MemoryStore:
     def has_news(self, epoch: int, found: Found, until: Until) -> bool:
         assert isinstance(found, FoundInLog)
         told = found.told
-        return self.log.has_news(epoch, found.standing.place, told.lives, told.wish, until, found.idle)
+        return self.log.has_news(epoch, found.standing.place, found.lives, told.wish, until, found.idle)
 
     # What is wished for, and old epochs.
 
