@@ -20,6 +20,7 @@ from test_running import Away, WithFolder, put
 from test_workers import is_running
 
 TTL = 2  # seconds
+SLOW = 20.0  # seconds that a log of the test's own waits for answers
 NAMES: List[str] = TOP['names']
 PASSWORD = 'BULLY_ETCD_PASSWORD'
 # Tells when two work on one partition, or one by a token below the last one's; else each unit of work is a line in the file of its partition.
@@ -48,11 +49,19 @@ class OverEtcd(WithEtcd, WithFolder):
         return str(path)
 
     def of_log(self, *words: str) -> Tuple[int, str, str]:
-        """What a command comes to over the log."""
-        return call(words[0], '--log', self.address, *words[1:])
+        """What a command that may be tried again comes to over the log, once that answers in time."""
+        ended: List[Tuple[int, str, str]] = []
 
-    def init(self, *words: str) -> None:
-        self.assertEqual(self.of_log('init', '--config', self.config, *words), (0, '', ''))
+        def is_answered() -> bool:
+            ended[:] = [call(words[0], '--log', self.address, *words[1:])]
+            return not ended[0][2].endswith(': it did not answer in time\n')
+
+        wait_until(is_answered)
+        return ended[0]
+
+    def make(self, **more: Any) -> None:
+        """The log of the configuration."""
+        self.created(self.address, Opening.first(HEADER, NAMES), SLOW, **more)
 
     def begin(self, node: str, worker: Sequence[str], *more: str, **environment: str) -> MemberProcess:
         """A member of this node."""
@@ -88,15 +97,13 @@ class OverEtcd(WithEtcd, WithFolder):
         """No two worked on one partition at once, nobody by an old token, and these epochs are lawful."""
         self.assertFalse((self.work / 'faults').exists(), 'two have worked on one partition, or one by an old token')
         for epoch in epochs:
-            status, said, told = self.of_log('history', '--epoch', str(epoch))
-            self.assertEqual((status, told), (0, ''))
-            self.assertTrue(check(said.encode()).is_lawful)
+            self.assertTrue(check(''.join(f'{row}\n' for row in stores.trace(self.opened(patience=SLOW), epoch)).encode()).is_lawful)
 
     def end(self, *members: MemberProcess) -> None:
         """They leave in order, one by one, and nobody is present any more."""
         for member in members:
             self.assertEqual(member.end(), 0, member.said)
-        log = self.opened()
+        log = self.opened(patience=SLOW)
         self.assertEqual(dict(log.look(log.epochs()[-1], 0).presences), {})
 
 
@@ -105,7 +112,7 @@ class Commands(OverEtcd):
 
     def test_life_of_a_log(self) -> None:
         self.assertEqual(self.of_log('status'), (4, '', f'bully-member: {self.address}: there is none; bully-member init makes a log\n'))
-        self.init()
+        self.assertEqual(call('init', '--log', self.address, '--config', self.config), (0, '', ''))
         self.assertEqual(self.of_log('init', '--config', self.config), (4, '', f'bully-member: {self.address}: there is a log already\n'))
         put(self.opened(), 'recover,2')
         self.assertEqual(self.of_log('history'), (0, f'{HEADER}\nrecover,2\n', ''))
@@ -172,7 +179,7 @@ class Runs(OverEtcd):
     """`bully-member run`, by one member."""
 
     def test_in_order(self) -> None:
-        self.init()
+        self.make()
         member = self.begin('b', ['sh', '-c', BEGINS], '--config', self.config)
         worker, told = member.worker(), member.environment()
         self.assertEqual([told[f'BULLY_{name}'] for name in ('NODE', 'COORDINATOR', 'PARTITIONS')], ['b', 'b', '0 1 2 3 4 5'])
@@ -190,7 +197,7 @@ class Runs(OverEtcd):
 
     def test_talks(self) -> None:
         """A worker stays over a change of the group, and hears of it."""
-        self.init()
+        self.make()
         member = self.begin('b', ['sh', '-c', TALKS], '--talk')
         worker, (begun,) = member.worker(), member.told(1)
         self.assertEqual((begun['partitions'], begun['coordinator'], Token(begun['begin']).epoch), ([0, 1, 2, 3, 4, 5], 'b', 1))
@@ -205,7 +212,7 @@ class Runs(OverEtcd):
 
     def test_removed(self) -> None:
         """A member of a log that is removed ends, and its worker does."""
-        self.init()
+        self.make()
         member = self.begin('b', ['sh', '-c', BEGINS])
         worker = member.worker()
         self.server.delete(f'{self.prefix}/', f'{self.prefix}0')
@@ -221,8 +228,8 @@ class Runs(OverEtcd):
         right, wrong, empty = (self.folder / name for name in ('right', 'wrong', 'empty'))
         for file, password in ((right, 'member password\n'), (wrong, 'x\n'), (empty, '\n')):
             file.write_text(password)
-        user = ['--user', 'member']
-        self.init(*user, '--password-file', str(right))
+        user = ['--user', 'member', '--ttl', '10']  # since to log in takes long
+        self.make(user='member', password='member password')
         for words, environment in (([], {PASSWORD: 'member password'}), (['--password-file', str(right)], {})):
             with self.subTest(words=words):
                 member = self.begin('b', ['sh', '-c', BEGINS], *user, *words, **environment)
@@ -240,7 +247,7 @@ class Runs(OverEtcd):
     def test_none_answers(self) -> None:
         """A member that is started while no server answers waits for one."""
         server = self.server_of_its_own()
-        self.init()
+        self.make()
         for away, back in ((server.pause, server.resume), (server.kill, server.start)):
             with self.subTest(away=away.__name__):
                 away()
@@ -254,7 +261,7 @@ class Runs(OverEtcd):
     def test_away(self) -> None:
         """While no server answers its work ends before its presence may, and goes on once one does."""
         server = self.server_of_its_own()
-        self.init()
+        self.make()
         member = self.begin_work('b')
         token = self.share(0, 6, 'b')
         for away, back in ((server.pause, server.resume), (server.kill, server.start)):
@@ -294,7 +301,7 @@ class Certificates(OverEtcd, WithCertificates):
         self.address = self.secure_both().address('x', kind='etcds')
         files = {name: str(self.certificates / file) for name, file in (('cacert', 'mine.pem'), ('cert', 'client.pem'), ('key', 'client.key'))}
         words = [word for name, file in files.items() for word in (f'--{name}', file)]
-        self.init(*words)
+        self.make(tls=self.tls(client='client'))
         member = self.begin('b', ['sh', '-c', BEGINS], *words)
         worker = member.worker()
         self.assertEqual(member.environment()['BULLY_PARTITIONS'], '0 1 2 3 4 5')
@@ -316,7 +323,7 @@ class Groups(OverEtcd):
 
     def test_one_is_killed(self) -> None:
         """The others take over, and share again with it once it is back."""
-        self.init()
+        self.make()
         members = {name: self.begin_work(name) for name in NAMES}
         token = self.share(0, 6, 'a', 'b', 'c')
         killed = members.pop('c')
@@ -334,7 +341,7 @@ class Groups(OverEtcd):
         """The members go on by the servers that are left."""
         servers = self.servers(3)
         self.address = servers.address('x')
-        self.init()
+        self.make()
         members = {name: self.begin_work(name, '--ttl', '5') for name in NAMES}
         token = self.share(0, 6, 'a', 'b', 'c')
         leader = servers.leader()
@@ -347,7 +354,7 @@ class Groups(OverEtcd):
 
     def test_resized(self) -> None:
         """Members go on by their names in a new epoch, also one that was paused until the old one was taken away. Who has none there ends."""
-        self.init()
+        self.make()
         members = {name: self.begin_work(name) for name in NAMES}
         token = self.share(0, 6, 'a', 'b', 'c')
         paused = members['a'].process
