@@ -18,6 +18,7 @@ from bully.running import Assignment, Member
 from bully.settings import Settings
 from bully.worker import GuardLost, WorkerEnded, Workers
 from laws import PATIENCE, wait_until
+from test_stores import environment
 
 ROOT = Path(__file__).resolve().parents[3]
 OPENING = Opening.first('bully,1,3,6', ('a', 'b', 'c'))
@@ -208,7 +209,7 @@ workers.begin(SimpleNamespace(ttl=0.6), {str(file)!r})
 file.execute('begin immediate')
 os.kill(os.getpid(), signal.SIGSTOP)
 '''
-        ended = subprocess.run([sys.executable, '-c', words], stderr=subprocess.PIPE, timeout=PATIENCE, check=False)
+        ended = subprocess.run([sys.executable, '-c', words], env=environment(), stderr=subprocess.PIPE, timeout=PATIENCE, check=False)
         self.assertEqual(ended.returncode, -signal.SIGKILL, ended.stderr)
         self.assertIn(b'is killed', ended.stderr)
 
@@ -283,7 +284,7 @@ class Talks(Below):
 
     def test_no_answer(self) -> None:
         """It is killed, if it doesn't answer in time; or at the moment until which its work is sure."""
-        for patience, seconds in ((0.2, 1000.0), (PATIENCE, 0.5)):
+        for patience, seconds in ((0.2, 1000.0), (PATIENCE, 2.0)):
             with self.subTest(patience=patience):
                 workers = self.begin('silent', patience)
                 worker = self.worker()
