@@ -403,7 +403,7 @@ BUGS: Dict[str, Bug] = {
     'etcd: a life moves to a new lease alone': Bug(MovesLifeAlone, 1, 'a presence is none'),
     'etcd: a promise is lost by a new lease': Bug(MovesPromiseOn, 1, 'is present and works at'),
     'etcd: a presence is taken in two steps': Bug(TakesInTwoSteps, 2, 'a presence is none'),
-    'etcd: a renewal counts by whichever life': Bug(RenewsForAnybody, 10, 'by the old token'),
+    'etcd: a renewal counts by whichever life': Bug(RenewsForAnybody, 198, 'works on what'),
     'etcd: a presence is renewed across a gap': Bug(RenewsAcrossGapThere, 9, 'and it is sure for'),
     'etcd: any life is released': Bug(ReleasesAnyLifeThere, 15, 'works on what'),
     'etcd: rows are appended at any place': Bug(AppendsAnyPlaceThere, 1, 'rows stand at'),
@@ -411,7 +411,7 @@ BUGS: Dict[str, Bug] = {
     'etcd: reads are serializable': Bug(ReadsAlone, 6, 'does not let time go on'),
     'etcd: a renewal counts whoever tells it': Bug(TrustsRenewals, 9, 'and it is sure for'),
     'etcd: a lease is kept under another leader': Bug(KeepsLease, 1, 'and it is sure for'),
-    'etcd: a lease is shorter than the ttl': Bug(RoundsDown, 3, 'and it is sure for'),
+    'etcd: a lease is shorter than the ttl': Bug(RoundsDown, 5, 'and it is sure for'),
     'etcd: sure from the end of a renewal': Bug(KeptLog, 2, 'and it is sure for', planted.SureFromEnd),
     'etcd: a promise comes before work stops': Bug(KeptLog, 1, 'is present and works at', planted.PromisesFirst),
 }
