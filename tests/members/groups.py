@@ -154,14 +154,14 @@ class Group:
 
     # Rest.
 
-    def look(self, present: AbstractSet[str] = frozenset()) -> Optional[GroupView]:
-        """How the group stands; nothing, if the store doesn't answer. When these were all present is noted."""
+    def look(self, present: Optional[AbstractSet[str]] = None) -> Optional[GroupView]:
+        """How the group stands; nothing, if the store doesn't answer. When these were all present is noted, if some are told."""
         now = time.monotonic()
         try:
             self.shown = self.view.show()
         except Unanswered:
             return None
-        if present <= present_in(self.shown):
+        if present is not None and present <= present_in(self.shown):
             self.all_present = now
         return self.shown
 
