@@ -43,15 +43,17 @@ def told_seconds(what: str, seconds: Sequence[float]) -> str:
 @dataclass
 class Times:
     """How long a group took to come to rest behind changes of one kind, and how many rows; the same behind the end of a presence, if one
-    ended; and until all partitions were worked on, if that was looked for at once."""
+    ended, or else behind the begin of the last one, if one began; and until all partitions were worked on, if that was looked for at once."""
 
     to_rest: List[float] = field(default_factory=list)
     behind_end: List[float] = field(default_factory=list)
+    behind_begin: List[float] = field(default_factory=list)
     to_work: List[float] = field(default_factory=list)
     rows: List[int] = field(default_factory=list)
 
     def __str__(self) -> str:
         told = told_seconds('to rest in', self.to_rest) + told_seconds("behind a presence's end", self.behind_end)
+        told += told_seconds("behind a presence's begin", self.behind_begin)
         rows = f', {statistics.median(self.rows):.0f} rows, at most {max(self.rows)}'
         return f'{len(self.to_rest)} times{told}{rows}{told_seconds("to work in", self.to_work)}'
 
@@ -81,8 +83,8 @@ class Work:
         return int(rows[0].split()[0]) if rows else 0
 
     def units(self, partition: int) -> List[List[str]]:
-        """The units on a partition: token and node of each."""
-        return [row.split() for row in (self.folder / str(partition)).read_text().splitlines()]
+        """The units on a partition that were done: token and node of each."""
+        return [row.split() for row in (self.folder / str(partition)).read_text().split('\n')[:-1]]
 
     def faults(self, kind: str) -> List[str]:
         """What workers told of faults of this kind."""
@@ -112,6 +114,7 @@ class Group:
         self.view = LogView(self.opened())
         self.shown = self.view.show()  # as it was seen last
         self.all_present = 0.0  # when nobody was gone yet that was present before the last change
+        self.not_present = 0.0  # when not all were present yet that had a process by then
 
     def configured(self, names: Sequence[str], partitions: int) -> Path:
         """A new file with settings."""
@@ -155,7 +158,8 @@ class Group:
     # Rest.
 
     def look(self, present: Optional[AbstractSet[str]] = None) -> Optional[GroupView]:
-        """How the group stands; nothing, if the store doesn't answer. When these were all present is noted, if some are told."""
+        """How the group stands; nothing, if the store doesn't answer. If some are told, it is noted until when these were all present, and until
+        when not all were that have a process."""
         now = time.monotonic()
         try:
             self.shown = self.view.show()
@@ -163,6 +167,8 @@ class Group:
             return None
         if present is not None and present <= present_in(self.shown):
             self.all_present = now
+        if present is not None and not set(self.members) <= present_in(self.shown):
+            self.not_present = now
         return self.shown
 
     def show(self) -> GroupView:
@@ -209,7 +215,7 @@ class Group:
     def come_to_rest(self, what: str, change: Callable[[], object], settles: float = 0.0) -> None:
         """Makes a change, and waits until the group is at rest behind it, and works: how long that took, and how many rows."""
         before, begun = self.shown, time.monotonic()
-        self.all_present = begun
+        self.all_present = self.not_present = begun
         change()
         rested = self.rest(settles, begun + PATIENCE)
         worked = self.goes_on(time.monotonic() + PATIENCE) if rested is not None else None
@@ -219,7 +225,9 @@ class Group:
         if rested is not None and worked is not None:
             times, after = self.times.setdefault(what, Times()), self.shown
             times.to_rest.append(rested - begun)
-            times.behind_end += [] if present_in(before) <= present_in(after) else [rested - self.all_present]
+            gone, come = present_in(before) - present_in(after), present_in(after) - present_in(before)
+            times.behind_end += [rested - self.all_present] if gone else []
+            times.behind_begin += [rested - self.not_present] if come and not gone else []
             times.to_work += [worked - begun] if settles == 0 else []
             times.rows.append(after.rows - (before.rows if after.epoch == before.epoch else 0))
 

@@ -11,6 +11,9 @@ import os
 import select
 import sys
 import time
+from typing import BinaryIO
+
+ROW = 64  # bytes that a row has at most
 
 folder, node, answers = sys.argv[1], os.environ['BULLY_NODE'], os.environ.get('BULLY_ANSWERS')
 lines = open(0, 'rb', buffering=0, closefd=False)  # so that nothing is read ahead
@@ -22,21 +25,29 @@ def tell(fault: str, partition: str) -> None:
         faults.write(f'{fault} {partition} {token} {node}\n')
 
 
+def last_token(file: BinaryIO) -> int:
+    """The token of the last row; 0 without one. What is left of a row that was written when its worker was killed is cut."""
+    size = file.seek(0, os.SEEK_END)
+    file.seek(max(0, size - 2 * ROW))
+    *rows, rest = file.read().split(b'\n')
+    if rest:
+        file.truncate(size - len(rest))
+    return int(rows[-1].split()[0]) if rows else 0
+
+
 def work(partition: str) -> None:
     """One unit."""
-    with open(os.path.join(folder, partition), 'a+', encoding='ascii') as file:
+    with open(os.path.join(folder, partition), 'ab+') as file:
         try:
             fcntl.flock(file, fcntl.LOCK_EX | fcntl.LOCK_NB)
         except BlockingIOError:
             tell('overlap', partition)
             return
-        file.seek(0)
-        last = file.read().split('\n')[-2:-1]
-        if last and int(last[0].split()[0]) > token:
+        if last_token(file) > token:
             tell('old', partition)
             return
         time.sleep(0.002)
-        file.write(f'{token} {node}\n')
+        file.write(b'%d %s\n' % (token, node.encode()))
 
 
 def hear() -> None:
