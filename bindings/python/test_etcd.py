@@ -193,6 +193,21 @@ class EpochsOverEtcd(Laid, EpochLaws):
         patch.start()
         self.addCleanup(patch.stop)
 
+    def test_two_prunes(self) -> None:
+        """Who takes fewer epochs away at the same time brings none back."""
+        log, other = self.two()
+        opening = OPENING
+        for epoch in (1, 2, 3):
+            opening = opening.next(None, ())
+            here = be_idle(log, ('a', A), here=add(log, ['start,1']))
+            self.assertTrue(log.finish(epoch, here.place, opening))
+        with mock.patch.object(other, 'epochs', return_value=log.epochs()):
+            log.prune(3)
+            other.prune(2)
+        self.assertEqual(log.epochs(), range(3, 5))
+        with self.assertRaises(NoEpoch):
+            log.read(2, 0)
+
 
 class Keys(InEtcd):
     """What stands in etcd."""

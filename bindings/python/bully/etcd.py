@@ -210,7 +210,8 @@ class EtcdLog:
         first = min(first, there[-1])
         if first > there[0]:
             self._client.begin()
-            self._change([], [put(keys.first, f'{first:010}')])
+            told = f'{first:010}'
+            self._change([{**value_is(keys.first, told.encode()), 'result': 'LESS'}], [put(keys.first, told)])
         while True:
             self._client.begin()
             asked = one(keys.logs, range_end=coded(keys.rows(first)), keys_only=True, limit=PAGE)

@@ -37,7 +37,7 @@ NANOSECONDS = 1_000_000_000
 QUIET = (signal.SIGTERM, signal.SIGINT, signal.SIGHUP)  # its member ends it, and no signal that all processes get
 MESSAGE_MAX = 1 << 20  # bytes
 ANSWERS = 3  # the descriptor for a worker that talks
-STOP = b'{"stop": true}'
+STOP, STOPPED = b'{"stop": true}', b'stopped'
 WRITER_BYTE = '120'  # of the file, on which whoever writes has a lock
 TIMES = 5  # how often the locks are looked at: while others come and go, a line may be left out
 
@@ -142,12 +142,13 @@ class Worker:
                 self.lines.send(line + b'\n', socket.MSG_DONTWAIT)
 
     def heard(self) -> List[bytes]:
-        """The lines that it has answered."""
+        """The lines that it has answered. (One read takes all that a pipe holds, and more may come without end.)"""
         with contextlib.suppress(BlockingIOError):
-            while part := os.read(self.answers, 4096):
-                self.unread += part
-            self.answers = closed(self.answers)
-        *lines, self.unread = self.unread.split(b'\n')
+            part = os.read(self.answers, MESSAGE_MAX)
+            self.unread += part
+            self.answers = self.answers if part else closed(self.answers)
+        *lines, last = self.unread.split(b'\n')
+        self.unread = last[: len(STOPPED) + 1]  # of a line that is longer no more is needed
         return lines
 
     def stop(self, patience: int, for_good: bool) -> None:
@@ -159,6 +160,12 @@ class Worker:
         if self.answers >= 0:
             self.heard()  # no answer to this stop
         self.tell(STOP)
+
+    def reap(self) -> None:
+        """Waits for what has ended of all that it started and left to this process."""
+        for child in children():
+            if child != self.process:
+                os.waitpid(child, os.WNOHANG)
 
     def end_all(self) -> int:
         """Kills all that is left of it, and waits for that. Its status."""
@@ -255,7 +262,9 @@ class Guard:
             status = worker.end_all()
             self.worker = None
             self.say('stopped' if is_told else f'ended {status}' if by_itself else 'lost')
-        elif worker.answers in ready and b'stopped' in worker.heard() and is_told and not self.is_alone:
+            return
+        worker.reap()
+        if worker.answers in ready and STOPPED in worker.heard() and is_told and not self.is_alone:
             worker.is_busy, worker.stop_by = False, None
             self.say('stopped')
 

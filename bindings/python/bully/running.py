@@ -173,21 +173,26 @@ class Member:
         """Takes part until it has left. Raises what a callback raised; NotLearned, if a row of the log is refused; and what the log
         raises, but Unanswered: then it tries again."""
         self._ended.clear()
-        caller = threading.Thread(target=self._call_all, name='bully work', daemon=True)
-        self._woken, self._wakes = socket.socketpair()
-        with self._woken, self._wakes:
-            caller.start()
-            try:
-                self._go_on()
-            finally:
-                self._shown = (None, 0.0)
-                if self._work is not None and not self._is_stopping:  # whatever it ended by
-                    self._to_call.put((True, self._work))
-                self._to_call.put(None)
-                caller.join()
-                self._ended.set()
+        try:
+            self._woken, self._wakes = socket.socketpair()
+            with self._woken, self._wakes:
+                self._run_here()
+        finally:
+            self._ended.set()
         if self.failure is not None:
             raise self.failure
+
+    def _run_here(self) -> None:
+        caller = threading.Thread(target=self._call_all, name='bully work', daemon=True)
+        caller.start()
+        try:
+            self._go_on()
+        finally:
+            self._shown = (None, 0.0)
+            if self._work is not None and not self._is_stopping:  # whatever it ended by
+                self._to_call.put((True, self._work))
+            self._to_call.put(None)
+            caller.join()
 
     def __enter__(self) -> 'Member':
         return self

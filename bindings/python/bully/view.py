@@ -113,8 +113,8 @@ class LogView:
 
     def _enter(self) -> None:
         """It shows the current epoch from now on."""
-        self._opening = self._log.opening()
-        self._replica = Replica(self._opening.header)
+        opening = self._log.opening()
+        self._opening, self._replica = opening, Replica(opening.header)
         self._last.clear()
 
     def _read(self) -> Found:
@@ -123,8 +123,9 @@ class LogView:
             found = self._log.look(self._opening.epoch, self._replica.rows)
             if found.epoch == self._opening.epoch:
                 break
-            self._replica.close()
+            before = self._replica
             self._enter()
+            before.close()
         self._replica.learn(found.rows)
         last = found.rows[-LAST_ROWS:]
         self._last.extend(enumerate(last, self._replica.rows + 2 - len(last)))

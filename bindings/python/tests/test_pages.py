@@ -11,10 +11,11 @@ import time
 import unittest
 from pathlib import Path
 from typing import Any, Dict, List, Tuple
+from unittest import mock
 
 from bully import page, settings, view
 from bully.epochs import Opening, Token
-from bully.logs import Holder, MemoryLog
+from bully.logs import Holder, MemoryLog, Unanswered
 from bully.member import Life, Promise
 from bully.running import Member
 from laws import HEADER, PATIENCE, wait_until
@@ -162,6 +163,16 @@ class Pages(unittest.TestCase):
         thread.join()
         self.assertEqual(answers, [(2, 0)])
         self.assertEqual(json.loads(self.get('/group?after=2&epoch=1')[2])['epoch'], 2)
+
+    def test_an_epoch_that_is_not_told(self) -> None:
+        """Where the log doesn't answer with what the next epoch began with, the page goes on once it does."""
+        life, here = Life(1, 1), Promise(1, 0)
+        self.assertTrue(self.log.take('stranger', life, here, LONG) and self.log.finish(1, 0, self.log.opening().next(None, ())))
+        with mock.patch.object(self.log, 'opening', side_effect=Unanswered('silent')) as asked:
+            for _ in range(2):
+                self.assertEqual((self.get('/group')[0], self.get('/group')[2]), (503, 'silent\n'))
+        self.assertEqual(asked.call_count, 4)
+        self.assertEqual(json.loads(self.get('/group')[2])['epoch'], 2)
 
     def test_gone(self) -> None:
         """Who asked is gone before the answer."""

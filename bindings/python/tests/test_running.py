@@ -1,11 +1,13 @@
 """Tests of members in threads, in memory and over a file. `try` runs them."""
 import contextlib
+import socket
 import tempfile
 import threading
 import time
 import unittest
 from pathlib import Path
 from typing import Any, Callable, Dict, List, Tuple, cast
+from unittest import mock
 
 from bully import NotLearned, Setup, check, resizing, settings, view
 from bully.epochs import Opening, Token
@@ -223,6 +225,23 @@ class Running(unittest.TestCase):
             member.run()
         self.assertEqual(log.rows[-1], 'crash,1')
         self.assertTrue(member.core.is_closed)
+
+
+    def test_no_descriptors(self) -> None:
+        """A member that can't begin for want of descriptors is over all the same."""
+        ended: List[BaseException] = []
+
+        def run() -> None:
+            try:
+                with Member(MemoryLog(OPENING), 1, print, print) as member:
+                    member.run()
+            except OSError as failure:
+                ended.append(failure)
+
+        with mock.patch.object(socket, 'socketpair', side_effect=OSError('none is left')):
+            thread = threading.Thread(target=run, daemon=True)
+            thread.start()
+            wait_until(lambda: ended)
 
 
 class Places:

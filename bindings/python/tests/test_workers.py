@@ -67,6 +67,11 @@ def is_running(process: int) -> bool:
         return False
 
 
+def children_of(process: int) -> List[int]:
+    """The processes that this one has to wait for."""
+    return [int(word) for word in Path(f'/proc/{process}/task/{process}/children').read_text().split()]
+
+
 def assigned(events: int, *partitions: int) -> Assignment:
     return Assignment(Token.of(4, events), 3, partitions, OPENING.settings)
 
@@ -195,6 +200,16 @@ class Guards(Below):
         wait_until(lambda: self.failures)
         self.assertEqual(getattr(self.failures[0], 'status'), 127)
 
+    def test_orphans(self) -> None:
+        """What a worker left to the guard is waited for, also while the worker goes on."""
+        workers = self.made(['sh', '-c', 'for each in 1 2 3; do (true &); done; exec sleep 1000'])
+        workers.start(self.assignment)
+        wait_until(lambda: len(children_of(workers._guard.pid)) == 4)
+        workers.hear_until(logs.seconds_of_boot() + 1000.0)
+        wait_until(lambda: len(children_of(workers._guard.pid)) == 1)
+        workers.stop(assigned(0))
+        self.assertEqual((self.failures, self.lost), ([], []))
+
     def test_stopped_in_a_write(self) -> None:
         """Who is stopped in the middle of a write is killed, and others can write."""
         file = self.folder / 'group.db'
@@ -304,6 +319,21 @@ class Talks(Below):
         self.assertFalse(is_running(worker))
         self.assertEqual(self.failures, [])
 
+    def test_too_many_answers(self) -> None:
+        """It is killed at that moment, and if it doesn't stop in time, also while it answers more than can be read."""
+        for patience, seconds in ((PATIENCE, 0.5), (0.2, 1000.0)):
+            with self.subTest(patience=patience):
+                workers = self.made([sys.executable, '-c', 'import os\nwhile True:\n    os.write(3, bytes(65_536))'], patience)
+                self.addCleanup(workers._guard.kill)
+                workers.start(assigned(2, 0))
+                wait_until(lambda: children_of(workers._guard.pid))
+                worker, = children_of(workers._guard.pid)
+                workers.hear_until(logs.seconds_of_boot() + seconds)
+                thread = threading.Thread(target=workers.stop, args=[assigned(0)], daemon=True)
+                thread.start()
+                wait_until(lambda: not is_running(worker) and not thread.is_alive())
+        self.assertEqual((self.failures, self.lost), ([], []))
+
     def test_ends(self) -> None:
         """To end is an answer, too. By itself it may not."""
         workers = self.begin('ends')
@@ -333,16 +363,13 @@ class Talks(Below):
                     wanted = f'{Token.of(4, events)} x'
                     files = [folder / str(each) for each in partitions]
                     wait_until(lambda: all(file.exists() and file.read_text().count(wanted) > 1 for file in files))
-                    processes.add(self.child_of(workers._guard.pid))
+                    processes.add(children_of(workers._guard.pid)[0])
                     workers.stop(assigned(0))
                     sizes = {file: file.stat().st_size for file in folder.iterdir()}
                     self.assertEqual({file: file.stat().st_size for file in folder.iterdir()}, sizes)
                 self.assertEqual(len(processes), 1)
                 workers.close()
         self.assertEqual((self.failures, self.lost), ([], []))
-
-    def child_of(self, process: int) -> int:
-        return int(Path(f'/proc/{process}/task/{process}/children').read_text().split()[0])
 
 
 if __name__ == '__main__':
