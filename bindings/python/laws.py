@@ -498,6 +498,16 @@ class Waits(Tests):
             self.assertGreaterEqual(time.monotonic(), begun + 0.6)
             later.join()
 
+    def test_a_wish_that_is_known(self) -> None:
+        """What the last look found to be wished for is no news, as long as it stands."""
+        log, other = self.pair()
+        self.assertTrue(other.ask(OPENING.after(None), 1))
+        lives = log.look(1, 0).lives
+        begun = time.monotonic()
+        log.wait(1, 0, lives, Until.NEWS, 0.3)
+        self.assertGreaterEqual(time.monotonic(), begun + 0.3)
+        self.ends_by(lambda: other.cancel(1), lambda seconds: log.wait(1, 0, lives, Until.NEWS, seconds))
+
     def test_time(self) -> None:
         log, _ = self.pair()
         lives = log.look(1, 0).lives

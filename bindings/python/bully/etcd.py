@@ -210,8 +210,7 @@ class EtcdLog:
         first = min(first, there[-1])
         if first > there[0]:
             self._client.begin()
-            told = f'{first:010}'
-            self._change([{**value_is(keys.first, told.encode()), 'result': 'LESS'}], [put(keys.first, told)])
+            self._change([{**value_is(keys.first, b'%010d' % first), 'result': 'LESS'}], [put(keys.first, f'{first:010}')])
         while True:
             self._client.begin()
             asked = one(keys.logs, range_end=coded(keys.rows(first)), keys_only=True, limit=PAGE)

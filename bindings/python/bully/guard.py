@@ -142,11 +142,10 @@ class Worker:
                 self.lines.send(line + b'\n', socket.MSG_DONTWAIT)
 
     def heard(self) -> List[bytes]:
-        """The lines that it has answered. (One read takes all that a pipe holds, and more may come without end.)"""
+        """The lines that it has answered. One read takes all that a pipe holds: more may come without end."""
         with contextlib.suppress(BlockingIOError):
             part = os.read(self.answers, MESSAGE_MAX)
-            self.unread += part
-            self.answers = self.answers if part else closed(self.answers)
+            self.unread, self.answers = self.unread + part, self.answers if part else closed(self.answers)
         *lines, last = self.unread.split(b'\n')
         self.unread = last[: len(STOPPED) + 1]  # of a line that is longer no more is needed
         return lines
@@ -160,12 +159,6 @@ class Worker:
         if self.answers >= 0:
             self.heard()  # no answer to this stop
         self.tell(STOP)
-
-    def reap(self) -> None:
-        """Waits for what has ended of all that it started and left to this process."""
-        for child in children():
-            if child != self.process:
-                os.waitpid(child, os.WNOHANG)
 
     def end_all(self) -> int:
         """Kills all that is left of it, and waits for that. Its status."""
@@ -202,7 +195,7 @@ def become(words: List[str], environment: List[bytes], pipes: Sequence[int], par
         copies = [os.dup(pipe) for pipe in pipes]
         for copy, wanted in zip(copies, (0, ANSWERS)):
             os.dup2(copy, wanted)
-        for number in (*QUIET, signal.SIGPIPE):
+        for number in (*QUIET, signal.SIGPIPE, signal.SIGXFSZ):
             signal.signal(number, signal.SIG_DFL)
         signal.pthread_sigmask(signal.SIG_UNBLOCK, QUIET)
         parts = [entry.partition(b'=') for entry in environment]
@@ -232,7 +225,8 @@ class Guard:
             if self.worker is not None:
                 self.see(self.worker, ready)
             if self.channel.fileno() in ready:
-                self.hear(self.channel.recv(MESSAGE_MAX))
+                with contextlib.suppress(ConnectionResetError):  # comes once, if the member didn't read all that it was told
+                    self.hear(self.channel.recv(MESSAGE_MAX))
             self.watch.look()
 
     def awaited(self) -> Set[int]:
@@ -255,16 +249,16 @@ class Guard:
         return min((moment for moment in moments if moment is not None), default=None)
 
     def see(self, worker: Worker, ready: Set[int]) -> None:
-        """What has become of the worker."""
+        """What has become of the worker, and of what that left to this process."""
+        for child in {*children()} - {worker.process}:
+            os.waitpid(child, os.WNOHANG)
         moment, is_told = self.last_moment(), worker.stop_by is not None
         if moment is not None and now() >= moment or worker.end in ready:
             by_itself = moment is None or now() < moment
             status = worker.end_all()
             self.worker = None
             self.say('stopped' if is_told else f'ended {status}' if by_itself else 'lost')
-            return
-        worker.reap()
-        if worker.answers in ready and STOPPED in worker.heard() and is_told and not self.is_alone:
+        elif worker.answers in ready and STOPPED in worker.heard() and is_told and not self.is_alone:
             worker.is_busy, worker.stop_by = False, None
             self.say('stopped')
 

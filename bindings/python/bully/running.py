@@ -7,7 +7,7 @@ import queue
 import secrets
 import socket
 import threading
-from contextlib import suppress
+from contextlib import ExitStack, suppress
 from dataclasses import dataclass, field
 from typing import Callable, List, Optional, Tuple, TypeVar, Union
 
@@ -55,8 +55,8 @@ def is_known(log: Log, settings: Settings) -> bool:
     """Whether the group has these settings, had them in an earlier epoch, or is wished to have them."""
     epoch = log.epochs()[-1]
     wish = log.look(epoch, EVENTS_MAX).wish
-    openings = [log.opening(each) for each in range(epoch, FIRST - 1, -1)]
-    return any(opening.is_of(settings) for opening in [*([wish] if wish else []), *openings])
+    is_wished = wish is not None and wish.is_of(settings)
+    return is_wished or any(log.opening(each).is_of(settings) for each in range(epoch, FIRST - 1, -1))
 
 
 def number_of(opening: Opening, node: Union[int, str]) -> int:
@@ -173,26 +173,21 @@ class Member:
         """Takes part until it has left. Raises what a callback raised; NotLearned, if a row of the log is refused; and what the log
         raises, but Unanswered: then it tries again."""
         self._ended.clear()
-        try:
-            self._woken, self._wakes = socket.socketpair()
-            with self._woken, self._wakes:
-                self._run_here()
-        finally:
-            self._ended.set()
+        with ExitStack() as ending:
+            ending.callback(self._ended.set)
+            self._woken, self._wakes = map(ending.enter_context, socket.socketpair())
+            caller = threading.Thread(target=self._call_all, name='bully work', daemon=True)
+            caller.start()
+            try:
+                self._go_on()
+            finally:
+                self._shown = (None, 0.0)
+                if self._work is not None and not self._is_stopping:  # whatever it ended by
+                    self._to_call.put((True, self._work))
+                self._to_call.put(None)
+                caller.join()
         if self.failure is not None:
             raise self.failure
-
-    def _run_here(self) -> None:
-        caller = threading.Thread(target=self._call_all, name='bully work', daemon=True)
-        caller.start()
-        try:
-            self._go_on()
-        finally:
-            self._shown = (None, 0.0)
-            if self._work is not None and not self._is_stopping:  # whatever it ended by
-                self._to_call.put((True, self._work))
-            self._to_call.put(None)
-            caller.join()
 
     def __enter__(self) -> 'Member':
         return self
@@ -264,7 +259,7 @@ class Member:
     def _wait(self, step: Wait) -> None:
         """Waits for what is new in the log, or until it hears something."""
         found, epoch, place = self._found, self.opening.epoch, self.core.place
-        self.behind.see(Promise(epoch, place), found.presences, step.until is Until.ANY_IDLE)
+        self.behind.see(Promise(epoch, place), found.presences, step.until is Until.ANY_IDLE or self.core.life is None)
         self._answer(lambda: self.log.wait(epoch, place, found.lives, step.until, step.at_most / SECOND, self._woken.fileno()))
         self.core.woke()
 

@@ -6,12 +6,12 @@ import threading
 import time
 import unittest
 from pathlib import Path
-from typing import Any, Callable, Dict, List, Tuple, cast
+from typing import Any, Callable, Dict, List, Sequence, Tuple, cast
 from unittest import mock
 
-from bully import NotLearned, Setup, check, resizing, settings, view
+from bully import NotLearned, Setup, check, resizing, running, settings, view
 from bully.epochs import Opening, Token
-from bully.logs import SECOND, Found, Log, MemoryLog, NoEpoch, Unanswered, seconds_of_boot
+from bully.logs import SECOND, Found, Holder, Log, MemoryLog, NoEpoch, Unanswered, seconds_of_boot
 from bully.member import Life, Promise
 from bully.running import Assignment, Member, NotInGroup, OtherGroup
 from bully.sqlite import SqliteLog
@@ -46,6 +46,18 @@ class Troubled(MemoryLog):
     def look(self, epoch: int, place: int) -> Found:
         self.check()
         return super().look(epoch, place)
+
+
+class Noting(MemoryLog):
+    """A log that notes at which places it was asked to append."""
+
+    def __init__(self, opening: Opening) -> None:
+        super().__init__(opening)
+        self.appends: List[int] = []
+
+    def append(self, epoch: int, place: int, rows: Sequence[str]) -> bool:
+        self.appends.append(place)
+        return super().append(epoch, place, rows)
 
 
 class Running(unittest.TestCase):
@@ -119,15 +131,19 @@ class Running(unittest.TestCase):
         """Work that has ended outside is stopped, and begun again. What ended of an earlier Begin isn't it."""
         log = MemoryLog(OPENING)
         begun: List[Assignment] = []
-        member, _, _ = self.begin(log, 1, start=begun.append)
+        sure: List[float] = []
+        member, _, _ = self.begin(log, 1, start=begun.append, sure=sure.append)
         for count in range(1, 4):
             wait_until(lambda: len(begun) == count and member.assignment())
             member.lose(begun[-1])
         wait_until(lambda: len(begun) == 4)
         self.assertEqual({work.token for work in begun}, {self.token_of(log)})
-        waits = log.rows[:]
+        rows = log.rows[:]
         member.lose(begun[0])
-        self.assertEqual((log.rows, len(begun)), (waits, 4))
+        wait_until(lambda: not member._lost)
+        renewals = len(sure)
+        wait_until(lambda: len(sure) > renewals + 1)  # before which it would have stopped
+        self.assertEqual((log.rows, len(begun)), (rows, 4))
 
     def test_silence(self) -> None:
         """Work stops once it isn't sure any more, and begins again once the log answers."""
@@ -215,9 +231,92 @@ class Running(unittest.TestCase):
         self.assertIsInstance(self.raised, NotLearned)
         self.assertEqual((len(told), log.presences), (2, {}))
 
+    def test_a_stranger(self) -> None:
+        """While somebody is present who isn't of the group, and may work, nobody asks to append anything."""
+        log, sure = Noting(OPENING), cast(List[float], [])
+        self.assertTrue(log.take('stranger', Life(9, 1), Promise(1, 0), LONG))
+        with log._changed:
+            log.leases['stranger'] = log.leases['stranger']._replace(holder=Holder(Life(9, 1), Promise()))
+        member, _, _ = self.begin(log, 1, sure=sure.append)
+        wait_until(lambda: len(sure) > 2)
+        self.assertEqual((log.appends, member.assignment()), ([], None))
+        log.release('stranger', Life(9, 1))
+        wait_until(member.assignment)
+        self.assertEqual(log.appends, [0])
+
+    def test_a_table_is_handed_on(self) -> None:
+        """An epoch that ends before it has a plan hands on the table of the one before."""
+        log, life, table = MemoryLog(OPENING), Life(9, 1), (3, 2, 1, 1, 2, 3)
+        self.assertTrue(log.take('stranger', life, Promise(1, 0), LONG) and log.finish(1, 0, OPENING.next(None, table)))
+        log.release('stranger', life)
+        self.assertTrue(log.ask(log.opening().wish(OPENING.settings), 2))
+        self.begin(log, 1)
+        wait_until(lambda: log.epoch == 3)
+        self.assertEqual((log.read(2, 0), log.opening().table), ([], table))
+
+    def test_a_wish_waits(self) -> None:
+        """Who works where something else is wished for is behind."""
+        log, is_over = MemoryLog(OPENING), threading.Event()
+        member, _, _ = self.begin(log, 1, stop=lambda work: is_over.wait())
+        self.addCleanup(is_over.set)
+        wait_until(member.assignment)
+        shown = view.LogView(log)
+        self.addCleanup(shown.close)
+        self.assertEqual(shown.show().behind, {})
+        self.assertTrue(log.ask(OPENING.wish(OPENING.settings), 1))
+        self.assertEqual(list(shown.show().behind), ['1'])
+        is_over.set()
+        wait_until(lambda: log.epoch == 2)
+
+    def test_a_full_log_waits(self) -> None:
+        """So is who works where the log has room for no other settlement: 11 rows for each of three nodes."""
+        full = MemoryLog(OPENING)
+        member, _, _ = self.begin(full, 1)
+        wait_until(member.assignment)
+        for room, behind in ((33, []), (32, ['1'])):
+            log = MemoryLog(Opening(1, HEADER, OPENING.names, len(full.rows) + room))
+            self.assertTrue(log.take('1', Life(9, 1), Promise(1, 0), LONG))
+            log.rows.extend(full.rows)
+            shown = view.LogView(log)
+            self.addCleanup(shown.close)
+            self.assertEqual(list(shown.show().behind), behind, room)
+
+    def test_a_second_process(self) -> None:
+        """Who waits until its node's presence is free doesn't know whether others rest, and names nobody as behind."""
+        log = MemoryLog(OPENING)
+        first, _, _ = self.begin(log, 1)
+        wait_until(first.assignment)
+        second, _, _ = self.begin(log, 1)
+        with mock.patch.object(second.behind, 'see', wraps=second.behind.see) as seen:
+            wait_until(lambda: seen.call_count > 1)
+        self.assertEqual((second.assignment(), second.behind._since), (None, {}))
+
+    def test_how_long_behind(self) -> None:
+        """It counts from when it was seen first, at this end of the log, by this life."""
+        late, one, other = view.Behind(), {'a': Holder(Life(1, 1), Promise(1, 3))}, {'a': Holder(Life(1, 2), Promise(1, 3))}
+        seen = [
+            (4, one, False, {'a': 0.0}), (4, one, False, {'a': 2.0}), (5, one, False, {'a': 0.0}), (5, one, False, {'a': 2.0}),
+            (5, other, False, {'a': 0.0}), (5, other, True, {}), (5, other, False, {'a': 0.0}), (3, other, False, {}),
+        ]  # fmt: skip
+        with mock.patch.object(view, 'seconds_of_boot', side_effect=range(10, 100, 2)):
+            for place, presences, rests, wanted in seen:
+                self.assertEqual(late.see(Promise(1, place), presences, rests), wanted)
+
     def test_other_group(self) -> None:
         with self.assertRaises(OtherGroup):
             Member(MemoryLog(OPENING), 1, print, print, settings=settings.Settings(Setup(3, 7), ('1', '2', '3')))
+
+    def test_a_group_of_many_epochs(self) -> None:
+        """Only so many openings are read as are needed to know the group: the last ones first."""
+        log, life = MemoryLog(OPENING), Life(9, 1)
+        self.assertTrue(log.take('stranger', life, Promise(1, 0), LONG))
+        for epoch in range(1, 5):
+            self.assertTrue(log.promise('stranger', life, Promise(epoch, 0)) and log.finish(epoch, 0, log.opening().next(None, ())))
+        with mock.patch.object(log, 'opening', wraps=log.opening) as asked:
+            self.assertTrue(running.is_known(log, OPENING.settings))
+            asked.assert_called_once_with(5)
+            self.assertFalse(running.is_known(log, settings.Settings(Setup(3, 7), ('1', '2', '3'))))
+            self.assertEqual(asked.call_count, 6)
 
     def test_with(self) -> None:
         log = MemoryLog(OPENING)

@@ -10,13 +10,13 @@ import threading
 import unittest
 from pathlib import Path
 from types import SimpleNamespace
-from typing import List, cast
+from typing import Dict, List, Set, cast
 
 from bully import Setup, logs
 from bully.epochs import Opening, Token
 from bully.running import Assignment, Member
 from bully.settings import Settings
-from bully.worker import GuardLost, WorkerEnded, Workers
+from bully.worker import GUARD, GuardLost, WorkerEnded, Workers
 from laws import PATIENCE, wait_until
 from test_stores import environment
 
@@ -70,6 +70,16 @@ def is_running(process: int) -> bool:
 def children_of(process: int) -> List[int]:
     """The processes that this one has to wait for."""
     return [int(word) for word in Path(f'/proc/{process}/task/{process}/children').read_text().split()]
+
+
+def name_of(process: int) -> str:
+    """The program that it runs, in short."""
+    return Path(f'/proc/{process}/comm').read_text().strip()
+
+
+def descriptors_of(process: int) -> int:
+    """How many descriptors it has."""
+    return len(list(Path(f'/proc/{process}/fd').iterdir()))
 
 
 def assigned(events: int, *partitions: int) -> Assignment:
@@ -200,6 +210,39 @@ class Guards(Below):
         wait_until(lambda: self.failures)
         self.assertEqual(getattr(self.failures[0], 'status'), 127)
 
+    def test_signals(self) -> None:
+        """A worker begins as any process: no signal is ignored or held back that the guard, or Python, lets go by."""
+        workers = self.made(['sleep', '1000'])
+        workers.start(self.assignment)
+        wait_until(lambda: [name_of(each) for each in children_of(workers._guard.pid)] == ['sleep'])
+        status = Path(f'/proc/{children_of(workers._guard.pid)[0]}/status').read_text().splitlines()
+        masks = {line.split()[0]: int(line.split()[1], 16) for line in status if line.startswith(('SigIgn', 'SigBlk'))}
+        for number in (signal.SIGTERM, signal.SIGINT, signal.SIGHUP, signal.SIGPIPE, signal.SIGXFSZ):
+            self.assertEqual([mask >> number - 1 & 1 for mask in masks.values()], [0, 0], number)
+        workers.stop(assigned(0))
+
+    def test_a_guard_that_is_stopped(self) -> None:
+        """It hears of no renewal, for which nobody waits. Behind that a worker begins all the same."""
+        workers = self.made(['sleep', '1000'], seconds=-1.0)
+        self.addCleanup(os.kill, workers._guard.pid, signal.SIGCONT)
+        os.kill(workers._guard.pid, signal.SIGSTOP)
+
+        def tell() -> None:
+            for _ in range(10_000):
+                workers.hear_until(logs.seconds_of_boot() - 1.0)
+            workers.hear_until(logs.seconds_of_boot() + 1000.0)
+
+        thread = threading.Thread(target=tell, daemon=True)
+        thread.start()
+        wait_until(lambda: not thread.is_alive())
+        with self.assertRaises(BlockingIOError):  # so the last one wasn't told
+            workers._channel.send(b'until 0', socket.MSG_DONTWAIT)
+        os.kill(workers._guard.pid, signal.SIGCONT)
+        workers.start(self.assignment)
+        wait_until(lambda: children_of(workers._guard.pid) or self.lost)
+        workers.stop(assigned(0))
+        self.assertEqual((self.failures, self.lost), ([], []))
+
     def test_orphans(self) -> None:
         """What a worker left to the guard is waited for, also while the worker goes on."""
         workers = self.made(['sh', '-c', 'for each in 1 2 3; do (true &); done; exec sleep 1000'])
@@ -319,6 +362,48 @@ class Talks(Below):
         self.assertFalse(is_running(worker))
         self.assertEqual(self.failures, [])
 
+    def test_descriptors(self) -> None:
+        """Workers that come and go leave none in the guard."""
+        workers = self.begin('ends')
+        counts = []
+        for events in range(3, 7):
+            counts.append(descriptors_of(workers._guard.pid))
+            workers.stop(assigned(0))
+            workers.start(assigned(events, 1))
+            self.heard(2 * events - 3)
+        self.assertEqual(len(set(counts)), 1, counts)
+        workers.stop(assigned(0))
+
+    def test_a_member_that_is_gone(self) -> None:
+        """Then it is not enough that a worker answers: it is killed if it doesn't end."""
+        begun = self.folder / 'begun'
+        workers = self.made(['sh', '-c', 'trap "echo stopped >&3" TERM; echo > "$0"; while :; do sleep 0.01; done', str(begun)], 0.2)
+        self.addCleanup(workers._guard.kill)
+        workers.start(assigned(2, 0))
+        wait_until(begun.exists)
+        (worker,) = children_of(workers._guard.pid)
+        workers._channel.shutdown(socket.SHUT_RDWR)
+        wait_until(lambda: not is_running(worker))
+        workers._guard.wait(PATIENCE)
+
+    def test_what_a_member_did_not_read(self) -> None:
+        """A guard whose member is gone, and didn't read all that it said, ends its worker with what that started."""
+        child = self.folder / 'child'
+        worker = 'sleep 1000 & echo $! > "$0.new"; mv "$0.new" "$0"; read -r line; read -r line; echo stopped >&3; read -r line'
+        channel, given = socket.socketpair(socket.AF_UNIX, socket.SOCK_SEQPACKET)
+        with channel, given, open(self.folder / 'said', 'wb') as said:
+            words = [sys.executable, '-I', '-S', GUARD, str(given.fileno()), '0.2', 'talks', '', '1.0', 'sh', '-c', worker, str(child)]
+            guard = subprocess.Popen(words, stdin=subprocess.DEVNULL, stderr=said, pass_fds=[given.fileno()])
+            self.addCleanup(guard.kill)
+            given.close()
+            for message in (f'until {logs.nanoseconds_of_boot() + 10**12}', 'begin {}'):
+                channel.send(message.encode())
+            wait_until(child.exists)
+            channel.send(b'stop')
+            self.assertEqual(logs.slept(PATIENCE, channel.fileno()), [channel.fileno()])  # it has said that nothing is worked on
+        self.assertEqual((guard.wait(PATIENCE), (self.folder / 'said').read_text()), (0, ''))
+        self.assertFalse(is_running(int(child.read_text())))
+
     def test_too_many_answers(self) -> None:
         """It is killed at that moment, and if it doesn't stop in time, also while it answers more than can be read."""
         for patience, seconds in ((PATIENCE, 0.5), (0.2, 1000.0)):
@@ -327,7 +412,7 @@ class Talks(Below):
                 self.addCleanup(workers._guard.kill)
                 workers.start(assigned(2, 0))
                 wait_until(lambda: children_of(workers._guard.pid))
-                worker, = children_of(workers._guard.pid)
+                (worker,) = children_of(workers._guard.pid)
                 workers.hear_until(logs.seconds_of_boot() + seconds)
                 thread = threading.Thread(target=workers.stop, args=[assigned(0)], daemon=True)
                 thread.start()
@@ -357,7 +442,8 @@ class Talks(Below):
                 folder = self.folder / name
                 folder.mkdir()
                 workers = self.made([str(ROOT / 'examples' / 'members' / name), str(folder)])
-                processes = set()
+                processes: Set[int] = set()
+                sizes: Dict[Path, int] = {}
                 for events, partitions in ((3, (0, 5)), (4, (5, 2)), (5, (1,))):
                     workers.start(assigned(events, *partitions))
                     wanted = f'{Token.of(4, events)} x'
@@ -365,8 +451,8 @@ class Talks(Below):
                     wait_until(lambda: all(file.exists() and file.read_text().count(wanted) > 1 for file in files))
                     processes.add(children_of(workers._guard.pid)[0])
                     workers.stop(assigned(0))
-                    sizes = {file: file.stat().st_size for file in folder.iterdir()}
-                    self.assertEqual({file: file.stat().st_size for file in folder.iterdir()}, sizes)
+                    before, sizes = sizes, {file: file.stat().st_size for file in folder.iterdir()}
+                    self.assertEqual([file for file, size in before.items() if sizes[file] != size and file not in files], [])
                 self.assertEqual(len(processes), 1)
                 workers.close()
         self.assertEqual((self.failures, self.lost), ([], []))
