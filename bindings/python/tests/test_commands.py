@@ -18,12 +18,7 @@ from bully.running import Member
 from laws import HEADER, PATIENCE, wait_until
 from test_pages import ROOT, TOP, toml
 from test_running import InFolder, put
-from test_workers import is_running
-
-
-def children(process: int) -> List[int]:
-    """The processes that it has started."""
-    return list(map(int, Path(f'/proc/{process}/task/{process}/children').read_text().split()))
+from test_workers import children, is_running
 
 
 def parent_of(process: int) -> int:

@@ -14,10 +14,10 @@ from bully.etcd import EtcdLog
 from bully.logs import Log
 from etcd_servers import NUMBERS, OLDER, Server, WithCertificates, WithEtcd, add_users, alone, begin_alone, prune_in_part, put_older
 from laws import HEADER, PATIENCE, wait_until
-from test_commands import BEGINS, TALKS, MemberProcess, call, children
+from test_commands import BEGINS, TALKS, MemberProcess, call
 from test_pages import ROOT, TOP, toml
 from test_running import Away, WithFolder, put
-from test_workers import is_running
+from test_workers import children, is_running
 
 TTL = 2  # seconds
 SLOW = 20.0  # seconds that a log of the test's own waits for answers

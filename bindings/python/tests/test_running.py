@@ -325,7 +325,6 @@ class Running(unittest.TestCase):
         self.assertEqual(log.rows[-1], 'crash,1')
         self.assertTrue(member.core.is_closed)
 
-
     def test_no_descriptors(self) -> None:
         """A member that can't begin for want of descriptors is over all the same."""
         ended: List[BaseException] = []

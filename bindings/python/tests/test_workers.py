@@ -57,6 +57,15 @@ for line in sys.stdin:
     if begun == 2 and way == 'fails':
         sys.exit(9)
 """
+# Answers without an end, and tells by a file once more of that was taken than a pipe holds.
+FLOODING = """
+import os, sys
+for _ in range(10):
+    os.write(3, bytes(65_536))
+open(sys.argv[1], 'w').close()
+while True:
+    os.write(3, bytes(65_536))
+"""
 
 
 def is_running(process: int) -> bool:
@@ -67,7 +76,7 @@ def is_running(process: int) -> bool:
         return False
 
 
-def children_of(process: int) -> List[int]:
+def children(process: int) -> List[int]:
     """The processes that this one has to wait for."""
     return [int(word) for word in Path(f'/proc/{process}/task/{process}/children').read_text().split()]
 
@@ -214,8 +223,8 @@ class Guards(Below):
         """A worker begins as any process: no signal is ignored or held back that the guard, or Python, lets go by."""
         workers = self.made(['sleep', '1000'])
         workers.start(self.assignment)
-        wait_until(lambda: [name_of(each) for each in children_of(workers._guard.pid)] == ['sleep'])
-        status = Path(f'/proc/{children_of(workers._guard.pid)[0]}/status').read_text().splitlines()
+        wait_until(lambda: [name_of(each) for each in children(workers._guard.pid)] == ['sleep'])
+        status = Path(f'/proc/{children(workers._guard.pid)[0]}/status').read_text().splitlines()
         masks = {line.split()[0]: int(line.split()[1], 16) for line in status if line.startswith(('SigIgn', 'SigBlk'))}
         for number in (signal.SIGTERM, signal.SIGINT, signal.SIGHUP, signal.SIGPIPE, signal.SIGXFSZ):
             self.assertEqual([mask >> number - 1 & 1 for mask in masks.values()], [0, 0], number)
@@ -239,7 +248,7 @@ class Guards(Below):
             workers._channel.send(b'until 0', socket.MSG_DONTWAIT)
         os.kill(workers._guard.pid, signal.SIGCONT)
         workers.start(self.assignment)
-        wait_until(lambda: children_of(workers._guard.pid) or self.lost)
+        wait_until(lambda: children(workers._guard.pid) or self.lost)
         workers.stop(assigned(0))
         self.assertEqual((self.failures, self.lost), ([], []))
 
@@ -247,9 +256,9 @@ class Guards(Below):
         """What a worker left to the guard is waited for, also while the worker goes on."""
         workers = self.made(['sh', '-c', 'for each in 1 2 3; do (true &); done; exec sleep 1000'])
         workers.start(self.assignment)
-        wait_until(lambda: len(children_of(workers._guard.pid)) == 4)
+        wait_until(lambda: len(children(workers._guard.pid)) == 4)
         workers.hear_until(logs.seconds_of_boot() + 1000.0)
-        wait_until(lambda: len(children_of(workers._guard.pid)) == 1)
+        wait_until(lambda: len(children(workers._guard.pid)) == 1)
         workers.stop(assigned(0))
         self.assertEqual((self.failures, self.lost), ([], []))
 
@@ -381,7 +390,7 @@ class Talks(Below):
         self.addCleanup(workers._guard.kill)
         workers.start(assigned(2, 0))
         wait_until(begun.exists)
-        (worker,) = children_of(workers._guard.pid)
+        (worker,) = children(workers._guard.pid)
         workers._channel.shutdown(socket.SHUT_RDWR)
         wait_until(lambda: not is_running(worker))
         workers._guard.wait(PATIENCE)
@@ -408,16 +417,17 @@ class Talks(Below):
         """It is killed at that moment, and if it doesn't stop in time, also while it answers more than can be read."""
         for patience, seconds in ((PATIENCE, 0.5), (0.2, 1000.0)):
             with self.subTest(patience=patience):
-                workers = self.made([sys.executable, '-c', 'import os\nwhile True:\n    os.write(3, bytes(65_536))'], patience)
+                begun = self.folder / f'begun {patience}'
+                workers = self.made([sys.executable, '-c', FLOODING, str(begun)], patience)
                 self.addCleanup(workers._guard.kill)
                 workers.start(assigned(2, 0))
-                wait_until(lambda: children_of(workers._guard.pid))
-                (worker,) = children_of(workers._guard.pid)
+                wait_until(begun.exists)
+                (worker,) = children(workers._guard.pid)
                 workers.hear_until(logs.seconds_of_boot() + seconds)
                 thread = threading.Thread(target=workers.stop, args=[assigned(0)], daemon=True)
                 thread.start()
                 wait_until(lambda: not is_running(worker) and not thread.is_alive())
-        self.assertEqual((self.failures, self.lost), ([], []))
+        self.assertEqual(self.failures, [])
 
     def test_ends(self) -> None:
         """To end is an answer, too. By itself it may not."""
@@ -449,7 +459,7 @@ class Talks(Below):
                     wanted = f'{Token.of(4, events)} x'
                     files = [folder / str(each) for each in partitions]
                     wait_until(lambda: all(file.exists() and file.read_text().count(wanted) > 1 for file in files))
-                    processes.add(children_of(workers._guard.pid)[0])
+                    processes.add(children(workers._guard.pid)[0])
                     workers.stop(assigned(0))
                     before, sizes = sizes, {file: file.stat().st_size for file in folder.iterdir()}
                     self.assertEqual([file for file, size in before.items() if sizes[file] != size and file not in files], [])
