@@ -259,8 +259,9 @@ class Member:
     def _wait(self, step: Wait) -> None:
         """Waits for what is new in the log, or until it hears something."""
         found, epoch, place = self._found, self.opening.epoch, self.core.place
+        until = Until.NEWS if step.until is Until.ALL_IDLE and found.presences.keys() - self._numbers.keys() else step.until  # strangers have to go
         self.behind.see(Promise(epoch, place), found.presences, step.until is Until.ANY_IDLE or self.core.life is None)
-        self._answer(lambda: self.log.wait(epoch, place, found.lives, step.until, step.at_most / SECOND, self._woken.fileno()))
+        self._answer(lambda: self.log.wait(epoch, place, found.lives, until, step.at_most / SECOND, self._woken.fileno()))
         self.core.woke()
 
     def _ask(self, ask: Ask) -> None:

@@ -476,6 +476,22 @@ class Resizes(InFolder):
         self.assertLess(time.monotonic(), begun + PATIENCE)
         self.assertEqual(dict(self.opened().look(1, 0).presences), {})
 
+    def test_an_idle_stranger(self) -> None:
+        """While one is present who has promised the end of the log, as `resize` has, members wait, and don't ask again and again."""
+        self.make(1, 3)
+        log, life = self.opened(), Life(9, 1)
+        self.assertTrue(log.take('stranger', life, Promise(1, 0), LONG))
+        self.begin('a', ttl=2.0)
+        member, _ = self.members['a']
+        wait_until(lambda: member.sure_until)
+        with mock.patch.object(member.log, 'look', wraps=member.log.look) as looks:
+            since = member.sure_until
+            wait_until(lambda: member.sure_until > since + 0.9)  # it has renewed twice
+        self.assertTrue(0 < looks.call_count < 20, looks.call_count)
+        self.assertIsNone(member.assignment())
+        log.release('stranger', life)
+        self.rest(3)
+
     def test_fewer_nodes(self) -> None:
         """A member whose node is gone ends, and says so."""
         self.make(3, 6)
