@@ -370,6 +370,14 @@ class Promises(InEtcd):
         self.assertFalse(self.is_done(late))
         self.assertEqual(self.server.keys(f'{self.prefix}/'), before)
 
+    def test_a_late_move_behind_a_renewal(self) -> None:
+        """A move that wasn't answered is never done behind a renewal that counts: its lease isn't renewed."""
+        late = self.late(lambda: self.log.renew('a', A, 50 * SECOND))
+        self.assertTrue(self.log.renew('a', A, LONG))
+        before = self.server.keys(f'{self.prefix}/')
+        self.assertFalse(self.is_done(late))
+        self.assertEqual(self.server.keys(f'{self.prefix}/'), before)
+
     def test_late_requests_of_a_life_that_ended(self) -> None:
         """Promise, renewal, release and append of a life that is over do nothing to the next one."""
         lates = [

@@ -9,7 +9,7 @@ from asking import KeptLog
 from bully.epochs import Opening
 from bully.etcd import Held, place_text, same
 from bully.gateway import Json, Pair, number_is, one, pairs_of, put, value_is, value_of
-from bully.logs import Holder, MemoryLog, rows_text
+from bully.logs import Holder, MemoryLog, Unanswered, rows_text
 from bully.member import Core, Life, Promise, Request, Until
 from bully.sqlite import life_text
 from over_etcd import OverEtcd
@@ -330,6 +330,18 @@ class TakesStaleRenewals(KeptLog):
         return held.term == before
 
 
+class ForgetsMoves(KeptLog):
+    """A move to a new lease that wasn't answered is forgotten, and may be done behind a renewal."""
+
+    def _move(self, name: str, found: Pair, held: Held) -> bool:
+        before = self._held
+        try:
+            return super()._move(name, found, held)
+        except Unanswered:
+            self._held = before
+            raise
+
+
 class KeepsLease(KeptLog):
     """It keeps its lease under another leader than that of the grant."""
 
@@ -411,6 +423,7 @@ BUGS: Dict[str, Bug] = {
     'etcd: reads are serializable': Bug(ReadsAlone, 6, 'does not let time go on'),
     'etcd: a renewal counts whoever tells it': Bug(TrustsRenewals, 9, 'and it is sure for'),
     'etcd: a lease is kept under another leader': Bug(KeepsLease, 1, 'and it is sure for'),
+    'etcd: a move that was not answered is forgotten': Bug(ForgetsMoves, 1474, 'and it is sure for'),
     'etcd: a lease is shorter than the ttl': Bug(RoundsDown, 5, 'and it is sure for'),
     'etcd: sure from the end of a renewal': Bug(KeptLog, 2, 'and it is sure for', planted.SureFromEnd),
     'etcd: a promise comes before work stops': Bug(KeptLog, 1, 'is present and works at', planted.PromisesFirst),

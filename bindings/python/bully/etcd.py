@@ -233,14 +233,11 @@ class EtcdLog:
         answer = self._look(one(keys.life(name), keys_only=True), one(keys.place))
         if answer.ranges[0].get('kvs') or value_of(answer.ranges[1]) != here.encode():
             return False
-        held = self._granted(life, ttl, answer.term)
+        self._held = self._granted(life, ttl, answer.term)
         conditions = [number_is(keys.life(name), 'version', 0), value_is(keys.place, here.encode())]
-        under = str(held.lease)
+        under = str(self._held.lease)
         done = [put(keys.life(name), life_text(life), lease=under), put(keys.promise(name), here, lease=under)]
-        is_done = self._change(conditions, done).is_done
-        if is_done:
-            self._held = held
-        return is_done
+        return self._change(conditions, done).is_done
 
     def renew(self, name: str, life: Life, ttl: int) -> bool:
         self._client.begin()
@@ -295,11 +292,14 @@ class EtcdLog:
         key, under = self._keys.life(name), str(held.lease)
         is_same = number_is(key, 'mod_revision', found.modified)
         moved = [put(key, life_text(held.life), lease=under), same(self._keys.promise(name), lease=under, ignore_value=True)]
-        answer = self._change([is_same], moved, one(key))
-        if answer.is_done:
-            self._held = held
-        elif value_of(answer.ranges[0]) == found.value:
-            raise Unanswered(f'{self.address}: an earlier renewal was done just now')
+        try:
+            answer = self._change([is_same], moved, one(key))
+            if not answer.is_done and value_of(answer.ranges[0]) == found.value:
+                raise Unanswered(f'{self.address}: an earlier renewal was done just now')
+        except Unanswered:
+            self._held = None  # since a move may be done later, which ends with its lease, none counts before another move was done
+            raise
+        self._held = held
         return answer.is_done
 
     # The log.
