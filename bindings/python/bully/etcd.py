@@ -299,7 +299,8 @@ class EtcdLog:
         except Unanswered:
             self._held = None  # since a move may be done later, which ends with its lease, none counts before another move was done
             raise
-        self._held = held
+        if answer.is_done:
+            self._held = held
         return answer.is_done
 
     # The log.
